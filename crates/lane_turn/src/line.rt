@@ -1,0 +1,82 @@
+//! What a lane writes.
+use loop_script::Outcome;
+
+/// A line of a trace.
+#[derive(Clone, Copy, Debug, PartialEq, Eq)]
+pub struct Line {
+    /// The tick in which it was written.
+    pub tick: u32,
+    /// What it tells.
+    pub event: Event,
+}
+
+/// What a line tells. Contexts, loops, cancellables and lanes go by their number in the script.
+#[derive(Clone, Copy, Debug, PartialEq, Eq)]
+pub enum Event {
+    /// A source of a context is dispatched: its id, its priority, and how many dispatches are then in progress.
+    Dispatch(u32, u64, i32, u64),
+    /// The number of a `log`.
+    Log(u32),
+    /// An `iterate` of a context is over, and whether it dispatched anything.
+    Iterate(u32, bool),
+    /// Whether an iteration of a context would dispatch something now.
+    Pending(u32, bool),
+    /// A run of a loop returns.
+    LoopEnd(u32),
+    /// Whether a context was acquired.
+    Acquire(u32, bool),
+    /// The thread-default context.
+    Default(u32),
+    /// A procedure was invoked in a context.
+    Invoke(u32, Invoked),
+    /// A source that was posted to a context is attached, with its id.
+    Arrive(u32, u64),
+    /// A cancellable is cancelled.
+    Cancel(u32),
+    /// A handler is called, by its id; 0 is one that is connected too late.
+    Handler(u64),
+    /// The result of a task of a lane is taken.
+    Task(u32, u64, Outcome),
+    /// A task of a lane whose reply came early ends.
+    TaskLate(u32, u64),
+    /// A context is handed over to a lane.
+    Give(u32, u32),
+    /// A context is taken over.
+    Hold(u32),
+    /// An action found nothing to act on, and changed nothing.
+    Miss(Word),
+    /// The lane halts: too many dispatches would be in progress.
+    HaltDepth,
+    /// The lane halts: the turn would take too many steps.
+    HaltSteps,
+    /// The lane's start list is over.
+    End,
+}
+
+/// How a procedure was invoked.
+#[derive(Clone, Copy, Debug, PartialEq, Eq)]
+pub enum Invoked {
+    /// At once.
+    Direct,
+    /// By a source of the same lane.
+    Attached,
+    /// By a source of another lane's context.
+    Posted,
+}
+
+/// The actions that can miss.
+#[derive(Clone, Copy, Debug, PartialEq, Eq)]
+pub enum Word {
+    Attach,
+    Child,
+    Destroy,
+    SetReady,
+    SetPriority,
+    Run,
+    Quit,
+    Disconnect,
+    Push,
+    Pop,
+    Release,
+    Give,
+}

@@ -1,0 +1,17 @@
+pub mod Read
+pub mod Seen
+pub mod Number
+pub mod Object
+pub mod Array
+pub mod Rows
+pub mod Words
+pub mod Tree
+pub mod TreeView
+pub mod TreeFalls
+pub mod Source
+pub mod Action
+pub mod Plan
+pub mod References
+pub mod Script
+pub mod Limits
+pub mod Parts

@@ -1,0 +1,15 @@
+-- The bounds of a script that was read.
+use Rattle.std.specs.Prelude.{◌≡◌, ◌≤◌, true, length}
+use Rattle.loop_script.specs.declared.plan.Plan.{Plan}
+use Rattle.loop_script.specs.References.{plan_refers}
+
+pub record IsBounded (p : Plan) : Type 0 where
+  pub lanes : length p.lanes ≤ 64
+  pub ticks : p.ticks ≤ 4096
+  pub tick_us : p.tick_us ≤ 1000000000
+  pub loops : length p.loops ≤ 256
+
+-- a plan within its bounds, whose numbers all name something of it
+pub record IsScript (p : Plan) : Type 0 where
+  pub bounded : IsBounded p
+  pub refers : plan_refers p ≡ true

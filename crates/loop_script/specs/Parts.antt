@@ -1,0 +1,49 @@
+-- What a script tells a lane.
+use Rattle.std.specs.Prelude.{ℕ, ◌+◌, ◌-◌, Bool, true, false, List, [], ◌∷◌, Option, Some, None, slice_get, unwrap_or, nat_le, nat_lt, if◌then◌else◌}
+use Rattle.loop_script.specs.declared.plan.Plan.{Plan}
+use Rattle.loop_script.specs.declared.plan.Proc.{Proc}
+use Rattle.loop_script.specs.declared.plan.LaneSpec.{LaneSpec}
+use Rattle.loop_script.specs.declared.action.Action.{Action}
+use Rattle.loop_script.specs.declared.body.Body.{Body}
+use Rattle.loop_script.specs.declared.body.Body.TheVariants.{Start, Procedure, Nothing}
+
+abbrev pub start_of : Option LaneSpec → List Action
+start_of (Some lane) = lane.start
+start_of None = []
+
+abbrev pub actions_of_proc : Option Proc → List Action
+actions_of_proc (Some proc) = proc.actions
+actions_of_proc None = []
+
+-- the actions of a call
+abbrev pub actions_of : Plan → Body → List Action
+actions_of script (Start lane) = start_of (slice_get script.lanes lane)
+actions_of script (Procedure proc) = actions_of_proc (slice_get script.procs proc)
+actions_of script Nothing = []
+
+-- the context of a loop
+abbrev pub context_of : Plan → ℕ → ℕ
+context_of script number = unwrap_or (slice_get script.loops number) 0
+
+-- the lane that holds a context at first, contexts being numbered on over the lanes
+abbrev pub home_in : ℕ → List LaneSpec → ℕ → ℕ
+home_in number [] context = number
+home_in number (lane ∷ lanes) context = if nat_lt context lane.contexts then number else home_in (number + 1) lanes (context - lane.contexts)
+
+abbrev pub home_of : Plan → ℕ → ℕ
+home_of script context = home_in 0 script.lanes context
+
+-- whether a source stays after so many dispatches
+abbrev pub is_kept : Option ℕ → ℕ → Bool
+is_kept (Some keep) n = nat_le n keep
+is_kept None n = true
+
+abbrev pub keeps : Option Proc → ℕ → Bool
+keeps (Some proc) n = is_kept proc.keep n
+keeps None n = false
+
+-- whether a source stays after the n-th of its dispatches, where its call takes these actions
+abbrev pub stays : Plan → Body → ℕ → Bool
+stays script (Start lane) n = true
+stays script (Procedure proc) n = keeps (slice_get script.procs proc) n
+stays script Nothing n = true

@@ -1,0 +1,47 @@
+-- The grammar of a script: each object with its keys, each list with its length, each number with its range.
+use Rattle.std.specs.Prelude.{ℕ, List, [], ◌∷◌, codes, Option, Some, if◌then◌else◌}
+use Rattle.std.specs.List.{list_all}
+use Rattle.serde_json.specs.Data.{Data}
+use Rattle.loop_script.specs.Read.{Read, done, misshapen, ◌>>=◌}
+use Rattle.loop_script.specs.Number.{whole, index}
+use Rattle.loop_script.specs.Object.{only, field}
+use Rattle.loop_script.specs.Rows.{rows, rows_or}
+use Rattle.loop_script.specs.Action.{action, is_plain}
+use Rattle.loop_script.specs.declared.action.Action.{Action}
+use Rattle.loop_script.specs.declared.plan.LaneSpec.{LaneSpec}
+use Rattle.loop_script.specs.declared.plan.Proc.{Proc}
+use Rattle.loop_script.specs.declared.plan.Plan.{Plan}
+
+unfoldable pub actions : Option Data → Read (List Action)
+actions d = rows 0 256 action d
+
+unfoldable pub lane : Option Data → Read LaneSpec
+lane d = do
+  _ ← only (codes "contexts" ∷ codes "start" ∷ []) d
+  contexts ← whole 1 1 (field (codes "contexts") d)
+  start ← actions (field (codes "start") d)
+  done (record { contexts = contexts; start = start })
+
+-- the actions that a procedure may hold
+abbrev pub plain : List Action → Read (List Action)
+plain xs = if list_all is_plain xs then done xs else misshapen []
+
+unfoldable pub body : Option Data → Read (List Action)
+body d = actions d >>= plain
+
+unfoldable pub procedure : Option Data → Read Proc
+procedure d = do
+  _ ← only (codes "do" ∷ []) d
+  actions ← body (field (codes "do") d)
+  done (record { actions = actions; keep = Some 0 })
+
+unfoldable pub plan : Option Data → Read Plan
+plan d = do
+  _ ← only (codes "version" ∷ codes "ticks" ∷ codes "tick_us" ∷ codes "lanes" ∷ codes "loops" ∷ codes "procs" ∷ []) d
+  version ← whole 1 1 (field (codes "version") d)
+  ticks ← whole 1 4096 (field (codes "ticks") d)
+  tick_us ← whole 1 1000000000 (field (codes "tick_us") d)
+  lanes ← rows 1 1 lane (field (codes "lanes") d)
+  loops ← rows_or 256 index (field (codes "loops") d)
+  procs ← rows_or 1024 procedure (field (codes "procs") d)
+  done (record { version = version; ticks = ticks; tick_us = tick_us; lanes = lanes; cancellables = 0; fds = []; loops = loops; procs = procs })

@@ -1,0 +1,48 @@
+-- What the reading of bytes answers.
+use Rattle.std.specs.Prelude.{◌≡◌, ℕ, false, if◌then◌else◌, List, Some, Result, Ok, Err, IsUtf8}
+use Rattle.serde_json.specs.Data.{Data}
+use Rattle.serde_json.specs.Read.{read}
+use Rattle.serde_json.specs.View.{view}
+use Rattle.serde_json.specs.declared.value.Value.{Value}
+use Rattle.loop_script.specs.Plan.{plan}
+use Rattle.loop_script.specs.References.{plan_refers}
+use Rattle.loop_script.specs.declared.faults.Faults.{Faults}
+use Rattle.loop_script.specs.declared.fault.ScriptFault.{ScriptFault}
+use Rattle.loop_script.specs.declared.fault.ScriptFault.TheVariants.{NotJson, Shape, Limit, Reference, Rule, OutOfMemory}
+use Rattle.loop_script.specs.declared.plan.Plan.{Plan}
+
+-- the bytes are one JSON value
+abbrev pub IsJson : List ℕ → Data → Type 0
+IsJson bytes d = IsUtf8 bytes × (read bytes ≡ Some d)
+
+-- the first class of fault; references are looked at where shape and limits are right
+abbrev pub verdict : Faults → Plan → Result Plan ScriptFault
+verdict faults p = if faults.shape then Err Shape else if faults.limit then Err Limit else if plan_refers p then Ok p else Err Reference
+
+abbrev pub none_seen : Faults
+none_seen = record { shape = false; limit = false }
+
+-- the script of the data, or the first class of fault in it
+abbrev pub script_of : Data → Result Plan ScriptFault
+script_of d = let r = plan (Some d) in verdict (r.faults none_seen) r.value
+
+abbrev FaultAnswers : List ℕ → ScriptFault → Type 0
+FaultAnswers bytes NotJson = (d : Data) → IsJson bytes d → ⊥
+FaultAnswers bytes Shape = (d : Data) × IsJson bytes d × (script_of d ≡ Err Shape)
+FaultAnswers bytes Limit = (d : Data) × IsJson bytes d × (script_of d ≡ Err Limit)
+FaultAnswers bytes Reference = (d : Data) × IsJson bytes d × (script_of d ≡ Err Reference)
+FaultAnswers bytes Rule = (d : Data) × IsJson bytes d × (script_of d ≡ Err Rule)
+FaultAnswers bytes OutOfMemory = Unit {0}
+
+abbrev pub Answers : List ℕ → Result Plan ScriptFault → Type 0
+Answers bytes (Ok p) = (d : Data) × IsJson bytes d × (script_of d ≡ Ok p)
+Answers bytes (Err e) = FaultAnswers bytes e
+
+abbrev pub IsRead : List ℕ → Result Value ScriptFault → Type 0
+IsRead bytes (Ok v) = IsJson bytes (view v)
+IsRead bytes (Err NotJson) = (d : Data) → IsJson bytes d → ⊥
+IsRead bytes (Err OutOfMemory) = Unit {0}
+IsRead bytes (Err Shape) = ⊥
+IsRead bytes (Err Limit) = ⊥
+IsRead bytes (Err Reference) = ⊥
+IsRead bytes (Err Rule) = ⊥

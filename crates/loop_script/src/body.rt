@@ -1,0 +1,12 @@
+//! What a call does.
+
+/// The list of actions that a call takes.
+#[derive(Clone, Copy, Debug, PartialEq, Eq)]
+pub enum Body {
+    /// The start list of a lane.
+    Start(u32),
+    /// The list of a procedure.
+    Procedure(u32),
+    /// No action: the call of a source without a procedure.
+    Nothing,
+}

@@ -1,0 +1,32 @@
+//! A script for main loops: its types, and its reading from JSON.
+//!
+//! `Script::read` gives the script of the bytes, or the first class of fault that stands anywhere in them.
+#![tactic(auto)]
+
+mod action;
+mod body;
+mod fault;
+mod faults;
+mod form;
+mod items;
+mod number;
+mod object;
+mod outcome;
+mod part;
+mod plan;
+mod references;
+mod script;
+mod source;
+mod task;
+mod tree;
+
+pub use action::Action;
+pub use body::Body;
+pub use fault::ScriptFault;
+pub use items::Items;
+pub use outcome::Outcome;
+pub use plan::{LaneSpec, Level, Plan, Proc};
+pub use script::Script;
+pub use source::{Kind, SourceSpec};
+pub use task::TaskSpec;
+pub use tree::{Node, TaskTree};

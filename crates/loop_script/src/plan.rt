@@ -1,0 +1,193 @@
+//! What a script says as a whole, and its reading.
+ghost use Rattle.std.specs.Prelude.{◌≡◌, ◌≤◌, length, IfOk, OnOk};
+ghost use Rattle.std.specs.List.{list_all};
+ghost use Rattle.loop_script.specs.Read.{after};
+ghost use Rattle.loop_script.specs.Action.{is_plain as is_plain_action};
+ghost use Rattle.loop_script.specs.Plan.{actions, body, plain, plan, procedure};
+ghost use Rattle.loop_script.specs.Limits.{IsBounded};
+ghost use Rattle.loop_script.specs.Seen.{seen};
+
+use crate::action::Action;
+use crate::faults::Faults;
+use crate::form::{Form, rows_or_none, rows_within};
+use crate::items::Items;
+use crate::number::{index_number, whole_number};
+use crate::object::only_keys;
+use crate::part::field_of;
+use serde_json::Value;
+use std::alloc::{AllocError, Global};
+
+/// A lane: a thread of the script.
+#[derive(Drop)]
+pub struct LaneSpec {
+    /// How many contexts it holds.
+    pub contexts: u32,
+    /// What it does first.
+    pub start: Items<Action>,
+}
+
+/// A procedure, which sources call.
+#[derive(Drop)]
+pub struct Proc {
+    pub actions: Items<Action>,
+    /// After how many dispatches the source stays; none is always.
+    pub keep: Option<u32>,
+}
+
+/// What a descriptor shows from a tick on.
+#[derive(Clone, Copy, Debug, PartialEq, Eq)]
+pub struct Level {
+    pub tick: u32,
+    pub bits: u8,
+}
+
+/// What a script says.
+#[derive(Drop)]
+pub struct Plan {
+    pub version: u32,
+    /// How many ticks it runs.
+    pub ticks: u32,
+    /// How long a tick is, in microseconds.
+    pub tick_us: u64,
+    pub lanes: Items<LaneSpec>,
+    /// How many cancellables there are.
+    pub cancellables: u32,
+    /// What each descriptor shows.
+    pub fds: Items<Items<Level>>,
+    /// The context of each loop.
+    pub loops: Items<u32>,
+    pub procs: Items<Proc>,
+}
+
+impl Form for LaneSpec {
+    ghost use Rattle.loop_script.specs.Plan.{lane};
+
+    ghost form = { lane };
+
+    #[tactic(auto, unfolding(crate::specs::Plan::lane))]
+    fn read(
+        alloc: Global,
+        value: Option<&Value>,
+        faults: &mut Faults,
+    ) -> Result<LaneSpec, AllocError> {
+        only_keys(value, &["contexts", "start"], faults);
+        let contexts = whole_number(field_of(value, "contexts"), 1, 1, faults);
+        let start = read_actions(alloc, field_of(value, "start"), faults)?;
+        Ok(LaneSpec {
+            contexts: contexts as u32,
+            start,
+        })
+    }
+}
+
+impl Form for Proc {
+    ghost use Rattle.loop_script.specs.Plan.{procedure};
+
+    ghost form = { procedure };
+
+    #[tactic(auto, unfolding(crate::specs::Plan::procedure))]
+    fn read(alloc: Global, value: Option<&Value>, faults: &mut Faults) -> Result<Proc, AllocError> {
+        only_keys(value, &["do"], faults);
+        let actions = read_body(alloc, field_of(value, "do"), faults)?;
+        Ok(Proc {
+            actions,
+            keep: Some(0),
+        })
+    }
+}
+
+impl Form for u32 {
+    ghost use Rattle.loop_script.specs.Number.{index};
+
+    ghost form = { index };
+
+    fn read(_alloc: Global, value: Option<&Value>, faults: &mut Faults) -> Result<u32, AllocError> {
+        Ok(index_number(value, faults))
+    }
+}
+
+#[tactic(auto, unfolding(crate::specs::Plan::actions))]
+fn read_actions(
+    alloc: Global,
+    value: Option<&Value>,
+    faults: &mut Faults,
+) -> Result<Items<Action>, AllocError>
+    ensures value { IfOk result (λ xs. xs ≡ (actions (seen value.entry)).value) }
+    ensures faults { OnOk result (faults.new ≡ after faults.old (actions (seen value.entry))) }
+{
+    rows_within(alloc, value, 0, 256, faults)
+}
+
+/// The actions of a procedure.
+#[tactic(auto, unfolding(crate::specs::Plan::body))]
+fn read_body(
+    alloc: Global,
+    value: Option<&Value>,
+    faults: &mut Faults,
+) -> Result<Items<Action>, AllocError>
+    ensures value { IfOk result (λ xs. xs ≡ (body (seen value.entry)).value) }
+    ensures faults { OnOk result (faults.new ≡ after faults.old (body (seen value.entry))) }
+{
+    let actions = read_actions(alloc, value, faults)?;
+    Ok(plain_actions(alloc, actions, faults))
+}
+
+/// The actions, where a procedure may hold all of them.
+fn plain_actions(alloc: Global, actions: Items<Action>, faults: &mut Faults) -> Items<Action>
+    ensures value { result ≡ (plain actions).value }
+    ensures faults { faults.new ≡ after faults.old (plain actions) }
+{
+    if all_plain(actions.as_slice()) {
+        actions
+    } else {
+        faults.shape = true;
+        Items::from_vec(Vec::new(alloc))
+    }
+}
+
+fn all_plain(actions: &[Action]) -> bool
+    ensures { result ≡ list_all is_plain_action actions.now }
+{
+    actions.iter().all(|action| is_plain(action))
+}
+
+fn is_plain(action: &Action) -> bool
+    ensures { result ≡ is_plain_action action.now }
+{
+    matches!(action, Action::Log(_))
+}
+
+impl Plan {
+    #[tactic(auto, unfolding(crate::specs::Plan::plan))]
+    pub(crate) fn read(
+        alloc: Global,
+        value: Option<&Value>,
+        faults: &mut Faults,
+    ) -> Result<Plan, AllocError>
+        ensures value { IfOk result (λ p. p ≡ (plan (seen value.entry)).value) }
+        ensures faults { OnOk result (faults.new ≡ after faults.old (plan (seen value.entry))) }
+        ensures bounded { IfOk result IsBounded }
+    {
+        only_keys(
+            value,
+            &["version", "ticks", "tick_us", "lanes", "loops", "procs"],
+            faults,
+        );
+        let version = whole_number(field_of(value, "version"), 1, 1, faults);
+        let ticks = whole_number(field_of(value, "ticks"), 1, 4096, faults);
+        let tick_us = whole_number(field_of(value, "tick_us"), 1, 1_000_000_000, faults);
+        let lanes = rows_within(alloc, field_of(value, "lanes"), 1, 1, faults)?;
+        let loops = rows_or_none(alloc, field_of(value, "loops"), 256, faults)?;
+        let procs = rows_or_none(alloc, field_of(value, "procs"), 1024, faults)?;
+        Ok(Plan {
+            version: version as u32,
+            ticks: ticks as u32,
+            tick_us,
+            lanes,
+            cancellables: 0,
+            fds: Items::from_vec(Vec::new(alloc)),
+            loops,
+            procs,
+        })
+    }
+}

@@ -1,0 +1,159 @@
+//! Whether each number of a script names something of it.
+ghost use Rattle.std.specs.Prelude.{◌≡◌, ◌≤◌, length, sum_by, nat_lt};
+ghost use Rattle.std.specs.List.{list_all};
+ghost use Rattle.loop_script.specs.References.{sizes as sizes_of, option_refers, kind_refers, action_refers, source_refers, task_refers, plan_refers};
+
+use crate::action::Action;
+use crate::plan::{LaneSpec, Plan, Proc};
+use crate::source::{Kind, SourceSpec};
+use crate::task::TaskSpec;
+
+/// How many of each a script has.
+#[derive(Clone, Copy)]
+pub(crate) struct Sizes {
+    pub lanes: usize,
+    pub contexts: u64,
+    pub cancellables: u32,
+    pub fds: usize,
+    pub loops: usize,
+    pub procs: usize,
+}
+
+/// Whether a number that may be absent is below a size.
+fn option_within(index: Option<u32>, size: u64) -> bool
+    ensures { result ≡ option_refers size index }
+{
+    match index {
+        None => true,
+        Some(i) => u64::from(i) < size,
+    }
+}
+
+impl Kind {
+    fn refers_within(self, sizes: &Sizes) -> bool
+        ensures { result ≡ kind_refers sizes.now self }
+    {
+        match self {
+            Kind::Idle | Kind::Timeout(_) | Kind::ReadyTime(_) => true,
+            Kind::Fd(fd, _) => (fd as usize) < sizes.fds,
+            Kind::Cancel(c) => c < sizes.cancellables,
+        }
+    }
+}
+
+impl SourceSpec {
+    fn refers_within(&self, sizes: &Sizes) -> bool
+        ensures { result ≡ source_refers sizes.now self.now }
+    {
+        option_within(self.call, sizes.procs as u64) && self.kind.refers_within(sizes)
+    }
+}
+
+impl TaskSpec {
+    fn refers_within(&self, sizes: &Sizes) -> bool
+        ensures { result ≡ task_refers sizes.now self.now }
+    {
+        (self.call as usize) < sizes.procs
+            && option_within(self.cancel, u64::from(sizes.cancellables))
+    }
+}
+
+impl Action {
+    fn refers_within(&self, sizes: &Sizes) -> bool
+        ensures { result ≡ action_refers sizes.now self.now }
+    {
+        match self {
+            Action::Attach(context, _, spec) => {
+                u64::from(*context) < sizes.contexts && spec.refers_within(sizes)
+            }
+            Action::Child(_, _, spec) => spec.refers_within(sizes),
+            Action::Iterate(context) => u64::from(*context) < sizes.contexts,
+            Action::Pending(context) => u64::from(*context) < sizes.contexts,
+            Action::Push(context) => u64::from(*context) < sizes.contexts,
+            Action::Pop(context) => u64::from(*context) < sizes.contexts,
+            Action::Acquire(context) => u64::from(*context) < sizes.contexts,
+            Action::Release(context) => u64::from(*context) < sizes.contexts,
+            Action::Run(number) => (*number as usize) < sizes.loops,
+            Action::Quit(number) => (*number as usize) < sizes.loops,
+            Action::Cancel(c) => *c < sizes.cancellables,
+            Action::Connect(c, _, proc) => {
+                *c < sizes.cancellables && (*proc as usize) < sizes.procs
+            }
+            Action::Task(spec) => spec.refers_within(sizes),
+            Action::Invoke(context, proc) => {
+                u64::from(*context) < sizes.contexts && (*proc as usize) < sizes.procs
+            }
+            Action::Give(context, lane) => {
+                u64::from(*context) < sizes.contexts && (*lane as usize) < sizes.lanes
+            }
+            Action::Destroy(_) => true,
+            Action::SetReady(_, _) => true,
+            Action::SetPriority(_, _) => true,
+            Action::Disconnect(_) => true,
+            Action::ShowDefault => true,
+            Action::Log(_) => true,
+        }
+    }
+}
+
+fn actions_refer_within(actions: &[Action], sizes: &Sizes) -> bool
+    ensures { result ≡ list_all (action_refers sizes.now) actions.now }
+{
+    actions.iter().all(|action| action.refers_within(sizes))
+}
+
+impl Plan {
+    pub(crate) fn refers_within(&self) -> bool
+        requires { length self.now.lanes ≤ 64 }
+        ensures { result ≡ plan_refers self.now }
+    {
+        let sizes = self.sizes();
+        lanes_refer_within(self.lanes.as_slice(), &sizes)
+            && procs_refer_within(self.procs.as_slice(), &sizes)
+            && loops_refer_within(self.loops.as_slice(), &sizes)
+    }
+
+    fn sizes(&self) -> Sizes
+        requires { length self.now.lanes ≤ 64 }
+        ensures { result ≡ sizes_of self.now }
+    {
+        Sizes {
+            lanes: self.lanes.as_slice().len(),
+            contexts: context_count(self.lanes.as_slice()),
+            cancellables: self.cancellables,
+            fds: self.fds.as_slice().len(),
+            loops: self.loops.as_slice().len(),
+            procs: self.procs.as_slice().len(),
+        }
+    }
+}
+
+fn lanes_refer_within(lanes: &[LaneSpec], sizes: &Sizes) -> bool
+    ensures { result ≡ list_all (λ l. list_all (action_refers sizes.now) l.start) lanes.now }
+{
+    lanes
+        .iter()
+        .all(|lane| actions_refer_within(lane.start.as_slice(), sizes))
+}
+
+fn procs_refer_within(procs: &[Proc], sizes: &Sizes) -> bool
+    ensures { result ≡ list_all (λ q. list_all (action_refers sizes.now) q.actions) procs.now }
+{
+    procs.iter().all(|proc| actions_refer_within(proc.actions.as_slice(), sizes))
+}
+
+fn loops_refer_within(loops: &[u32], sizes: &Sizes) -> bool
+    ensures { result ≡ list_all (λ c. nat_lt c sizes.now.contexts) loops.now }
+{
+    loops
+        .iter()
+        .all(|context| u64::from(*context) < sizes.contexts)
+}
+
+/// How many contexts the lanes have together.
+pub(crate) fn context_count(lanes: &[LaneSpec]) -> u64
+    requires { length lanes.now ≤ 64 }
+    ensures { result ≡ sum_by (λ l. l.contexts) lanes.now }
+{
+    lanes.iter().map(|lane| u64::from(lane.contexts)).sum()
+}
