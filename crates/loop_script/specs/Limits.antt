@@ -1,10 +1,11 @@
 -- The bounds of a script that was read.
-use Rattle.std.specs.Prelude.{◌≡◌, ◌≤◌, true, length}
+use Rattle.std.specs.Prelude.{◌≡◌, ◌≤◌, true, length, sum_by}
 use Rattle.loop_script.specs.declared.plan.Plan.{Plan}
 use Rattle.loop_script.specs.References.{plan_refers}
 
 pub record IsBounded (p : Plan) : Type 0 where
   pub lanes : length p.lanes ≤ 64
+  pub contexts : sum_by (λ l. l.contexts) p.lanes ≤ 256
   pub ticks : p.ticks ≤ 4096
   pub tick_us : p.tick_us ≤ 1000000000
   pub loops : length p.loops ≤ 256

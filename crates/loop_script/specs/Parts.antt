@@ -1,11 +1,15 @@
 -- What a script tells a lane.
-use Rattle.std.specs.Prelude.{ℕ, ◌+◌, ◌-◌, Bool, true, false, List, [], ◌∷◌, Option, Some, None, slice_get, unwrap_or, nat_le, nat_lt, if◌then◌else◌}
+use Rattle.std.specs.Prelude.{ℕ, ◌+◌, ◌-◌, ◌*◌, Bool, true, false, List, [], ◌∷◌, Option, Some, None, slice_get, unwrap_or, nat_le, nat_lt, if◌then◌else◌}
 use Rattle.loop_script.specs.declared.plan.Plan.{Plan}
 use Rattle.loop_script.specs.declared.plan.Proc.{Proc}
 use Rattle.loop_script.specs.declared.plan.LaneSpec.{LaneSpec}
 use Rattle.loop_script.specs.declared.action.Action.{Action}
 use Rattle.loop_script.specs.declared.body.Body.{Body}
 use Rattle.loop_script.specs.declared.body.Body.TheVariants.{Start, Procedure, Nothing}
+
+-- the time at a tick, in microseconds
+abbrev pub time_of : Plan → ℕ → ℕ
+time_of script tick = tick * script.tick_us
 
 abbrev pub start_of : Option LaneSpec → List Action
 start_of (Some lane) = lane.start

@@ -1,8 +1,8 @@
 -- The grammar of a script: each object with its keys, each list with its length, each number with its range.
-use Rattle.std.specs.Prelude.{ℕ, List, [], ◌∷◌, codes, Option, Some, if◌then◌else◌}
+use Rattle.std.specs.Prelude.{ℕ, List, [], ◌∷◌, codes, Option, Some, nat_le, sum_by, if◌then◌else◌}
 use Rattle.std.specs.List.{list_all}
 use Rattle.serde_json.specs.Data.{Data}
-use Rattle.loop_script.specs.Read.{Read, done, misshapen, ◌>>=◌}
+use Rattle.loop_script.specs.Read.{Read, done, misshapen, beyond, ◌>>=◌}
 use Rattle.loop_script.specs.Number.{whole, index}
 use Rattle.loop_script.specs.Object.{only, field}
 use Rattle.loop_script.specs.Rows.{rows, rows_or}
@@ -21,6 +21,13 @@ lane d = do
   contexts ← whole 1 1 (field (codes "contexts") d)
   start ← actions (field (codes "start") d)
   done (record { contexts = contexts; start = start })
+
+-- lanes that have at most 256 contexts together
+abbrev pub few_contexts : List LaneSpec → Read (List LaneSpec)
+few_contexts lanes = if nat_le (sum_by (λ l. l.contexts) lanes) 256 then done lanes else beyond []
+
+unfoldable pub lanes : Option Data → Read (List LaneSpec)
+lanes d = rows 1 1 lane d >>= few_contexts
 
 -- the actions that a procedure may hold
 abbrev pub plain : List Action → Read (List Action)
@@ -41,7 +48,7 @@ plan d = do
   version ← whole 1 1 (field (codes "version") d)
   ticks ← whole 1 4096 (field (codes "ticks") d)
   tick_us ← whole 1 1000000000 (field (codes "tick_us") d)
-  lanes ← rows 1 1 lane (field (codes "lanes") d)
+  lanes ← lanes (field (codes "lanes") d)
   loops ← rows_or 256 index (field (codes "loops") d)
   procs ← rows_or 1024 procedure (field (codes "procs") d)
   done (record { version = version; ticks = ticks; tick_us = tick_us; lanes = lanes; cancellables = 0; fds = []; loops = loops; procs = procs })

@@ -1,9 +1,9 @@
 //! What a script says as a whole, and its reading.
-ghost use Rattle.std.specs.Prelude.{◌≡◌, ◌≤◌, length, IfOk, OnOk};
+ghost use Rattle.std.specs.Prelude.{◌≡◌, ◌≤◌, length, sum_by, IfOk, OnOk};
 ghost use Rattle.std.specs.List.{list_all};
 ghost use Rattle.loop_script.specs.Read.{after};
 ghost use Rattle.loop_script.specs.Action.{is_plain as is_plain_action};
-ghost use Rattle.loop_script.specs.Plan.{actions, body, plain, plan, procedure};
+ghost use Rattle.loop_script.specs.Plan.{actions, body, few_contexts, lanes, plain, plan};
 ghost use Rattle.loop_script.specs.Limits.{IsBounded};
 ghost use Rattle.loop_script.specs.Seen.{seen};
 
@@ -14,6 +14,7 @@ use crate::items::Items;
 use crate::number::{index_number, whole_number};
 use crate::object::only_keys;
 use crate::part::field_of;
+use crate::references::context_count;
 use serde_json::Value;
 use std::alloc::{AllocError, Global};
 
@@ -157,6 +158,41 @@ fn is_plain(action: &Action) -> bool
     matches!(action, Action::Log(_))
 }
 
+#[tactic(auto, unfolding(crate::specs::Plan::lanes))]
+fn read_lanes(
+    alloc: Global,
+    value: Option<&Value>,
+    faults: &mut Faults,
+) -> Result<Items<LaneSpec>, AllocError>
+    ensures value { IfOk result (λ xs. xs ≡ (lanes (seen value.entry)).value) }
+    ensures faults { OnOk result (faults.new ≡ after faults.old (lanes (seen value.entry))) }
+    ensures few { IfOk result (λ xs. length xs ≤ 64) }
+    ensures contexts { IfOk result (λ xs. sum_by (λ l. l.contexts) xs ≤ 256) }
+{
+    let lanes = rows_within(alloc, value, 1, 1, faults)?;
+    Ok(with_few_contexts(alloc, lanes, faults))
+}
+
+/// The lanes, where they have few enough contexts together.
+fn with_few_contexts(
+    alloc: Global,
+    lanes: Items<LaneSpec>,
+    faults: &mut Faults,
+) -> Items<LaneSpec>
+    requires { length lanes ≤ 64 }
+    ensures value { result ≡ (few_contexts lanes).value }
+    ensures faults { faults.new ≡ after faults.old (few_contexts lanes) }
+    ensures few { length result ≤ 64 }
+    ensures contexts { sum_by (λ l. l.contexts) result ≤ 256 }
+{
+    if context_count(lanes.as_slice()) <= 256 {
+        lanes
+    } else {
+        faults.limit = true;
+        Items::from_vec(Vec::new(alloc))
+    }
+}
+
 impl Plan {
     #[tactic(auto, unfolding(crate::specs::Plan::plan))]
     pub(crate) fn read(
@@ -176,7 +212,7 @@ impl Plan {
         let version = whole_number(field_of(value, "version"), 1, 1, faults);
         let ticks = whole_number(field_of(value, "ticks"), 1, 4096, faults);
         let tick_us = whole_number(field_of(value, "tick_us"), 1, 1_000_000_000, faults);
-        let lanes = rows_within(alloc, field_of(value, "lanes"), 1, 1, faults)?;
+        let lanes = read_lanes(alloc, field_of(value, "lanes"), faults)?;
         let loops = rows_or_none(alloc, field_of(value, "loops"), 256, faults)?;
         let procs = rows_or_none(alloc, field_of(value, "procs"), 1024, faults)?;
         Ok(Plan {

@@ -1,10 +1,10 @@
 //! A script that was read, and what it tells.
-ghost use Rattle.std.specs.Prelude.{◌≡◌, ◌≤◌, ◌<◌, ◌*◌, ◌^◌, length, slice_get, Some, true};
+ghost use Rattle.std.specs.Prelude.{◌≡◌, ◌≤◌, ◌<◌, ◌^◌, length, slice_get, Some, true};
 ghost use Rattle.std.specs.List.{list_all};
 ghost use Rattle.loop_script.specs.Script.{Answers, IsRead, verdict};
 ghost use Rattle.loop_script.specs.Limits.{IsBounded};
 ghost use Rattle.loop_script.specs.References.{sizes, action_refers};
-ghost use Rattle.loop_script.specs.Parts.{start_of, actions_of_proc, actions_of, context_of, home_of, home_in, is_kept, stays};
+ghost use Rattle.loop_script.specs.Parts.{time_of, start_of, actions_of_proc, actions_of, context_of, home_of, home_in, is_kept, stays};
 
 use crate::action::Action;
 use crate::body::Body;
@@ -62,7 +62,7 @@ impl Script {
 
     /// The time at a tick, in microseconds.
     pub fn now(&self, tick: u32) -> u64
-        ensures now { result ≡ tick * self.now.tick_us }
+        ensures now { result ≡ time_of self.now tick }
         ensures small { result ≤ 2 ^ 62 }
     {
         u64::from(tick) * self.plan.tick_us
@@ -85,10 +85,11 @@ impl Script {
     }
 
     /// How many contexts the lanes have together.
-    pub fn contexts(&self) -> u64
-        ensures { result ≡ (sizes self.now).contexts }
+    pub fn contexts(&self) -> u32
+        ensures contexts { result ≡ (sizes self.now).contexts }
+        ensures few { result ≤ 256 }
     {
-        context_count(self.plan.lanes.as_slice())
+        context_count(self.plan.lanes.as_slice()) as u32
     }
 
     /// The lane that holds a context at first. Contexts are numbered on over the lanes.

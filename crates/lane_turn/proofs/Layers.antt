@@ -1,0 +1,179 @@
+-- What the flat list of frames says of the boxes.
+use Rattle.std.proofs.Common.{◌≡◌, ◌≢◌, ℕ, zero, suc, ◌+◌, ◌-◌, ◌<◌, ◌≤◌, Bool, true, false, cond, Option, Some, None, List, [], ◌∷◌, ◌++◌, length, drop, reverse, slice_set, refl, sym, ap, ◌∙◌, subst, arith, ◌==◌, inl, inr, count_by, append-nil, ltb-false, OnOk, Result, Ok, Err}
+use Rattle.std.specs.Prelude.{slice_get, filter_map, nat_lt}
+use Rattle.std.proofs.lemmas.Bool.Decides.{eqb_tells}
+use Rattle.std.proofs.lemmas.List.{reverse-append, drop-drop}
+use Rattle.std.proofs.lemmas.List.{drop_all}
+use Rattle.std.specs.List.{cons_option}
+use Rattle.std.proofs.lemmas.List.Sums.{sum_by-cons}
+use Rattle.std.proofs.lemmas.List.Elements.{filter_map-append}
+use Rattle.lane_turn.specs.declared.layer.Iteration.{Iteration}
+use Rattle.lane_turn.specs.declared.layer.Top.TheVariants as tops
+use Rattle.lane_turn.specs.declared.layer.Layer.{Layer}
+use Rattle.lane_turn.specs.declared.layer.Layer.TheVariants as layers
+use Rattle.lane_turn.specs.Frames.{Frame, CallOf, IterOf, LoopOf, emptied, emptied_one, is_dispatch, depth, is_call, calls, blocked_in, busy, advanced, advanced_one, top_of}
+use Rattle.lane_turn.specs.Nest.{level_at, is_level, is_live, ids_left, frame_of, frames_of, is_dispatch_layer, is_call_layer, blocked_by_layer, busy_layers, advanced_layer, advanced_layers}
+
+pub first_within : (xs : List Layer) (x : Layer) → xs ≢ [] → slice_get (xs ++ x ∷ []) 0 ≡ slice_get xs 0
+first_within [] x h = absurd (h refl)
+first_within (y ∷ xs) x h = refl
+
+abbrev list_of : Option ℕ → List ℕ
+list_of None = []
+list_of (Some n) = n ∷ []
+
+within_by : (xs : List ℕ) (o : Option ℕ) → reverse (xs ++ cons_option o []) ≡ list_of o ++ reverse xs
+within_by xs None = ap reverse (append-nil xs)
+within_by xs (Some n) = reverse-append xs (n ∷ [])
+
+busy_by : (context : ℕ) (xs : List Layer) (x : Layer) → reverse (busy_layers context (xs ++ x ∷ [])) ≡ list_of (blocked_by_layer context x) ++ reverse (busy_layers context xs)
+busy_by context xs x = ap reverse (filter_map-append (blocked_by_layer context) xs (x ∷ [])) ∙ within_by (busy_layers context xs) (blocked_by_layer context x)
+
+pub busy_none : (context : ℕ) (xs : List Layer) (x : Layer) → blocked_by_layer context x ≡ None → reverse (busy_layers context (xs ++ x ∷ [])) ≡ reverse (busy_layers context xs)
+busy_none context xs x e = busy_by context xs x ∙ ap (λ o. list_of o ++ reverse (busy_layers context xs)) e
+
+pub busy_some : (context n : ℕ) (xs : List Layer) (x : Layer) → blocked_by_layer context x ≡ Some n → reverse (busy_layers context (xs ++ x ∷ [])) ≡ n ∷ reverse (busy_layers context xs)
+busy_some context n xs x e = busy_by context xs x ∙ ap (λ o. list_of o ++ reverse (busy_layers context xs)) e
+
+-- a growing table of levels says the same
+pub level_grown : (live : List (Option ℕ)) (c : ℕ) → level_at (live ++ None ∷ []) c ≡ level_at live c
+level_grown [] zero = refl
+level_grown [] (suc c) = refl
+level_grown (x ∷ live) zero = refl
+level_grown (x ∷ live) (suc c) = level_grown live c
+
+got_same : (xs : List (Option ℕ)) (i level : ℕ) → i < length xs → level_at (slice_set xs i (Some level)) i ≡ Some level
+got_same [] i v h = absurd (omega arith)
+got_same (x ∷ xs) zero v h = refl
+got_same (x ∷ xs) (suc i) v h = got_same xs i v (omega arith)
+
+got_other : (xs : List (Option ℕ)) (i level j : ℕ) → j ≢ i → level_at (slice_set xs i (Some level)) j ≡ level_at xs j
+got_other [] i v j h = refl
+got_other (x ∷ xs) zero v zero h = absurd (h refl)
+got_other (x ∷ xs) zero v (suc j) h = refl
+got_other (x ∷ xs) (suc i) v zero h = refl
+got_other (x ∷ xs) (suc i) v (suc j) h = got_other xs i v j (λ e. h (ap suc e))
+
+pub level_set : (xs : List (Option ℕ)) (i level c : ℕ) → i < length xs → level_at (slice_set xs i (Some level)) c ≡ cond (c == i) (Some level) (level_at xs c)
+level_set xs i level c h =
+    elim (eqb_tells c i) [
+      | inl t ↦ rw (t.0) (subst (λ (k : ℕ). level_at (slice_set xs i (Some level)) k ≡ Some level) (sym t.1) (got_same xs i level h))
+      | inr f ↦ rw (f.0) (got_other xs i level c f.1)
+    ]
+
+-- what a flat list of frames says of the layers
+pub length_frames : (live : List (Option ℕ)) (ls : List Layer) → length (frames_of live ls) ≡ length ls
+length_frames live [] = refl
+length_frames live (l ∷ ls) = ap suc (length_frames live ls)
+
+dispatch_same : (live : List (Option ℕ)) (level : ℕ) (l : Layer) → is_dispatch (frame_of live level l) ≡ is_dispatch_layer l
+dispatch_same live level (layers.Call call) = refl
+dispatch_same live level (layers.Iteration i) = refl
+dispatch_same live level (layers.Loop number context) = refl
+
+blocked_same : (live : List (Option ℕ)) (level c : ℕ) (l : Layer) → blocked_in c (frame_of live level l) ≡ blocked_by_layer c l
+blocked_same live level c (layers.Call call) = refl
+blocked_same live level c (layers.Iteration i) = refl
+blocked_same live level c (layers.Loop number context) = refl
+
+abbrev one_if : Bool → ℕ
+one_if b = cond b 1 0
+
+pub depth_layers : (live : List (Option ℕ)) (ls : List Layer) → depth (frames_of live ls) ≡ count_by is_dispatch_layer ls
+depth_layers live [] = refl
+depth_layers live (l ∷ ls) =
+    omega (arith, sum_by-cons (λ f. one_if (is_dispatch f)) (frame_of live (length ls) l) (frames_of live ls), sum_by-cons (λ a. one_if (is_dispatch_layer a)) l ls, depth_layers live ls, ap one_if (dispatch_same live (length ls) l))
+
+call_same : (live : List (Option ℕ)) (level : ℕ) (l : Layer) → is_call (frame_of live level l) ≡ is_call_layer l
+call_same live level (layers.Call call) = refl
+call_same live level (layers.Iteration i) = refl
+call_same live level (layers.Loop number context) = refl
+
+pub calls_layers : (live : List (Option ℕ)) (ls : List Layer) → calls (frames_of live ls) ≡ count_by is_call_layer ls
+calls_layers live [] = refl
+calls_layers live (l ∷ ls) =
+    omega (arith, sum_by-cons (λ f. one_if (is_call f)) (frame_of live (length ls) l) (frames_of live ls), sum_by-cons (λ a. one_if (is_call_layer a)) l ls, calls_layers live ls, ap one_if (call_same live (length ls) l))
+
+busy_same : (live : List (Option ℕ)) (c : ℕ) (ls : List Layer) → filter_map (blocked_in c) (frames_of live ls) ≡ busy_layers c ls
+busy_same live c [] = refl
+busy_same live c (l ∷ ls) = rw (blocked_same live (length ls) c l, busy_same live c ls) refl
+
+pub busy_frames : (live : List (Option ℕ)) (c : ℕ) (ls : List Layer) → busy c (frames_of live ls) ≡ reverse (busy_layers c ls)
+busy_frames live c ls = ap reverse (busy_same live c ls)
+
+pub drop_frames : (live : List (Option ℕ)) (ls : List Layer) → frames_of live (drop 1 ls) ≡ drop 1 (frames_of live ls)
+drop_frames live [] = refl
+drop_frames live (l ∷ ls) = refl
+
+advanced_by : (ids : List ℕ) (place : ℕ) (live within : Bool) → nat_lt place (length ids) ≡ within → cond live (drop (cond within (place + 1) place) ids) [] ≡ drop 1 (cond live (drop place ids) [])
+advanced_by ids place false within e = refl
+advanced_by ids place true true e = sym (drop-drop 1 place ids)
+advanced_by ids place true false e = rw (drop_all place ids (ltb-false _ _ e)) refl
+
+advance_one : (live : List (Option ℕ)) (level : ℕ) (l : Layer) → frame_of live level (advanced_layer l) ≡ advanced_one (frame_of live level l)
+advance_one live level (layers.Call call) = refl
+advance_one live level (layers.Iteration i) = ap (λ ids. IterOf i.context ids i.answer) (advanced_by i.ids.items i.place (is_live live level i.context) _ refl)
+advance_one live level (layers.Loop number context) = refl
+
+pub advance_frames : (live : List (Option ℕ)) (ls : List Layer) → frames_of live (advanced_layers ls) ≡ advanced (frames_of live ls)
+advance_frames live [] = refl
+advance_frames live (l ∷ ls) = ap (λ f. f ∷ frames_of live ls) (advance_one live (length ls) l)
+
+-- when an inner iteration takes the context over, an outer one of it has no id left
+taken_by : (o n : Option ℕ) (b : Bool) (k level : ℕ) (ids : List ℕ) → k < level → n ≡ cond b (Some level) o → cond (is_level n k) ids [] ≡ cond b [] (cond (is_level o k) ids [])
+taken_by o n true k level ids h e =
+    elim (eqb_tells level k) [
+      | inl t ↦ absurd (omega (arith, t.1))
+      | inr f ↦ rw (e, f.0) refl
+    ]
+taken_by o n false k level ids h e = rw e refl
+
+frame_taken : (live new : List (Option ℕ)) (context level k : ℕ) (l : Layer) → ((c : ℕ) → level_at new c ≡ cond (c == context) (Some level) (level_at live c)) → k < level
+    → frame_of new k l ≡ emptied_one context (frame_of live k l)
+frame_taken live new context level k (layers.Call call) h b = refl
+frame_taken live new context level k (layers.Iteration i) h b =
+    ap (λ ids. IterOf i.context ids i.answer) (taken_by (level_at live i.context) (level_at new i.context) (i.context == context) k level (drop i.place i.ids.items) b (h i.context))
+frame_taken live new context level k (layers.Loop number c) h b = refl
+
+pub frames_taken : (live new : List (Option ℕ)) (context level : ℕ) (ls : List Layer) → ((c : ℕ) → level_at new c ≡ cond (c == context) (Some level) (level_at live c)) → length ls ≤ level
+    → frames_of new ls ≡ emptied context (frames_of live ls)
+frames_taken live new context level [] h b = refl
+frames_taken live new context level (l ∷ ls) h b = rw (frame_taken live new context level (length ls) l h (omega arith), frames_taken live new context level ls h (omega arith)) refl
+
+-- what stands below the innermost frame does not matter to what it takes next
+top_below : (f : Frame) (below : List Frame) → top_of (f ∷ []) ≡ top_of (f ∷ below)
+top_below (CallOf call) below = refl
+top_below (IterOf context ids answer) below = refl
+top_below (LoopOf number context) below = refl
+
+pub top_none : (live : List (Option ℕ)) (ls : List Layer) → None ≡ slice_get ls 0 → tops.Nothing ≡ top_of (frames_of live ls)
+top_none live [] e = refl
+top_none live (l ∷ ls) e = cc
+
+some_layer : (a b : Layer) → Some a ≡ Some b → a ≡ b
+some_layer a b e = cc
+
+pub top_some : (at live : List (Option ℕ)) (ls : List Layer) (l : Layer) (n : ℕ) → at ≡ live → Some l ≡ slice_get ls 0 → n ≡ length ls → top_of (frame_of at (n - 1) l ∷ []) ≡ top_of (frames_of live ls)
+top_some at live [] l n a e k = cc
+top_some at live (x ∷ ls) l n a e k =
+    let level : n - 1 ≡ length ls = omega arith in
+    rw (a, level, some_layer l x e) (top_below (frame_of live (length ls) x) (frames_of live ls))
+
+live_now : (level : ℕ) (ids : List ℕ) (o : Option ℕ) → o ≡ Some level → cond (is_level o level) ids [] ≡ ids
+live_now level ids o e = elim (eqb_tells level level) [ inl t ↦ rw (e, t.0) refl | inr f ↦ absurd (f.1 refl) ]
+
+marked_at : (o : Option ℕ) (c level : ℕ) (r : Option ℕ) → r ≡ cond (c == c) (Some level) o → r ≡ Some level
+marked_at o c level r e = elim (eqb_tells c c) [ inl t ↦ e ∙ rw (t.0) refl | inr f ↦ absurd (f.1 refl) ]
+
+-- an iteration begun in the innermost layer takes its context over
+pub frames_begun : (live new : List (Option ℕ)) (level : ℕ) (i : Iteration) (ls now : List Layer) → i.place ≡ 0 → level ≡ length ls → now ≡ layers.Iteration i ∷ ls
+    → ((c : ℕ) → level_at new c ≡ cond (c == i.context) (Some level) (level_at live c))
+    → frames_of new now ≡ IterOf i.context i.ids.items i.answer ∷ emptied i.context (frames_of live ls)
+frames_begun live new level i ls now p at e h =
+    let here : level_at new i.context ≡ Some (length ls) = marked_at (level_at live i.context) i.context level _ (h i.context) ∙ ap Some at in
+    let ids : ids_left new (length ls) i ≡ i.ids.items = live_now (length ls) (drop i.place i.ids.items) _ here ∙ ap (λ (n : ℕ). drop n i.ids.items) p in
+    rw (e, ids, frames_taken live new i.context level ls h (omega arith)) refl
+
+pub on_ok : {T E P Q : Type 0} (r : Result T E) → (P → Q) → OnOk r P → OnOk r Q
+on_ok (Ok x) f p = f p
+on_ok (Err e) f p = tt

@@ -1,0 +1,9 @@
+pub mod Layers
+pub mod Lists
+pub mod Urgent
+pub mod Ordered
+pub mod Measure
+pub mod Mild
+pub mod Steps
+pub mod Finish
+pub mod Opening

@@ -1,0 +1,91 @@
+-- What a lane is in the middle of.
+use Rattle.std.specs.Prelude.{ℕ, reverse, filter_map, ◌+◌, ◌<◌, ◌^◌, Bool, false, Option, Some, None, List, [], ◌∷◌, map, drop, slice_get, count_by, ◌==◌, if◌then◌else◌, true}
+use Rattle.lane_turn.specs.declared.layer.Call.{Call}
+use Rattle.lane_turn.specs.declared.layer.Caller.{Caller}
+use Rattle.lane_turn.specs.declared.layer.Origin.{Origin}
+use Rattle.lane_turn.specs.declared.layer.Origin.TheVariants.{Start, Source, Invoke}
+use Rattle.lane_turn.specs.declared.layer.Top.{Top}
+use Rattle.lane_turn.specs.declared.layer.Top.TheVariants as tops
+
+-- a call of an action list; an iteration with the ids left and what an `iterate` that asked is told; a run of a loop,
+-- with the loop's context
+pub data Frame : Type 0 where
+  CallOf : (call : Call) → Frame
+  IterOf : (context : ℕ) (ids : List ℕ) (answer : Option Bool) → Frame
+  LoopOf : (number : ℕ) (context : ℕ) → Frame
+
+-- what the innermost frame takes next
+abbrev pub top_of : List Frame → Top
+top_of [] = tops.Nothing
+top_of (CallOf call ∷ below) = tops.Call call
+top_of (IterOf context ids answer ∷ below) = tops.Iteration context (slice_get ids 0) answer
+top_of (LoopOf number context ∷ below) = tops.Loop number context
+
+-- the frames when the innermost has taken its next action or id
+abbrev pub advanced_one : Frame → Frame
+advanced_one (CallOf call) = CallOf (record call { place = call.place + 1 })
+advanced_one (IterOf context ids answer) = IterOf context (drop 1 ids) answer
+advanced_one (LoopOf number context) = LoopOf number context
+
+abbrev pub advanced : List Frame → List Frame
+advanced [] = []
+advanced (frame ∷ below) = advanced_one frame ∷ below
+
+-- the older iterations of a context have no id left
+abbrev pub emptied_one : ℕ → Frame → Frame
+emptied_one context (CallOf call) = CallOf call
+emptied_one context (IterOf c ids answer) = IterOf c (if c == context then [] else ids) answer
+emptied_one context (LoopOf number c) = LoopOf number c
+
+abbrev pub emptied : ℕ → List Frame → List Frame
+emptied context frames = map (emptied_one context) frames
+
+-- the dispatches in progress
+abbrev pub is_source : Origin → Bool
+is_source Start = false
+is_source (Source caller) = true
+is_source (Invoke acquired) = false
+
+abbrev pub is_dispatch : Frame → Bool
+is_dispatch (CallOf call) = is_source call.origin
+is_dispatch (IterOf context ids answer) = false
+is_dispatch (LoopOf number context) = false
+
+-- the calls in progress but the one of `start`
+abbrev pub is_other : Origin → Bool
+is_other Start = false
+is_other (Source caller) = true
+is_other (Invoke acquired) = true
+
+abbrev pub is_call : Frame → Bool
+is_call (CallOf call) = is_other call.origin
+is_call (IterOf context ids answer) = false
+is_call (LoopOf number context) = false
+
+abbrev pub calls : List Frame → ℕ
+calls frames = count_by is_call frames
+
+abbrev pub depth : List Frame → ℕ
+depth frames = count_by is_dispatch frames
+
+-- the sources of a context that a call in progress blocks
+abbrev pub blocked_by : ℕ → Origin → Option ℕ
+blocked_by context Start = None
+blocked_by context (Invoke acquired) = None
+blocked_by context (Source caller) = if caller.recurse then None else if caller.context == context then Some caller.id else None
+
+abbrev pub blocked_in : ℕ → Frame → Option ℕ
+blocked_in context (CallOf call) = blocked_by context call.origin
+blocked_in context (IterOf c ids answer) = None
+blocked_in context (LoopOf number c) = None
+
+-- the outermost first
+abbrev pub busy : ℕ → List Frame → List ℕ
+busy context frames = reverse (filter_map (blocked_in context) frames)
+
+-- the place of an innermost call can be counted on
+abbrev pub HasRoom : List Frame → Type 0
+HasRoom [] = Unit {0}
+HasRoom (CallOf call ∷ below) = call.place < 2 ^ 63
+HasRoom (IterOf context ids answer ∷ below) = Unit {0}
+HasRoom (LoopOf number context ∷ below) = Unit {0}

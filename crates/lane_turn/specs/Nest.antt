@@ -1,0 +1,80 @@
+-- Frames in boxes: the same frames as they are met on the way inwards.
+use Rattle.std.specs.Prelude.{ℕ, length, nat_lt, filter_map, ◌<◌, ◌^◌, ◌+◌, Bool, false, Option, Some, None, List, [], ◌∷◌, ◌++◌, drop, slice_get, ◌==◌, if◌then◌else◌}
+use Rattle.lane_turn.specs.declared.layer.Iteration.{Iteration}
+use Rattle.lane_turn.specs.declared.layer.Layer.{Layer}
+use Rattle.lane_turn.specs.declared.layer.Layer.TheVariants as layers
+use Rattle.lane_turn.specs.declared.nest.Nest.{Nest, Nothing, Begun'}
+use Rattle.lane_turn.specs.Frames.{Frame, CallOf, IterOf, LoopOf, blocked_by, is_source, is_other}
+
+-- the level of the live iteration of a context
+abbrev pub known_level : Option (Option ℕ) → Option ℕ
+known_level None = None
+known_level (Some level) = level
+
+abbrev pub level_at : List (Option ℕ) → ℕ → Option ℕ
+level_at live context = known_level (slice_get live context)
+
+-- an iteration is live at the level that its context names
+abbrev pub is_level : Option ℕ → ℕ → Bool
+is_level None level = false
+is_level (Some k) level = k == level
+
+abbrev pub is_live : List (Option ℕ) → ℕ → ℕ → Bool
+is_live live level context = is_level (level_at live context) level
+
+-- the ids that an iteration at a level still has: none where its context has a newer one
+abbrev pub ids_left : List (Option ℕ) → ℕ → Iteration → List ℕ
+ids_left live level i = if is_live live level i.context then drop i.place i.ids.items else []
+
+abbrev pub frame_of : List (Option ℕ) → ℕ → Layer → Frame
+frame_of live level (layers.Call call) = CallOf call
+frame_of live level (layers.Iteration i) = IterOf i.context (ids_left live level i) i.answer
+frame_of live level (layers.Loop number context) = LoopOf number context
+
+-- what is met on the way inwards, the innermost first
+abbrev pub layers_of : Nest → List Layer
+layers_of Nothing = []
+layers_of (Begun' layer p inner) = layers_of inner ++ layer ∷ []
+
+-- the same as frames: each stands at the level that is the number of those round it
+abbrev pub frames_of : List (Option ℕ) → List Layer → List Frame
+frames_of live [] = []
+frames_of live (layer ∷ outer) = frame_of live (length outer) layer ∷ frames_of live outer
+
+abbrev pub is_dispatch_layer : Layer → Bool
+is_dispatch_layer (layers.Call call) = is_source call.origin
+is_dispatch_layer (layers.Iteration i) = false
+is_dispatch_layer (layers.Loop number context) = false
+
+abbrev pub is_call_layer : Layer → Bool
+is_call_layer (layers.Call call) = is_other call.origin
+is_call_layer (layers.Iteration i) = false
+is_call_layer (layers.Loop number context) = false
+
+abbrev pub blocked_by_layer : ℕ → Layer → Option ℕ
+blocked_by_layer context (layers.Call call) = blocked_by context call.origin
+blocked_by_layer context (layers.Iteration i) = None
+blocked_by_layer context (layers.Loop number c) = None
+
+-- the sources of a context that calls in progress block
+abbrev pub busy_layers : ℕ → List Layer → List ℕ
+busy_layers context layers = filter_map (blocked_by_layer context) layers
+
+-- when the next action or id was taken
+abbrev pub advanced_layer : Layer → Layer
+advanced_layer (layers.Call call) = layers.Call (record call { place = call.place + 1 })
+advanced_layer (layers.Iteration i) = layers.Iteration (record i { place = if nat_lt i.place (length i.ids.items) then i.place + 1 else i.place })
+advanced_layer (layers.Loop number context) = layers.Loop number context
+
+abbrev pub advanced_layers : List Layer → List Layer
+advanced_layers [] = []
+advanced_layers (layer ∷ outer) = advanced_layer layer ∷ outer
+
+abbrev pub HasRoomLayer : Layer → Type 0
+HasRoomLayer (layers.Call call) = call.place < 2 ^ 63
+HasRoomLayer (layers.Iteration i) = Unit {0}
+HasRoomLayer (layers.Loop number context) = Unit {0}
+
+abbrev pub HasRoomLayers : List Layer → Type 0
+HasRoomLayers [] = Unit {0}
+HasRoomLayers (layer ∷ outer) = HasRoomLayer layer

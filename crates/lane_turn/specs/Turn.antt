@@ -1,0 +1,101 @@
+-- A turn: steps until none is left.
+use Rattle.std.specs.Prelude.{◌≡◌, ◌==◌, ℕ, zero, suc, ◌+◌, ◌*◌, Bool, false, Option, Some, None, List, [], ◌∷◌, ◌++◌, length, unwrap_or, if◌then◌else◌}
+use Rattle.std.specs.Option.{option_map_or}
+use Rattle.loop_script.specs.declared.plan.Plan.{Plan}
+use Rattle.loop_script.specs.declared.body.Body.TheVariants as bodies
+use Rattle.loop_script.specs.Parts.{home_of}
+use Rattle.loop_script.specs.References.{sizes}
+use Rattle.lane_turn.specs.declared.parts.Status.{Status}
+use Rattle.lane_turn.specs.declared.parts.Status.TheVariants.{GoesOn, Ended, Halted}
+use Rattle.lane_turn.specs.declared.layer.Origin.TheVariants as origins
+use Rattle.lane_turn.specs.Frames.{Frame, CallOf, IterOf, LoopOf}
+use Rattle.lane_turn.specs.Sources.{Sources, no_sources}
+use Rattle.lane_turn.specs.Lane.{Lane, Turn}
+use Rattle.lane_turn.specs.Step.{step}
+
+-- the turn after its next step, if there is one
+abbrev pub stepped : Plan → ℕ → Turn → Turn
+stepped script tick t = unwrap_or (step script tick t) t
+
+-- at most how many steps a frame takes before it is left
+abbrev pub frame_work : Frame → ℕ
+frame_work (CallOf call) = 1
+frame_work (IterOf context ids answer) = 1 + length ids
+frame_work (LoopOf number context) = 1
+
+abbrev pub nest_work : List Frame → ℕ
+nest_work [] = 0
+nest_work (frame ∷ below) = frame_work frame + nest_work below
+
+-- how many rows there are in all
+abbrev pub rows_in : Option Sources → ℕ
+rows_in None = 0
+rows_in (Some sources) = length sources.rows
+
+abbrev pub row_count : List (Option Sources) → ℕ
+row_count [] = 0
+row_count (context ∷ contexts) = rows_in context + row_count contexts
+
+-- what is counted may begin an iteration of as many ids as there are rows then
+abbrev pub work_of : (left rows frames : ℕ) → Bool → ℕ
+work_of left rows frames iterated = left * (rows + left + 4) + frames + (if iterated then 0 else rows + 2)
+
+abbrev pub while_going : Status → ℕ → ℕ
+while_going GoesOn n = suc n
+while_going Ended n = 0
+while_going Halted n = 0
+
+-- at most how many steps a turn still takes
+abbrev pub work : Turn → ℕ
+work t = while_going t.lane.status (work_of t.left (row_count t.lane.contexts) (nest_work t.lane.frames) t.iterated)
+
+-- the turn after its steps, of which at most n are taken
+unfoldable pub finish : Plan → ℕ → ℕ → Turn → Turn
+finish script tick zero t = t
+finish script tick (suc n) t = option_map_or (finish script tick n) (step script tick t) t
+
+-- the turn when no step is left; that `work` is enough is the law `turns_end`
+unfoldable pub finished : Plan → ℕ → Turn → Turn
+finished script tick t = finish script tick (work t) t
+
+abbrev pub begun : Lane → Turn
+begun lane = record { lane = lane; left = 10000; iterated = false }
+
+-- the lane after its turn
+abbrev pub turned : Plan → ℕ → Lane → Lane
+turned script tick lane = (finished script tick (begun lane)).lane
+
+-- a context of the script, as a lane has it at first
+abbrev pub open_context : Plan → ℕ → ℕ → Option Sources
+open_context script lane context = if home_of script context == lane then Some no_sources else None
+
+-- the first n contexts of the script
+abbrev pub open_contexts_to : Plan → ℕ → ℕ → List (Option Sources)
+open_contexts_to script lane zero = []
+open_contexts_to script lane (suc n) = open_contexts_to script lane n ++ open_context script lane n ∷ []
+
+abbrev pub open_contexts : Plan → ℕ → List (Option Sources)
+open_contexts script lane = open_contexts_to script lane (sizes script).contexts
+
+abbrev pub open_loops : ℕ → List Bool
+open_loops zero = []
+open_loops (suc n) = open_loops n ++ false ∷ []
+
+-- a lane that holds its start call
+abbrev pub opening : Plan → ℕ → Lane
+opening script lane = record {
+  contexts = open_contexts script lane;
+  frames = CallOf (record { origin = origins.Start; body = bodies.Start lane; place = 0 }) ∷ [];
+  running = open_loops (length script.loops);
+  trace = [];
+  status = GoesOn;
+}
+
+-- the lane at the beginning of a tick
+abbrev pub lane_at : Plan → ℕ → ℕ → Lane
+lane_at script lane zero = opening script lane
+lane_at script lane (suc k) = turned script k (lane_at script lane k)
+
+-- a turn leaves no step
+abbrev pub TurnsEnd : Type 0
+TurnsEnd = (script : Plan) (tick : ℕ) (lane : Lane) → step script tick (finished script tick (begun lane)) ≡ None

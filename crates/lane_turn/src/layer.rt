@@ -1,0 +1,168 @@
+//! The things that a lane can be in the middle of: a call, an iteration, a run of a loop.
+ghost use Rattle.std.specs.Prelude.{◌≡◌, [], ◌∷◌, slice_get};
+ghost use Rattle.lane_turn.specs.Frames.{top_of};
+ghost use Rattle.lane_turn.specs.Nest.{frame_of, ids_left, is_live, is_dispatch_layer, is_call_layer, blocked_by_layer, advanced_layer, HasRoomLayer};
+
+use loop_script::Body;
+
+/// The source whose dispatch a call is, and the number of that dispatch.
+#[derive(Clone, Copy, Debug, PartialEq, Eq)]
+pub struct Caller {
+    pub context: u32,
+    pub id: u64,
+    /// Whether the source may be dispatched again while it is in this call.
+    pub recurse: bool,
+    /// Which dispatch of the source it is, from 1.
+    pub number: u64,
+}
+
+/// Where a call came from.
+#[derive(Clone, Copy, Debug, PartialEq, Eq)]
+pub enum Origin {
+    /// The lane's start list.
+    Start,
+    /// The dispatch of a source.
+    Source(Caller),
+    /// A direct invoke, with the context that it acquired.
+    Invoke(Option<u32>),
+}
+
+/// A call in progress: its list, and how many of its actions were taken.
+#[derive(Clone, Copy, Debug, PartialEq, Eq)]
+pub struct Call {
+    pub origin: Origin,
+    pub body: Body,
+    pub place: usize,
+}
+
+/// An iteration in progress: what it selected, and how many of that were taken.
+#[derive(Drop)]
+pub struct Iteration {
+    pub context: u32,
+    pub ids: Vec<u64>,
+    pub place: usize,
+    /// What an `iterate` that asked for it is told; none for the iteration of a loop.
+    pub answer: Option<bool>,
+}
+
+/// One of the things in progress.
+#[derive(Drop)]
+pub enum Layer {
+    Call(Call),
+    Iteration(Iteration),
+    /// A run of a loop, with the loop's context.
+    Loop(u32, u32),
+}
+
+/// What the innermost activity takes next.
+#[derive(Clone, Copy, Debug)]
+pub enum Top {
+    Nothing,
+    Call(Call),
+    /// The context, the next id, and what an `iterate` that asked is told.
+    Iteration(u32, Option<u64>, Option<bool>),
+    /// The loop, and its context.
+    Loop(u32, u32),
+}
+
+/// Whether the iteration of a context at a level is its live one.
+fn is_live(live: &[Option<usize>], level: usize, context: u32) -> bool
+    ensures { result ≡ is_live live.now level context }
+{
+    match live.get(context as usize) {
+        Some(Some(found)) => *found == level,
+        _ => false,
+    }
+}
+
+/// The next id of an iteration, none where a newer one has taken its context over.
+fn next_id(iteration: &Iteration, live: &[Option<usize>], level: usize) -> Option<u64>
+    ensures { result ≡ slice_get (ids_left live.now level iteration.now) 0 }
+{
+    if is_live(live, level, iteration.context) {
+        iteration.ids.get(iteration.place).copied()
+    } else {
+        None
+    }
+}
+
+impl Layer {
+    /// Whether it is the dispatch of a source.
+    pub(crate) fn is_dispatch(&self) -> bool
+        ensures { result ≡ is_dispatch_layer self.now }
+    {
+        match self {
+            Layer::Call(call) => match call.origin {
+                Origin::Source(_) => true,
+                _ => false,
+            },
+            _ => false,
+        }
+    }
+
+    /// Whether it is a call but the one of `start`.
+    pub(crate) fn is_call(&self) -> bool
+        ensures { result ≡ is_call_layer self.now }
+    {
+        match self {
+            Layer::Call(call) => match call.origin {
+                Origin::Start => false,
+                _ => true,
+            },
+            _ => false,
+        }
+    }
+
+    /// The source of a context that it blocks.
+    pub(crate) fn blocks(&self, context: u32) -> Option<u64>
+        ensures { result ≡ blocked_by_layer context self.now }
+    {
+        match self {
+            Layer::Call(call) => match call.origin {
+                Origin::Source(caller) => {
+                    if caller.recurse {
+                        None
+                    } else if caller.context == context {
+                        Some(caller.id)
+                    } else {
+                        None
+                    }
+                }
+                _ => None,
+            },
+            _ => None,
+        }
+    }
+
+    /// Counts an action or an id as taken.
+    pub(crate) fn advance(&mut self)
+        requires { HasRoomLayer self.old }
+        ensures { self.new ≡ advanced_layer self.old }
+    {
+        match self {
+            Layer::Call(call) => call.place += 1,
+            Layer::Iteration(iteration) => {
+                if iteration.place < iteration.ids.len() {
+                    iteration.place += 1;
+                }
+            }
+            Layer::Loop(_, _) => {}
+        }
+    }
+
+    /// What it takes next.
+    pub(crate) fn next(&self, live: &[Option<usize>], level: usize) -> Top
+        ensures { result ≡ top_of (frame_of live.now level self.now ∷ []) }
+    {
+        match self {
+            Layer::Call(call) => Top::Call(*call),
+            Layer::Iteration(iteration) => Top::Iteration(
+                iteration.context,
+                next_id(iteration, live, level),
+                iteration.answer,
+            ),
+            Layer::Loop(number, context) => Top::Loop(*number, *context),
+        }
+    }
+}
+

@@ -1,0 +1,23 @@
+//! A lane of a script, and its turns.
+//!
+//! A lane is a scripted thread: contexts with their sources, loops, and the calls, iterations and runs that it is in
+//! the middle of. A turn is its share of one tick.
+#![tactic(auto)]
+
+mod act;
+mod context;
+mod frames;
+mod laws;
+mod layer;
+mod line;
+mod nest;
+mod parts;
+mod row;
+mod state;
+mod step;
+mod turn;
+
+pub use laws::turns_end;
+pub use line::{Event, Invoked, Line, Word};
+pub use parts::Status;
+pub use state::{LaneFault, LaneState};

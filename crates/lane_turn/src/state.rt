@@ -1,0 +1,164 @@
+//! A lane between its turns.
+ghost use Rattle.std.specs.Prelude.{◌≡◌, ℕ, ◌+◌, ◌^◌, ◌≤◌, ◌↔◌, ◌≢◌, false, IsTrue, OnOk, IfOk, Err};
+ghost use Rattle.lane_turn.specs.Turn.{turned, opening, open_context, open_contexts, open_loops};
+ghost use Rattle.lane_turn.specs.Meaning.{lane_of};
+ghost use Rattle.lane_turn.specs.Sound.{IsWithin};
+
+use crate::context::Context;
+use crate::frames::Frames;
+use crate::layer::{Call, Origin};
+use crate::line::Line;
+use crate::parts::{Parts, Status};
+use loop_script::{Body, Script};
+use std::alloc::{AllocError, Global};
+use std::marker::Model;
+use thiserror::Error;
+
+/// Why a call of a lane was refused.
+#[derive(Clone, Copy, Debug, PartialEq, Eq, Error)]
+pub enum LaneFault {
+    /// An earlier call was refused memory, so the lane is not that of any turn.
+    #[error("spent")]
+    Spent,
+    /// A request for memory was refused.
+    #[error("memory")]
+    OutOfMemory,
+}
+
+impl From<AllocError> for LaneFault {
+    ghost use Rattle.std.specs.Prelude.{◌≡◌};
+    ghost use Rattle.lane_turn.specs.declared.state.LaneFault.TheVariants.{OutOfMemory};
+
+    ghost from_gives = { λ _ e. e ≡ OutOfMemory };
+
+    fn from(_: AllocError) -> LaneFault {
+        LaneFault::OutOfMemory
+    }
+}
+
+/// A lane of a script: its contexts, its loops, and what it is in the middle of. Contracts see the lane of the
+/// definition, and whether it is spent.
+#[derive(Drop)]
+pub struct LaneState {
+    alloc: Global,
+    parts: Parts,
+    spent: bool,
+}
+
+impl Model for LaneState {
+    ghost use Rattle.lane_turn.specs.Lane.{Kept};
+    ghost use Rattle.lane_turn.specs.Meaning.{lane_of};
+
+    ghost Value = { Kept };
+
+    ghost view = { λ s. record { lane = lane_of s.parts; spent = s.spent } };
+}
+
+/// The contexts of a script, of which those of the lane have no source yet.
+fn open_contexts(alloc: Global, script: &Script, lane: u32) -> Result<Vec<Option<Context>>, AllocError>
+    ensures { IfOk result (λ contexts. contexts.items ≡ open_contexts script.now lane) }
+{
+    let mut contexts = Vec::new(alloc);
+    for context in 0..script.contexts() {
+        contexts.push(open_context(alloc, script, lane, context))?;
+    }
+    Ok(contexts)
+}
+
+/// A context of a script, as the lane has it at first: none where it is another lane's.
+fn open_context(alloc: Global, script: &Script, lane: u32, context: u32) -> Option<Context>
+    ensures { result ≡ open_context script.now lane context }
+{
+    if script.home(context) == lane {
+        Some(Context::new(alloc))
+    } else {
+        None
+    }
+}
+
+/// Loops that do not run.
+fn open_loops(alloc: Global, loops: u32) -> Result<Vec<bool>, AllocError>
+    ensures { IfOk result (λ running. running.items ≡ open_loops loops) }
+{
+    let mut running = Vec::new(alloc);
+    for _ in 0..loops {
+        running.push(false)?;
+    }
+    Ok(running)
+}
+
+/// The parts of a lane that holds its start call.
+fn open_parts(alloc: Global, script: &Script, lane: u32) -> Result<Parts, AllocError>
+    ensures { IfOk result (λ parts. lane_of parts ≡ opening script.now lane) }
+{
+    let mut frames = Frames::new(alloc);
+    frames.begin_call(Call {
+        origin: Origin::Start,
+        body: Body::Start(lane),
+        place: 0,
+    })?;
+    Ok(Parts {
+        contexts: open_contexts(alloc, script, lane)?,
+        frames,
+        running: open_loops(alloc, script.loops())?,
+        trace: Vec::new(alloc),
+        status: Status::GoesOn,
+    })
+}
+
+impl LaneState {
+    /// A lane of a script that holds its start call.
+    pub fn new(alloc: Global, script: &Script, lane: u32) -> Result<Self, LaneFault>
+        ensures opening { IfOk result (λ s. s ≡ record { lane = opening script.now lane; spent = false }) }
+        ensures within { IfOk result (λ s. IsWithin 1 s.lane) }
+        ensures memory { result ≢ Err LaneFault.Spent }
+    {
+        match open_parts(alloc, script, lane) {
+            Err(_) => Err(LaneFault::OutOfMemory),
+            Ok(parts) => Ok(LaneState {
+                alloc,
+                parts,
+                spent: false,
+            }),
+        }
+    }
+
+    /// The lane's turn at a tick. Turns come at rising ticks, each with the script of `new`.
+    ///
+    /// After `OutOfMemory` the lane is spent: each later turn answers `Spent`, and nothing is promised of its trace.
+    pub fn turn(&mut self, script: &Script, tick: u32) -> Result<(), LaneFault>
+        requires { IsWithin (2 ^ 61) self.old.lane }
+        ensures turned { OnOk result (self.new.lane ≡ turned script.now tick self.old.lane) }
+        ensures within { (m : ℕ) → IsWithin m self.old.lane → OnOk result (IsWithin (m + 20001) self.new.lane) }
+        ensures lasts { OnOk result (self.new.spent ≡ false) }
+        ensures spent { (result ≡ Err LaneFault.Spent) ↔ IsTrue self.old.spent }
+        ensures memory { result ≡ Err LaneFault.OutOfMemory → IsTrue self.new.spent }
+        ensures stays { result ≡ Err LaneFault.Spent → self.new ≡ self.old }
+    {
+        if self.spent {
+            return Err(LaneFault::Spent);
+        }
+        self.spent = true;
+        match self.parts.take_turn(self.alloc, script, tick) {
+            Err(_) => Err(LaneFault::OutOfMemory),
+            Ok(()) => {
+                self.spent = false;
+                Ok(())
+            }
+        }
+    }
+
+    /// What the lane wrote.
+    pub fn trace(&self) -> &[Line]
+        ensures { result.now ≡ self.now.lane.trace }
+    {
+        self.parts.trace.as_slice()
+    }
+
+    /// Whether the lane is halted: it takes no further step.
+    pub fn halted(&self) -> bool
+        ensures { IsTrue result ↔ (self.now.lane.status ≡ Status.Halted) }
+    {
+        self.parts.status == Status::Halted
+    }
+}

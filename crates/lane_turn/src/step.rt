@@ -1,0 +1,222 @@
+//! One step of what is innermost.
+ghost use Rattle.std.specs.Prelude.{◌≡◌, ◌^◌, ◌≤◌, OnOk, IfOk, is_some, slice_get, unwrap_or};
+ghost use Rattle.loop_script.specs.Parts.{actions_of, time_of};
+ghost use Rattle.lane_turn.specs.Frames.{HasRoom, top_of};
+ghost use Rattle.lane_turn.specs.Lane.{popped};
+ghost use Rattle.lane_turn.specs.Step.{body_of, dispatching, returned, left_source, step_call, step_iteration, step_loop, step};
+ghost use Rattle.lane_turn.specs.Turn.{stepped};
+ghost use Rattle.lane_turn.specs.Sound.{IsWithin};
+ghost use Rattle.lane_turn.specs.Meaning.{lane_of, turn_of};
+
+use crate::layer::{Call, Caller, Origin, Top};
+use crate::line::Event;
+use crate::parts::{Parts, Status};
+use crate::row::Row;
+use loop_script::{Body, Script};
+use std::alloc::{AllocError, Global};
+
+/// How far a turn has come.
+#[derive(Clone, Copy, Debug)]
+pub struct Progress {
+    /// How many actions and dispatches may still be counted.
+    pub left: u32,
+    /// Whether a loop began an iteration.
+    pub iterated: bool,
+}
+
+/// What a source calls.
+fn body(call: Option<u32>) -> Body
+    ensures { result ≡ body_of call }
+{
+    match call {
+        None => Body::Nothing,
+        Some(proc) => Body::Procedure(proc),
+    }
+}
+
+impl Parts {
+    /// A source's call returns: the source begins anew, or is destroyed.
+    fn leave_source(&mut self, script: &Script, tick: u32, body: Body, caller: Caller)
+        ensures { lane_of self.new ≡ left_source script.now tick body caller (lane_of self.old) }
+    {
+        if script.stays(body, caller.number) {
+            self.restart(caller.context, caller.id, script.now(tick));
+        } else {
+            self.destroy(caller.context, caller.id);
+        }
+    }
+
+    /// A call that has no action left returns.
+    fn end_call(&mut self, script: &Script, tick: u32, call: Call) -> Result<(), AllocError>
+        ensures { OnOk result (lane_of self.new ≡ returned script.now tick call.body call.origin (popped (lane_of self.old))) }
+    {
+        self.frames.end();
+        match call.origin {
+            Origin::Start => {
+                self.write(tick, Event::End)?;
+                self.status = Status::Ended;
+                Ok(())
+            }
+            Origin::Source(caller) => {
+                self.leave_source(script, tick, call.body, caller);
+                Ok(())
+            }
+            Origin::Invoke(_) => Ok(()),
+        }
+    }
+
+    /// A step of the innermost call.
+    fn step_call(
+        &mut self,
+        alloc: Global,
+        script: &Script,
+        tick: u32,
+        progress: &mut Progress,
+        call: Call,
+    ) -> Result<(), AllocError>
+        requires within { IsWithin (2 ^ 62) (lane_of self.old) }
+        requires top { top_of (lane_of self.old).frames ≡ Top.Call call }
+        ensures { OnOk result (turn_of self.new progress.new
+            ≡ step_call script.now tick (turn_of self.old progress.old) call (slice_get (actions_of script.now call.body) call.place)) }
+    {
+        match script.actions(call.body).get(call.place) {
+            None => self.end_call(script, tick, call),
+            Some(action) => {
+                if progress.left == 0 {
+                    return self.halt(tick, Event::HaltSteps);
+                }
+                progress.left -= 1;
+                self.frames.advance();
+                self.act(alloc, script, tick, action)
+            }
+        }
+    }
+
+    /// Begins the dispatch of a row, or halts the lane where too many calls are in progress.
+    fn begin_dispatch(&mut self, tick: u32, context: u32, row: Row) -> Result<(), AllocError>
+        requires count { row.count ≤ 2 ^ 62 }
+        requires within { IsWithin (2 ^ 62) (lane_of self.old) }
+        requires top { HasRoom (lane_of self.old).frames }
+        ensures { OnOk result (lane_of self.new ≡ dispatching tick context row (lane_of self.old)) }
+    {
+        let depth = self.frames.depth();
+        if self.frames.calls() >= 32 {
+            return self.halt(tick, Event::HaltDepth);
+        }
+        self.frames.advance();
+        self.raise(context, row.id);
+        self.write(
+            tick,
+            Event::Dispatch(context, row.id, row.priority, depth + 1),
+        )?;
+        self.frames.begin_call(Call {
+            origin: Origin::Source(Caller {
+                context,
+                id: row.id,
+                recurse: row.recurse,
+                number: row.count + 1,
+            }),
+            body: body(row.call),
+            place: 0,
+        })
+    }
+
+    /// A step of the innermost iteration.
+    fn step_iteration(
+        &mut self,
+        tick: u32,
+        progress: &mut Progress,
+        context: u32,
+        next: Option<u64>,
+        answer: Option<bool>,
+    ) -> Result<(), AllocError>
+        requires within { IsWithin (2 ^ 62) (lane_of self.old) }
+        requires top { top_of (lane_of self.old).frames ≡ Top.Iteration context next answer }
+        ensures { OnOk result (turn_of self.new progress.new ≡ step_iteration tick (turn_of self.old progress.old) context answer next) }
+    {
+        match next {
+            None => {
+                self.frames.end();
+                match answer {
+                    None => Ok(()),
+                    Some(any) => self.write(tick, Event::Iterate(context, any)),
+                }
+            }
+            Some(id) => match self.row(context, id) {
+                None => {
+                    self.frames.advance();
+                    Ok(())
+                }
+                Some(row) => {
+                    if progress.left == 0 {
+                        return self.halt(tick, Event::HaltSteps);
+                    }
+                    progress.left -= 1;
+                    self.begin_dispatch(tick, context, row)
+                }
+            },
+        }
+    }
+
+    /// A step of the innermost loop. It answers whether there is one: false where the lane rests until the next tick.
+    fn step_loop(
+        &mut self,
+        alloc: Global,
+        script: &Script,
+        tick: u32,
+        progress: &mut Progress,
+        number: u32,
+        context: u32,
+    ) -> Result<bool, AllocError>
+        requires { IsWithin (2 ^ 62) (lane_of self.old) }
+        ensures more { IfOk result (λ more. more ≡ is_some (step_loop script.now tick (turn_of self.old progress.old) number context)) }
+        ensures next { OnOk result (turn_of self.new progress.new
+            ≡ unwrap_or (step_loop script.now tick (turn_of self.old progress.old) number context) (turn_of self.old progress.old)) }
+    {
+        if !self.is_running(number) {
+            self.frames.end();
+            self.write(tick, Event::LoopEnd(number))?;
+            return Ok(true);
+        }
+        if progress.iterated {
+            return Ok(false);
+        }
+        let now = script.now(tick);
+        let ids = self.choose(alloc, now, context)?;
+        self.begin_iteration(now, context, ids, None)?;
+        progress.iterated = true;
+        Ok(true)
+    }
+
+    /// One step of what is innermost. It answers false where there is none: the lane rests, has ended or is halted.
+    pub(crate) fn step(
+        &mut self,
+        alloc: Global,
+        script: &Script,
+        tick: u32,
+        progress: &mut Progress,
+    ) -> Result<bool, AllocError>
+        requires { IsWithin (2 ^ 62) (lane_of self.old) }
+        ensures more { IfOk result (λ more. more ≡ is_some (step script.now tick (turn_of self.old progress.old))) }
+        ensures next { OnOk result (turn_of self.new progress.new ≡ stepped script.now tick (turn_of self.old progress.old)) }
+    {
+        match self.status {
+            Status::GoesOn => {}
+            _ => return Ok(false),
+        }
+        match self.frames.top() {
+            Top::Nothing => Ok(false),
+            Top::Call(call) => {
+                self.step_call(alloc, script, tick, progress, call)?;
+                Ok(true)
+            }
+            Top::Iteration(context, next, answer) => {
+                self.step_iteration(tick, progress, context, next, answer)?;
+                Ok(true)
+            }
+            Top::Loop(number, context) => {
+                self.step_loop(alloc, script, tick, progress, number, context)
+            }
+        }
+    }
+}
