@@ -229,7 +229,7 @@ mild_dispatching lane tick context row = either lane _ _ _
       within = λ m w. record {
         contexts = each_bounded (m + 1) (m + 2) (omega arith) _ (bounded_edited 0 1 m (raised row.id) (mild_raised row.id) lane.contexts context w.contexts);
         frames = omega (arith, w.frames, length_taken lane.frames);
-          };
+      };
     })
     (quiet lane _ refl refl)
 

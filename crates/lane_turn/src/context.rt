@@ -152,7 +152,7 @@ fn next_time(kind: Kind, now: u64, ready: i64) -> i64
     ensures { result ≡ next_time now kind ready }
 {
     match kind {
-        Kind::Timeout(ms) => due_after(ms, now),
+        Kind::Timeout(interval) => due_after(interval, now),
         _ => ready,
     }
 }

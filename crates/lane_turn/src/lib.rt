@@ -21,3 +21,6 @@ pub use laws::turns_end;
 pub use line::{Event, Invoked, Line, Word};
 pub use parts::Status;
 pub use state::{LaneFault, LaneState};
+
+#[cfg(test)]
+mod tests;

@@ -116,7 +116,12 @@ impl Parts {
     }
 
     /// The ids that an iteration of a context would dispatch now.
-    pub(crate) fn choose(&self, alloc: Global, now: u64, context: u32) -> Result<Vec<u64>, AllocError>
+    pub(crate) fn choose(
+        &self,
+        alloc: Global,
+        now: u64,
+        context: u32,
+    ) -> Result<Vec<u64>, AllocError>
         requires { now ≤ 2 ^ 62 }
         ensures { IfOk result (λ ids. ids.items ≡ chosen now context (lane_of self.now)) }
     {
@@ -128,7 +133,12 @@ impl Parts {
     }
 
     /// Attaches a source to a context; to another lane's nothing.
-    pub(crate) fn attach(&mut self, context: u32, spec: SourceSpec, now: u64) -> Result<(), AllocError>
+    pub(crate) fn attach(
+        &mut self,
+        context: u32,
+        spec: SourceSpec,
+        now: u64,
+    ) -> Result<(), AllocError>
         requires within { IsWithin (2 ^ 62) (lane_of self.old) }
         requires now { now ≤ 2 ^ 62 }
         ensures { OnOk result (lane_of self.new ≡ edited context (attached spec now) (lane_of self.old)) }

@@ -55,7 +55,11 @@ impl Model for LaneState {
 }
 
 /// The contexts of a script, of which those of the lane have no source yet.
-fn open_contexts(alloc: Global, script: &Script, lane: u32) -> Result<Vec<Option<Context>>, AllocError>
+fn open_contexts(
+    alloc: Global,
+    script: &Script,
+    lane: u32,
+) -> Result<Vec<Option<Context>>, AllocError>
     ensures { IfOk result (λ contexts. contexts.items ≡ open_contexts script.now lane) }
 {
     let mut contexts = Vec::new(alloc);
@@ -127,7 +131,7 @@ impl LaneState {
     ///
     /// After `OutOfMemory` the lane is spent: each later turn answers `Spent`, and nothing is promised of its trace.
     pub fn turn(&mut self, script: &Script, tick: u32) -> Result<(), LaneFault>
-        requires { IsWithin (2 ^ 61) self.old.lane }
+        requires { self.old.spent ≡ false → IsWithin (2 ^ 61) self.old.lane }
         ensures turned { OnOk result (self.new.lane ≡ turned script.now tick self.old.lane) }
         ensures within { (m : ℕ) → IsWithin m self.old.lane → OnOk result (IsWithin (m + 20001) self.new.lane) }
         ensures lasts { OnOk result (self.new.spent ≡ false) }

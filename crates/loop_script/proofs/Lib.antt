@@ -1,3 +1,4 @@
 pub mod Keys
 pub mod Counts
 pub mod Named
+pub mod Keeping

@@ -15,3 +15,4 @@ pub mod References
 pub mod Script
 pub mod Limits
 pub mod Parts
+pub mod Laws

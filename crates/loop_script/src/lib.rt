@@ -9,6 +9,7 @@ mod fault;
 mod faults;
 mod form;
 mod items;
+mod laws;
 mod number;
 mod object;
 mod outcome;
@@ -24,9 +25,13 @@ pub use action::Action;
 pub use body::Body;
 pub use fault::ScriptFault;
 pub use items::Items;
+pub use laws::no_fault_is_cleared;
 pub use outcome::Outcome;
 pub use plan::{LaneSpec, Level, Plan, Proc};
 pub use script::Script;
 pub use source::{Kind, SourceSpec};
 pub use task::TaskSpec;
 pub use tree::{Node, TaskTree};
+
+#[cfg(test)]
+mod tests;

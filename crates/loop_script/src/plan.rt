@@ -174,11 +174,7 @@ fn read_lanes(
 }
 
 /// The lanes, where they have few enough contexts together.
-fn with_few_contexts(
-    alloc: Global,
-    lanes: Items<LaneSpec>,
-    faults: &mut Faults,
-) -> Items<LaneSpec>
+fn with_few_contexts(alloc: Global, lanes: Items<LaneSpec>, faults: &mut Faults) -> Items<LaneSpec>
     requires { length lanes ≤ 64 }
     ensures value { result ≡ (few_contexts lanes).value }
     ensures faults { faults.new ≡ after faults.old (few_contexts lanes) }

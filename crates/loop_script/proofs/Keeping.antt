@@ -1,0 +1,210 @@
+-- No part of the reading clears a fault: the forms of reading first, then the parts of a script.
+use Rattle.std.proofs.Common.{◌≡◌, ℕ, Bool, true, false, cond, ◌&&◌, List, [], ◌∷◌, Option, Some, None, length, refl, ◌==◌}
+use Rattle.std.specs.Prelude.{⊤, ℤ, nat_le, int_le, is_some, option_and_then, codes, sum_by}
+use Rattle.std.specs.List.{list_all}
+use Rattle.std.specs.Str.{bytes_eq}
+use Rattle.serde_json.specs.Data.{Data, Num, unsigned, negative, float, Items, no_items, item, Members}
+use Rattle.serde_json.specs.Find.{as_number, as_null, as_array, as_object}
+use Rattle.loop_script.specs.Read.{Read, done, misshapen, beyond, ◌>>=◌, optional, nullable}
+use Rattle.loop_script.specs.Number.{number_within, whole, index, index_or_null}
+use Rattle.loop_script.specs.Object.{are_among, names, only_among, only, field}
+use Rattle.loop_script.specs.Array.{part, parts_are, arity, word}
+use Rattle.loop_script.specs.Rows.{count, each, counted, rows_of, rows, rows_or}
+use Rattle.loop_script.specs.Words.{choice}
+use Rattle.loop_script.specs.Source.{idle, kind, source_spec}
+use Rattle.loop_script.specs.Action.{attach, run, log, action, is_plain}
+use Rattle.loop_script.specs.Plan.{actions, lane, lanes, few_contexts, plain, body, procedure, plan}
+use Rattle.loop_script.specs.declared.action.Action.{Action}
+use Rattle.loop_script.specs.declared.action.Action.TheVariants.{Log}
+use Rattle.loop_script.specs.declared.source.Kind.TheVariants.{Idle}
+use Rattle.loop_script.specs.declared.plan.LaneSpec.{LaneSpec}
+use Rattle.loop_script.specs.declared.plan.Proc.{Proc}
+use Rattle.loop_script.specs.declared.faults.Faults.{Faults}
+use Rattle.loop_script.specs.Laws.{StillSeen, ClearsNone, NoFaultIsCleared}
+
+-- ---- the forms
+
+pub of_done : {A : Type 0} (x : A) → ClearsNone (done x)
+of_done x before = record { shape = λ h. h; limit = λ h. h }
+
+pub of_misshapen : {A : Type 0} (x : A) → ClearsNone (misshapen x)
+of_misshapen x before = record { shape = λ h. refl; limit = λ h. h }
+
+pub of_beyond : {A : Type 0} (x : A) → ClearsNone (beyond x)
+of_beyond x before = record { shape = λ h. h; limit = λ h. refl }
+
+pub of_next : {A B : Type 0} (r : Read A) (f : A → Read B) → ClearsNone r → ((x : A) → ClearsNone (f x)) → ClearsNone (r >>= f)
+of_next r f h k before =
+    let first = h before in
+    let second = k r.value (r.faults before) in
+    record { shape = λ s. second.shape (first.shape s); limit = λ s. second.limit (first.limit s) }
+
+of_either : {A : Type 0} (r q : Read A) (b : Bool) → ClearsNone r → ClearsNone q → ClearsNone (cond b r q)
+of_either r q true h k = h
+of_either r q false h k = k
+
+of_optional : {A : Type 0} (x : A) (f : Option Data → Read A) → ((d : Option Data) → ClearsNone (f d)) → (d : Option Data) → ClearsNone (optional x f d)
+of_optional x f h None = of_done x
+of_optional x f h (Some d) = h (Some d)
+
+of_nullable : {A : Type 0} (f : Option Data → Read A) → ((d : Option Data) → ClearsNone (f d)) → (d : Option Data) → ClearsNone (nullable f d)
+of_nullable {A = A} f h d = of_either _ _ (is_some (option_and_then as_null d)) (of_done {A = Option A} None) (of_next (f d) (λ x. done (Some x)) (h d) (λ x. of_done (Some x)))
+
+of_number : (low high : ℕ) (n : Option Num) → ClearsNone (number_within low high n)
+of_number low high None = of_misshapen low
+of_number low high (Some (unsigned n)) = of_either _ _ (nat_le low n && nat_le n high) (of_done n) (of_beyond low)
+of_number low high (Some (negative z)) = of_beyond low
+of_number low high (Some (float x)) = of_misshapen low
+
+of_whole : (low high : ℕ) (d : Option Data) → ClearsNone (whole low high d)
+unfolding whole
+of_whole low high d = of_number low high (option_and_then as_number d)
+
+of_index : (d : Option Data) → ClearsNone (index d)
+unfolding index
+of_index d = of_whole 0 4294967295 d
+
+of_index_or_null : (d : Option Data) → ClearsNone (index_or_null d)
+unfolding index_or_null
+of_index_or_null d = of_optional None (nullable index) (of_nullable index of_index) d
+
+only_by : (allowed : List (List ℕ)) (ms : Option Members) → ClearsNone (only_among allowed ms)
+only_by allowed None = of_misshapen (tt {0})
+only_by allowed (Some ms) = of_either _ _ (are_among allowed (names ms)) (of_done (tt {0})) (of_misshapen (tt {0}))
+
+of_only : (allowed : List (List ℕ)) (d : Option Data) → ClearsNone (only allowed d)
+unfolding only
+of_only allowed d = only_by allowed (option_and_then as_object d)
+
+arity_by : (n : ℕ) (ds : Option Items) → ClearsNone (parts_are n ds)
+arity_by n None = of_misshapen (tt {0})
+arity_by n (Some ds) = of_either _ _ (count ds == n) (of_done (tt {0})) (of_misshapen (tt {0}))
+
+of_arity : (n : ℕ) (d : Option Data) → ClearsNone (arity n d)
+unfolding arity
+of_arity n d = arity_by n (option_and_then as_array d)
+
+of_each : {A : Type 0} (f : Option Data → Read A) → ((d : Option Data) → ClearsNone (f d)) → (ds : Items) → ClearsNone (each f ds)
+of_each {A = A} f h no_items = of_done {A = List A} []
+of_each f h (item d ds) =
+    of_next (f (Some d)) (λ x. each f ds >>= λ xs. done (x ∷ xs)) (h (Some d)) (λ x. of_next (each f ds) (λ xs. done (x ∷ xs)) (of_each f h ds) (λ xs. of_done (x ∷ xs)))
+
+of_counted : {A : Type 0} (low high : ℕ) (xs : List A) → ClearsNone (counted low high xs)
+of_counted {A = A} low high xs = of_either _ _ (nat_le low (length xs) && nat_le (length xs) high) (of_done xs) (of_beyond {A = List A} [])
+
+rows_by : {A : Type 0} (low high : ℕ) (f : Option Data → Read A) → ((d : Option Data) → ClearsNone (f d)) → (ds : Option Items) → ClearsNone (rows_of low high f ds)
+rows_by {A = A} low high f h None = of_misshapen {A = List A} []
+rows_by low high f h (Some ds) = of_next (each f ds) (counted low high) (of_each f h ds) (of_counted low high)
+
+of_rows : {A : Type 0} (low high : ℕ) (f : Option Data → Read A) → ((d : Option Data) → ClearsNone (f d)) → (d : Option Data) → ClearsNone (rows low high f d)
+unfolding rows
+of_rows low high f h d = rows_by low high f h (option_and_then as_array d)
+
+of_rows_or : {A : Type 0} (high : ℕ) (f : Option Data → Read A) → ((d : Option Data) → ClearsNone (f d)) → (d : Option Data) → ClearsNone (rows_or high f d)
+unfolding rows_or
+of_rows_or {A = A} high f h d = of_optional {A = List A} [] (rows 0 high f) (of_rows 0 high f h) d
+
+-- a row of a table of words
+of_row : {A : Type 0} (w k : List ℕ) (r : Read A) (ps : List (List ℕ × Read A)) (other : Read A) → ClearsNone r → ClearsNone (choice w ps other) → ClearsNone (choice w ((k, r) ∷ ps) other)
+of_row w k r ps other h rest = of_either r (choice w ps other) (bytes_eq w k) h rest
+
+-- ---- the parts of a script: what one part keeps, the next ones keep
+
+same : (s : Faults) → StillSeen s s
+same s = record { shape = λ h. h; limit = λ h. h }
+
+along : {A : Type 0} (r : Read A) → ClearsNone r → (s t : Faults) → StillSeen (r.faults s) t → StillSeen s t
+along r clears s t rest = let first = clears s in record { shape = λ h. rest.shape (first.shape h); limit = λ h. rest.limit (first.limit h) }
+
+of_idle : (d : Option Data) → ClearsNone (idle d)
+unfolding idle
+of_idle d s = along (arity 1 d) (of_arity 1 d) s _ (same _)
+
+of_kind : (d : Option Data) → ClearsNone (kind d)
+unfolding kind
+of_kind d = of_row (word d) (codes "idle") (idle d) [] (misshapen Idle) (of_idle d) (of_misshapen Idle)
+
+of_source_spec : (d : Option Data) → ClearsNone (source_spec d)
+unfolding source_spec
+of_source_spec d s =
+    along (only (codes "kind" ∷ codes "call" ∷ []) d) (of_only _ d) s _ (
+    along (kind (field (codes "kind") d)) (of_kind _) _ _ (
+    along (index_or_null (field (codes "call") d)) (of_index_or_null _) _ _ (same _)))
+
+of_attach : (d : Option Data) → ClearsNone (attach d)
+unfolding attach
+of_attach d s =
+    along (arity 4 d) (of_arity 4 d) s _ (
+    along (index (part 1 d)) (of_index _) _ _ (
+    along (whole 0 255 (part 2 d)) (of_whole 0 255 _) _ _ (
+    along (source_spec (part 3 d)) (of_source_spec _) _ _ (same _))))
+
+of_run : (d : Option Data) → ClearsNone (run d)
+unfolding run
+of_run d s = along (arity 2 d) (of_arity 2 d) s _ (along (index (part 1 d)) (of_index _) _ _ (same _))
+
+of_log : (d : Option Data) → ClearsNone (log d)
+unfolding log
+of_log d s = along (arity 2 d) (of_arity 2 d) s _ (along (whole 0 4294967295 (part 1 d)) (of_whole 0 4294967295 _) _ _ (same _))
+
+of_action : (d : Option Data) → ClearsNone (action d)
+unfolding action
+of_action d =
+    let w = word d in
+    let other = misshapen (Log 0) in
+    of_row w (codes "attach") (attach d) ((codes "run", run d) ∷ (codes "log", log d) ∷ []) other (of_attach d) (
+    of_row w (codes "run") (run d) ((codes "log", log d) ∷ []) other (of_run d) (
+    of_row w (codes "log") (log d) [] other (of_log d) (of_misshapen (Log 0))))
+
+of_actions : (d : Option Data) → ClearsNone (actions d)
+unfolding actions
+of_actions d = of_rows 0 256 action of_action d
+
+of_plain : (xs : List Action) → ClearsNone (plain xs)
+of_plain xs = of_either _ _ (list_all is_plain xs) (of_done xs) (of_misshapen {A = List Action} [])
+
+of_body : (d : Option Data) → ClearsNone (body d)
+unfolding body
+of_body d s = along (actions d) (of_actions d) s _ (of_plain (actions d).value _)
+
+of_procedure : (d : Option Data) → ClearsNone (procedure d)
+unfolding procedure
+of_procedure d s = along (only (codes "do" ∷ []) d) (of_only _ d) s _ (along (body (field (codes "do") d)) (of_body _) _ _ (same _))
+
+of_lane : (d : Option Data) → ClearsNone (lane d)
+unfolding lane
+of_lane d s =
+    along (only (codes "contexts" ∷ codes "start" ∷ []) d) (of_only _ d) s _ (
+    along (whole 1 1 (field (codes "contexts") d)) (of_whole 1 1 _) _ _ (
+    along (actions (field (codes "start") d)) (of_actions _) _ _ (same _)))
+
+of_few : (ls : List LaneSpec) → ClearsNone (few_contexts ls)
+of_few ls = of_either _ _ (nat_le (sum_by (λ l. l.contexts) ls) 256) (of_done ls) (of_beyond {A = List LaneSpec} [])
+
+of_lanes : (d : Option Data) → ClearsNone (lanes d)
+unfolding lanes
+of_lanes d s = along (rows 1 1 lane d) (of_rows 1 1 lane of_lane d) s _ (of_few (rows 1 1 lane d).value _)
+
+of_plan : (d : Option Data) → ClearsNone (plan d)
+unfolding plan
+of_plan d s =
+    along (only (codes "version" ∷ codes "ticks" ∷ codes "tick_us" ∷ codes "lanes" ∷ codes "loops" ∷ codes "procs" ∷ []) d) (of_only _ d) s _ (
+    along (whole 1 1 (field (codes "version") d)) (of_whole 1 1 _) _ _ (
+    along (whole 1 4096 (field (codes "ticks") d)) (of_whole 1 4096 _) _ _ (
+    along (whole 1 1000000000 (field (codes "tick_us") d)) (of_whole 1 1000000000 _) _ _ (
+    along (lanes (field (codes "lanes") d)) (of_lanes _) _ _ (
+    along (rows_or 256 index (field (codes "loops") d)) (of_rows_or 256 index of_index _) _ _ (
+    along (rows_or 1024 procedure (field (codes "procs") d)) (of_rows_or 1024 procedure of_procedure _) _ _ (same _)))))))
+
+pub none_cleared : NoFaultIsCleared
+none_cleared = record {
+  kind = of_kind;
+  source_spec = of_source_spec;
+  action = of_action;
+  actions = of_actions;
+  body = of_body;
+  procedure = of_procedure;
+  lane = of_lane;
+  lanes = of_lanes;
+  plan = of_plan;
+}

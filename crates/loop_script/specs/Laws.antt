@@ -1,0 +1,27 @@
+-- A law of the reading: no part of it clears a fault that was seen before.
+use Rattle.std.specs.Prelude.{◌≡◌, ℕ, true, Option}
+use Rattle.serde_json.specs.Data.{Data}
+use Rattle.loop_script.specs.Read.{Read}
+use Rattle.loop_script.specs.Source.{kind, source_spec}
+use Rattle.loop_script.specs.Action.{action}
+use Rattle.loop_script.specs.Plan.{actions, lane, lanes, body, procedure, plan}
+use Rattle.loop_script.specs.declared.faults.Faults.{Faults}
+
+-- what was seen before is seen after
+pub record StillSeen (before after : Faults) : Type 0 where
+  pub shape : before.shape ≡ true → after.shape ≡ true
+  pub limit : before.limit ≡ true → after.limit ≡ true
+
+abbrev pub ClearsNone : {A : Type 0} → Read A → Type 0
+ClearsNone r = (before : Faults) → StillSeen before (r.faults before)
+
+pub record NoFaultIsCleared : Type 0 where
+  pub kind : (d : Option Data) → ClearsNone (kind d)
+  pub source_spec : (d : Option Data) → ClearsNone (source_spec d)
+  pub action : (d : Option Data) → ClearsNone (action d)
+  pub actions : (d : Option Data) → ClearsNone (actions d)
+  pub body : (d : Option Data) → ClearsNone (body d)
+  pub procedure : (d : Option Data) → ClearsNone (procedure d)
+  pub lane : (d : Option Data) → ClearsNone (lane d)
+  pub lanes : (d : Option Data) → ClearsNone (lanes d)
+  pub plan : (d : Option Data) → ClearsNone (plan d)

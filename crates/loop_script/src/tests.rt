@@ -1,0 +1,46 @@
+//! A script that is read with ample memory and tells its parts, and one that is read with memory refused.
+use crate::{Action, Body, Script, ScriptFault};
+use std::test::Fail;
+
+const FIRST_RUN: &[u8] =
+    b"{\"version\":1,\"ticks\":2,\"tick_us\":1000,\"loops\":[0],\"procs\":[{\"do\":[[\"log\",7]]}],\"lanes\":[{\"contexts\":1,\"start\":[[\"attach\",0,0,{\"kind\":[\"idle\"],\"call\":0}],[\"run\",0]]}]}";
+
+#[test]
+fn tells_its_parts(rt: HostRuntime) -> Result<(), Fail> {
+    let script = Script::read(rt.alloc(), FIRST_RUN)?;
+    assert_eq!(rt; script.ticks(), 2);
+    assert_eq!(rt; script.now(1), 1000);
+    assert_eq!(rt; script.contexts(), 1);
+    assert_eq!(rt; script.home(0), 0);
+    assert_eq!(rt; script.lanes(), 1);
+    assert_eq!(rt; script.loops(), 1);
+    assert_eq!(rt; script.actions(Body::Start(0)).len(), 2);
+    assert_eq!(rt; script.actions(Body::Nothing).len(), 0);
+    assert!(rt; !script.stays(Body::Procedure(0), 1));
+    assert!(rt; script.stays(Body::Nothing, 1));
+    Ok(())
+}
+
+#[test]
+fn tells_its_lists(rt: HostRuntime) -> Result<(), Fail> {
+    let script = Script::read(rt.alloc(), FIRST_RUN)?;
+    let lanes = script.lanes();
+    assert_eq!(rt; lanes, 1);
+    assert_eq!(rt; script.lane(0).contexts, 1);
+    match script.actions(Body::Procedure(0)) {
+        [Action::Log(n)] => assert_eq!(rt; *n, 7),
+        _ => assert!(rt; false),
+    }
+    let loops = script.loops();
+    assert_eq!(rt; loops, 1);
+    assert_eq!(rt; script.loop_context(0), 0);
+    Ok(())
+}
+
+#[test]
+fn refused_read(rt: HostRuntime) {
+    match Script::read(rt.alloc(), FIRST_RUN) {
+        Ok(script) => assert_eq!(rt; script.ticks(), 2),
+        Err(fault) => assert_eq!(rt; fault, ScriptFault::OutOfMemory),
+    }
+}
