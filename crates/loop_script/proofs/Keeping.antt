@@ -1,21 +1,22 @@
 -- No part of the reading clears a fault: the forms of reading first, then the parts of a script.
 use Rattle.std.proofs.Common.{◌≡◌, ℕ, Bool, true, false, cond, ◌&&◌, List, [], ◌∷◌, Option, Some, None, length, refl, ◌==◌}
-use Rattle.std.specs.Prelude.{⊤, ℤ, nat_le, int_le, is_some, option_and_then, codes, sum_by}
+use Rattle.std.specs.Prelude.{⊤, ℤ, pos, negsuc, nat_le, int_le, is_some, option_and_then, codes, sum_by}
 use Rattle.std.specs.List.{list_all}
 use Rattle.std.specs.Str.{bytes_eq}
 use Rattle.serde_json.specs.Data.{Data, Num, unsigned, negative, float, Items, no_items, item, Members}
 use Rattle.serde_json.specs.Find.{as_number, as_null, as_array, as_object}
 use Rattle.loop_script.specs.Read.{Read, done, misshapen, beyond, ◌>>=◌, optional, nullable}
-use Rattle.loop_script.specs.Number.{number_within, whole, index, index_or_null}
+use Rattle.loop_script.specs.Number.{number_within, whole, integer_from, integer_within, integer, index, index_or_null}
 use Rattle.loop_script.specs.Object.{are_among, names, only_among, only, field}
 use Rattle.loop_script.specs.Array.{part, parts_are, arity, word}
 use Rattle.loop_script.specs.Rows.{count, each, counted, rows_of, rows, rows_or}
 use Rattle.loop_script.specs.Words.{choice}
-use Rattle.loop_script.specs.Source.{idle, kind, source_spec}
+use Rattle.loop_script.specs.Source.{idle, timeout, ready, kind, usual_priority, priority_or, source_spec}
 use Rattle.loop_script.specs.Action.{attach, run, log, action, is_plain}
-use Rattle.loop_script.specs.Plan.{actions, lane, lanes, few_contexts, plain, body, procedure, plan}
+use Rattle.loop_script.specs.Plan.{actions, lane, lanes, few_contexts, plain, body, keep_or, procedure, plan}
 use Rattle.loop_script.specs.declared.action.Action.{Action}
 use Rattle.loop_script.specs.declared.action.Action.TheVariants.{Log}
+use Rattle.loop_script.specs.declared.source.Kind.{Kind}
 use Rattle.loop_script.specs.declared.source.Kind.TheVariants.{Idle}
 use Rattle.loop_script.specs.declared.plan.LaneSpec.{LaneSpec}
 use Rattle.loop_script.specs.declared.plan.Proc.{Proc}
@@ -72,6 +73,19 @@ only_by : (allowed : List (List ℕ)) (ms : Option Members) → ClearsNone (only
 only_by allowed None = of_misshapen (tt {0})
 only_by allowed (Some ms) = of_either _ _ (are_among allowed (names ms)) (of_done (tt {0})) (of_misshapen (tt {0}))
 
+integer_by : (low high z : ℤ) → ClearsNone (integer_from low high z)
+integer_by low high z = of_either _ _ (int_le low z && int_le z high) (of_done z) (of_beyond low)
+
+integer_within_by : (low high : ℤ) (n : Option Num) → ClearsNone (integer_within low high n)
+integer_within_by low high None = of_misshapen low
+integer_within_by low high (Some (unsigned n)) = integer_by low high (pos n)
+integer_within_by low high (Some (negative z)) = integer_by low high z
+integer_within_by low high (Some (float x)) = of_misshapen low
+
+of_integer : (low high : ℤ) (d : Option Data) → ClearsNone (integer low high d)
+unfolding integer
+of_integer low high d = integer_within_by low high (option_and_then as_number d)
+
 of_only : (allowed : List (List ℕ)) (d : Option Data) → ClearsNone (only allowed d)
 unfolding only
 of_only allowed d = only_by allowed (option_and_then as_object d)
@@ -120,16 +134,34 @@ of_idle : (d : Option Data) → ClearsNone (idle d)
 unfolding idle
 of_idle d s = along (arity 1 d) (of_arity 1 d) s _ (same _)
 
+of_timeout : (d : Option Data) → ClearsNone (timeout d)
+unfolding timeout
+of_timeout d s = along (arity 2 d) (of_arity 2 d) s _ (along (whole 0 4294967295 (part 1 d)) (of_whole 0 4294967295 _) _ _ (same _))
+
+of_ready : (d : Option Data) → ClearsNone (ready d)
+unfolding ready
+of_ready d s = along (arity 2 d) (of_arity 2 d) s _ (along (integer (negsuc 0) (pos 1000000000000000) (part 1 d)) (of_integer _ _ _) _ _ (same _))
+
 of_kind : (d : Option Data) → ClearsNone (kind d)
 unfolding kind
-of_kind d = of_row (word d) (codes "idle") (idle d) [] (misshapen Idle) (of_idle d) (of_misshapen Idle)
+of_kind d =
+    let w = word d in
+    let other = misshapen Idle in
+    of_row w (codes "idle") (idle d) ((codes "timeout", timeout d) ∷ (codes "ready", ready d) ∷ []) other (of_idle d) (
+    of_row w (codes "timeout") (timeout d) ((codes "ready", ready d) ∷ []) other (of_timeout d) (
+    of_row w (codes "ready") (ready d) [] other (of_ready d) (of_misshapen Idle)))
+
+of_priority_or : (k : Kind) (d : Option Data) → ClearsNone (priority_or k d)
+unfolding priority_or
+of_priority_or k d = of_optional (usual_priority k) (integer (negsuc 2147483647) (pos 2147483647)) (of_integer _ _) d
 
 of_source_spec : (d : Option Data) → ClearsNone (source_spec d)
 unfolding source_spec
 of_source_spec d s =
-    along (only (codes "kind" ∷ codes "call" ∷ []) d) (of_only _ d) s _ (
+    along (only (codes "kind" ∷ codes "priority" ∷ codes "call" ∷ []) d) (of_only _ d) s _ (
     along (kind (field (codes "kind") d)) (of_kind _) _ _ (
-    along (index_or_null (field (codes "call") d)) (of_index_or_null _) _ _ (same _)))
+    along (priority_or (kind (field (codes "kind") d)).value (field (codes "priority") d)) (of_priority_or _ _) _ _ (
+    along (index_or_null (field (codes "call") d)) (of_index_or_null _) _ _ (same _))))
 
 of_attach : (d : Option Data) → ClearsNone (attach d)
 unfolding attach
@@ -167,9 +199,16 @@ of_body : (d : Option Data) → ClearsNone (body d)
 unfolding body
 of_body d s = along (actions d) (of_actions d) s _ (of_plain (actions d).value _)
 
+of_keep_or : (d : Option Data) → ClearsNone (keep_or d)
+unfolding keep_or
+of_keep_or d = of_optional (Some 0) (nullable (whole 0 4294967295)) (of_nullable (whole 0 4294967295) (of_whole 0 4294967295)) d
+
 of_procedure : (d : Option Data) → ClearsNone (procedure d)
 unfolding procedure
-of_procedure d s = along (only (codes "do" ∷ []) d) (of_only _ d) s _ (along (body (field (codes "do") d)) (of_body _) _ _ (same _))
+of_procedure d s =
+    along (only (codes "do" ∷ codes "keep" ∷ []) d) (of_only _ d) s _ (
+    along (body (field (codes "do") d)) (of_body _) _ _ (
+    along (keep_or (field (codes "keep") d)) (of_keep_or _) _ _ (same _)))
 
 of_lane : (d : Option Data) → ClearsNone (lane d)
 unfolding lane

@@ -2,7 +2,7 @@
 use Rattle.std.specs.Prelude.{ℕ, List, [], ◌∷◌, codes, Option, Some, nat_le, sum_by, if◌then◌else◌}
 use Rattle.std.specs.List.{list_all}
 use Rattle.serde_json.specs.Data.{Data}
-use Rattle.loop_script.specs.Read.{Read, done, misshapen, beyond, ◌>>=◌}
+use Rattle.loop_script.specs.Read.{Read, done, misshapen, beyond, ◌>>=◌, optional, nullable}
 use Rattle.loop_script.specs.Number.{whole, index}
 use Rattle.loop_script.specs.Object.{only, field}
 use Rattle.loop_script.specs.Rows.{rows, rows_or}
@@ -36,11 +36,15 @@ plain xs = if list_all is_plain xs then done xs else misshapen []
 unfoldable pub body : Option Data → Read (List Action)
 body d = actions d >>= plain
 
+unfoldable pub keep_or : Option Data → Read (Option ℕ)
+keep_or d = optional (Some 0) (nullable (whole 0 4294967295)) d
+
 unfoldable pub procedure : Option Data → Read Proc
 procedure d = do
-  _ ← only (codes "do" ∷ []) d
+  _ ← only (codes "do" ∷ codes "keep" ∷ []) d
   actions ← body (field (codes "do") d)
-  done (record { actions = actions; keep = Some 0 })
+  keep ← keep_or (field (codes "keep") d)
+  done (record { actions = actions; keep = keep })
 
 unfoldable pub plan : Option Data → Read Plan
 plan d = do

@@ -1,8 +1,8 @@
 -- Sources and their kinds.
-use Rattle.std.specs.Prelude.{ℤ, pos, false, [], ◌∷◌, codes, Option}
+use Rattle.std.specs.Prelude.{ℤ, pos, negsuc, false, [], ◌∷◌, codes, Option}
 use Rattle.serde_json.specs.Data.{Data}
-use Rattle.loop_script.specs.Read.{Read, done, misshapen, ◌>>=◌}
-use Rattle.loop_script.specs.Number.{index_or_null}
+use Rattle.loop_script.specs.Read.{Read, done, misshapen, ◌>>=◌, optional}
+use Rattle.loop_script.specs.Number.{whole, integer, index_or_null}
 use Rattle.loop_script.specs.Object.{only, field}
 use Rattle.loop_script.specs.Array.{part, arity, word}
 use Rattle.loop_script.specs.Words.{choice}
@@ -15,8 +15,20 @@ idle d = do
   _ ← arity 1 d
   done Idle
 
+unfoldable pub timeout : Option Data → Read Kind
+timeout d = do
+  _ ← arity 2 d
+  ms ← whole 0 4294967295 (part 1 d)
+  done (Timeout ms)
+
+unfoldable pub ready : Option Data → Read Kind
+ready d = do
+  _ ← arity 2 d
+  us ← integer (negsuc 0) (pos 1000000000000000) (part 1 d)
+  done (ReadyTime us)
+
 unfoldable pub kind : Option Data → Read Kind
-kind d = choice (word d) ((codes "idle", idle d) ∷ []) (misshapen Idle)
+kind d = choice (word d) ((codes "idle", idle d) ∷ (codes "timeout", timeout d) ∷ (codes "ready", ready d) ∷ []) (misshapen Idle)
 
 -- 200 for an idle source, and 0 for any other
 abbrev pub usual_priority : Kind → ℤ
@@ -26,9 +38,13 @@ usual_priority (ReadyTime us) = pos 0
 usual_priority (Fd f bits) = pos 0
 usual_priority (Cancel c) = pos 0
 
+unfoldable pub priority_or : Kind → Option Data → Read ℤ
+priority_or k d = optional (usual_priority k) (integer (negsuc 2147483647) (pos 2147483647)) d
+
 unfoldable pub source_spec : Option Data → Read SourceSpec
 source_spec d = do
-  _ ← only (codes "kind" ∷ codes "call" ∷ []) d
+  _ ← only (codes "kind" ∷ codes "priority" ∷ codes "call" ∷ []) d
   kind ← kind (field (codes "kind") d)
+  priority ← priority_or kind (field (codes "priority") d)
   call ← index_or_null (field (codes "call") d)
-  done (record { kind = kind; priority = usual_priority kind; recurse = false; call = call })
+  done (record { kind = kind; priority = priority; recurse = false; call = call })

@@ -3,7 +3,7 @@ ghost use Rattle.std.specs.Prelude.{◌≡◌, ◌≤◌, length, sum_by, IfOk, 
 ghost use Rattle.std.specs.List.{list_all};
 ghost use Rattle.loop_script.specs.Read.{after};
 ghost use Rattle.loop_script.specs.Action.{is_plain as is_plain_action};
-ghost use Rattle.loop_script.specs.Plan.{actions, body, few_contexts, lanes, plain, plan};
+ghost use Rattle.loop_script.specs.Plan.{actions, body, few_contexts, keep_or, lanes, plain, plan};
 ghost use Rattle.loop_script.specs.Limits.{IsBounded};
 ghost use Rattle.loop_script.specs.Seen.{seen};
 
@@ -88,12 +88,25 @@ impl Form for Proc {
 
     #[tactic(auto, unfolding(crate::specs::Plan::procedure))]
     fn read(alloc: Global, value: Option<&Value>, faults: &mut Faults) -> Result<Proc, AllocError> {
-        only_keys(value, &["do"], faults);
+        only_keys(value, &["do", "keep"], faults);
         let actions = read_body(alloc, field_of(value, "do"), faults)?;
-        Ok(Proc {
-            actions,
-            keep: Some(0),
-        })
+        let keep = read_keep(field_of(value, "keep"), faults);
+        Ok(Proc { actions, keep })
+    }
+}
+
+#[tactic(auto, unfolding(crate::specs::Plan::keep_or))]
+fn read_keep(value: Option<&Value>, faults: &mut Faults) -> Option<u32>
+    ensures value { result ≡ (keep_or (seen value.entry)).value }
+    ensures faults { faults.new ≡ after faults.old (keep_or (seen value.entry)) }
+{
+    match value {
+        None => Some(0),
+        Some(given) => if given.is_null() {
+            None
+        } else {
+            Some(whole_number(value, 0, 4_294_967_295, faults) as u32)
+        },
     }
 }
 

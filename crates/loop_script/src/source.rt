@@ -1,13 +1,13 @@
 //! The sources of a script, and their reading.
 ghost use Rattle.std.specs.Prelude.{◌≡◌};
 ghost use Rattle.loop_script.specs.Read.{after};
-ghost use Rattle.loop_script.specs.Source.{kind, idle, source_spec, usual_priority as priority_of};
+ghost use Rattle.loop_script.specs.Source.{kind, idle, timeout, ready, source_spec, usual_priority as priority_of, priority_or};
 ghost use Rattle.loop_script.specs.Seen.{seen};
 
 use crate::faults::Faults;
-use crate::number::optional_index;
+use crate::number::{optional_index, signed_number, whole_number};
 use crate::object::only_keys;
-use crate::part::{check_arity, field_of, word_of};
+use crate::part::{check_arity, field_of, part_of, word_of};
 use serde_json::Value;
 
 /// What makes a source ready.
@@ -42,14 +42,26 @@ pub(crate) fn read_source(value: Option<&Value>, faults: &mut Faults) -> SourceS
     ensures value { result ≡ (source_spec (seen value.entry)).value }
     ensures faults { faults.new ≡ after faults.old (source_spec (seen value.entry)) }
 {
-    only_keys(value, &["kind", "call"], faults);
+    only_keys(value, &["kind", "priority", "call"], faults);
     let kind = read_kind(field_of(value, "kind"), faults);
+    let priority = read_priority(field_of(value, "priority"), kind, faults);
     let call = optional_index(field_of(value, "call"), faults);
     SourceSpec {
         kind,
-        priority: usual_priority(kind),
+        priority,
         recurse: false,
         call,
+    }
+}
+
+#[tactic(auto, unfolding(crate::specs::Source::priority_or))]
+fn read_priority(value: Option<&Value>, kind: Kind, faults: &mut Faults) -> i32
+    ensures value { result ≡ (priority_or kind (seen value.entry)).value }
+    ensures faults { faults.new ≡ after faults.old (priority_or kind (seen value.entry)) }
+{
+    match value {
+        None => usual_priority(kind),
+        Some(_) => signed_number(value, -2_147_483_648, 2_147_483_647, faults) as i32,
     }
 }
 
@@ -70,6 +82,8 @@ fn read_kind(value: Option<&Value>, faults: &mut Faults) -> Kind
 {
     match word_of(value) {
         "idle" => read_idle(value, faults),
+        "timeout" => read_timeout(value, faults),
+        "ready" => read_ready(value, faults),
         _ => {
             faults.shape = true;
             Kind::Idle
@@ -84,4 +98,22 @@ fn read_idle(value: Option<&Value>, faults: &mut Faults) -> Kind
 {
     check_arity(value, 1, faults);
     Kind::Idle
+}
+
+#[tactic(auto, unfolding(crate::specs::Source::timeout))]
+fn read_timeout(value: Option<&Value>, faults: &mut Faults) -> Kind
+    ensures value { result ≡ (timeout (seen value.entry)).value }
+    ensures faults { faults.new ≡ after faults.old (timeout (seen value.entry)) }
+{
+    check_arity(value, 2, faults);
+    Kind::Timeout(whole_number(part_of(value, 1), 0, 4_294_967_295, faults) as u32)
+}
+
+#[tactic(auto, unfolding(crate::specs::Source::ready))]
+fn read_ready(value: Option<&Value>, faults: &mut Faults) -> Kind
+    ensures value { result ≡ (ready (seen value.entry)).value }
+    ensures faults { faults.new ≡ after faults.old (ready (seen value.entry)) }
+{
+    check_arity(value, 2, faults);
+    Kind::ReadyTime(signed_number(part_of(value, 1), -1, 1_000_000_000_000_000, faults))
 }

@@ -1,0 +1,4 @@
+pub mod Fronts
+pub mod Inputs
+pub mod Parts
+pub mod Statuses

@@ -1,0 +1,12 @@
+use Rattle.std.proofs.Common.{◌≡◌, length}
+use Rattle.mainctx.proofs.Fronts.{Left}
+use Rattle.mainctx.proofs.writer.write_whole.Given as goal
+
+abbrev pub invariant-rest : goal.invariant-rest
+invariant-rest g l = record {
+  left : Left (g.W.Out.taken l.fn.out) (g.W.Out.taken l.out) l.rest l.text;
+  clean : g.W.Out.failures l.out ≡ g.W.Out.failures l.fn.out;
+}
+
+abbrev pub decreases-rest : goal.decreases-rest
+decreases-rest g l = length l.rest

@@ -1,0 +1,5 @@
+pub mod Text
+pub mod Writing
+pub mod Run
+pub mod Serving
+pub mod Laws

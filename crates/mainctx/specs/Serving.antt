@@ -1,0 +1,51 @@
+-- What the program does with its input, by its status.
+use Rattle.std.specs.Prelude.{◌≡◌, ℕ, List, Option, IfSome}
+use Rattle.loop_script.specs.declared.fault.ScriptFault.{ScriptFault}
+use Rattle.loop_script.specs.declared.fault.ScriptFault.TheVariants as faults
+use Rattle.mainctx.specs.Run.{Writes, WritesFront, IsFaultOf}
+use Rattle.mainctx.specs.declared.status.Refusal.{Refusal}
+use Rattle.mainctx.specs.declared.status.Refusal.TheVariants.{Usage, Script, Memory, Read, Write}
+
+-- the bytes are all that the input has left, where that is known
+abbrev pub IsRestOf : Option (List ℕ) → List ℕ → Type 0
+IsRestOf left bytes = IfSome left (λ known. bytes ≡ known)
+
+-- the text of the script that the input has left was written
+pub record Serves (left : Option (List ℕ)) (old new : List ℕ) : Type 0 where
+  pub bytes : List ℕ
+  pub input : IsRestOf left bytes
+  pub writes : Writes bytes old new
+
+-- nothing was written, and the input has left no script but bytes with this class of fault
+pub record Refuses (left : Option (List ℕ)) (fault : ScriptFault) (old new : List ℕ) : Type 0 where
+  pub bytes : List ℕ
+  pub input : IsRestOf left bytes
+  pub class : IsFaultOf bytes fault
+  pub nothing : new ≡ old
+
+-- a front of the text was written
+pub record ServesFront (left : Option (List ℕ)) (old new : List ℕ) : Type 0 where
+  pub bytes : List ℕ
+  pub input : IsRestOf left bytes
+  pub writes : WritesFront bytes old new
+
+-- the exit status of a refusal
+abbrev pub status_of : Refusal → ℕ
+status_of Usage = 1
+status_of (Script faults.NotJson) = 2
+status_of (Script faults.Shape) = 2
+status_of (Script faults.Limit) = 2
+status_of (Script faults.Reference) = 2
+status_of (Script faults.Rule) = 2
+status_of (Script faults.OutOfMemory) = 3
+status_of Memory = 3
+status_of Read = 4
+status_of Write = 4
+
+-- what a refusal leaves
+abbrev pub Leaves : Option (List ℕ) → Refusal → (old new : List ℕ) → Type 0
+Leaves left Usage old new = new ≡ old
+Leaves left (Script fault) old new = Refuses left fault old new
+Leaves left Memory old new = new ≡ old
+Leaves left Read old new = new ≡ old
+Leaves left Write old new = ServesFront left old new

@@ -1,0 +1,21 @@
+-- What one call of a writer takes and counts, and what a call that stops early leaves.
+use Rattle.std.specs.Prelude.{◌≡◌, ℕ, zero, suc, List, [], ◌∷◌, ◌++◌, take, Result, Ok, Err}
+
+-- the bytes that a write takes
+abbrev pub took : {E : Type 0} → Result ℕ E → List ℕ → List ℕ
+took (Ok n) bytes = take n bytes
+took (Err e) bytes = []
+
+-- 1 where a write failed, or took none of some bytes
+abbrev pub missed : {E : Type 0} → Result ℕ E → List ℕ → ℕ
+missed (Ok zero) [] = 0
+missed (Ok zero) (b ∷ bytes) = 1
+missed (Ok (suc n)) bytes = 0
+missed (Err e) bytes = 1
+
+-- a front of the text was added to a list
+pub record AddsFront (old new text : List ℕ) : Type 0 where
+  pub front : List ℕ
+  pub rest : List ℕ
+  pub whole : front ++ rest ≡ text
+  pub added : new ≡ old ++ front

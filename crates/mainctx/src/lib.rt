@@ -1,0 +1,22 @@
+//! From the bytes of a script to the bytes of its text, and the program around it.
+#![tactic(auto)]
+
+mod input;
+mod laws;
+mod run;
+mod status;
+mod text;
+mod words;
+mod writer;
+
+pub use input::INPUT_LIMIT;
+pub use laws::first_run;
+pub use run::{MainFault, run_bytes};
+pub use status::{Refusal, refuse, serve};
+pub use text::{OutOfMemory, add_text};
+pub use writer::{Out, OutFault, OverWrite};
+
+#[cfg(test)]
+mod edge_tests;
+#[cfg(test)]
+mod script_tests;

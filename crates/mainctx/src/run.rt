@@ -1,0 +1,101 @@
+//! From the bytes of a script to the bytes of its text.
+ghost use Rattle.std.specs.Prelude.{◌≡◌, ◌≢◌, ◌<◌, ◌↔◌, OnOk, OnErr, IfOk, IfErr, Err};
+ghost use Rattle.lane_turn.specs.Turn.{lane_at};
+ghost use Rattle.mainctx.specs.Run.{IsRunFaultOf, IsTextOf, Writes, WritesFront};
+ghost use Rattle.mainctx.specs.Text.{text_of};
+
+use crate::text::{OutOfMemory, add_text};
+use crate::writer::{Out, OutFault, write_whole};
+use lane_turn::{LaneFault, LaneState};
+use loop_script::{Script, ScriptFault};
+use std::alloc::Global;
+use thiserror::Error;
+
+/// Why a run wrote no whole text.
+#[derive(Clone, Copy, Debug, Drop, Error, PartialEq, Eq)]
+pub enum MainFault {
+    /// The bytes are no script; the class of the fault is never `OutOfMemory`.
+    #[error("script: {0}")]
+    Script(ScriptFault),
+    /// A request for memory was refused; nothing was written.
+    #[error("memory")]
+    OutOfMemory,
+    /// A write or the flush failed; a front of the text was written.
+    #[error("write")]
+    Write,
+}
+
+impl From<OutOfMemory> for MainFault {
+    ghost use Rattle.mainctx.specs.declared.run.MainFault.TheVariants as faults;
+
+    ghost from_gives = { λ _ fault. fault ≡ faults.OutOfMemory };
+
+    fn from(_: OutOfMemory) -> Self {
+        MainFault::OutOfMemory
+    }
+}
+
+/// A lane is spent only after a refusal of memory.
+impl From<LaneFault> for OutOfMemory {
+    fn from(_: LaneFault) -> Self {
+        OutOfMemory
+    }
+}
+
+/// A lane after its turns at all ticks.
+fn run_lane(alloc: Global, script: &Script, number: u32) -> Result<LaneState, OutOfMemory>
+    ensures { IfOk result (λ state. state.lane ≡ lane_at script.now number script.now.ticks) }
+{
+    let mut lane = LaneState::new(alloc, script, number)?;
+    for tick in 0..script.ticks() {
+        lane.turn(script, tick)?;
+    }
+    Ok(lane)
+}
+
+/// Runs a script to its end, and gives its text.
+fn text_of_script(alloc: Global, script: &Script) -> Result<Vec<u8>, OutOfMemory>
+    ensures { IfOk result (λ text. text.items ≡ text_of script.now) }
+{
+    let mut text = Vec::new(alloc);
+    for number in 0..script.lanes() {
+        let lane = run_lane(alloc, script, number)?;
+        add_text(&mut text, number, lane.trace())?;
+    }
+    Ok(text)
+}
+
+/// Reads and runs a script, and gives its text.
+fn text_of_bytes(alloc: Global, bytes: &[u8]) -> Result<Vec<u8>, MainFault>
+    ensures text { IfOk result (λ text. IsTextOf bytes.now text.items) }
+    ensures script { IfErr result (λ fault. IsRunFaultOf bytes.now fault) }
+    ensures not_write { result ≢ Err MainFault.Write }
+{
+    let script = match Script::read(alloc, bytes) {
+        Ok(script) => script,
+        Err(ScriptFault::OutOfMemory) => return Err(MainFault::OutOfMemory),
+        Err(fault) => return Err(MainFault::Script(fault)),
+    };
+    let text = text_of_script(alloc, &script)?;
+    Ok(text)
+}
+
+/// Reads a script, runs it on this thread, and writes its text when the run has ended.
+pub fn run_bytes<R: AllocGlobal, W: Out>(
+    _rt: &R,
+    alloc: Global,
+    bytes: &[u8],
+    out: &mut W,
+) -> Result<(), MainFault>
+    ensures text { OnOk result (Writes bytes.now (W.taken out.old) (W.taken out.new)) }
+    ensures script { IfErr result (λ fault. IsRunFaultOf bytes.now fault) }
+    ensures write { (result ≡ Err MainFault.Write) ↔ (W.failures out.old < W.failures out.new) }
+    ensures front { result ≡ Err MainFault.Write → WritesFront bytes.now (W.taken out.old) (W.taken out.new) }
+    ensures nothing { OnErr result (result ≢ Err MainFault.Write → W.taken out.new ≡ W.taken out.old) }
+{
+    let text = text_of_bytes(alloc, bytes)?;
+    match write_whole(out, text.as_slice()) {
+        Ok(()) => Ok(()),
+        Err(OutFault) => Err(MainFault::Write),
+    }
+}

@@ -1,0 +1,124 @@
+//! What the program does with its arguments, input and output.
+ghost use Rattle.std.specs.Prelude.{◌≡◌, ◌≤◌, ◌⊎◌, OnOk, IfErr};
+ghost use Rattle.mainctx.specs.Serving.{Serves, ServesFront, Leaves, status_of};
+
+use crate::input::{InputFault, read_input};
+use crate::run::{MainFault, run_bytes};
+use crate::writer::Out;
+use loop_script::ScriptFault;
+use std::alloc::Global;
+use std::io::{Read, Write};
+
+/// Why the program ended without the whole text.
+#[derive(Clone, Copy, Debug, Drop, PartialEq, Eq)]
+pub enum Refusal {
+    /// The arguments are not `WORKERS fixed|queue`, or ask for what is not there yet.
+    Usage,
+    /// The input is no script.
+    Script(ScriptFault),
+    /// A request for memory was refused.
+    Memory,
+    /// The input could not be read, or is too long.
+    Read,
+    /// The text could not be written.
+    Write,
+}
+
+impl Refusal {
+    /// The exit status.
+    fn status(self) -> u8
+        ensures { result ≡ status_of self }
+    {
+        match self {
+            Refusal::Usage => 1,
+            Refusal::Script(ScriptFault::OutOfMemory) | Refusal::Memory => 3,
+            Refusal::Script(_) => 2,
+            Refusal::Read | Refusal::Write => 4,
+        }
+    }
+
+    /// The line on standard error.
+    fn line(self) -> &'static str {
+        match self {
+            Refusal::Usage => "usage: mainctx WORKERS fixed|queue\n",
+            Refusal::Script(ScriptFault::NotJson) => "script: not json\n",
+            Refusal::Script(ScriptFault::Shape) => "script: shape\n",
+            Refusal::Script(ScriptFault::Limit) => "script: limit\n",
+            Refusal::Script(ScriptFault::Reference) => "script: reference\n",
+            Refusal::Script(ScriptFault::Rule) => "script: rule\n",
+            Refusal::Script(ScriptFault::OutOfMemory) | Refusal::Memory => "memory\n",
+            Refusal::Read => "read\n",
+            Refusal::Write => "write\n",
+        }
+    }
+}
+
+/// Writes the line of a refusal, and answers its status. That the line could not be written is no fault.
+pub fn refuse<E: Write>(refusal: Refusal, errors: &mut E) -> u8
+    ensures { result ≡ status_of refusal }
+{
+    let _ = errors.write_all(refusal.line().as_bytes());
+    refusal.status()
+}
+
+/// The number of workers of the arguments `WORKERS fixed`, WORKERS being 1 to 9 digits.
+fn workers_of(args: &[String]) -> Option<u32> {
+    let [workers, sharing] = args else {
+        return None;
+    };
+    let digits = workers.as_bytes();
+    if digits.len() > 9 || !digits.iter().all(|b| b.is_ascii_digit()) {
+        return None;
+    }
+    if sharing.as_str() != "fixed" {
+        return None;
+    }
+    workers.parse::<u32>().ok()
+}
+
+/// Does what the arguments say.
+fn attempt<X: AllocGlobal, R: Read, W: Out>(
+    rt: &X,
+    alloc: Global,
+    args: &[String],
+    input: &mut R,
+    out: &mut W,
+) -> Result<(), Refusal>
+    ensures text { OnOk result (Serves (R.remaining input.old) (W.taken out.old) (W.taken out.new)) }
+    ensures refusal { IfErr result (λ refusal. Leaves (R.remaining input.old) refusal (W.taken out.old) (W.taken out.new)) }
+{
+    let Some(1) = workers_of(args) else {
+        return Err(Refusal::Usage);
+    };
+    let script = match read_input(alloc, input) {
+        Ok(script) => script,
+        Err(InputFault::Unreadable) => return Err(Refusal::Read),
+        Err(InputFault::OutOfMemory) => return Err(Refusal::Memory),
+    };
+    match run_bytes(rt, alloc, script.as_slice(), out) {
+        Ok(()) => Ok(()),
+        Err(MainFault::Script(fault)) => Err(Refusal::Script(fault)),
+        Err(MainFault::OutOfMemory) => Err(Refusal::Memory),
+        Err(MainFault::Write) => Err(Refusal::Write),
+    }
+}
+
+/// Runs the script of `input` by the arguments, and answers the exit status: 0 where the text was written.
+pub fn serve<X: AllocGlobal, R: Read, W: Out, E: Write>(
+    rt: &X,
+    alloc: Global,
+    args: &[String],
+    input: &mut R,
+    out: &mut W,
+    errors: &mut E,
+) -> u8
+    ensures text { result ≡ 0 → Serves (R.remaining input.old) (W.taken out.old) (W.taken out.new) }
+    ensures nothing { 1 ≤ result → result ≤ 3 → W.taken out.new ≡ W.taken out.old }
+    ensures front { result ≡ 4 → (W.taken out.new ≡ W.taken out.old) ⊎ ServesFront (R.remaining input.old) (W.taken out.old) (W.taken out.new) }
+    ensures status { result ≤ 4 }
+{
+    match attempt(rt, alloc, args, input, out) {
+        Ok(()) => 0,
+        Err(refusal) => refuse(refusal, errors),
+    }
+}

@@ -1,0 +1,106 @@
+//! Writers that tell what they take and count what fails.
+ghost use Rattle.std.specs.Prelude.{◌≡◌, ℕ, ◌+◌, ◌<◌, ◌≤◌, List, [], ◌++◌, length, is_ok, if◌then◌else◌, IfOk, OnOk, OnErr};
+ghost use Rattle.mainctx.specs.Writing.{took, missed, AddsFront};
+
+use std::io::Write;
+use thiserror::Error;
+use told::Told;
+
+/// A write or a flush failed.
+#[derive(Clone, Copy, Debug, Drop, Error, PartialEq, Eq)]
+#[error("write")]
+pub struct OutFault;
+
+/// A writer that tells the bytes that it takes, and counts its failures: the calls that failed,
+/// and the writes of at least one byte that took none.
+pub trait Out {
+    ghost taken: { Self → List ℕ };
+
+    ghost failures: { Self → ℕ };
+
+    /// Takes a front of `bytes`, and answers how many.
+    fn write(&mut self, bytes: &[u8]) -> Result<usize, OutFault>
+        ensures bound { IfOk result (λ n. n ≤ length bytes.now) }
+        ensures taken { taken self.new ≡ taken self.old ++ took result bytes.now }
+        ensures failures { failures self.new ≡ failures self.old + missed result bytes.now };
+
+    /// Hands on what was taken.
+    fn flush(&mut self) -> Result<(), OutFault>
+        ensures taken { taken self.new ≡ taken self.old }
+        ensures failures { failures self.new ≡ failures self.old + (if is_ok result then 0 else 1) };
+}
+
+/// Any writer, with what it was told.
+#[derive(Drop)]
+pub struct OverWrite<W: Write> {
+    inner: W,
+    told: Told,
+}
+
+impl<W: Write> OverWrite<W> {
+    /// Begins with nothing taken and nothing failed.
+    pub fn new(inner: W) -> Self {
+        OverWrite {
+            inner,
+            told: Told::new(),
+        }
+    }
+
+    /// The writer.
+    pub fn into_inner(self) -> W
+        ensures { result ≡ self.inner }
+    {
+        let OverWrite { inner, told: _ } = self;
+        inner
+    }
+}
+
+impl<W: Write> Out for OverWrite<W> {
+    ghost taken = { λ s. s.told.taken };
+
+    ghost failures = { λ s. s.told.failures };
+
+    fn write(&mut self, bytes: &[u8]) -> Result<usize, OutFault> {
+        match self.inner.write(bytes) {
+            Ok(n) => {
+                if n == 0 && !bytes.is_empty() {
+                    self.told.failed();
+                }
+                self.told.took(&bytes[..n]);
+                Ok(n)
+            }
+            Err(_) => {
+                self.told.failed();
+                Err(OutFault)
+            }
+        }
+    }
+
+    fn flush(&mut self) -> Result<(), OutFault> {
+        match self.inner.flush() {
+            Ok(()) => Ok(()),
+            Err(_) => {
+                self.told.failed();
+                Err(OutFault)
+            }
+        }
+    }
+}
+
+/// Writes the whole text and flushes. It stops at the first failure, with a front of the text taken.
+pub(crate) fn write_whole<W: Out>(out: &mut W, text: &[u8]) -> Result<(), OutFault>
+    ensures whole { OnOk result (W.taken out.new ≡ W.taken out.old ++ text.now) }
+    ensures clean { OnOk result (W.failures out.new ≡ W.failures out.old) }
+    ensures front { OnErr result (AddsFront (W.taken out.old) (W.taken out.new) text.now) }
+    ensures failed { OnErr result (W.failures out.old < W.failures out.new) }
+{
+    let mut rest = text;
+    'rest: while !rest.is_empty() {
+        let n = out.write(rest)?;
+        if n == 0 {
+            return Err(OutFault);
+        }
+        rest = &rest[n..];
+    }
+    out.flush()
+}
