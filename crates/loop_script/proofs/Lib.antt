@@ -2,3 +2,4 @@ pub mod Keys
 pub mod Counts
 pub mod Named
 pub mod Keeping
+pub mod Readings

@@ -1,10 +1,14 @@
--- A law of the reading: no part of it clears a fault that was seen before.
-use Rattle.std.specs.Prelude.{◌≡◌, ℕ, true, Option}
+-- Laws of the reading: no part of it clears a fault that was seen before, and bytes have one reading.
+use Rattle.std.specs.Prelude.{◌≡◌, ◌≢◌, ℕ, true, List, Option, Result, Ok, Err}
 use Rattle.serde_json.specs.Data.{Data}
 use Rattle.loop_script.specs.Read.{Read}
 use Rattle.loop_script.specs.Source.{kind, source_spec}
 use Rattle.loop_script.specs.Action.{action}
 use Rattle.loop_script.specs.Plan.{actions, lane, lanes, body, procedure, plan}
+use Rattle.loop_script.specs.Script.{Answers}
+use Rattle.loop_script.specs.declared.fault.ScriptFault.{ScriptFault}
+use Rattle.loop_script.specs.declared.fault.ScriptFault.TheVariants.{OutOfMemory}
+use Rattle.loop_script.specs.declared.plan.Plan.{Plan}
 use Rattle.loop_script.specs.declared.faults.Faults.{Faults}
 
 -- what was seen before is seen after
@@ -25,3 +29,12 @@ pub record NoFaultIsCleared : Type 0 where
   pub lane : (d : Option Data) → ClearsNone (lane d)
   pub lanes : (d : Option Data) → ClearsNone (lanes d)
   pub plan : (d : Option Data) → ClearsNone (plan d)
+
+-- the script of the bytes, or the class of their fault
+abbrev pub IsReading : List ℕ → Result Plan ScriptFault → Type 0
+IsReading bytes (Ok script) = Answers bytes (Ok script)
+IsReading bytes (Err fault) = (fault ≢ OutOfMemory) × Answers bytes (Err fault)
+
+-- two scripts, two classes, or a script and a class are never both right
+abbrev pub OneReading : Type 0
+OneReading = (bytes : List ℕ) (a b : Result Plan ScriptFault) → IsReading bytes a → IsReading bytes b → a ≡ b

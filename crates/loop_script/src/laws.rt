@@ -1,7 +1,13 @@
-//! A law of the reading, as a function that does nothing.
-ghost use Rattle.loop_script.specs.Laws.{NoFaultIsCleared};
+//! Laws of the reading, as functions that do nothing.
+ghost use Rattle.loop_script.specs.Laws.{NoFaultIsCleared, OneReading};
 
 /// No part of the reading clears a fault that was seen before it, so the first class is that of all parts.
 pub fn no_fault_is_cleared()
     ensures { NoFaultIsCleared }
+{}
+
+/// Bytes have one reading: two scripts, two classes of fault, or a script and a class are never both right for them.
+/// So each class, and the script, is answered exactly for its bytes, want of memory apart.
+pub fn bytes_have_one_reading()
+    ensures { OneReading }
 {}

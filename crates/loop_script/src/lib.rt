@@ -25,7 +25,7 @@ pub use action::Action;
 pub use body::Body;
 pub use fault::ScriptFault;
 pub use items::Items;
-pub use laws::no_fault_is_cleared;
+pub use laws::{bytes_have_one_reading, no_fault_is_cleared};
 pub use outcome::Outcome;
 pub use plan::{LaneSpec, Level, Plan, Proc};
 pub use script::Script;
