@@ -3,3 +3,5 @@ pub mod Counts
 pub mod Named
 pub mod Keeping
 pub mod Readings
+pub mod Trees
+pub mod Depth

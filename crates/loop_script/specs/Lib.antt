@@ -16,3 +16,6 @@ pub mod Script
 pub mod Limits
 pub mod Parts
 pub mod Laws
+pub mod TreeDepth
+pub mod TreeForm
+pub mod TaskForm

@@ -19,7 +19,11 @@ mod references;
 mod script;
 mod source;
 mod task;
+mod task_form;
+#[cfg(test)]
+mod task_tests;
 mod tree;
+mod tree_form;
 
 pub use action::Action;
 pub use body::Body;

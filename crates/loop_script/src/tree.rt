@@ -72,3 +72,95 @@ impl TaskTree {
         Ok(TaskTree { node })
     }
 }
+
+impl TaskTree {
+    ghost use Rattle.std.specs.Prelude.{◌≤◌};
+    ghost use Rattle.loop_script.specs.Tree.{value as value_tree, fail as fail_tree, sleep as sleep_tree, check as check_tree, seq as seq_tree, both as both_tree, first as first_tree, within as within_tree};
+    ghost use Rattle.loop_script.specs.TreeDepth.{fits_in};
+
+    pub(crate) fn value(value: i64) -> TaskTree
+        ensures { result ≡ value_tree value }
+    {
+        TaskTree {
+            node: Node::Value(value),
+        }
+    }
+
+    pub(crate) fn fail() -> TaskTree
+        ensures { result ≡ fail_tree }
+    {
+        TaskTree { node: Node::Fail }
+    }
+
+    pub(crate) fn sleep(us: u64) -> TaskTree
+        requires { us ≤ 1000000000000000 }
+        ensures { result ≡ sleep_tree us }
+    {
+        TaskTree {
+            node: Node::Sleep(us),
+        }
+    }
+
+    pub(crate) fn check() -> TaskTree
+        ensures { result ≡ check_tree }
+    {
+        TaskTree { node: Node::Check }
+    }
+
+    pub(crate) fn seq(alloc: Global, a: TaskTree, b: TaskTree) -> Result<TaskTree, AllocError>
+        ensures { IfOk result (λ t. t ≡ seq_tree a b) }
+    {
+        let a = Box::new(alloc, a)?;
+        let b = Box::new(alloc, b)?;
+        Ok(TaskTree {
+            node: Node::Seq(a, b),
+        })
+    }
+
+    pub(crate) fn both(alloc: Global, a: TaskTree, b: TaskTree) -> Result<TaskTree, AllocError>
+        ensures { IfOk result (λ t. t ≡ both_tree a b) }
+    {
+        let a = Box::new(alloc, a)?;
+        let b = Box::new(alloc, b)?;
+        Ok(TaskTree {
+            node: Node::Both(a, b),
+        })
+    }
+
+    pub(crate) fn first(alloc: Global, a: TaskTree, b: TaskTree) -> Result<TaskTree, AllocError>
+        ensures { IfOk result (λ t. t ≡ first_tree a b) }
+    {
+        let a = Box::new(alloc, a)?;
+        let b = Box::new(alloc, b)?;
+        Ok(TaskTree {
+            node: Node::First(a, b),
+        })
+    }
+
+    pub(crate) fn within(alloc: Global, us: u64, a: TaskTree) -> Result<TaskTree, AllocError>
+        requires { us ≤ 1000000000000000 }
+        ensures { IfOk result (λ t. t ≡ within_tree us a) }
+    {
+        let a = Box::new(alloc, a)?;
+        Ok(TaskTree {
+            node: Node::Within(us, a),
+        })
+    }
+
+    /// Whether the tree goes so deep at most.
+    #[tactic(auto, using(crate::proofs::Depth::fits_none))]
+    pub(crate) fn fits(&self, levels: u8) -> bool
+        ensures { result ≡ fits_in levels self.now }
+    {
+        if levels == 0 {
+            return false;
+        }
+        match &self.node {
+            Node::Seq(a, b) => a.fits(levels - 1) && b.fits(levels - 1),
+            Node::Both(a, b) => a.fits(levels - 1) && b.fits(levels - 1),
+            Node::First(a, b) => a.fits(levels - 1) && b.fits(levels - 1),
+            Node::Within(_, a) => a.fits(levels - 1),
+            _ => true,
+        }
+    }
+}

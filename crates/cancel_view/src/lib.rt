@@ -1,0 +1,13 @@
+//! Cancellables as one lane sees them: which of them it has seen cancelled, and the handlers that it has connected.
+#![tactic(auto)]
+
+mod handler;
+mod handlers;
+mod memory;
+#[cfg(test)]
+mod tests;
+mod view;
+
+pub use handler::{Connected, Fired, Handler};
+pub use memory::OutOfMemory;
+pub use view::View;

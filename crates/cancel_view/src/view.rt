@@ -1,0 +1,106 @@
+//! A lane's view of the cancellables, with its handlers.
+ghost use Rattle.std.specs.Prelude.{◌≡◌, ◌+◌, ◌<◌, ◌^◌, [], Some, None, false, length, replicate, IfOk, OnOk, OnErr, option_map, if◌then◌else◌};
+
+use crate::handler::{Connected, Fired, Handler};
+use crate::handlers::{handlers_of, holds, remove};
+use crate::memory::OutOfMemory;
+use std::alloc::Global;
+use std::marker::Model;
+
+/// Which cancellables a lane has seen cancelled, and its handlers of them. Cancellables go by their number, from 0 on.
+#[derive(Drop)]
+pub struct View {
+    members: Vec<bool>,
+    handlers: Vec<Handler>,
+    next_id: u64,
+}
+
+impl Model for View {
+    ghost use Rattle.cancel_view.specs.Seen.{Seen, IsSound};
+
+    ghost Value = { Seen };
+
+    ghost view = { λ v. record { members = v.members.items; handlers = v.handlers.items; next_id = v.next_id } };
+
+    ghost invariant = { λ v. IsSound (record { members = v.members.items; handlers = v.handlers.items; next_id = v.next_id }) };
+}
+
+impl View {
+    ghost use Rattle.cancel_view.specs.Seen.{has, fired, cancelled, connected, connecting, without, may_disconnect, IsRising};
+
+    /// The view of a lane that has seen none of n cancellables cancelled, with no handler.
+    pub fn new(alloc: Global, n: u32) -> Result<View, OutOfMemory>
+        ensures { IfOk result (λ v. v ≡ record { members = replicate n false; handlers = []; next_id = 1 }) }
+    {
+        let members = vec![in alloc; false; n as usize]?;
+        Ok(View {
+            members,
+            handlers: Vec::new(alloc),
+            next_id: 1,
+        })
+    }
+
+    /// Whether the view has the cancellable.
+    pub fn is_cancelled(&self, c: u32) -> bool
+        requires { c < length self.now.members }
+        ensures { result ≡ has c self.now }
+    {
+        self.members[c as usize]
+    }
+
+    /// Brings a cancellable into the view, and gives the handlers to call, by rising id; they stay connected. None
+    /// where the view had it. After `OutOfMemory` the view is unchanged.
+    #[tactic(auto, using(crate::proofs::Rising::rise_fired))]
+    pub fn cancel(&mut self, alloc: Global, c: u32) -> Result<Option<Vec<Fired>>, OutOfMemory>
+        requires { c < length self.old.members }
+        ensures fired { IfOk result (λ f. option_map (λ v. v.items) f ≡ (if has c self.old then None else Some (fired c self.old))) }
+        ensures rising { IsRising (fired c self.old) }
+        ensures view { OnOk result (self.new ≡ cancelled c self.old) }
+        ensures same { OnErr result (self.new ≡ self.old) }
+    {
+        if self.members[c as usize] {
+            return Ok(None);
+        }
+        let fired = handlers_of(alloc, &self.handlers, c)?;
+        self.members[c as usize] = true;
+        Ok(Some(fired))
+    }
+
+    /// Connects a handler, where the view does not have its cancellable. After `OutOfMemory` the view is unchanged.
+    #[tactic(auto, using(crate::proofs::Rising::rise_pushed))]
+    pub fn connect(&mut self, c: u32, proc: u32) -> Result<Connected, OutOfMemory>
+        requires within { c < length self.old.members }
+        requires room { self.old.next_id < 2 ^ 63 }
+        ensures answer { IfOk result (λ r. r ≡ connecting c self.old) }
+        ensures view { OnOk result (self.new ≡ connected c proc self.old) }
+        ensures same { OnErr result (self.new ≡ self.old) }
+    {
+        if self.members[c as usize] {
+            return Ok(Connected::Already);
+        }
+        let id = self.next_id;
+        let handler = Handler {
+            id,
+            cancellable: c,
+            proc,
+        };
+        self.handlers.push(handler).map_err(|_| OutOfMemory)?;
+        self.next_id = id + 1;
+        Ok(Connected::Id(id))
+    }
+
+    /// Disconnects the handler that has the id; false where there is none. The id 0 is that of no handler: it is
+    /// always true, and does nothing.
+    #[tactic(auto, using(crate::proofs::Rising::rise_filtered))]
+    pub fn disconnect(&mut self, id: u64) -> bool
+        ensures answer { result ≡ may_disconnect id self.old }
+        ensures view { self.new ≡ without id self.old }
+    {
+        if id == 0 {
+            return true;
+        }
+        let found = holds(&self.handlers, id);
+        remove(&mut self.handlers, id);
+        found
+    }
+}

@@ -1,0 +1,10 @@
+pub mod Late
+pub mod Wakes
+pub mod Replies
+pub mod Waiting
+pub mod PollSteps
+pub mod PollAll
+pub mod Soonest
+pub mod Quiet
+pub mod Once
+pub mod Going

@@ -1,0 +1,94 @@
+-- The tasks of a lane, as callers of the book see them.
+use Rattle.std.specs.Prelude.{◌≡◌, ℕ, ◌+◌, ◌<◌, ◌==◌, ◌++◌, Bool, true, false, not, ◌&&◌, is_some, Option, Some, None, List, [], ◌∷◌, map, filter, length, option_map, option_to_list, if◌then◌else◌}
+use Rattle.std.specs.List.{list_any}
+use Rattle.loop_script.specs.declared.task.TaskSpec.{TaskSpec}
+use Rattle.cancel_view.specs.Seen.{Seen, has}
+use Rattle.task_steps.specs.declared.entry.Reply.{Reply}
+use Rattle.task_steps.specs.Reply.{reply_of_task}
+use Rattle.task_steps.specs.Run.{StaysSet, IsAfter}
+use Rattle.task_steps.specs.Rest.{sooner}
+use Rattle.task_steps.specs.Task.{Task, noticed, body_end, reply_in, is_late_in, MayComeTo}
+
+-- the tasks whose body has not ended, in start order; the tick of the last poll or start, and a tick that no poll may pass over
+pub record Book : Type 0 where
+  pub tick_us : ℕ
+  pub tasks : List Task
+  pub next : ℕ
+  pub last : Option ℕ
+  pub wake : Option ℕ
+  pub spent : Bool
+
+abbrev pub started : ℕ → ℕ → TaskSpec → ℕ → ℕ → Task
+started tick_us number spec ctx tick = record { number = number; ctx = ctx; call = spec.call; priority = spec.priority; cancel = spec.cancel; check = spec.check; return_on_cancel = spec.return_on_cancel; tree = spec.tree; tick_us = tick_us; first = tick + 1; clear = None; cancelled = None }
+
+-- a book with one more task, started in a tick
+abbrev pub with_task : TaskSpec → ℕ → ℕ → Book → Book
+with_task spec ctx tick b = record b { tasks = b.tasks ++ started b.tick_us b.next spec ctx tick ∷ []; next = b.next + 1; last = Some tick; wake = sooner b.wake (Some (tick + 1)) }
+
+-- a book after a refusal of memory
+abbrev pub exhausted : Book → Book
+exhausted b = record b { tasks = []; last = None; wake = None; spent = true }
+
+-- a task is started in the tick of the last poll, or before any
+abbrev pub IsStart : ℕ → Option ℕ → Type 0
+IsStart tick None = Unit {0}
+IsStart tick (Some last) = last ≡ tick
+
+abbrev pub IsNext : ℕ → Option ℕ → Type 0
+IsNext tick None = Unit {0}
+IsNext tick (Some last) = last < tick
+
+-- whether a view has a task's cancellable
+abbrev pub sees : Seen → Option ℕ → Bool
+sees view None = false
+sees view (Some c) = has c view
+
+abbrev pub noticed_in : ℕ → Seen → Task → Task
+noticed_in tick view t = noticed tick (sees view t.cancel) t
+
+-- the tasks after a poll of all of them
+abbrev pub all_noticed : ℕ → Seen → List Task → List Task
+all_noticed tick view ts = map (noticed_in tick view) ts
+
+abbrev pub IsIn : Seen → Option ℕ → Type 0
+IsIn view None = Unit {0}
+IsIn view (Some c) = c < length view.members
+
+-- the view has the cancellables of the tasks, and all that it had
+abbrev pub HasGrown : Seen → List Task → Type 0
+HasGrown view [] = Unit {0}
+HasGrown view (t ∷ ts) = IsIn view t.cancel × StaysSet t.cancelled (sees view t.cancel) × HasGrown view ts
+
+-- from when on each task may be seen as cancelled, by its number
+abbrev pub MayComeToAll : (ℕ → Option ℕ) → List Task → Type 0
+MayComeToAll c [] = Unit {0}
+MayComeToAll c (t ∷ ts) = MayComeTo t (c t.number) × MayComeToAll c ts
+
+-- the replies and late numbers of a tick
+abbrev pub replies_in : ℕ → (ℕ → Option ℕ) → List Task → List Reply
+replies_in tick c [] = []
+replies_in tick c (t ∷ ts) = option_to_list (option_map (reply_of_task t) (reply_in tick t.return_on_cancel (c t.number) (body_end t (c t.number)))) ++ replies_in tick c ts
+
+abbrev pub late_in : ℕ → (ℕ → Option ℕ) → List Task → List ℕ
+late_in tick c [] = []
+late_in tick c (t ∷ ts) = (if is_late_in tick t.return_on_cancel (c t.number) (body_end t (c t.number)) then t.number ∷ [] else []) ++ late_in tick c ts
+
+abbrev pub goes_on : ℕ → (ℕ → Option ℕ) → Task → Bool
+goes_on tick c t = not ((body_end t (c t.number)).tick == tick)
+
+-- no poll in the tick replies, is late or ends a task
+abbrev pub IsIdle : ℕ → (ℕ → Option ℕ) → List Task → Type 0
+IsIdle tick c ts = (replies_in tick c ts ≡ []) × (late_in tick c ts ≡ []) × (filter (goes_on tick c) ts ≡ ts)
+
+-- a poll in the next tick replies that the task is cancelled
+abbrev pub replies_next : Seen → Task → Bool
+replies_next view t = t.return_on_cancel && (sees view t.cancel && not (is_some t.cancelled))
+
+-- a tick before which no poll does anything while the view stays: the next one where a cancelled task's reply is due
+abbrev pub wake_under : ℕ → Seen → Book → Option ℕ
+wake_under tick view b = if list_any (replies_next view) b.tasks then Some (tick + 1) else b.wake
+
+-- after a tick and before the wake every poll is idle, while the view stays, whatever comes later
+abbrev pub IsQuietTo : Option ℕ → ℕ → Seen → List Task → Type 0
+IsQuietTo wake tick view ts =
+    (later : ℕ) (c : ℕ → Option ℕ) → tick < later → IsAfter later wake → MayComeToAll c (all_noticed later view ts) → IsIdle later c ts

@@ -1,0 +1,12 @@
+pub mod End
+pub mod Moments
+pub mod Rest
+pub mod Run
+pub mod RunInside
+pub mod Task
+pub mod Book
+pub mod BookInside
+pub mod Reply
+pub mod Polls
+pub mod Once
+pub mod Going

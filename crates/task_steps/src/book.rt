@@ -1,0 +1,186 @@
+//! The tasks of a lane.
+ghost use Rattle.std.specs.Prelude.{◌≡◌, ℕ, ◌+◌, ◌<◌, ◌≤◌, ◌^◌, ◌↔◌, [], Option, None, Some, false, IsTrue, IfOk, OnOk, OnErr, filter};
+
+use crate::entries::{add_entry, keep_waiting, new_entry};
+use crate::entry::{Entry, Reply};
+use crate::polls::{poll_each, reply_next, wake_of_each};
+use cancel_view::View;
+use loop_script::{Items, TaskSpec};
+use std::alloc::{AllocError, Global};
+use std::marker::Model;
+use std::mem;
+use thiserror::Error;
+
+/// Why a call of a book was refused.
+#[derive(Clone, Copy, Debug, PartialEq, Eq, Error)]
+pub enum BookFault {
+    /// An earlier call was refused memory.
+    #[error("spent")]
+    Spent,
+    #[error("memory")]
+    OutOfMemory,
+}
+
+/// What a poll of all tasks gives, in start order.
+#[derive(Drop)]
+pub struct Polled {
+    pub replies: Items<Reply>,
+    /// The numbers of the tasks whose body ended in the tick, with the reply sent as cancelled before or in it.
+    pub late: Items<u64>,
+}
+
+/// The tasks of a lane whose bodies have not ended. After a refusal of memory it holds none, and answers `Spent`.
+#[derive(Drop)]
+pub struct TaskBook {
+    alloc: Global,
+    tick_us: u64,
+    entries: Vec<Entry>,
+    next: u64,
+    last: Option<u32>,
+    spent: bool,
+}
+
+impl Model for TaskBook {
+    ghost use Rattle.std.specs.Prelude.{map};
+    ghost use Rattle.std.specs.Coded.{codes};
+    ghost use Rattle.loop_script.specs.Tree.{tree_code};
+    ghost use Rattle.task_steps.specs.Book.{Book};
+
+    ghost Value = { Book };
+
+    ghost coded = { Prim.hlevel (codes, tree_code) };
+
+    ghost use Rattle.task_steps.specs.Task.{task_of};
+    ghost use Rattle.task_steps.specs.BookInside.{IsKept, wake_of_all};
+
+    ghost view = { λ b. record { tick_us = b.tick_us; tasks = map task_of b.entries.items; next = b.next; last = b.last; wake = wake_of_all b.entries.items; spent = b.spent } };
+
+    ghost invariant = { λ b. IsKept b.tick_us b.last b.spent b.entries.items };
+}
+
+impl TaskBook {
+    ghost use Rattle.task_steps.specs.Book.{with_task, exhausted, IsStart, IsNext, HasGrown, MayComeToAll, all_noticed, replies_in, late_in, goes_on, wake_under, IsQuietTo};
+    ghost use Rattle.task_steps.specs.Run.{IsUpTo, IsAfter};
+    ghost use Rattle.task_steps.specs.RunInside.{IsBy};
+
+    /// A book with no task, for ticks of so many microseconds.
+    pub fn new(alloc: Global, tick_us: u64) -> TaskBook
+        requires some { 0 < tick_us }
+        requires short { tick_us ≤ 1000000000 }
+        ensures { result ≡ record { tick_us = tick_us; tasks = []; next = 0; last = None; wake = None; spent = false } }
+    {
+        TaskBook {
+            alloc,
+            tick_us,
+            entries: Vec::new(alloc),
+            next: 0,
+            last: None,
+            spent: false,
+        }
+    }
+
+    /// Starts a task whose reply goes to a context, and gives its number, from 0 on. It is first polled in the next
+    /// tick. After `OutOfMemory` the book is spent.
+    #[tactic(auto, using(crate::proofs::Waiting::spent_forgets))]
+    pub fn start(&mut self, spec: &TaskSpec, ctx: u32, tick: u32) -> Result<u64, BookFault>
+        requires room { self.old.next < 2 ^ 63 }
+        requires tick { tick < 2 ^ 31 }
+        requires last { IsStart tick self.old.last }
+        ensures number { IfOk result (λ n. n ≡ self.old.next) }
+        ensures ok { OnOk result (self.new ≡ with_task spec.now ctx tick self.old) }
+        ensures spent { (result ≡ Err BookFault.Spent) ↔ IsTrue self.old.spent }
+        ensures err { OnErr result (self.new ≡ exhausted self.old) }
+    {
+        if self.spent {
+            return Err(BookFault::Spent);
+        }
+        let number = self.next;
+        if self.add(spec, ctx, tick).is_err() {
+            self.exhaust();
+            return Err(BookFault::OutOfMemory);
+        }
+        Ok(number)
+    }
+
+    /// Adds a task to a book that is not spent.
+    #[tactic(auto, using(crate::proofs::Waiting::waiting_added, crate::proofs::Waiting::map_added, crate::proofs::PollAll::wake_added))]
+    fn add(&mut self, spec: &TaskSpec, ctx: u32, tick: u32) -> Result<(), AllocError>
+        requires room { self.old.next < 2 ^ 63 }
+        requires tick { tick < 2 ^ 31 }
+        requires last { IsStart tick self.old.last }
+        requires goes_on { self.old.spent ≡ false }
+        ensures ok { OnOk result (self.new ≡ with_task spec.now ctx tick self.old) }
+        ensures err { OnErr result (self.new ≡ self.old) }
+    {
+        let entry = new_entry(self.alloc, spec, ctx, tick, self.next, self.tick_us)?;
+        add_entry(&mut self.entries, entry)?;
+        self.next += 1;
+        self.last = Some(tick);
+        Ok(())
+    }
+
+    /// Forgets the tasks, once memory was refused.
+    fn exhaust(&mut self)
+        ensures { self.new ≡ exhausted self.old }
+    {
+        self.entries = Vec::new(self.alloc);
+        self.last = None;
+        self.spent = true;
+    }
+
+    /// Polls each task in start order. After `OutOfMemory` the book is spent.
+    #[tactic(auto, using(crate::proofs::PollAll::wakes_later_all, crate::proofs::Waiting::kept_none, crate::proofs::Waiting::spent_forgets))]
+    pub fn poll_all(&mut self, alloc: Global, tick: u32, view: &View) -> Result<Polled, BookFault>
+        requires tick { tick < 2 ^ 31 }
+        requires last { IsNext tick self.old.last }
+        requires wake { IsUpTo tick self.old.wake }
+        requires view { HasGrown view.now self.old.tasks }
+        ensures replies { (c : ℕ → Option ℕ) → MayComeToAll c (all_noticed tick view.now self.old.tasks)
+            → IfOk result (λ p. p.replies ≡ replies_in tick c (all_noticed tick view.now self.old.tasks)) }
+        ensures late { (c : ℕ → Option ℕ) → MayComeToAll c (all_noticed tick view.now self.old.tasks)
+            → IfOk result (λ p. p.late ≡ late_in tick c (all_noticed tick view.now self.old.tasks)) }
+        ensures tasks { (c : ℕ → Option ℕ) → MayComeToAll c (all_noticed tick view.now self.old.tasks)
+            → OnOk result (self.new.tasks ≡ filter (goes_on tick c) (all_noticed tick view.now self.old.tasks)) }
+        ensures rest { OnOk result (self.new ≡ record self.old { tasks = self.new.tasks; last = Some tick; wake = self.new.wake }) }
+        ensures wake { OnOk result (IsAfter tick self.new.wake) }
+        ensures view { OnOk result (HasGrown view.now self.new.tasks) }
+        ensures spent { (result ≡ Err BookFault.Spent) ↔ IsTrue self.old.spent }
+        ensures err { OnErr result (self.new ≡ exhausted self.old) }
+    {
+        if self.spent {
+            return Err(BookFault::Spent);
+        }
+        let mut replies = Vec::new(alloc);
+        let mut late = Vec::new(alloc);
+        let mut entries = mem::replace(&mut self.entries, Vec::new(self.alloc));
+        let Ok(()) = poll_each(&mut entries, tick, view, &mut replies, &mut late) else {
+            self.exhaust();
+            return Err(BookFault::OutOfMemory);
+        };
+        keep_waiting(&mut entries);
+        self.entries = entries;
+        self.last = Some(tick);
+        Ok(Polled {
+            replies: Items::from_vec(replies),
+            late: Items::from_vec(late),
+        })
+    }
+
+    /// A tick above the given one before which no poll gives anything or ends a task, while the view stays; none where no
+    /// poll ever does. A task's first poll is not passed over. The tick is that of the last poll, or a later one below
+    /// this answer.
+    pub fn next_wake(&self, tick: u32, view: &View) -> Option<u64>
+        requires last { IsBy tick self.now.last }
+        requires wake { IsAfter tick self.now.wake }
+        requires view { HasGrown view.now self.now.tasks }
+        ensures wake { result ≡ wake_under tick view.now self.now }
+        ensures later { IsAfter tick result }
+        ensures quiet { IsQuietTo result tick view.now self.now.tasks }
+    {
+        if reply_next(&self.entries, view) {
+            Some(u64::from(tick) + 1)
+        } else {
+            wake_of_each(&self.entries)
+        }
+    }
+}

@@ -1,0 +1,55 @@
+//! Lists of tasks.
+ghost use Rattle.std.specs.Prelude.{◌≡◌, ◌+◌, ◌<◌, ◌≤◌, ◌^◌, ◌++◌, ◌∷◌, [], IfOk, OnOk, OnErr, filter};
+ghost use Rattle.task_steps.specs.Task.{task_of, is_waiting};
+ghost use Rattle.task_steps.specs.Book.{started};
+ghost use Rattle.task_steps.specs.declared.stage.Stage.TheVariants.{Fresh};
+
+use crate::entry::Entry;
+use crate::run::TaskRun;
+use loop_script::TaskSpec;
+use std::alloc::{AllocError, Global};
+
+/// A task that is first polled in the tick after the given one.
+pub(crate) fn new_entry(
+    alloc: Global,
+    spec: &TaskSpec,
+    ctx: u32,
+    tick: u32,
+    number: u64,
+    tick_us: u64,
+) -> Result<Entry, AllocError>
+    requires some { 0 < tick_us }
+    requires short { tick_us ≤ 1000000000 }
+    requires tick { tick < 2 ^ 31 }
+    ensures task { IfOk result (λ e. task_of e ≡ started tick_us number spec.now ctx tick) }
+    ensures stage { IfOk result (λ e. e.run.stage ≡ Fresh) }
+{
+    let run = TaskRun::new(alloc, &spec.tree, tick_us)?;
+    Ok(Entry {
+        number,
+        ctx,
+        first: tick + 1,
+        call: spec.call,
+        priority: spec.priority,
+        cancel: spec.cancel,
+        check: spec.check,
+        return_on_cancel: spec.return_on_cancel,
+        run,
+    })
+}
+
+/// Adds a task at the end.
+pub(crate) fn add_entry(entries: &mut Vec<Entry>, entry: Entry) -> Result<(), AllocError>
+    ensures ok { OnOk result (entries.new.items ≡ entries.old.items ++ entry ∷ []) }
+    ensures err { OnErr result (entries.new.items ≡ entries.old.items) }
+{
+    entries.push(entry)?;
+    Ok(())
+}
+
+/// Removes the tasks whose body has ended.
+pub(crate) fn keep_waiting(entries: &mut Vec<Entry>)
+    ensures { entries.new.items ≡ filter is_waiting entries.old.items }
+{
+    entries.retain(|e| !e.run.is_done());
+}

@@ -1,0 +1,128 @@
+//! The run of one task.
+ghost use Rattle.std.specs.Prelude.{◌≡◌, ℕ, ◌+◌, ◌<◌, ◌≤◌, None, is_some, IfOk, IsTrue, ◌↔◌};
+
+use crate::stage::{Stage, clear_to, seen_from, set_to};
+use crate::steps::Steps;
+use loop_script::{Outcome, TaskTree};
+use std::alloc::{AllocError, Global};
+use std::marker::Model;
+
+/// A task in progress, as a tree of steps that are polled.
+///
+/// In each tick in which it is polled, `set_tick` comes first, then `poll`. It is begun in the tick that is set first.
+/// Ticks may be passed over, but none at which a wait ends (`next_wake`).
+#[derive(Drop)]
+pub struct TaskRun {
+    tree: TaskTree,
+    tick_us: u64,
+    steps: Steps,
+    stage: Stage,
+    clear: Option<u32>,
+    cancelled: Option<u32>,
+}
+
+impl Model for TaskRun {
+    ghost use Rattle.task_steps.specs.Run.{Run};
+
+    ghost Value = { Run };
+
+    ghost use Rattle.std.specs.Coded.{codes};
+    ghost use Rattle.loop_script.specs.Tree.{tree_code};
+    ghost use Rattle.task_steps.specs.contracts.stage.Stage as stages;
+
+    ghost coded = { Prim.hlevel (codes, tree_code, stages.the_row.coded) };
+
+    ghost use Rattle.task_steps.specs.RunInside.{IsCarried, wake_in};
+
+    ghost view = { λ r. record { tree = r.tree; tick_us = r.tick_us; stage = r.stage; clear = r.clear; cancelled = r.cancelled; wake = wake_in r.stage r.steps } };
+
+    ghost invariant = { λ r. IsCarried r.tick_us r.tree r.steps r.clear r.cancelled r.stage };
+}
+
+impl TaskRun {
+    ghost use Rattle.task_steps.specs.Run.{MaySet, StaysSet, IsSet, Answered, WakesLater, NoneBefore, set_to, seen_from, clear_to, stage_after};
+    ghost use Rattle.task_steps.specs.declared.stage.Stage.TheVariants.{Fresh, Done};
+
+    /// A task that no poll has begun, with all the memory that it will take; a tick is so many microseconds long.
+    pub fn new(alloc: Global, tree: &TaskTree, tick_us: u64) -> Result<TaskRun, AllocError>
+        requires some { 0 < tick_us }
+        requires short { tick_us ≤ 1000000000 }
+        ensures { IfOk result (λ r. r ≡ record { tree = tree.now; tick_us = tick_us; stage = Fresh; clear = None; cancelled = None; wake = None }) }
+    {
+        let steps = Steps::of(alloc, tree, tick_us)?;
+        let tree = tree.copy(alloc)?;
+        Ok(TaskRun {
+            tree,
+            tick_us,
+            steps,
+            stage: Stage::Fresh,
+            clear: None,
+            cancelled: None,
+        })
+    }
+
+    /// Says in which tick the next poll is, and whether the task's cancellable is seen as cancelled in it.
+    pub fn set_tick(&mut self, tick: u32, cancelled: bool)
+        requires rising { MaySet tick self.old.stage self.old.wake }
+        requires stays { StaysSet self.old.cancelled cancelled }
+        ensures { self.new ≡ record self.old { stage = set_to tick self.old.stage; clear = clear_to tick cancelled self.old.clear; cancelled = seen_from tick cancelled self.old.cancelled; wake = None } }
+    {
+        self.stage = set_to(self.stage, tick);
+        self.clear = clear_to(tick, cancelled, self.clear);
+        self.cancelled = seen_from(tick, cancelled, self.cancelled);
+    }
+
+    /// Whether a tick was set as cancelled.
+    pub(crate) fn was_cancelled(&self) -> bool
+        ensures { result ≡ is_some self.now.cancelled }
+    {
+        self.cancelled.is_some()
+    }
+
+    /// Whether no tick was set.
+    pub(crate) fn is_fresh(&self) -> bool
+        ensures { IsTrue result ↔ (self.now.stage ≡ Fresh) }
+    {
+        matches!(self.stage, Stage::Fresh)
+    }
+
+    /// Whether the task has ended.
+    pub fn is_done(&self) -> bool
+        ensures { IsTrue result ↔ (self.now.stage ≡ Done) }
+    {
+        matches!(self.stage, Stage::Done)
+    }
+
+    /// The outcome, where the task ends in the tick that was set; none where it is pending.
+    #[tactic(auto, using(crate::proofs::Wakes::wakes_later_now, crate::proofs::Wakes::seen_now, crate::proofs::Late::not_before, crate::proofs::Wakes::none_before_wake))]
+    pub fn poll(&mut self) -> Option<Outcome>
+        requires { IsSet self.old.stage }
+        ensures answer { Answered self.old result }
+        ensures stays { self.new ≡ record self.old { stage = stage_after self.old.stage result; wake = self.new.wake } }
+        ensures wakes { WakesLater self.new }
+        ensures end { NoneBefore self.new self.new.wake }
+    {
+        match self.stage {
+            Stage::Set { begun, tick } => {
+                let answer = self.steps.poll(tick, self.cancelled.is_some());
+                self.stage = match answer {
+                    None => Stage::Polled { begun, tick },
+                    Some(_) => Stage::Done,
+                };
+                answer
+            }
+            _ => None,
+        }
+    }
+
+    /// The least tick at which a sleep or limit in progress ends; none for a done one. The task ends in none before it.
+    pub fn next_wake(&self) -> Option<u64>
+        ensures wake { result ≡ self.now.wake }
+        ensures end { NoneBefore self.now self.now.wake }
+    {
+        match self.stage {
+            Stage::Polled { .. } => self.steps.next_wake(),
+            _ => None,
+        }
+    }
+}

@@ -1,0 +1,133 @@
+//! For tests: trees made by hand, and trees from a seed.
+ghost use Rattle.std.specs.Prelude.{◌<◌, ◌≤◌};
+
+use loop_script::{Node, TaskTree};
+use std::alloc::{AllocError, Global};
+
+pub(crate) fn value(value: i64) -> TaskTree {
+    TaskTree {
+        node: Node::Value(value),
+    }
+}
+
+pub(crate) fn fail() -> TaskTree {
+    TaskTree { node: Node::Fail }
+}
+
+pub(crate) fn check() -> TaskTree {
+    TaskTree { node: Node::Check }
+}
+
+pub(crate) fn sleep(us: u64) -> TaskTree
+    requires { us ≤ 1000000000000000 }
+{
+    TaskTree {
+        node: Node::Sleep(us),
+    }
+}
+
+pub(crate) fn seq(alloc: Global, a: TaskTree, b: TaskTree) -> Result<TaskTree, AllocError> {
+    let a = Box::new(alloc, a)?;
+    let b = Box::new(alloc, b)?;
+    Ok(TaskTree {
+        node: Node::Seq(a, b),
+    })
+}
+
+pub(crate) fn both(alloc: Global, a: TaskTree, b: TaskTree) -> Result<TaskTree, AllocError> {
+    let a = Box::new(alloc, a)?;
+    let b = Box::new(alloc, b)?;
+    Ok(TaskTree {
+        node: Node::Both(a, b),
+    })
+}
+
+pub(crate) fn first(alloc: Global, a: TaskTree, b: TaskTree) -> Result<TaskTree, AllocError> {
+    let a = Box::new(alloc, a)?;
+    let b = Box::new(alloc, b)?;
+    Ok(TaskTree {
+        node: Node::First(a, b),
+    })
+}
+
+pub(crate) fn within(alloc: Global, us: u64, a: TaskTree) -> Result<TaskTree, AllocError>
+    requires { us ≤ 1000000000000000 }
+{
+    let a = Box::new(alloc, a)?;
+    Ok(TaskTree {
+        node: Node::Within(us, a),
+    })
+}
+
+/// Numbers from a seed.
+#[derive(Drop)]
+pub(crate) struct Seed {
+    pub state: u64,
+}
+
+impl Seed {
+    pub(crate) fn below(&mut self, n: u64) -> u64
+        requires { 0 < n }
+        ensures { result < n }
+    {
+        self.state = self
+            .state
+            .wrapping_mul(6_364_136_223_846_793_005)
+            .wrapping_add(1_442_695_040_888_963_407);
+        (self.state >> 33) % n
+    }
+}
+
+fn leaf(seed: &mut Seed, form: u64) -> TaskTree {
+    match form {
+        0 => value(seed.below(100) as i64),
+        1 => fail(),
+        2 => check(),
+        _ => sleep(seed.below(4000)),
+    }
+}
+
+/// A tree of a depth, whose top has one of the four forms of that depth. One part has the whole depth below it, the
+/// other at most 3.
+pub(crate) fn tree_of(
+    alloc: Global,
+    seed: &mut Seed,
+    form: u64,
+    depth: u64,
+) -> Result<TaskTree, AllocError> {
+    if depth <= 1 {
+        return Ok(leaf(seed, form));
+    }
+    let deep_form = any_form(seed, depth - 1);
+    let deep = tree_of(alloc, seed, deep_form, depth - 1)?;
+    if form == 3 {
+        return within(alloc, seed.below(9000), deep);
+    }
+    let small_depth = (1 + seed.below(3)).min(depth - 1);
+    let small_form = any_form(seed, small_depth);
+    let small = tree_of(alloc, seed, small_form, small_depth)?;
+    let (a, b) = if seed.below(2) == 0 {
+        (deep, small)
+    } else {
+        (small, deep)
+    };
+    match form {
+        0 => seq(alloc, a, b),
+        1 => both(alloc, a, b),
+        _ => first(alloc, a, b),
+    }
+}
+
+/// The form of a part: sleeps often, faults seldom.
+fn any_form(seed: &mut Seed, depth: u64) -> u64 {
+    if depth > 1 {
+        seed.below(4)
+    } else {
+        match seed.below(8) {
+            0 => 0,
+            1 => 1,
+            2 => 2,
+            _ => 3,
+        }
+    }
+}
