@@ -2,12 +2,15 @@
 use crate::{Action, Body, Script, ScriptFault};
 use std::test::Fail;
 
-const FIRST_RUN: &[u8] =
-    b"{\"version\":1,\"ticks\":2,\"tick_us\":1000,\"loops\":[0],\"procs\":[{\"do\":[[\"log\",7]]}],\"lanes\":[{\"contexts\":1,\"start\":[[\"attach\",0,0,{\"kind\":[\"idle\"],\"call\":0}],[\"run\",0]]}]}";
+// (texts stand in functions of their own: a proof that sees a literal reads it byte by byte)
+
+fn first_run() -> &'static str {
+    r#"{"version":1,"ticks":2,"tick_us":1000,"loops":[0],"procs":[{"do":[["log",7]]}],"lanes":[{"contexts":1,"start":[["attach",0,0,{"kind":["idle"],"call":0}],["run",0]]}]}"#
+}
 
 #[test]
 fn tells_its_parts(rt: HostRuntime) -> Result<(), Fail> {
-    let script = Script::read(rt.alloc(), FIRST_RUN)?;
+    let script = Script::read(rt.alloc(), first_run().as_bytes())?;
     assert_eq!(rt; script.ticks(), 2);
     assert_eq!(rt; script.now(1), 1000);
     assert_eq!(rt; script.contexts(), 1);
@@ -23,7 +26,7 @@ fn tells_its_parts(rt: HostRuntime) -> Result<(), Fail> {
 
 #[test]
 fn tells_its_lists(rt: HostRuntime) -> Result<(), Fail> {
-    let script = Script::read(rt.alloc(), FIRST_RUN)?;
+    let script = Script::read(rt.alloc(), first_run().as_bytes())?;
     let lanes = script.lanes();
     assert_eq!(rt; lanes, 1);
     assert_eq!(rt; script.lane(0).contexts, 1);
@@ -39,7 +42,7 @@ fn tells_its_lists(rt: HostRuntime) -> Result<(), Fail> {
 
 #[test]
 fn refused_read(rt: HostRuntime) {
-    match Script::read(rt.alloc(), FIRST_RUN) {
+    match Script::read(rt.alloc(), first_run().as_bytes()) {
         Ok(script) => assert_eq!(rt; script.ticks(), 2),
         Err(fault) => assert_eq!(rt; fault, ScriptFault::OutOfMemory),
     }
