@@ -1,14 +1,14 @@
 -- A tree by the trees of its parts.
-use Rattle.std.proofs.Common.{◌≡◌, ℕ, zero, suc, ◌+◌, ◌*◌, ◌<◌, ◌≤◌, Bool, true, false, refl, ap, sym, ◌∙◌, List, [], ◌∷◌, codes, Option, Some, None, arith}
+use Rattle.std.proofs.Common.{◌≡◌, ℕ, zero, suc, ◌+◌, ◌*◌, ◌<◌, ◌≤◌, Bool, true, false, refl, ap, sym, ◌∙◌, List, codes, Option, Some, None, arith}
 use Rattle.std.specs.Bool.{Decides}
 use Rattle.std.specs.Str.{bytes_eq}
 use Rattle.std.proofs.lemmas.Slice.Eq.{bytes_eq-Decides}
 use Rattle.serde_json.specs.Data.{Data, null, boolean, number, string, array, object, Items, no_items, item, depth, items_depth}
 use Rattle.serde_json.specs.Find.{get_item}
-use Rattle.loop_script.specs.Read.{Read, misshapen}
+use Rattle.loop_script.specs.Read.{misshapen}
 use Rattle.loop_script.specs.Array.{part, word}
 use Rattle.loop_script.specs.Words.{choice}
-use Rattle.loop_script.specs.Tree.{Tree, fail}
+use Rattle.loop_script.specs.Tree.{fail}
 use Rattle.loop_script.specs.TreeForm.{tree, tree_in, trees_in, part_reading, tree_from, forms, seq_form, both_form, first_form, within_form}
 
 pub part_is : (n : ℕ) (ds : Items) → part_reading n (trees_in ds) ≡ tree (get_item n ds)

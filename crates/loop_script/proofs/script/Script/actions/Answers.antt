@@ -1,8 +1,3 @@
-use Rattle.std.proofs.Common.{◌≡◌, List, true, ap, sym, ◌∙◌, subst}
-use Rattle.std.specs.List.{list_all}
-use Rattle.loop_script.specs.declared.action.Action.{Action}
-use Rattle.loop_script.specs.declared.plan.Plan.{Plan}
-use Rattle.loop_script.specs.References.{sizes, action_refers}
 use Rattle.loop_script.proofs.Named.{start_refer, proc_refer}
 use Rattle.loop_script.proofs.script.Script.actions.Goals as goal
 
