@@ -1,25 +1,24 @@
 -- No part of the reading clears a fault: the forms of reading first, then the parts of a script.
-use Rattle.std.proofs.Common.{◌≡◌, ℕ, Bool, true, false, cond, ◌&&◌, List, [], ◌∷◌, Option, Some, None, length, refl, ◌==◌}
-use Rattle.std.specs.Prelude.{⊤, ℤ, pos, negsuc, nat_le, int_le, is_some, option_and_then, codes, sum_by}
+use Rattle.std.proofs.Common.{ℕ, Bool, true, false, cond, ◌&&◌, List, [], ◌∷◌, Option, Some, None, length, refl, ◌==◌}
+use Rattle.std.specs.Prelude.{ℤ, pos, nat_le, int_le, is_some, option_and_then, codes, sum_by}
 use Rattle.std.specs.List.{list_all}
 use Rattle.std.specs.Str.{bytes_eq}
 use Rattle.serde_json.specs.Data.{Data, Num, unsigned, negative, float, Items, no_items, item, Members}
 use Rattle.serde_json.specs.Find.{as_number, as_null, as_array, as_object}
 use Rattle.loop_script.specs.Read.{Read, done, misshapen, beyond, ◌>>=◌, optional, nullable}
-use Rattle.loop_script.specs.Number.{number_within, whole, integer_from, integer_within, integer, index, index_or_null}
+use Rattle.loop_script.specs.Number.{number_within, whole, integer_from, integer_within, integer, index, index_or_null, slot, priority, ready_time}
 use Rattle.loop_script.specs.Object.{are_among, names, only_among, only, field}
 use Rattle.loop_script.specs.Array.{part, parts_are, arity, word}
 use Rattle.loop_script.specs.Rows.{count, each, counted, rows_of, rows, rows_or}
 use Rattle.loop_script.specs.Words.{choice}
-use Rattle.loop_script.specs.Source.{idle, timeout, ready, kind, usual_priority, priority_or, source_spec}
-use Rattle.loop_script.specs.Action.{attach, run, log, action, is_plain}
+use Rattle.loop_script.specs.Source.{idle, timeout, ready, kinds, kind, usual_priority, priority_or, source_spec, child_spec}
+use Rattle.loop_script.specs.Action.{attach, child, destroy, set_ready, set_priority, run, log, forms, action, is_plain}
 use Rattle.loop_script.specs.Plan.{actions, lane, lanes, few_contexts, plain, body, keep_or, procedure, plan}
 use Rattle.loop_script.specs.declared.action.Action.{Action}
 use Rattle.loop_script.specs.declared.action.Action.TheVariants.{Log}
 use Rattle.loop_script.specs.declared.source.Kind.{Kind}
 use Rattle.loop_script.specs.declared.source.Kind.TheVariants.{Idle}
 use Rattle.loop_script.specs.declared.plan.LaneSpec.{LaneSpec}
-use Rattle.loop_script.specs.declared.plan.Proc.{Proc}
 use Rattle.loop_script.specs.declared.faults.Faults.{Faults}
 use Rattle.loop_script.specs.Laws.{StillSeen, ClearsNone, NoFaultIsCleared}
 
@@ -69,6 +68,10 @@ of_index_or_null : (d : Option Data) → ClearsNone (index_or_null d)
 unfolding index_or_null
 of_index_or_null d = of_optional None (nullable index) (of_nullable index of_index) d
 
+of_slot : (d : Option Data) → ClearsNone (slot d)
+unfolding slot
+of_slot d = of_whole 0 255 d
+
 only_by : (allowed : List (List ℕ)) (ms : Option Members) → ClearsNone (only_among allowed ms)
 only_by allowed None = of_misshapen (tt {0})
 only_by allowed (Some ms) = of_either _ _ (are_among allowed (names ms)) (of_done (tt {0})) (of_misshapen (tt {0}))
@@ -85,6 +88,14 @@ integer_within_by low high (Some (float x)) = of_misshapen low
 of_integer : (low high : ℤ) (d : Option Data) → ClearsNone (integer low high d)
 unfolding integer
 of_integer low high d = integer_within_by low high (option_and_then as_number d)
+
+of_priority : (d : Option Data) → ClearsNone (priority d)
+unfolding priority
+of_priority d = of_integer _ _ d
+
+of_ready_time : (d : Option Data) → ClearsNone (ready_time d)
+unfolding ready_time
+of_ready_time d = of_integer _ _ d
 
 of_only : (allowed : List (List ℕ)) (d : Option Data) → ClearsNone (only allowed d)
 unfolding only
@@ -118,9 +129,14 @@ of_rows_or : {A : Type 0} (high : ℕ) (f : Option Data → Read A) → ((d : Op
 unfolding rows_or
 of_rows_or {A = A} high f h d = of_optional {A = List A} [] (rows 0 high f) (of_rows 0 high f h) d
 
--- a row of a table of words
-of_row : {A : Type 0} (w k : List ℕ) (r : Read A) (ps : List (List ℕ × Read A)) (other : Read A) → ClearsNone r → ClearsNone (choice w ps other) → ClearsNone (choice w ((k, r) ∷ ps) other)
-of_row w k r ps other h rest = of_either r (choice w ps other) (bytes_eq w k) h rest
+-- a table of words, of which no row clears a fault
+abbrev RowsClear : {A : Type 0} → List (List ℕ × Read A) → Type 0
+RowsClear [] = Unit {0}
+RowsClear (p ∷ ps) = ClearsNone p.1 × RowsClear ps
+
+of_choice : {A : Type 0} (w : List ℕ) (ps : List (List ℕ × Read A)) (other : Read A) → RowsClear ps → ClearsNone other → ClearsNone (choice w ps other)
+of_choice w [] other rows last = last
+of_choice w (p ∷ ps) other rows last = of_either p.1 (choice w ps other) (bytes_eq w p.0) rows.0 (of_choice w ps other rows.1 last)
 
 -- ---- the parts of a script: what one part keeps, the next ones keep
 
@@ -140,20 +156,17 @@ of_timeout d s = along (arity 2 d) (of_arity 2 d) s _ (along (whole 0 4294967295
 
 of_ready : (d : Option Data) → ClearsNone (ready d)
 unfolding ready
-of_ready d s = along (arity 2 d) (of_arity 2 d) s _ (along (integer (negsuc 0) (pos 1000000000000000) (part 1 d)) (of_integer _ _ _) _ _ (same _))
+of_ready d s = along (arity 2 d) (of_arity 2 d) s _ (along (ready_time (part 1 d)) (of_ready_time _) _ _ (same _))
 
 of_kind : (d : Option Data) → ClearsNone (kind d)
 unfolding kind
 of_kind d =
-    let w = word d in
-    let other = misshapen Idle in
-    of_row w (codes "idle") (idle d) ((codes "timeout", timeout d) ∷ (codes "ready", ready d) ∷ []) other (of_idle d) (
-    of_row w (codes "timeout") (timeout d) ((codes "ready", ready d) ∷ []) other (of_timeout d) (
-    of_row w (codes "ready") (ready d) [] other (of_ready d) (of_misshapen Idle)))
+    let rows : RowsClear (kinds d) = (of_idle d, (of_timeout d, (of_ready d, tt))) in
+    of_choice (word d) (kinds d) (misshapen Idle) rows (of_misshapen Idle)
 
 of_priority_or : (k : Kind) (d : Option Data) → ClearsNone (priority_or k d)
 unfolding priority_or
-of_priority_or k d = of_optional (usual_priority k) (integer (negsuc 2147483647) (pos 2147483647)) (of_integer _ _) d
+of_priority_or k d = of_optional (usual_priority k) priority of_priority d
 
 of_source_spec : (d : Option Data) → ClearsNone (source_spec d)
 unfolding source_spec
@@ -163,13 +176,46 @@ of_source_spec d s =
     along (priority_or (kind (field (codes "kind") d)).value (field (codes "priority") d)) (of_priority_or _ _) _ _ (
     along (index_or_null (field (codes "call") d)) (of_index_or_null _) _ _ (same _))))
 
+of_child_spec : (d : Option Data) → ClearsNone (child_spec d)
+unfolding child_spec
+of_child_spec d s =
+    along (only (codes "kind" ∷ codes "call" ∷ []) d) (of_only _ d) s _ (
+    along (kind (field (codes "kind") d)) (of_kind _) _ _ (
+    along (index_or_null (field (codes "call") d)) (of_index_or_null _) _ _ (same _)))
+
 of_attach : (d : Option Data) → ClearsNone (attach d)
 unfolding attach
 of_attach d s =
     along (arity 4 d) (of_arity 4 d) s _ (
     along (index (part 1 d)) (of_index _) _ _ (
-    along (whole 0 255 (part 2 d)) (of_whole 0 255 _) _ _ (
+    along (slot (part 2 d)) (of_slot _) _ _ (
     along (source_spec (part 3 d)) (of_source_spec _) _ _ (same _))))
+
+of_child : (d : Option Data) → ClearsNone (child d)
+unfolding child
+of_child d s =
+    along (arity 4 d) (of_arity 4 d) s _ (
+    along (slot (part 1 d)) (of_slot _) _ _ (
+    along (slot (part 2 d)) (of_slot _) _ _ (
+    along (child_spec (part 3 d)) (of_child_spec _) _ _ (same _))))
+
+of_destroy : (d : Option Data) → ClearsNone (destroy d)
+unfolding destroy
+of_destroy d s = along (arity 2 d) (of_arity 2 d) s _ (along (slot (part 1 d)) (of_slot _) _ _ (same _))
+
+of_set_ready : (d : Option Data) → ClearsNone (set_ready d)
+unfolding set_ready
+of_set_ready d s =
+    along (arity 3 d) (of_arity 3 d) s _ (
+    along (slot (part 1 d)) (of_slot _) _ _ (
+    along (ready_time (part 2 d)) (of_ready_time _) _ _ (same _)))
+
+of_set_priority : (d : Option Data) → ClearsNone (set_priority d)
+unfolding set_priority
+of_set_priority d s =
+    along (arity 3 d) (of_arity 3 d) s _ (
+    along (slot (part 1 d)) (of_slot _) _ _ (
+    along (priority (part 2 d)) (of_priority _) _ _ (same _)))
 
 of_run : (d : Option Data) → ClearsNone (run d)
 unfolding run
@@ -182,11 +228,8 @@ of_log d s = along (arity 2 d) (of_arity 2 d) s _ (along (whole 0 4294967295 (pa
 of_action : (d : Option Data) → ClearsNone (action d)
 unfolding action
 of_action d =
-    let w = word d in
-    let other = misshapen (Log 0) in
-    of_row w (codes "attach") (attach d) ((codes "run", run d) ∷ (codes "log", log d) ∷ []) other (of_attach d) (
-    of_row w (codes "run") (run d) ((codes "log", log d) ∷ []) other (of_run d) (
-    of_row w (codes "log") (log d) [] other (of_log d) (of_misshapen (Log 0))))
+    let rows : RowsClear (forms d) = (of_attach d, (of_child d, (of_destroy d, (of_set_ready d, (of_set_priority d, (of_run d, (of_log d, tt))))))) in
+    of_choice (word d) (forms d) (misshapen (Log 0)) rows (of_misshapen (Log 0))
 
 of_actions : (d : Option Data) → ClearsNone (actions d)
 unfolding actions
@@ -239,6 +282,7 @@ pub none_cleared : NoFaultIsCleared
 none_cleared = record {
   kind = of_kind;
   source_spec = of_source_spec;
+  child_spec = of_child_spec;
   action = of_action;
   actions = of_actions;
   body = of_body;

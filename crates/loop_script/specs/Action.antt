@@ -1,21 +1,49 @@
 -- Actions, each with its word and its parts.
-use Rattle.std.specs.Prelude.{[], ◌∷◌, codes, Option, Bool, true, false}
+use Rattle.std.specs.Prelude.{ℕ, List, [], ◌∷◌, codes, Option, Bool, true, false}
 use Rattle.serde_json.specs.Data.{Data}
 use Rattle.loop_script.specs.Read.{Read, done, misshapen, ◌>>=◌}
-use Rattle.loop_script.specs.Number.{whole, index}
+use Rattle.loop_script.specs.Number.{whole, index, slot, priority, ready_time}
 use Rattle.loop_script.specs.Array.{part, arity, word}
 use Rattle.loop_script.specs.Words.{choice}
-use Rattle.loop_script.specs.Source.{source_spec}
+use Rattle.loop_script.specs.Source.{source_spec, child_spec}
 use Rattle.loop_script.specs.declared.action.Action.{Action}
-use Rattle.loop_script.specs.declared.action.Action.TheVariants.{Attach, Run, Log}
+use Rattle.loop_script.specs.declared.action.Action.TheVariants.{Attach, Child, Destroy, SetReady, SetPriority, Run, Log}
 
 unfoldable pub attach : Option Data → Read Action
 attach d = do
   _ ← arity 4 d
   context ← index (part 1 d)
-  slot ← whole 0 255 (part 2 d)
+  slot ← slot (part 2 d)
   spec ← source_spec (part 3 d)
   done (Attach context slot spec)
+
+unfoldable pub child : Option Data → Read Action
+child d = do
+  _ ← arity 4 d
+  parent ← slot (part 1 d)
+  slot ← slot (part 2 d)
+  spec ← child_spec (part 3 d)
+  done (Child parent slot spec)
+
+unfoldable pub destroy : Option Data → Read Action
+destroy d = do
+  _ ← arity 2 d
+  slot ← slot (part 1 d)
+  done (Destroy slot)
+
+unfoldable pub set_ready : Option Data → Read Action
+set_ready d = do
+  _ ← arity 3 d
+  slot ← slot (part 1 d)
+  us ← ready_time (part 2 d)
+  done (SetReady slot us)
+
+unfoldable pub set_priority : Option Data → Read Action
+set_priority d = do
+  _ ← arity 3 d
+  slot ← slot (part 1 d)
+  priority ← priority (part 2 d)
+  done (SetPriority slot priority)
 
 unfoldable pub run : Option Data → Read Action
 run d = do
@@ -29,13 +57,21 @@ log d = do
   n ← whole 0 4294967295 (part 1 d)
   done (Log n)
 
+abbrev pub forms : Option Data → List (List ℕ × Read Action)
+forms d =
+    (codes "attach", attach d)
+    ∷ (codes "child", child d)
+    ∷ (codes "destroy", destroy d)
+    ∷ (codes "set_ready", set_ready d)
+    ∷ (codes "set_priority", set_priority d)
+    ∷ (codes "run", run d)
+    ∷ (codes "log", log d)
+    ∷ []
+
 unfoldable pub action : Option Data → Read Action
-action d =
-    choice (word d)
-    ((codes "attach", attach d) ∷ (codes "run", run d) ∷ (codes "log", log d) ∷ [])
-    (misshapen (Log 0))
+action d = choice (word d) (forms d) (misshapen (Log 0))
 
 -- what the list of a procedure may hold
 abbrev pub is_plain : Action → Bool
-is_plain (Log n) = true
-is_plain _ = false
+is_plain (Run loop) = false
+is_plain _ = true

@@ -1,8 +1,8 @@
 -- Sources and their kinds.
-use Rattle.std.specs.Prelude.{ℤ, pos, negsuc, false, [], ◌∷◌, codes, Option}
+use Rattle.std.specs.Prelude.{ℕ, ℤ, pos, false, List, [], ◌∷◌, codes, Option}
 use Rattle.serde_json.specs.Data.{Data}
 use Rattle.loop_script.specs.Read.{Read, done, misshapen, ◌>>=◌, optional}
-use Rattle.loop_script.specs.Number.{whole, integer, index_or_null}
+use Rattle.loop_script.specs.Number.{whole, index_or_null, priority, ready_time}
 use Rattle.loop_script.specs.Object.{only, field}
 use Rattle.loop_script.specs.Array.{part, arity, word}
 use Rattle.loop_script.specs.Words.{choice}
@@ -24,11 +24,14 @@ timeout d = do
 unfoldable pub ready : Option Data → Read Kind
 ready d = do
   _ ← arity 2 d
-  us ← integer (negsuc 0) (pos 1000000000000000) (part 1 d)
+  us ← ready_time (part 1 d)
   done (ReadyTime us)
 
+abbrev pub kinds : Option Data → List (List ℕ × Read Kind)
+kinds d = (codes "idle", idle d) ∷ (codes "timeout", timeout d) ∷ (codes "ready", ready d) ∷ []
+
 unfoldable pub kind : Option Data → Read Kind
-kind d = choice (word d) ((codes "idle", idle d) ∷ (codes "timeout", timeout d) ∷ (codes "ready", ready d) ∷ []) (misshapen Idle)
+kind d = choice (word d) (kinds d) (misshapen Idle)
 
 -- 200 for an idle source, and 0 for any other
 abbrev pub usual_priority : Kind → ℤ
@@ -39,7 +42,7 @@ usual_priority (Fd f bits) = pos 0
 usual_priority (Cancel c) = pos 0
 
 unfoldable pub priority_or : Kind → Option Data → Read ℤ
-priority_or k d = optional (usual_priority k) (integer (negsuc 2147483647) (pos 2147483647)) d
+priority_or k d = optional (usual_priority k) priority d
 
 unfoldable pub source_spec : Option Data → Read SourceSpec
 source_spec d = do
@@ -48,3 +51,11 @@ source_spec d = do
   priority ← priority_or kind (field (codes "priority") d)
   call ← index_or_null (field (codes "call") d)
   done (record { kind = kind; priority = priority; recurse = false; call = call })
+
+-- a child has its parent's priority; 0 stands in its place
+unfoldable pub child_spec : Option Data → Read SourceSpec
+child_spec d = do
+  _ ← only (codes "kind" ∷ codes "call" ∷ []) d
+  kind ← kind (field (codes "kind") d)
+  call ← index_or_null (field (codes "call") d)
+  done (record { kind = kind; priority = pos 0; recurse = false; call = call })

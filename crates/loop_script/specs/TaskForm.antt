@@ -1,8 +1,8 @@
 -- Tasks as objects.
-use Rattle.std.specs.Prelude.{ℤ, pos, negsuc, true, false, [], ◌∷◌, codes, Option, if◌then◌else◌}
+use Rattle.std.specs.Prelude.{ℤ, pos, true, false, [], ◌∷◌, codes, Option, if◌then◌else◌}
 use Rattle.serde_json.specs.Data.{Data}
 use Rattle.loop_script.specs.Read.{Read, done, beyond, ◌>>=◌, optional}
-use Rattle.loop_script.specs.Number.{integer, index, index_or_null, flag_or}
+use Rattle.loop_script.specs.Number.{priority, index, index_or_null, flag_or}
 use Rattle.loop_script.specs.Object.{only, field}
 use Rattle.loop_script.specs.Tree.{Tree, fail}
 use Rattle.loop_script.specs.TreeDepth.{fits_in}
@@ -17,7 +17,7 @@ unfoldable pub shallow_tree : Option Data → Read Tree
 shallow_tree d = tree d >>= limited
 
 unfoldable pub priority_or_zero : Option Data → Read ℤ
-priority_or_zero d = optional (pos 0) (integer (negsuc 2147483647) (pos 2147483647)) d
+priority_or_zero d = optional (pos 0) priority d
 
 unfoldable pub task_spec : Option Data → Read TaskSpec
 task_spec d = do

@@ -1,17 +1,7 @@
-//! The actions of a script, and their reading.
-ghost use Rattle.std.specs.Prelude.{◌≡◌, IfOk, OnOk};
-ghost use Rattle.loop_script.specs.Read.{after};
-ghost use Rattle.loop_script.specs.Action.{attach, log, run, action};
-ghost use Rattle.loop_script.specs.Seen.{seen};
+//! The actions of a script.
 
-use crate::faults::Faults;
-use crate::form::Form;
-use crate::number::{index_number, whole_number};
-use crate::part::{check_arity, part_of, word_of};
-use crate::source::{SourceSpec, read_source};
+use crate::source::SourceSpec;
 use crate::task::TaskSpec;
-use serde_json::Value;
-use std::alloc::{AllocError, Global};
 
 /// One action of a list, with its parts in the order of the script.
 ///
@@ -61,64 +51,4 @@ pub enum Action {
     Give(u32, u32),
     /// Writes a number.
     Log(u32),
-}
-
-impl Form for Action {
-    ghost use Rattle.loop_script.specs.Action.{action};
-
-    ghost form = { action };
-
-    fn read(
-        _alloc: Global,
-        value: Option<&Value>,
-        faults: &mut Faults,
-    ) -> Result<Action, AllocError> {
-        Ok(read_action(value, faults))
-    }
-}
-
-#[tactic(auto, unfolding(crate::specs::Action::action))]
-fn read_action(value: Option<&Value>, faults: &mut Faults) -> Action
-    ensures value { result ≡ (action (seen value.entry)).value }
-    ensures faults { faults.new ≡ after faults.old (action (seen value.entry)) }
-{
-    match word_of(value) {
-        "attach" => read_attach(value, faults),
-        "run" => read_run(value, faults),
-        "log" => read_log(value, faults),
-        _ => {
-            faults.shape = true;
-            Action::Log(0)
-        }
-    }
-}
-
-#[tactic(auto, unfolding(crate::specs::Action::attach))]
-fn read_attach(value: Option<&Value>, faults: &mut Faults) -> Action
-    ensures value { result ≡ (attach (seen value.entry)).value }
-    ensures faults { faults.new ≡ after faults.old (attach (seen value.entry)) }
-{
-    check_arity(value, 4, faults);
-    let context = index_number(part_of(value, 1), faults);
-    let slot = whole_number(part_of(value, 2), 0, 255, faults);
-    let spec = read_source(part_of(value, 3), faults);
-    Action::Attach(context, slot as u8, spec)
-}
-
-#[tactic(auto, unfolding(crate::specs::Action::run))]
-fn read_run(value: Option<&Value>, faults: &mut Faults) -> Action
-    ensures value { result ≡ (run (seen value.entry)).value }
-    ensures faults { faults.new ≡ after faults.old (run (seen value.entry)) }
-{
-    check_arity(value, 2, faults);
-    Action::Run(index_number(part_of(value, 1), faults))
-}
-
-#[tactic(auto, unfolding(crate::specs::Action::log))]
-fn read_log(value: Option<&Value>, faults: &mut Faults) -> Action
-    ensures value { result ≡ (log (seen value.entry)).value }
-    ensures faults { faults.new ≡ after faults.old (log (seen value.entry)) }
-{
-    check_arity(value, 2, faults);
-    Action::Log(whole_number(part_of(value, 1), 0, 4_294_967_295, faults) as u32)
 }

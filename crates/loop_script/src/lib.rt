@@ -4,6 +4,7 @@
 #![tactic(auto)]
 
 mod action;
+mod action_form;
 mod body;
 mod fault;
 mod faults;

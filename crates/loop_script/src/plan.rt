@@ -168,7 +168,7 @@ fn all_plain(actions: &[Action]) -> bool
 fn is_plain(action: &Action) -> bool
     ensures { result ≡ is_plain_action action.now }
 {
-    matches!(action, Action::Log(_))
+    !matches!(action, Action::Run(_))
 }
 
 #[tactic(auto, unfolding(crate::specs::Plan::lanes))]

@@ -1,11 +1,11 @@
 //! The sources of a script, and their reading.
 ghost use Rattle.std.specs.Prelude.{◌≡◌};
 ghost use Rattle.loop_script.specs.Read.{after};
-ghost use Rattle.loop_script.specs.Source.{kind, idle, timeout, ready, source_spec, usual_priority as priority_of, priority_or};
+ghost use Rattle.loop_script.specs.Source.{kind, idle, timeout, ready, source_spec, child_spec, usual_priority as priority_of, priority_or};
 ghost use Rattle.loop_script.specs.Seen.{seen};
 
 use crate::faults::Faults;
-use crate::number::{optional_index, signed_number, whole_number};
+use crate::number::{optional_index, priority_number, ready_time, whole_number};
 use crate::object::only_keys;
 use crate::part::{check_arity, field_of, part_of, word_of};
 use serde_json::Value;
@@ -29,7 +29,7 @@ pub enum Kind {
 #[derive(Clone, Copy, Debug, PartialEq, Eq)]
 pub struct SourceSpec {
     pub kind: Kind,
-    /// A smaller number is more urgent.
+    /// A smaller number is more urgent. A child has its parent's, and here 0.
     pub priority: i32,
     /// Whether it may be dispatched again while it is in a call.
     pub recurse: bool,
@@ -54,6 +54,23 @@ pub(crate) fn read_source(value: Option<&Value>, faults: &mut Faults) -> SourceS
     }
 }
 
+/// A child, whose priority is its parent's: 0 stands in its place.
+#[tactic(auto, unfolding(crate::specs::Source::child_spec))]
+pub(crate) fn read_child(value: Option<&Value>, faults: &mut Faults) -> SourceSpec
+    ensures value { result ≡ (child_spec (seen value.entry)).value }
+    ensures faults { faults.new ≡ after faults.old (child_spec (seen value.entry)) }
+{
+    only_keys(value, &["kind", "call"], faults);
+    let kind = read_kind(field_of(value, "kind"), faults);
+    let call = optional_index(field_of(value, "call"), faults);
+    SourceSpec {
+        kind,
+        priority: 0,
+        recurse: false,
+        call,
+    }
+}
+
 #[tactic(auto, unfolding(crate::specs::Source::priority_or))]
 fn read_priority(value: Option<&Value>, kind: Kind, faults: &mut Faults) -> i32
     ensures value { result ≡ (priority_or kind (seen value.entry)).value }
@@ -61,7 +78,7 @@ fn read_priority(value: Option<&Value>, kind: Kind, faults: &mut Faults) -> i32
 {
     match value {
         None => usual_priority(kind),
-        Some(_) => signed_number(value, -2_147_483_648, 2_147_483_647, faults) as i32,
+        Some(_) => priority_number(value, faults),
     }
 }
 
@@ -115,5 +132,5 @@ fn read_ready(value: Option<&Value>, faults: &mut Faults) -> Kind
     ensures faults { faults.new ≡ after faults.old (ready (seen value.entry)) }
 {
     check_arity(value, 2, faults);
-    Kind::ReadyTime(signed_number(part_of(value, 1), -1, 1_000_000_000_000_000, faults))
+    Kind::ReadyTime(ready_time(part_of(value, 1), faults))
 }

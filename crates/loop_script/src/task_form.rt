@@ -5,7 +5,7 @@ ghost use Rattle.loop_script.specs.TaskForm.{task_spec, shallow_tree, priority_o
 ghost use Rattle.loop_script.specs.Seen.{seen};
 
 use crate::faults::Faults;
-use crate::number::{index_number, optional_flag, optional_index, signed_number};
+use crate::number::{index_number, optional_flag, optional_index, priority_number};
 use crate::object::only_keys;
 use crate::part::field_of;
 use crate::task::TaskSpec;
@@ -78,6 +78,6 @@ fn read_priority(value: Option<&Value>, faults: &mut Faults) -> i32
 {
     match value {
         None => 0,
-        Some(_) => signed_number(value, -2_147_483_648, 2_147_483_647, faults) as i32,
+        Some(_) => priority_number(value, faults),
     }
 }

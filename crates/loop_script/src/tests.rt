@@ -8,6 +8,10 @@ fn first_run() -> &'static str {
     r#"{"version":1,"ticks":2,"tick_us":1000,"loops":[0],"procs":[{"do":[["log",7]]}],"lanes":[{"contexts":1,"start":[["attach",0,0,{"kind":["idle"],"call":0}],["run",0]]}]}"#
 }
 
+fn each_action() -> &'static str {
+    r#"{"version":1,"ticks":1,"tick_us":1,"loops":[0],"procs":[{"do":[["attach",0,255,{"kind":["idle"]}],["child",255,0,{"kind":["idle"],"call":0}],["destroy",0],["set_ready",0,-1],["set_priority",0,-2147483648],["log",4294967295]]}],"lanes":[{"contexts":1,"start":[["run",0]]}]}"#
+}
+
 #[test]
 fn tells_its_parts(rt: HostRuntime) -> Result<(), Fail> {
     let script = Script::read(rt.alloc(), first_run().as_bytes())?;
@@ -37,6 +41,15 @@ fn tells_its_lists(rt: HostRuntime) -> Result<(), Fail> {
     let loops = script.loops();
     assert_eq!(rt; loops, 1);
     assert_eq!(rt; script.loop_context(0), 0);
+    Ok(())
+}
+
+/// Each word of an action, as the format writes it.
+#[test]
+fn reads_each_action(rt: HostRuntime) -> Result<(), Fail> {
+    let script = Script::read(rt.alloc(), each_action().as_bytes())?;
+    assert_eq!(rt; script.actions(Body::Start(0)).len(), 1);
+    assert_eq!(rt; script.actions(Body::Procedure(0)).len(), 6);
     Ok(())
 }
 

@@ -1,0 +1,121 @@
+//! Reading the actions of a script.
+ghost use Rattle.std.specs.Prelude.{◌≡◌, IfOk, OnOk};
+ghost use Rattle.loop_script.specs.Read.{after};
+ghost use Rattle.loop_script.specs.Action.{attach, child, destroy, set_ready, set_priority, log, run, action};
+ghost use Rattle.loop_script.specs.Seen.{seen};
+
+use crate::action::Action;
+use crate::faults::Faults;
+use crate::form::Form;
+use crate::number::{index_number, priority_number, ready_time, slot_number, whole_number};
+use crate::part::{check_arity, part_of, word_of};
+use crate::source::{read_child, read_source};
+use serde_json::Value;
+use std::alloc::{AllocError, Global};
+
+impl Form for Action {
+    ghost use Rattle.loop_script.specs.Action.{action};
+
+    ghost form = { action };
+
+    fn read(
+        _alloc: Global,
+        value: Option<&Value>,
+        faults: &mut Faults,
+    ) -> Result<Action, AllocError> {
+        Ok(read_action(value, faults))
+    }
+}
+
+#[tactic(auto, unfolding(crate::specs::Action::action))]
+fn read_action(value: Option<&Value>, faults: &mut Faults) -> Action
+    ensures value { result ≡ (action (seen value.entry)).value }
+    ensures faults { faults.new ≡ after faults.old (action (seen value.entry)) }
+{
+    match word_of(value) {
+        "attach" => read_attach(value, faults),
+        "child" => read_child_action(value, faults),
+        "destroy" => read_destroy(value, faults),
+        "set_ready" => read_set_ready(value, faults),
+        "set_priority" => read_set_priority(value, faults),
+        "run" => read_run(value, faults),
+        "log" => read_log(value, faults),
+        _ => {
+            faults.shape = true;
+            Action::Log(0)
+        }
+    }
+}
+
+#[tactic(auto, unfolding(crate::specs::Action::attach))]
+fn read_attach(value: Option<&Value>, faults: &mut Faults) -> Action
+    ensures value { result ≡ (attach (seen value.entry)).value }
+    ensures faults { faults.new ≡ after faults.old (attach (seen value.entry)) }
+{
+    check_arity(value, 4, faults);
+    let context = index_number(part_of(value, 1), faults);
+    let slot = slot_number(part_of(value, 2), faults);
+    let spec = read_source(part_of(value, 3), faults);
+    Action::Attach(context, slot, spec)
+}
+
+#[tactic(auto, unfolding(crate::specs::Action::child))]
+fn read_child_action(value: Option<&Value>, faults: &mut Faults) -> Action
+    ensures value { result ≡ (child (seen value.entry)).value }
+    ensures faults { faults.new ≡ after faults.old (child (seen value.entry)) }
+{
+    check_arity(value, 4, faults);
+    let parent = slot_number(part_of(value, 1), faults);
+    let slot = slot_number(part_of(value, 2), faults);
+    let spec = read_child(part_of(value, 3), faults);
+    Action::Child(parent, slot, spec)
+}
+
+#[tactic(auto, unfolding(crate::specs::Action::destroy))]
+fn read_destroy(value: Option<&Value>, faults: &mut Faults) -> Action
+    ensures value { result ≡ (destroy (seen value.entry)).value }
+    ensures faults { faults.new ≡ after faults.old (destroy (seen value.entry)) }
+{
+    check_arity(value, 2, faults);
+    Action::Destroy(slot_number(part_of(value, 1), faults))
+}
+
+#[tactic(auto, unfolding(crate::specs::Action::set_ready))]
+fn read_set_ready(value: Option<&Value>, faults: &mut Faults) -> Action
+    ensures value { result ≡ (set_ready (seen value.entry)).value }
+    ensures faults { faults.new ≡ after faults.old (set_ready (seen value.entry)) }
+{
+    check_arity(value, 3, faults);
+    let slot = slot_number(part_of(value, 1), faults);
+    let us = ready_time(part_of(value, 2), faults);
+    Action::SetReady(slot, us)
+}
+
+#[tactic(auto, unfolding(crate::specs::Action::set_priority))]
+fn read_set_priority(value: Option<&Value>, faults: &mut Faults) -> Action
+    ensures value { result ≡ (set_priority (seen value.entry)).value }
+    ensures faults { faults.new ≡ after faults.old (set_priority (seen value.entry)) }
+{
+    check_arity(value, 3, faults);
+    let slot = slot_number(part_of(value, 1), faults);
+    let priority = priority_number(part_of(value, 2), faults);
+    Action::SetPriority(slot, priority)
+}
+
+#[tactic(auto, unfolding(crate::specs::Action::run))]
+fn read_run(value: Option<&Value>, faults: &mut Faults) -> Action
+    ensures value { result ≡ (run (seen value.entry)).value }
+    ensures faults { faults.new ≡ after faults.old (run (seen value.entry)) }
+{
+    check_arity(value, 2, faults);
+    Action::Run(index_number(part_of(value, 1), faults))
+}
+
+#[tactic(auto, unfolding(crate::specs::Action::log))]
+fn read_log(value: Option<&Value>, faults: &mut Faults) -> Action
+    ensures value { result ≡ (log (seen value.entry)).value }
+    ensures faults { faults.new ≡ after faults.old (log (seen value.entry)) }
+{
+    check_arity(value, 2, faults);
+    Action::Log(whole_number(part_of(value, 1), 0, 4_294_967_295, faults) as u32)
+}
