@@ -6,12 +6,13 @@ use Rattle.std.specs.Str.{bytes_eq}
 use Rattle.serde_json.specs.Data.{Data, Num, unsigned, negative, float, Items, no_items, item, Members}
 use Rattle.serde_json.specs.Find.{as_number, as_null, as_array, as_object}
 use Rattle.loop_script.specs.Read.{Read, done, misshapen, beyond, ◌>>=◌, optional, nullable}
-use Rattle.loop_script.specs.Number.{number_within, whole, integer_from, integer_within, integer, index, index_or_null, slot, priority, ready_time}
+use Rattle.loop_script.specs.Number.{number_within, whole, integer_from, integer_within, integer, index, index_or_null, slot, bits, priority, ready_time}
 use Rattle.loop_script.specs.Object.{are_among, names, only_among, only, field}
 use Rattle.loop_script.specs.Array.{part, parts_are, arity, word}
 use Rattle.loop_script.specs.Rows.{count, each, counted, rows_of, rows, rows_or}
 use Rattle.loop_script.specs.Words.{choice}
-use Rattle.loop_script.specs.Source.{idle, timeout, ready, kinds, kind, usual_priority, priority_or, source_spec, child_spec}
+use Rattle.loop_script.specs.Source.{idle, timeout, ready, fd, kinds, kind, usual_priority, priority_or, source_spec, child_spec}
+use Rattle.loop_script.specs.Level.{level, levels}
 use Rattle.loop_script.specs.Action.{attach, child, destroy, set_ready, set_priority, run, log, forms, action, is_plain}
 use Rattle.loop_script.specs.Plan.{actions, lane, lanes, few_contexts, plain, body, keep_or, procedure, plan}
 use Rattle.loop_script.specs.declared.action.Action.{Action}
@@ -71,6 +72,10 @@ of_index_or_null d = of_optional None (nullable index) (of_nullable index of_ind
 of_slot : (d : Option Data) → ClearsNone (slot d)
 unfolding slot
 of_slot d = of_whole 0 255 d
+
+of_bits : (d : Option Data) → ClearsNone (bits d)
+unfolding bits
+of_bits d = of_whole 0 63 d
 
 only_by : (allowed : List (List ℕ)) (ms : Option Members) → ClearsNone (only_among allowed ms)
 only_by allowed None = of_misshapen (tt {0})
@@ -158,10 +163,17 @@ of_ready : (d : Option Data) → ClearsNone (ready d)
 unfolding ready
 of_ready d s = along (arity 2 d) (of_arity 2 d) s _ (along (ready_time (part 1 d)) (of_ready_time _) _ _ (same _))
 
+of_fd : (d : Option Data) → ClearsNone (fd d)
+unfolding fd
+of_fd d s =
+    along (arity 3 d) (of_arity 3 d) s _ (
+    along (index (part 1 d)) (of_index _) _ _ (
+    along (bits (part 2 d)) (of_bits _) _ _ (same _)))
+
 of_kind : (d : Option Data) → ClearsNone (kind d)
 unfolding kind
 of_kind d =
-    let rows : RowsClear (kinds d) = (of_idle d, (of_timeout d, (of_ready d, tt))) in
+    let rows : RowsClear (kinds d) = (of_idle d, (of_timeout d, (of_ready d, (of_fd d, tt)))) in
     of_choice (word d) (kinds d) (misshapen Idle) rows (of_misshapen Idle)
 
 of_priority_or : (k : Kind) (d : Option Data) → ClearsNone (priority_or k d)
@@ -182,6 +194,17 @@ of_child_spec d s =
     along (only (codes "kind" ∷ codes "call" ∷ []) d) (of_only _ d) s _ (
     along (kind (field (codes "kind") d)) (of_kind _) _ _ (
     along (index_or_null (field (codes "call") d)) (of_index_or_null _) _ _ (same _)))
+
+of_level : (d : Option Data) → ClearsNone (level d)
+unfolding level
+of_level d s =
+    along (arity 2 d) (of_arity 2 d) s _ (
+    along (whole 0 4095 (part 0 d)) (of_whole 0 4095 _) _ _ (
+    along (bits (part 1 d)) (of_bits _) _ _ (same _)))
+
+of_levels : (d : Option Data) → ClearsNone (levels d)
+unfolding levels
+of_levels d = of_rows 0 4096 level of_level d
 
 of_attach : (d : Option Data) → ClearsNone (attach d)
 unfolding attach
@@ -270,19 +293,21 @@ of_lanes d s = along (rows 1 1 lane d) (of_rows 1 1 lane of_lane d) s _ (of_few 
 of_plan : (d : Option Data) → ClearsNone (plan d)
 unfolding plan
 of_plan d s =
-    along (only (codes "version" ∷ codes "ticks" ∷ codes "tick_us" ∷ codes "lanes" ∷ codes "loops" ∷ codes "procs" ∷ []) d) (of_only _ d) s _ (
+    along (only (codes "version" ∷ codes "ticks" ∷ codes "tick_us" ∷ codes "lanes" ∷ codes "fds" ∷ codes "loops" ∷ codes "procs" ∷ []) d) (of_only _ d) s _ (
     along (whole 1 1 (field (codes "version") d)) (of_whole 1 1 _) _ _ (
     along (whole 1 4096 (field (codes "ticks") d)) (of_whole 1 4096 _) _ _ (
     along (whole 1 1000000000 (field (codes "tick_us") d)) (of_whole 1 1000000000 _) _ _ (
     along (lanes (field (codes "lanes") d)) (of_lanes _) _ _ (
+    along (rows_or 256 levels (field (codes "fds") d)) (of_rows_or 256 levels of_levels _) _ _ (
     along (rows_or 256 index (field (codes "loops") d)) (of_rows_or 256 index of_index _) _ _ (
-    along (rows_or 1024 procedure (field (codes "procs") d)) (of_rows_or 1024 procedure of_procedure _) _ _ (same _)))))))
+    along (rows_or 1024 procedure (field (codes "procs") d)) (of_rows_or 1024 procedure of_procedure _) _ _ (same _))))))))
 
 pub none_cleared : NoFaultIsCleared
 none_cleared = record {
   kind = of_kind;
   source_spec = of_source_spec;
   child_spec = of_child_spec;
+  levels = of_levels;
   action = of_action;
   actions = of_actions;
   body = of_body;

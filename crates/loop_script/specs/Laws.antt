@@ -3,6 +3,7 @@ use Rattle.std.specs.Prelude.{◌≡◌, ◌≢◌, ℕ, true, List, Option, Res
 use Rattle.serde_json.specs.Data.{Data}
 use Rattle.loop_script.specs.Read.{Read}
 use Rattle.loop_script.specs.Source.{kind, source_spec, child_spec}
+use Rattle.loop_script.specs.Level.{levels}
 use Rattle.loop_script.specs.Action.{action}
 use Rattle.loop_script.specs.Plan.{actions, lane, lanes, body, procedure, plan}
 use Rattle.loop_script.specs.Script.{Answers}
@@ -23,6 +24,7 @@ pub record NoFaultIsCleared : Type 0 where
   pub kind : (d : Option Data) → ClearsNone (kind d)
   pub source_spec : (d : Option Data) → ClearsNone (source_spec d)
   pub child_spec : (d : Option Data) → ClearsNone (child_spec d)
+  pub levels : (d : Option Data) → ClearsNone (levels d)
   pub action : (d : Option Data) → ClearsNone (action d)
   pub actions : (d : Option Data) → ClearsNone (actions d)
   pub body : (d : Option Data) → ClearsNone (body d)

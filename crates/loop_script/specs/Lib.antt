@@ -9,9 +9,11 @@ pub mod Tree
 pub mod TreeView
 pub mod TreeFalls
 pub mod Source
+pub mod Level
 pub mod Action
 pub mod Plan
 pub mod References
+pub mod Rules
 pub mod Script
 pub mod Limits
 pub mod Parts

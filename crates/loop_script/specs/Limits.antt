@@ -2,6 +2,7 @@
 use Rattle.std.specs.Prelude.{◌≡◌, ◌≤◌, true, length, sum_by}
 use Rattle.loop_script.specs.declared.plan.Plan.{Plan}
 use Rattle.loop_script.specs.References.{plan_refers}
+use Rattle.loop_script.specs.Rules.{plan_rules}
 
 pub record IsBounded (p : Plan) : Type 0 where
   pub lanes : length p.lanes ≤ 64
@@ -10,7 +11,8 @@ pub record IsBounded (p : Plan) : Type 0 where
   pub tick_us : p.tick_us ≤ 1000000000
   pub loops : length p.loops ≤ 256
 
--- a plan within its bounds, whose numbers all name something of it
+-- a plan within its bounds, whose numbers all name something of it, and which keeps the rules
 pub record IsScript (p : Plan) : Type 0 where
   pub bounded : IsBounded p
   pub refers : plan_refers p ≡ true
+  pub rules : plan_rules p ≡ true

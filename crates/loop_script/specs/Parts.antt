@@ -3,6 +3,8 @@ use Rattle.std.specs.Prelude.{ℕ, ◌+◌, ◌-◌, ◌*◌, Bool, true, false,
 use Rattle.loop_script.specs.declared.plan.Plan.{Plan}
 use Rattle.loop_script.specs.declared.plan.Proc.{Proc}
 use Rattle.loop_script.specs.declared.plan.LaneSpec.{LaneSpec}
+use Rattle.loop_script.specs.Level.{bits_at, change_after}
+use Rattle.loop_script.specs.declared.level.Level.{Level}
 use Rattle.loop_script.specs.declared.action.Action.{Action}
 use Rattle.loop_script.specs.declared.body.Body.{Body}
 use Rattle.loop_script.specs.declared.body.Body.TheVariants.{Start, Procedure, Nothing}
@@ -28,6 +30,18 @@ actions_of script Nothing = []
 -- the context of a loop
 abbrev pub context_of : Plan → ℕ → ℕ
 context_of script number = unwrap_or (slice_get script.loops number) 0
+
+-- the levels of a descriptor; none for the number of none
+abbrev pub levels_of : Plan → ℕ → List Level
+levels_of script fd = unwrap_or (slice_get script.fds fd) []
+
+-- what a descriptor shows at a tick
+abbrev pub level_of : Plan → ℕ → ℕ → ℕ
+level_of script fd tick = bits_at tick (levels_of script fd)
+
+-- the tick after this one at which the list of a descriptor goes on
+abbrev pub next_change_of : Plan → ℕ → ℕ → Option ℕ
+next_change_of script fd tick = change_after tick (levels_of script fd)
 
 -- the lane that holds a context at first, contexts being numbered on over the lanes
 abbrev pub home_in : ℕ → List LaneSpec → ℕ → ℕ

@@ -6,6 +6,7 @@ use Rattle.loop_script.specs.Read.{Read, done, misshapen, beyond, ◌>>=◌, opt
 use Rattle.loop_script.specs.Number.{whole, index}
 use Rattle.loop_script.specs.Object.{only, field}
 use Rattle.loop_script.specs.Rows.{rows, rows_or}
+use Rattle.loop_script.specs.Level.{levels}
 use Rattle.loop_script.specs.Action.{action, is_plain}
 use Rattle.loop_script.specs.declared.action.Action.{Action}
 use Rattle.loop_script.specs.declared.plan.LaneSpec.{LaneSpec}
@@ -48,11 +49,12 @@ procedure d = do
 
 unfoldable pub plan : Option Data → Read Plan
 plan d = do
-  _ ← only (codes "version" ∷ codes "ticks" ∷ codes "tick_us" ∷ codes "lanes" ∷ codes "loops" ∷ codes "procs" ∷ []) d
+  _ ← only (codes "version" ∷ codes "ticks" ∷ codes "tick_us" ∷ codes "lanes" ∷ codes "fds" ∷ codes "loops" ∷ codes "procs" ∷ []) d
   version ← whole 1 1 (field (codes "version") d)
   ticks ← whole 1 4096 (field (codes "ticks") d)
   tick_us ← whole 1 1000000000 (field (codes "tick_us") d)
   lanes ← lanes (field (codes "lanes") d)
+  fds ← rows_or 256 levels (field (codes "fds") d)
   loops ← rows_or 256 index (field (codes "loops") d)
   procs ← rows_or 1024 procedure (field (codes "procs") d)
-  done (record { version = version; ticks = ticks; tick_us = tick_us; lanes = lanes; cancellables = 0; fds = []; loops = loops; procs = procs })
+  done (record { version = version; ticks = ticks; tick_us = tick_us; lanes = lanes; cancellables = 0; fds = fds; loops = loops; procs = procs })

@@ -6,6 +6,7 @@ use Rattle.serde_json.specs.View.{view}
 use Rattle.serde_json.specs.declared.value.Value.{Value}
 use Rattle.loop_script.specs.Plan.{plan}
 use Rattle.loop_script.specs.References.{plan_refers}
+use Rattle.loop_script.specs.Rules.{plan_rules}
 use Rattle.loop_script.specs.declared.faults.Faults.{Faults}
 use Rattle.loop_script.specs.declared.fault.ScriptFault.{ScriptFault}
 use Rattle.loop_script.specs.declared.fault.ScriptFault.TheVariants.{NotJson, Shape, Limit, Reference, Rule, OutOfMemory}
@@ -15,9 +16,13 @@ use Rattle.loop_script.specs.declared.plan.Plan.{Plan}
 abbrev pub IsJson : List ℕ → Data → Type 0
 IsJson bytes d = IsUtf8 bytes × (read bytes ≡ Some d)
 
--- the first class of fault; references are looked at where shape and limits are right
+-- the first class of fault; references and rules are looked at where shape and limits are right
 abbrev pub verdict : Faults → Plan → Result Plan ScriptFault
-verdict faults p = if faults.shape then Err Shape else if faults.limit then Err Limit else if plan_refers p then Ok p else Err Reference
+verdict faults p =
+    if faults.shape then Err Shape
+    else if faults.limit then Err Limit
+    else if plan_refers p then (if plan_rules p then Ok p else Err Rule)
+    else Err Reference
 
 abbrev pub none_seen : Faults
 none_seen = record { shape = false; limit = false }

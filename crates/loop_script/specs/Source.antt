@@ -2,7 +2,7 @@
 use Rattle.std.specs.Prelude.{ℕ, ℤ, pos, false, List, [], ◌∷◌, codes, Option}
 use Rattle.serde_json.specs.Data.{Data}
 use Rattle.loop_script.specs.Read.{Read, done, misshapen, ◌>>=◌, optional}
-use Rattle.loop_script.specs.Number.{whole, index_or_null, priority, ready_time}
+use Rattle.loop_script.specs.Number.{whole, bits, index, index_or_null, priority, ready_time}
 use Rattle.loop_script.specs.Object.{only, field}
 use Rattle.loop_script.specs.Array.{part, arity, word}
 use Rattle.loop_script.specs.Words.{choice}
@@ -27,8 +27,15 @@ ready d = do
   us ← ready_time (part 1 d)
   done (ReadyTime us)
 
+unfoldable pub fd : Option Data → Read Kind
+fd d = do
+  _ ← arity 3 d
+  descriptor ← index (part 1 d)
+  bits ← bits (part 2 d)
+  done (Fd descriptor bits)
+
 abbrev pub kinds : Option Data → List (List ℕ × Read Kind)
-kinds d = (codes "idle", idle d) ∷ (codes "timeout", timeout d) ∷ (codes "ready", ready d) ∷ []
+kinds d = (codes "idle", idle d) ∷ (codes "timeout", timeout d) ∷ (codes "ready", ready d) ∷ (codes "fd", fd d) ∷ []
 
 unfoldable pub kind : Option Data → Read Kind
 kind d = choice (word d) (kinds d) (misshapen Idle)

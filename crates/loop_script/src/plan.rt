@@ -11,6 +11,7 @@ use crate::action::Action;
 use crate::faults::Faults;
 use crate::form::{Form, rows_or_none, rows_within};
 use crate::items::Items;
+use crate::level::Level;
 use crate::number::{index_number, whole_number};
 use crate::object::only_keys;
 use crate::part::field_of;
@@ -33,13 +34,6 @@ pub struct Proc {
     pub actions: Items<Action>,
     /// After how many dispatches the source stays; none is always.
     pub keep: Option<u32>,
-}
-
-/// What a descriptor shows from a tick on.
-#[derive(Clone, Copy, Debug, PartialEq, Eq)]
-pub struct Level {
-    pub tick: u32,
-    pub bits: u8,
 }
 
 /// What a script says.
@@ -215,13 +209,16 @@ impl Plan {
     {
         only_keys(
             value,
-            &["version", "ticks", "tick_us", "lanes", "loops", "procs"],
+            &[
+                "version", "ticks", "tick_us", "lanes", "fds", "loops", "procs",
+            ],
             faults,
         );
         let version = whole_number(field_of(value, "version"), 1, 1, faults);
         let ticks = whole_number(field_of(value, "ticks"), 1, 4096, faults);
         let tick_us = whole_number(field_of(value, "tick_us"), 1, 1_000_000_000, faults);
         let lanes = read_lanes(alloc, field_of(value, "lanes"), faults)?;
+        let fds = rows_or_none(alloc, field_of(value, "fds"), 256, faults)?;
         let loops = rows_or_none(alloc, field_of(value, "loops"), 256, faults)?;
         let procs = rows_or_none(alloc, field_of(value, "procs"), 1024, faults)?;
         Ok(Plan {
@@ -230,7 +227,7 @@ impl Plan {
             tick_us,
             lanes,
             cancellables: 0,
-            fds: Items::from_vec(Vec::new(alloc)),
+            fds,
             loops,
             procs,
         })

@@ -3,13 +3,15 @@ ghost use Rattle.std.specs.Prelude.{◌≡◌, ◌≤◌, ◌<◌, ◌^◌, leng
 ghost use Rattle.std.specs.List.{list_all};
 ghost use Rattle.loop_script.specs.Script.{Answers, IsRead, verdict};
 ghost use Rattle.loop_script.specs.Limits.{IsBounded};
+ghost use Rattle.loop_script.specs.Level.{rises};
 ghost use Rattle.loop_script.specs.References.{sizes, action_refers};
-ghost use Rattle.loop_script.specs.Parts.{time_of, start_of, actions_of_proc, actions_of, context_of, home_of, home_in, is_kept, stays};
+ghost use Rattle.loop_script.specs.Parts.{time_of, start_of, actions_of_proc, actions_of, context_of, home_of, home_in, is_kept, stays, levels_of, level_of, next_change_of};
 
 use crate::action::Action;
 use crate::body::Body;
 use crate::fault::ScriptFault;
 use crate::faults::Faults;
+use crate::level::{Level, bits_at, change_after};
 use crate::plan::{LaneSpec, Plan, Proc};
 use crate::references::context_count;
 use serde_json::Value;
@@ -39,7 +41,7 @@ impl Model for Script {
 
 impl Script {
     /// Reads a script. The fault is the first class of those that stand anywhere in it: not JSON, shape, limit,
-    /// reference. `OutOfMemory` comes only where a request for memory was refused.
+    /// reference, rule. `OutOfMemory` comes only where a request for memory was refused.
     pub fn read(alloc: Global, bytes: &[u8]) -> Result<Script, ScriptFault>
         ensures { Answers bytes.now result }
     {
@@ -113,6 +115,32 @@ impl Script {
         ensures { result ≡ context_of self.now number }
     {
         self.plan.loops.as_slice()[number as usize]
+    }
+
+    /// What a descriptor shows at a tick: the bits of the last of its levels whose tick has come, and none before the
+    /// first. A number that no descriptor has shows none.
+    pub fn level(&self, fd: u32, tick: u32) -> u8
+        ensures { result ≡ level_of self.now fd tick }
+    {
+        bits_at(self.levels(fd), tick)
+    }
+
+    /// The first tick after this one at which a descriptor's list has a level; none where the list is over.
+    pub fn next_change(&self, fd: u32, tick: u32) -> Option<u32>
+        ensures { result ≡ next_change_of self.now fd tick }
+    {
+        change_after(self.levels(fd), tick)
+    }
+
+    #[tactic(auto, using(crate::proofs::Rising::levels_rise))]
+    fn levels(&self, fd: u32) -> &[Level]
+        ensures levels { result.now ≡ levels_of self.now fd }
+        ensures rises { rises result.now ≡ true }
+    {
+        match self.plan.fds.as_slice().get(fd as usize) {
+            Some(levels) => levels.as_slice(),
+            None => &[],
+        }
     }
 
     /// A procedure.
@@ -204,6 +232,8 @@ fn judged(plan: Plan, faults: Faults) -> Result<Script, ScriptFault>
         Err(ScriptFault::Limit)
     } else if !plan.refers_within() {
         Err(ScriptFault::Reference)
+    } else if !plan.keeps_rules() {
+        Err(ScriptFault::Rule)
     } else {
         Ok(Script { plan })
     }

@@ -1,11 +1,13 @@
 //! The sources of a script, and their reading.
 ghost use Rattle.std.specs.Prelude.{◌≡◌};
 ghost use Rattle.loop_script.specs.Read.{after};
-ghost use Rattle.loop_script.specs.Source.{kind, idle, timeout, ready, source_spec, child_spec, usual_priority as priority_of, priority_or};
+ghost use Rattle.loop_script.specs.Source.{kind, idle, timeout, ready, fd, source_spec, child_spec, usual_priority as priority_of, priority_or};
 ghost use Rattle.loop_script.specs.Seen.{seen};
 
 use crate::faults::Faults;
-use crate::number::{optional_index, priority_number, ready_time, whole_number};
+use crate::number::{
+    bits_number, index_number, optional_index, priority_number, ready_time, whole_number,
+};
 use crate::object::only_keys;
 use crate::part::{check_arity, field_of, part_of, word_of};
 use serde_json::Value;
@@ -101,6 +103,7 @@ fn read_kind(value: Option<&Value>, faults: &mut Faults) -> Kind
         "idle" => read_idle(value, faults),
         "timeout" => read_timeout(value, faults),
         "ready" => read_ready(value, faults),
+        "fd" => read_fd(value, faults),
         _ => {
             faults.shape = true;
             Kind::Idle
@@ -133,4 +136,15 @@ fn read_ready(value: Option<&Value>, faults: &mut Faults) -> Kind
 {
     check_arity(value, 2, faults);
     Kind::ReadyTime(ready_time(part_of(value, 1), faults))
+}
+
+#[tactic(auto, unfolding(crate::specs::Source::fd))]
+fn read_fd(value: Option<&Value>, faults: &mut Faults) -> Kind
+    ensures value { result ≡ (fd (seen value.entry)).value }
+    ensures faults { faults.new ≡ after faults.old (fd (seen value.entry)) }
+{
+    check_arity(value, 3, faults);
+    let descriptor = index_number(part_of(value, 1), faults);
+    let bits = bits_number(part_of(value, 2), faults);
+    Kind::Fd(descriptor, bits)
 }

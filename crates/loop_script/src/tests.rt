@@ -44,6 +44,23 @@ fn tells_its_lists(rt: HostRuntime) -> Result<(), Fail> {
     Ok(())
 }
 
+fn two_descriptors() -> &'static str {
+    r#"{"version":1,"ticks":9,"tick_us":1,"fds":[[],[[2,1],[5,20]]],"lanes":[{"contexts":1,"start":[["attach",0,0,{"kind":["fd",1,63]}],["attach",0,0,{"kind":["timeout",1]}],["attach",0,0,{"kind":["ready",1]}]]}]}"#
+}
+
+/// The levels of two descriptors, and each word of a kind, as the format writes it.
+#[test]
+fn tells_levels(rt: HostRuntime) -> Result<(), Fail> {
+    let script = Script::read(rt.alloc(), two_descriptors().as_bytes())?;
+    assert_eq!(rt; script.level(1, 1), 0);
+    assert_eq!(rt; script.level(1, 4), 1);
+    assert_eq!(rt; script.level(1, 5), 20);
+    assert_eq!(rt; script.level(0, 5), 0);
+    assert_eq!(rt; script.next_change(1, 2), Some(5));
+    assert_eq!(rt; script.next_change(1, 5), None);
+    Ok(())
+}
+
 /// Each word of an action, as the format writes it.
 #[test]
 fn reads_each_action(rt: HostRuntime) -> Result<(), Fail> {
