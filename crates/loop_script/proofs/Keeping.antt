@@ -1,21 +1,19 @@
 -- No part of the reading clears a fault: the forms of reading first, then the parts of a script.
 use Rattle.std.proofs.Common.{ℕ, Bool, true, false, cond, ◌&&◌, List, [], ◌∷◌, Option, Some, None, length, refl, ◌==◌}
 use Rattle.std.specs.Prelude.{ℤ, pos, nat_le, int_le, is_some, option_and_then, codes, sum_by}
-use Rattle.std.specs.List.{list_all}
 use Rattle.std.specs.Str.{bytes_eq}
 use Rattle.serde_json.specs.Data.{Data, Num, unsigned, negative, float, Items, no_items, item, Members}
-use Rattle.serde_json.specs.Find.{as_number, as_null, as_array, as_object}
+use Rattle.serde_json.specs.Find.{as_number, as_bool, as_null, as_array, as_object}
 use Rattle.loop_script.specs.Read.{Read, done, misshapen, beyond, ◌>>=◌, optional, nullable}
-use Rattle.loop_script.specs.Number.{number_within, whole, integer_from, integer_within, integer, index, index_or_null, slot, bits, priority, ready_time}
+use Rattle.loop_script.specs.Number.{number_within, whole, integer_from, integer_within, integer, index, index_or_null, slot, bits, priority, ready_time, flag_from, flag, flag_or}
 use Rattle.loop_script.specs.Object.{are_among, names, only_among, only, field}
 use Rattle.loop_script.specs.Array.{part, parts_are, arity, word}
 use Rattle.loop_script.specs.Rows.{count, each, counted, rows_of, rows, rows_or}
 use Rattle.loop_script.specs.Words.{choice}
 use Rattle.loop_script.specs.Source.{idle, timeout, ready, fd, kinds, kind, usual_priority, priority_or, source_spec, child_spec}
 use Rattle.loop_script.specs.Level.{level, levels}
-use Rattle.loop_script.specs.Action.{attach, child, destroy, set_ready, set_priority, run, log, forms, action, is_plain}
-use Rattle.loop_script.specs.Plan.{actions, lane, lanes, few_contexts, plain, body, keep_or, procedure, plan}
-use Rattle.loop_script.specs.declared.action.Action.{Action}
+use Rattle.loop_script.specs.Action.{attach, child, destroy, set_ready, set_priority, iterate, pending, run, quit, log, forms, action}
+use Rattle.loop_script.specs.Plan.{actions, lane, lanes, few_contexts, keep_or, procedure, plan}
 use Rattle.loop_script.specs.declared.action.Action.TheVariants.{Log}
 use Rattle.loop_script.specs.declared.source.Kind.{Kind}
 use Rattle.loop_script.specs.declared.source.Kind.TheVariants.{Idle}
@@ -102,6 +100,18 @@ of_ready_time : (d : Option Data) → ClearsNone (ready_time d)
 unfolding ready_time
 of_ready_time d = of_integer _ _ d
 
+flag_by : (b : Bool) (o : Option Bool) → ClearsNone (flag_from b o)
+flag_by b None = of_misshapen b
+flag_by b (Some c) = of_done c
+
+of_flag : (b : Bool) (d : Option Data) → ClearsNone (flag b d)
+unfolding flag
+of_flag b d = flag_by b (option_and_then as_bool d)
+
+of_flag_or : (b : Bool) (d : Option Data) → ClearsNone (flag_or b d)
+unfolding flag_or
+of_flag_or b d = of_optional b (flag b) (of_flag b) d
+
 of_only : (allowed : List (List ℕ)) (d : Option Data) → ClearsNone (only allowed d)
 unfolding only
 of_only allowed d = only_by allowed (option_and_then as_object d)
@@ -183,17 +193,19 @@ of_priority_or k d = of_optional (usual_priority k) priority of_priority d
 of_source_spec : (d : Option Data) → ClearsNone (source_spec d)
 unfolding source_spec
 of_source_spec d s =
-    along (only (codes "kind" ∷ codes "priority" ∷ codes "call" ∷ []) d) (of_only _ d) s _ (
+    along (only (codes "kind" ∷ codes "priority" ∷ codes "recurse" ∷ codes "call" ∷ []) d) (of_only _ d) s _ (
     along (kind (field (codes "kind") d)) (of_kind _) _ _ (
     along (priority_or (kind (field (codes "kind") d)).value (field (codes "priority") d)) (of_priority_or _ _) _ _ (
-    along (index_or_null (field (codes "call") d)) (of_index_or_null _) _ _ (same _))))
+    along (flag_or false (field (codes "recurse") d)) (of_flag_or _ _) _ _ (
+    along (index_or_null (field (codes "call") d)) (of_index_or_null _) _ _ (same _)))))
 
 of_child_spec : (d : Option Data) → ClearsNone (child_spec d)
 unfolding child_spec
 of_child_spec d s =
-    along (only (codes "kind" ∷ codes "call" ∷ []) d) (of_only _ d) s _ (
+    along (only (codes "kind" ∷ codes "recurse" ∷ codes "call" ∷ []) d) (of_only _ d) s _ (
     along (kind (field (codes "kind") d)) (of_kind _) _ _ (
-    along (index_or_null (field (codes "call") d)) (of_index_or_null _) _ _ (same _)))
+    along (flag_or false (field (codes "recurse") d)) (of_flag_or _ _) _ _ (
+    along (index_or_null (field (codes "call") d)) (of_index_or_null _) _ _ (same _))))
 
 of_level : (d : Option Data) → ClearsNone (level d)
 unfolding level
@@ -240,9 +252,21 @@ of_set_priority d s =
     along (slot (part 1 d)) (of_slot _) _ _ (
     along (priority (part 2 d)) (of_priority _) _ _ (same _)))
 
+of_iterate : (d : Option Data) → ClearsNone (iterate d)
+unfolding iterate
+of_iterate d s = along (arity 2 d) (of_arity 2 d) s _ (along (index (part 1 d)) (of_index _) _ _ (same _))
+
+of_pending : (d : Option Data) → ClearsNone (pending d)
+unfolding pending
+of_pending d s = along (arity 2 d) (of_arity 2 d) s _ (along (index (part 1 d)) (of_index _) _ _ (same _))
+
 of_run : (d : Option Data) → ClearsNone (run d)
 unfolding run
 of_run d s = along (arity 2 d) (of_arity 2 d) s _ (along (index (part 1 d)) (of_index _) _ _ (same _))
+
+of_quit : (d : Option Data) → ClearsNone (quit d)
+unfolding quit
+of_quit d s = along (arity 2 d) (of_arity 2 d) s _ (along (index (part 1 d)) (of_index _) _ _ (same _))
 
 of_log : (d : Option Data) → ClearsNone (log d)
 unfolding log
@@ -251,19 +275,12 @@ of_log d s = along (arity 2 d) (of_arity 2 d) s _ (along (whole 0 4294967295 (pa
 of_action : (d : Option Data) → ClearsNone (action d)
 unfolding action
 of_action d =
-    let rows : RowsClear (forms d) = (of_attach d, (of_child d, (of_destroy d, (of_set_ready d, (of_set_priority d, (of_run d, (of_log d, tt))))))) in
+    let rows : RowsClear (forms d) = (of_attach d, (of_child d, (of_destroy d, (of_set_ready d, (of_set_priority d, (of_iterate d, (of_pending d, (of_run d, (of_quit d, (of_log d, tt)))))))))) in
     of_choice (word d) (forms d) (misshapen (Log 0)) rows (of_misshapen (Log 0))
 
 of_actions : (d : Option Data) → ClearsNone (actions d)
 unfolding actions
 of_actions d = of_rows 0 256 action of_action d
-
-of_plain : (xs : List Action) → ClearsNone (plain xs)
-of_plain xs = of_either _ _ (list_all is_plain xs) (of_done xs) (of_misshapen {A = List Action} [])
-
-of_body : (d : Option Data) → ClearsNone (body d)
-unfolding body
-of_body d s = along (actions d) (of_actions d) s _ (of_plain (actions d).value _)
 
 of_keep_or : (d : Option Data) → ClearsNone (keep_or d)
 unfolding keep_or
@@ -273,14 +290,14 @@ of_procedure : (d : Option Data) → ClearsNone (procedure d)
 unfolding procedure
 of_procedure d s =
     along (only (codes "do" ∷ codes "keep" ∷ []) d) (of_only _ d) s _ (
-    along (body (field (codes "do") d)) (of_body _) _ _ (
+    along (actions (field (codes "do") d)) (of_actions _) _ _ (
     along (keep_or (field (codes "keep") d)) (of_keep_or _) _ _ (same _)))
 
 of_lane : (d : Option Data) → ClearsNone (lane d)
 unfolding lane
 of_lane d s =
     along (only (codes "contexts" ∷ codes "start" ∷ []) d) (of_only _ d) s _ (
-    along (whole 1 1 (field (codes "contexts") d)) (of_whole 1 1 _) _ _ (
+    along (whole 1 256 (field (codes "contexts") d)) (of_whole 1 256 _) _ _ (
     along (actions (field (codes "start") d)) (of_actions _) _ _ (same _)))
 
 of_few : (ls : List LaneSpec) → ClearsNone (few_contexts ls)
@@ -310,7 +327,6 @@ none_cleared = record {
   levels = of_levels;
   action = of_action;
   actions = of_actions;
-  body = of_body;
   procedure = of_procedure;
   lane = of_lane;
   lanes = of_lanes;

@@ -1,5 +1,5 @@
 -- Actions, each with its word and its parts.
-use Rattle.std.specs.Prelude.{ℕ, List, [], ◌∷◌, codes, Option, Bool, true, false}
+use Rattle.std.specs.Prelude.{ℕ, List, [], ◌∷◌, codes, Option}
 use Rattle.serde_json.specs.Data.{Data}
 use Rattle.loop_script.specs.Read.{Read, done, misshapen, ◌>>=◌}
 use Rattle.loop_script.specs.Number.{whole, index, slot, priority, ready_time}
@@ -7,7 +7,7 @@ use Rattle.loop_script.specs.Array.{part, arity, word}
 use Rattle.loop_script.specs.Words.{choice}
 use Rattle.loop_script.specs.Source.{source_spec, child_spec}
 use Rattle.loop_script.specs.declared.action.Action.{Action}
-use Rattle.loop_script.specs.declared.action.Action.TheVariants.{Attach, Child, Destroy, SetReady, SetPriority, Run, Log}
+use Rattle.loop_script.specs.declared.action.Action.TheVariants.{Attach, Child, Destroy, SetReady, SetPriority, Iterate, Pending, Run, Quit, Log}
 
 unfoldable pub attach : Option Data → Read Action
 attach d = do
@@ -45,11 +45,29 @@ set_priority d = do
   priority ← priority (part 2 d)
   done (SetPriority slot priority)
 
+unfoldable pub iterate : Option Data → Read Action
+iterate d = do
+  _ ← arity 2 d
+  context ← index (part 1 d)
+  done (Iterate context)
+
+unfoldable pub pending : Option Data → Read Action
+pending d = do
+  _ ← arity 2 d
+  context ← index (part 1 d)
+  done (Pending context)
+
 unfoldable pub run : Option Data → Read Action
 run d = do
   _ ← arity 2 d
   loop ← index (part 1 d)
   done (Run loop)
+
+unfoldable pub quit : Option Data → Read Action
+quit d = do
+  _ ← arity 2 d
+  loop ← index (part 1 d)
+  done (Quit loop)
 
 unfoldable pub log : Option Data → Read Action
 log d = do
@@ -64,14 +82,12 @@ forms d =
     ∷ (codes "destroy", destroy d)
     ∷ (codes "set_ready", set_ready d)
     ∷ (codes "set_priority", set_priority d)
+    ∷ (codes "iterate", iterate d)
+    ∷ (codes "pending", pending d)
     ∷ (codes "run", run d)
+    ∷ (codes "quit", quit d)
     ∷ (codes "log", log d)
     ∷ []
 
 unfoldable pub action : Option Data → Read Action
 action d = choice (word d) (forms d) (misshapen (Log 0))
-
--- what the list of a procedure may hold
-abbrev pub is_plain : Action → Bool
-is_plain (Run loop) = false
-is_plain _ = true

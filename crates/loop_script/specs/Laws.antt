@@ -5,7 +5,7 @@ use Rattle.loop_script.specs.Read.{Read}
 use Rattle.loop_script.specs.Source.{kind, source_spec, child_spec}
 use Rattle.loop_script.specs.Level.{levels}
 use Rattle.loop_script.specs.Action.{action}
-use Rattle.loop_script.specs.Plan.{actions, lane, lanes, body, procedure, plan}
+use Rattle.loop_script.specs.Plan.{actions, lane, lanes, procedure, plan}
 use Rattle.loop_script.specs.Script.{Answers}
 use Rattle.loop_script.specs.declared.fault.ScriptFault.{ScriptFault}
 use Rattle.loop_script.specs.declared.fault.ScriptFault.TheVariants.{OutOfMemory}
@@ -27,7 +27,6 @@ pub record NoFaultIsCleared : Type 0 where
   pub levels : (d : Option Data) → ClearsNone (levels d)
   pub action : (d : Option Data) → ClearsNone (action d)
   pub actions : (d : Option Data) → ClearsNone (actions d)
-  pub body : (d : Option Data) → ClearsNone (body d)
   pub procedure : (d : Option Data) → ClearsNone (procedure d)
   pub lane : (d : Option Data) → ClearsNone (lane d)
   pub lanes : (d : Option Data) → ClearsNone (lanes d)

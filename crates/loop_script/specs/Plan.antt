@@ -1,13 +1,12 @@
 -- The grammar of a script: each object with its keys, each list with its length, each number with its range.
 use Rattle.std.specs.Prelude.{ℕ, List, [], ◌∷◌, codes, Option, Some, nat_le, sum_by, if◌then◌else◌}
-use Rattle.std.specs.List.{list_all}
 use Rattle.serde_json.specs.Data.{Data}
-use Rattle.loop_script.specs.Read.{Read, done, misshapen, beyond, ◌>>=◌, optional, nullable}
+use Rattle.loop_script.specs.Read.{Read, done, beyond, ◌>>=◌, optional, nullable}
 use Rattle.loop_script.specs.Number.{whole, index}
 use Rattle.loop_script.specs.Object.{only, field}
 use Rattle.loop_script.specs.Rows.{rows, rows_or}
 use Rattle.loop_script.specs.Level.{levels}
-use Rattle.loop_script.specs.Action.{action, is_plain}
+use Rattle.loop_script.specs.Action.{action}
 use Rattle.loop_script.specs.declared.action.Action.{Action}
 use Rattle.loop_script.specs.declared.plan.LaneSpec.{LaneSpec}
 use Rattle.loop_script.specs.declared.plan.Proc.{Proc}
@@ -19,7 +18,7 @@ actions d = rows 0 256 action d
 unfoldable pub lane : Option Data → Read LaneSpec
 lane d = do
   _ ← only (codes "contexts" ∷ codes "start" ∷ []) d
-  contexts ← whole 1 1 (field (codes "contexts") d)
+  contexts ← whole 1 256 (field (codes "contexts") d)
   start ← actions (field (codes "start") d)
   done (record { contexts = contexts; start = start })
 
@@ -30,20 +29,13 @@ few_contexts lanes = if nat_le (sum_by (λ l. l.contexts) lanes) 256 then done l
 unfoldable pub lanes : Option Data → Read (List LaneSpec)
 lanes d = rows 1 1 lane d >>= few_contexts
 
--- the actions that a procedure may hold
-abbrev pub plain : List Action → Read (List Action)
-plain xs = if list_all is_plain xs then done xs else misshapen []
-
-unfoldable pub body : Option Data → Read (List Action)
-body d = actions d >>= plain
-
 unfoldable pub keep_or : Option Data → Read (Option ℕ)
 keep_or d = optional (Some 0) (nullable (whole 0 4294967295)) d
 
 unfoldable pub procedure : Option Data → Read Proc
 procedure d = do
   _ ← only (codes "do" ∷ codes "keep" ∷ []) d
-  actions ← body (field (codes "do") d)
+  actions ← actions (field (codes "do") d)
   keep ← keep_or (field (codes "keep") d)
   done (record { actions = actions; keep = keep })
 

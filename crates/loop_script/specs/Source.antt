@@ -2,7 +2,7 @@
 use Rattle.std.specs.Prelude.{ℕ, ℤ, pos, false, List, [], ◌∷◌, codes, Option}
 use Rattle.serde_json.specs.Data.{Data}
 use Rattle.loop_script.specs.Read.{Read, done, misshapen, ◌>>=◌, optional}
-use Rattle.loop_script.specs.Number.{whole, bits, index, index_or_null, priority, ready_time}
+use Rattle.loop_script.specs.Number.{whole, bits, index, index_or_null, priority, ready_time, flag_or}
 use Rattle.loop_script.specs.Object.{only, field}
 use Rattle.loop_script.specs.Array.{part, arity, word}
 use Rattle.loop_script.specs.Words.{choice}
@@ -53,16 +53,18 @@ priority_or k d = optional (usual_priority k) priority d
 
 unfoldable pub source_spec : Option Data → Read SourceSpec
 source_spec d = do
-  _ ← only (codes "kind" ∷ codes "priority" ∷ codes "call" ∷ []) d
+  _ ← only (codes "kind" ∷ codes "priority" ∷ codes "recurse" ∷ codes "call" ∷ []) d
   kind ← kind (field (codes "kind") d)
   priority ← priority_or kind (field (codes "priority") d)
+  recurse ← flag_or false (field (codes "recurse") d)
   call ← index_or_null (field (codes "call") d)
-  done (record { kind = kind; priority = priority; recurse = false; call = call })
+  done (record { kind = kind; priority = priority; recurse = recurse; call = call })
 
 -- a child has its parent's priority; 0 stands in its place
 unfoldable pub child_spec : Option Data → Read SourceSpec
 child_spec d = do
-  _ ← only (codes "kind" ∷ codes "call" ∷ []) d
+  _ ← only (codes "kind" ∷ codes "recurse" ∷ codes "call" ∷ []) d
   kind ← kind (field (codes "kind") d)
+  recurse ← flag_or false (field (codes "recurse") d)
   call ← index_or_null (field (codes "call") d)
-  done (record { kind = kind; priority = pos 0; recurse = false; call = call })
+  done (record { kind = kind; priority = pos 0; recurse = recurse; call = call })

@@ -1,7 +1,7 @@
 //! Reading the actions of a script.
 ghost use Rattle.std.specs.Prelude.{◌≡◌, IfOk, OnOk};
 ghost use Rattle.loop_script.specs.Read.{after};
-ghost use Rattle.loop_script.specs.Action.{attach, child, destroy, set_ready, set_priority, log, run, action};
+ghost use Rattle.loop_script.specs.Action.{attach, child, destroy, set_ready, set_priority, iterate, pending, run, quit, log, action};
 ghost use Rattle.loop_script.specs.Seen.{seen};
 
 use crate::action::Action;
@@ -38,7 +38,10 @@ fn read_action(value: Option<&Value>, faults: &mut Faults) -> Action
         "destroy" => read_destroy(value, faults),
         "set_ready" => read_set_ready(value, faults),
         "set_priority" => read_set_priority(value, faults),
+        "iterate" => read_iterate(value, faults),
+        "pending" => read_pending(value, faults),
         "run" => read_run(value, faults),
+        "quit" => read_quit(value, faults),
         "log" => read_log(value, faults),
         _ => {
             faults.shape = true;
@@ -102,6 +105,24 @@ fn read_set_priority(value: Option<&Value>, faults: &mut Faults) -> Action
     Action::SetPriority(slot, priority)
 }
 
+#[tactic(auto, unfolding(crate::specs::Action::iterate))]
+fn read_iterate(value: Option<&Value>, faults: &mut Faults) -> Action
+    ensures value { result ≡ (iterate (seen value.entry)).value }
+    ensures faults { faults.new ≡ after faults.old (iterate (seen value.entry)) }
+{
+    check_arity(value, 2, faults);
+    Action::Iterate(index_number(part_of(value, 1), faults))
+}
+
+#[tactic(auto, unfolding(crate::specs::Action::pending))]
+fn read_pending(value: Option<&Value>, faults: &mut Faults) -> Action
+    ensures value { result ≡ (pending (seen value.entry)).value }
+    ensures faults { faults.new ≡ after faults.old (pending (seen value.entry)) }
+{
+    check_arity(value, 2, faults);
+    Action::Pending(index_number(part_of(value, 1), faults))
+}
+
 #[tactic(auto, unfolding(crate::specs::Action::run))]
 fn read_run(value: Option<&Value>, faults: &mut Faults) -> Action
     ensures value { result ≡ (run (seen value.entry)).value }
@@ -109,6 +130,15 @@ fn read_run(value: Option<&Value>, faults: &mut Faults) -> Action
 {
     check_arity(value, 2, faults);
     Action::Run(index_number(part_of(value, 1), faults))
+}
+
+#[tactic(auto, unfolding(crate::specs::Action::quit))]
+fn read_quit(value: Option<&Value>, faults: &mut Faults) -> Action
+    ensures value { result ≡ (quit (seen value.entry)).value }
+    ensures faults { faults.new ≡ after faults.old (quit (seen value.entry)) }
+{
+    check_arity(value, 2, faults);
+    Action::Quit(index_number(part_of(value, 1), faults))
 }
 
 #[tactic(auto, unfolding(crate::specs::Action::log))]

@@ -1,9 +1,7 @@
 //! What a script says as a whole, and its reading.
 ghost use Rattle.std.specs.Prelude.{◌≡◌, ◌≤◌, length, sum_by, IfOk, OnOk};
-ghost use Rattle.std.specs.List.{list_all};
 ghost use Rattle.loop_script.specs.Read.{after};
-ghost use Rattle.loop_script.specs.Action.{is_plain as is_plain_action};
-ghost use Rattle.loop_script.specs.Plan.{actions, body, few_contexts, keep_or, lanes, plain, plan};
+ghost use Rattle.loop_script.specs.Plan.{actions, few_contexts, keep_or, lanes, plan};
 ghost use Rattle.loop_script.specs.Limits.{IsBounded};
 ghost use Rattle.loop_script.specs.Seen.{seen};
 
@@ -66,7 +64,7 @@ impl Form for LaneSpec {
         faults: &mut Faults,
     ) -> Result<LaneSpec, AllocError> {
         only_keys(value, &["contexts", "start"], faults);
-        let contexts = whole_number(field_of(value, "contexts"), 1, 1, faults);
+        let contexts = whole_number(field_of(value, "contexts"), 1, 256, faults);
         let start = read_actions(alloc, field_of(value, "start"), faults)?;
         Ok(LaneSpec {
             contexts: contexts as u32,
@@ -83,7 +81,7 @@ impl Form for Proc {
     #[tactic(auto, unfolding(crate::specs::Plan::procedure))]
     fn read(alloc: Global, value: Option<&Value>, faults: &mut Faults) -> Result<Proc, AllocError> {
         only_keys(value, &["do", "keep"], faults);
-        let actions = read_body(alloc, field_of(value, "do"), faults)?;
+        let actions = read_actions(alloc, field_of(value, "do"), faults)?;
         let keep = read_keep(field_of(value, "keep"), faults);
         Ok(Proc { actions, keep })
     }
@@ -124,45 +122,6 @@ fn read_actions(
     ensures faults { OnOk result (faults.new ≡ after faults.old (actions (seen value.entry))) }
 {
     rows_within(alloc, value, 0, 256, faults)
-}
-
-/// The actions of a procedure.
-#[tactic(auto, unfolding(crate::specs::Plan::body))]
-fn read_body(
-    alloc: Global,
-    value: Option<&Value>,
-    faults: &mut Faults,
-) -> Result<Items<Action>, AllocError>
-    ensures value { IfOk result (λ xs. xs ≡ (body (seen value.entry)).value) }
-    ensures faults { OnOk result (faults.new ≡ after faults.old (body (seen value.entry))) }
-{
-    let actions = read_actions(alloc, value, faults)?;
-    Ok(plain_actions(alloc, actions, faults))
-}
-
-/// The actions, where a procedure may hold all of them.
-fn plain_actions(alloc: Global, actions: Items<Action>, faults: &mut Faults) -> Items<Action>
-    ensures value { result ≡ (plain actions).value }
-    ensures faults { faults.new ≡ after faults.old (plain actions) }
-{
-    if all_plain(actions.as_slice()) {
-        actions
-    } else {
-        faults.shape = true;
-        Items::from_vec(Vec::new(alloc))
-    }
-}
-
-fn all_plain(actions: &[Action]) -> bool
-    ensures { result ≡ list_all is_plain_action actions.now }
-{
-    actions.iter().all(|action| is_plain(action))
-}
-
-fn is_plain(action: &Action) -> bool
-    ensures { result ≡ is_plain_action action.now }
-{
-    !matches!(action, Action::Run(_))
 }
 
 #[tactic(auto, unfolding(crate::specs::Plan::lanes))]

@@ -6,7 +6,8 @@ ghost use Rattle.loop_script.specs.Seen.{seen};
 
 use crate::faults::Faults;
 use crate::number::{
-    bits_number, index_number, optional_index, priority_number, ready_time, whole_number,
+    bits_number, index_number, optional_flag, optional_index, priority_number, ready_time,
+    whole_number,
 };
 use crate::object::only_keys;
 use crate::part::{check_arity, field_of, part_of, word_of};
@@ -44,14 +45,15 @@ pub(crate) fn read_source(value: Option<&Value>, faults: &mut Faults) -> SourceS
     ensures value { result ≡ (source_spec (seen value.entry)).value }
     ensures faults { faults.new ≡ after faults.old (source_spec (seen value.entry)) }
 {
-    only_keys(value, &["kind", "priority", "call"], faults);
+    only_keys(value, &["kind", "priority", "recurse", "call"], faults);
     let kind = read_kind(field_of(value, "kind"), faults);
     let priority = read_priority(field_of(value, "priority"), kind, faults);
+    let recurse = optional_flag(field_of(value, "recurse"), false, faults);
     let call = optional_index(field_of(value, "call"), faults);
     SourceSpec {
         kind,
         priority,
-        recurse: false,
+        recurse,
         call,
     }
 }
@@ -62,13 +64,14 @@ pub(crate) fn read_child(value: Option<&Value>, faults: &mut Faults) -> SourceSp
     ensures value { result ≡ (child_spec (seen value.entry)).value }
     ensures faults { faults.new ≡ after faults.old (child_spec (seen value.entry)) }
 {
-    only_keys(value, &["kind", "call"], faults);
+    only_keys(value, &["kind", "recurse", "call"], faults);
     let kind = read_kind(field_of(value, "kind"), faults);
+    let recurse = optional_flag(field_of(value, "recurse"), false, faults);
     let call = optional_index(field_of(value, "call"), faults);
     SourceSpec {
         kind,
         priority: 0,
-        recurse: false,
+        recurse,
         call,
     }
 }

@@ -9,7 +9,7 @@ fn first_run() -> &'static str {
 }
 
 fn each_action() -> &'static str {
-    r#"{"version":1,"ticks":1,"tick_us":1,"loops":[0],"procs":[{"do":[["attach",0,255,{"kind":["idle"]}],["child",255,0,{"kind":["idle"],"call":0}],["destroy",0],["set_ready",0,-1],["set_priority",0,-2147483648],["log",4294967295]]}],"lanes":[{"contexts":1,"start":[["run",0]]}]}"#
+    r#"{"version":1,"ticks":1,"tick_us":1,"loops":[0],"procs":[{"do":[["attach",0,255,{"kind":["idle"]}],["child",255,0,{"kind":["idle"],"recurse":true,"call":0}],["destroy",0],["set_ready",0,-1],["set_priority",0,-2147483648],["iterate",1],["pending",0],["run",0],["quit",0],["log",4294967295]]}],"lanes":[{"contexts":256,"start":[["run",0]]}]}"#
 }
 
 #[test]
@@ -66,7 +66,7 @@ fn tells_levels(rt: HostRuntime) -> Result<(), Fail> {
 fn reads_each_action(rt: HostRuntime) -> Result<(), Fail> {
     let script = Script::read(rt.alloc(), each_action().as_bytes())?;
     assert_eq!(rt; script.actions(Body::Start(0)).len(), 1);
-    assert_eq!(rt; script.actions(Body::Procedure(0)).len(), 6);
+    assert_eq!(rt; script.actions(Body::Procedure(0)).len(), 10);
     Ok(())
 }
 
