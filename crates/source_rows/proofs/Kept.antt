@@ -1,0 +1,295 @@
+use Rattle.std.proofs.Common.{◌≡◌, ℕ, ◌<◌, ◌≤◌, ◌+◌, ◌^◌, ◌==◌, Bool, true, false, not, zero, suc, cond, ◌||◌, Option, Some, None, List, [], ◌∷◌, ◌++◌, inl, inr, map, filter, refl, ap, sym, ◌∙◌, arith, subst}
+use Rattle.std.proofs.lemmas.Bool.Decides.{eqb_tells, nat_tests}
+use Rattle.std.specs.List.{AllByRecursion, list_any}
+use Rattle.std.specs.declared.cmp.Ordering.{Ordering}
+use Rattle.std.specs.declared.cmp.Ordering.TheVariants.{Less, Equal, Greater}
+use Rattle.std.specs.Ordering.{is_lt, match_ordering, ordering_then, ordering_reverse, int_cmp, nat_cmp}
+use Rattle.std.specs.Cmp.Lexicographic.{slice_cmp}
+use Rattle.std.specs.BTreeMap.{insert_entry}
+use Rattle.std.specs.Map.{values_of}
+use Rattle.std.specs.Prelude.{slice_index}
+use Rattle.std.specs.Option.{IsSome}
+use Rattle.loop_script.specs.declared.SourceSpec.{SourceSpec}
+use Rattle.source_rows.specs.declared.row.Row.{Row}
+use Rattle.source_rows.specs.Rows.{Key, key_cmp, key_of, stands_before, placed, in_order, row_of, has_id, changed}
+use Rattle.source_rows.specs.Row.{no_number, path_under, child_row}
+use Rattle.source_rows.specs.Order.{Apart}
+use Rattle.source_rows.specs.New.{IsNew}
+use Rattle.source_rows.specs.Kept.{entry_of, AllApart, IsBelow, IsSound, IsKept}
+use Rattle.source_rows.specs.Tree.{IdsRise, HasPlace}
+use Rattle.source_rows.proofs.Order.{key_total, all_in_order, in_order-push}
+use Rattle.source_rows.proofs.Forest.{all_push, same_self}
+use Rattle.source_rows.proofs.Edits.{Stays, all_map, rise_push, rise_map, forest_push, forest_map, numbers_more}
+
+-- ---- paths with different numbers
+
+same_number : (x y : ℕ) → nat_cmp x y ≡ Equal → x ≡ y
+same_number x y h = grind (arith, nat_tests)
+
+then_equal : (a b : Ordering) → ordering_then a b ≡ Equal → (a ≡ Equal) × (b ≡ Equal)
+then_equal Less b h = cc
+then_equal Equal b h = (refl, h)
+then_equal Greater b h = cc
+
+same_path : (p q : List ℕ) → slice_cmp nat_cmp p q ≡ Equal → p ≡ q
+same_path [] [] h = refl
+same_path [] (y ∷ q) h = cc
+same_path (x ∷ p) [] h = cc
+same_path (x ∷ p) (y ∷ q) h =
+    let t = then_equal (nat_cmp x y) (slice_cmp nat_cmp p q) h in
+    let e = same_number x y t.0 in
+    let f = same_path p q t.1 in
+    cc
+
+apart_by : (r q : Row) (o : Ordering) → key_cmp (key_of r) (key_of q) ≡ o → (o ≡ Equal → ⊥) → Apart r q
+apart_by r q Less e h = inl (ap is_lt e)
+apart_by r q Equal e h = absurd (h refl)
+apart_by r q Greater e h = inr (ap is_lt (key_total.antisymm (key_of q) (key_of r) ∙ ap ordering_reverse e))
+
+-- rows of different paths stand apart
+pub apart_paths : (r q : Row) (n : ℕ) → list_any (λ i. i == n) r.path ≡ true → list_any (λ i. i == n) q.path ≡ false → Apart r q
+apart_paths r q n h k = apart_by r q (key_cmp (key_of r) (key_of q)) refl
+    (λ e. let t = then_equal (int_cmp r.priority q.priority) (slice_cmp nat_cmp r.path q.path) e in
+    let f = same_path r.path q.path t.1 in
+    let never = sym h ∙ (ap (list_any (λ i. i == n)) f ∙ k) in cc)
+
+pub all_apart : (r : Row) (n : ℕ) (rows : List Row) → n < no_number → list_any (λ i. i == n) r.path ≡ true → AllByRecursion (λ q. IsBelow n q.path) rows → AllByRecursion (Apart r) rows
+all_apart r n [] f h k = tt
+all_apart r n (q ∷ rows) f h k = (apart_paths r q n h (k.0 n (omega arith) f), all_apart r n rows f h k.1)
+
+-- ---- the map's entries are the rows in order
+
+pub equal_not : (r q : Row) → key_cmp (key_of r) (key_of q) ≡ Equal → Apart r q → ⊥
+equal_not r q e (inl h) = let never = sym h ∙ ap is_lt e in cc
+equal_not r q e (inr h) = let never = sym h ∙ ap is_lt (key_total.antisymm (key_of q) (key_of r) ∙ ap ordering_reverse e) in cc
+
+insert_by : (r q : Row) (qs : List Row) (o : Ordering) → key_cmp (key_of r) (key_of q) ≡ o → Apart r q → insert_entry key_cmp (map entry_of qs) (key_of r) r.id ≡ map entry_of (placed r qs)
+    → match_ordering o ((key_of r, r.id) ∷ entry_of q ∷ map entry_of qs) ((key_of q, r.id) ∷ map entry_of qs) (entry_of q ∷ insert_entry key_cmp (map entry_of qs) (key_of r) r.id) ≡ map entry_of (cond (is_lt o) (r ∷ q ∷ qs) (q ∷ placed r qs))
+insert_by r q qs Less e h ih = refl
+insert_by r q qs Equal e h ih = absurd (equal_not r q e h)
+insert_by r q qs Greater e h ih = ap (λ (es : List (Key × ℕ)). entry_of q ∷ es) ih
+
+pub entries-placed : (r : Row) (qs : List Row) → AllByRecursion (Apart r) qs → insert_entry key_cmp (map entry_of qs) (key_of r) r.id ≡ map entry_of (placed r qs)
+entries-placed r [] h = refl
+entries-placed r (q ∷ qs) h = insert_by r q qs (key_cmp (key_of r) (key_of q)) refl h.0 (entries-placed r qs h.1)
+
+-- ---- a new row
+
+pub apart_flip : (a b : Row) → Apart a b → Apart b a
+apart_flip a b (inl h) = inr h
+apart_flip a b (inr h) = inl h
+
+apart_push : (rows : List Row) (r : Row) → AllApart rows → AllByRecursion (Apart r) rows → AllApart (rows ++ r ∷ [])
+apart_push [] r h k = (tt, tt)
+apart_push (q ∷ rows) r h k = (all_push (Apart q) rows r h.0 (apart_flip r q k.0), apart_push rows r h.1 k.1)
+
+below_more : (n : ℕ) (rows : List Row) → AllByRecursion (λ q. IsBelow n q.path) rows → AllByRecursion (λ q. IsBelow (n + 1) q.path) rows
+below_more n [] h = tt
+below_more n (q ∷ rows) h = (λ k a b. h.0 k (omega arith) b, below_more n rows h.1)
+
+ids_more : (n : ℕ) (rows : List Row) → AllByRecursion (λ q. q.id < n) rows → AllByRecursion (λ q. q.id < n + 1) rows
+ids_more n [] h = tt
+ids_more n (q ∷ rows) h = let less = h.0 in (omega (arith, less), ids_more n rows h.1)
+
+pub taken_back : (rows : List Row) (r : Row) → AllByRecursion (λ q. q.id < r.id) rows → filter (λ q. not (has_id r.id q)) (rows ++ r ∷ []) ≡ rows
+taken_back [] r h = rw (same_id r.id) refl
+  where
+    same_id : (n : ℕ) → (n == n) ≡ true
+    same_id n = elim (eqb_tells n n) [ inl t ↦ t.0 | inr f ↦ absurd (f.1 refl) ]
+taken_back (q ∷ rows) r h =
+    let less = h.0 in
+    let apart : (q.id == r.id) ≡ false = elim (eqb_tells q.id r.id) [ inl t ↦ absurd (omega (arith, t.1, less)) | inr f ↦ f.0 ] in
+    rw apart (ap (λ (xs : List Row). q ∷ xs) (taken_back rows r h.1))
+
+pub sound-push : (rows : List Row) (i n : ℕ) (r : Row) (levels : ℕ) → n < 2 ^ 63 → IsSound rows i n levels → IsNew r n → r.id ≡ i → r.level ≤ levels → r.order ≡ n → HasPlace rows r.parent r → IsSound (rows ++ r ∷ []) (i + 1) (n + 1) levels
+sound-push rows i n r levels f s new is h order place =
+    let few = s.few in
+    let ids = subst (λ (m : ℕ). AllByRecursion (λ q. q.id < m) rows) (sym is) s.fresh in
+    record {
+      below = all_push (λ q. IsBelow (n + 1) q.path) rows r (below_more n rows s.below) new.below;
+      rising = rise_push rows r s.rising ids;
+      apart = apart_push rows r s.apart (all_apart r n rows (omega (arith, f)) new.has s.below);
+      within = all_push (λ q. q.level ≤ levels) rows r s.within h;
+      fresh = all_push (λ q. q.id < i + 1) rows r (ids_more i rows s.fresh) (omega (arith, is));
+      some = s.some;
+      few = s.few;
+      numbered = all_push (λ q. q.order < n + 1) rows r (numbers_more n rows s.numbered) (omega (arith, order));
+      numbers = omega (arith, f);
+      forest = forest_push rows n r s.forest ids s.numbered order f (omega (arith, h, few)) place;
+    }
+
+pub entries-push : (rows : List Row) (i n : ℕ) (r : Row) (levels : ℕ) → n < no_number → IsSound rows i n levels → IsNew r n → insert_entry key_cmp (map entry_of (in_order rows)) (key_of r) r.id ≡ map entry_of (in_order (rows ++ r ∷ []))
+entries-push rows i n r levels f s new =
+    let far = all_apart r n rows f new.has s.below in
+    entries-placed r (in_order rows) (all_in_order (Apart r) rows far) ∙ ap (map entry_of) (sym (in_order-push rows r far))
+
+-- ---- a child's path
+
+or_left : (a b : Bool) → (a || b) ≡ false → (a ≡ false) × (b ≡ false)
+or_left true b e = cc
+or_left false b e = (refl, e)
+
+no_index : (path : List ℕ) (i k : ℕ) → 0 < k → list_any (λ j. j == k) path ≡ false → (slice_index path i == k) ≡ false
+no_index [] i k h e = elim (eqb_tells 0 k) [ inl t ↦ absurd (omega (arith, t.1)) | inr f ↦ f.0 ]
+no_index (x ∷ path) zero k h e = (or_left (x == k) (list_any (λ j. j == k) path) e).0
+no_index (x ∷ path) (suc i) k h e = no_index path i k h (or_left (x == k) (list_any (λ j. j == k) path) e).1
+
+apart_above : (n k : ℕ) → n < k → (n == k) ≡ false
+apart_above n k h = elim (eqb_tells n k) [ inl t ↦ absurd (omega (arith, t.1)) | inr f ↦ f.0 ]
+
+apart_fill : (k : ℕ) → k < no_number → (no_number == k) ≡ false
+apart_fill k h = elim (eqb_tells no_number k) [ inl t ↦ absurd (omega (arith, t.1)) | inr f ↦ f.0 ]
+
+or_true : (a : Bool) → (a || true) ≡ true
+or_true true = refl
+or_true false = refl
+
+path_has : (level : ℕ) (path : List ℕ) (n : ℕ) → list_any (λ j. j == n) (path_under level path n) ≡ true
+path_has level path n = has_by (level == 1) (level == 2) (slice_index path 0) (slice_index path 1) (slice_index path 2) n
+  where
+    has_by : (u v : Bool) (a b c n : ℕ) → list_any (λ j. j == n) (cond u (a ∷ n ∷ no_number ∷ no_number ∷ []) (cond v (a ∷ b ∷ n ∷ no_number ∷ []) (a ∷ b ∷ c ∷ n ∷ []))) ≡ true
+    has_by true v a b c n = rw (same_self n) (or_true (a == n))
+    has_by false true a b c n = rw (same_self n, or_true (b == n)) (or_true (a == n))
+    has_by false false a b c n = rw (same_self n, or_true (c == n), or_true (b == n)) (or_true (a == n))
+
+path_below : (level : ℕ) (path : List ℕ) (n k : ℕ) → n < k → k < no_number → list_any (λ j. j == k) path ≡ false → list_any (λ j. j == k) (path_under level path n) ≡ false
+path_below level path n k h f e =
+    below_by (level == 1) (level == 2) (slice_index path 0) (slice_index path 1) (slice_index path 2) n k
+    (no_index path 0 k (omega arith) e) (no_index path 1 k (omega arith) e) (no_index path 2 k (omega arith) e) (apart_above n k h) (apart_fill k f)
+  where
+    below_by : (u v : Bool) (a b c n k : ℕ) → (a == k) ≡ false → (b == k) ≡ false → (c == k) ≡ false → (n == k) ≡ false → (no_number == k) ≡ false
+        → list_any (λ j. j == k) (cond u (a ∷ n ∷ no_number ∷ no_number ∷ []) (cond v (a ∷ b ∷ n ∷ no_number ∷ []) (a ∷ b ∷ c ∷ n ∷ []))) ≡ false
+    below_by true v a b c n k p q r s t = rw (p, s, t) refl
+    below_by false true a b c n k p q r s t = rw (p, q, s, t) refl
+    below_by false false a b c n k p q r s t = rw (p, q, r, s) refl
+
+pub child_new : (parent : Row) (spec : SourceSpec) (now id n : ℕ) → n < no_number → IsBelow n parent.path → IsNew (child_row parent spec now id n) n
+child_new parent spec now id n f h = record {
+  has = path_has parent.level parent.path n;
+  below = λ k a b. path_below parent.level parent.path n k (omega arith) b (h k (omega arith) b);
+}
+
+some_by : (r : Row) (b : Bool) (o : Option Row) → IsSome o → IsSome (cond b (Some r) o)
+some_by r true o h = refl
+some_by r false o h = h
+
+pub has_last : (rows : List Row) (r : Row) → IsSome (row_of r.id (rows ++ r ∷ []))
+has_last [] r = elim (eqb_tells r.id r.id) [ inl t ↦ rw t.0 refl | inr f ↦ absurd (f.1 refl) ]
+has_last (q ∷ rows) r = some_by q (q.id == r.id) (row_of r.id (rows ++ r ∷ [])) (has_last rows r)
+
+-- ---- a change that leaves a row in its place
+
+same_before : (g : Row → Row) → Stays g → (r q : Row) → stands_before (g r) (g q) ≡ stands_before r q
+same_before g h r q = ap (λ (k : Key). is_lt (key_cmp k (key_of (g q)))) (h.key r) ∙ ap (λ (k : Key). is_lt (key_cmp (key_of r) k)) (h.key q)
+
+placed_map_by : (g : Row → Row) (r q : Row) (qs : List Row) (b : Bool) → placed (g r) (map g qs) ≡ map g (placed r qs) → cond b (g r ∷ g q ∷ map g qs) (g q ∷ placed (g r) (map g qs)) ≡ map g (cond b (r ∷ q ∷ qs) (q ∷ placed r qs))
+placed_map_by g r q qs true ih = refl
+placed_map_by g r q qs false ih = ap (λ (xs : List Row). g q ∷ xs) ih
+
+placed_map : (g : Row → Row) → Stays g → (r : Row) (qs : List Row) → placed (g r) (map g qs) ≡ map g (placed r qs)
+placed_map g h r [] = refl
+placed_map g h r (q ∷ qs) = ap (λ (b : Bool). cond b (g r ∷ g q ∷ map g qs) (g q ∷ placed (g r) (map g qs))) (same_before g h r q) ∙ placed_map_by g r q qs (stands_before r q) (placed_map g h r qs)
+
+in_order_map : (g : Row → Row) → Stays g → (rows : List Row) → in_order (map g rows) ≡ map g (in_order rows)
+in_order_map g h [] = refl
+in_order_map g h (r ∷ rows) = ap (placed (g r)) (in_order_map g h rows) ∙ placed_map g h r (in_order rows)
+
+same_entries : (g : Row → Row) → Stays g → (rows : List Row) → map entry_of (map g rows) ≡ map entry_of rows
+same_entries g h [] = refl
+same_entries g h (r ∷ rows) = let k = h.key r in let i = h.id r in let t = same_entries g h rows in cc
+
+apart_map : (g : Row → Row) → Stays g → (r q : Row) → Apart r q → Apart (g r) (g q)
+apart_map g h r q (inl e) = inl (same_before g h r q ∙ e)
+apart_map g h r q (inr e) = inr (same_before g h q r ∙ e)
+
+apart_all : (g : Row → Row) → Stays g → (rows : List Row) → AllApart rows → AllApart (map g rows)
+apart_all g h [] a = tt
+apart_all g h (r ∷ rows) a = (all_map (Apart r) (Apart (g r)) g (λ q e. apart_map g h r q e) rows a.0, apart_all g h rows a.1)
+
+pub kept_map : (g : Row → Row) → Stays g → (rows : List Row) (es : List (Key × ℕ)) (i n l : ℕ) → IsKept rows es i n l → IsKept (map g rows) es i n l
+kept_map g h rows es i n l k = record {
+  sound = record {
+    below = all_map (λ r. IsBelow n r.path) (λ r. IsBelow n r.path) g (λ r b. subst (λ (key : Key). IsBelow n key.1) (sym (h.key r)) b) rows k.sound.below;
+    fresh = all_map (λ r. r.id < i) (λ r. r.id < i) g (λ r less. let j = h.id r in omega arith) rows k.sound.fresh;
+    rising = rise_map g h rows k.sound.rising;
+    apart = apart_all g h rows k.sound.apart;
+    within = all_map (λ r. r.level ≤ l) (λ r. r.level ≤ l) g (λ r less. let j = h.level r in omega arith) rows k.sound.within;
+    numbered = all_map (λ r. r.order < n) (λ r. r.order < n) g (λ r less. let j = h.order r in omega arith) rows k.sound.numbered;
+    numbers = k.sound.numbers;
+    forest = forest_map g h rows k.sound.forest;
+    some = k.sound.some;
+    few = k.sound.few;
+  };
+  ordered = k.ordered ∙ sym (ap (map entry_of) (in_order_map g h rows) ∙ same_entries g h (in_order rows));
+}
+
+-- ---- one row changed
+
+above_not : (id : ℕ) (r : Row) (f g : Row → Row) (rows : List Row) → r.id ≡ id → AllByRecursion (λ q. r.id < q.id) rows → changed id f rows ≡ changed id g rows
+above_not id r f g [] e h = refl
+above_not id r f g (q ∷ rows) e h =
+    let less = h.0 in
+    let apart : (q.id == id) ≡ false = elim (eqb_tells q.id id) [ inl t ↦ absurd (omega (arith, t.1, less, e)) | inr v ↦ v.0 ] in
+    rw apart (ap (λ (xs : List Row). q ∷ xs) (above_not id r f g rows e h.1))
+
+change_by : (id : ℕ) (x q : Row) (f : Row → Row) (rows : List Row) (b : Bool) → (q.id == id) ≡ b → AllByRecursion (λ z. q.id < z.id) rows → (row_of id rows ≡ Some x → changed id (λ _. f x) rows ≡ changed id f rows) → cond b (Some q) (row_of id rows) ≡ Some x
+    → cond b (f x) q ∷ changed id (λ _. f x) rows ≡ cond b (f q) q ∷ changed id f rows
+change_by id x q f rows true e less ih h =
+    let same : q ≡ x = cc in
+    let is : q.id ≡ id = elim (eqb_tells q.id id) [ inl t ↦ t.1 | inr v ↦ let never = sym e ∙ v.0 in cc ] in
+    ap (λ (r : Row). f r ∷ changed id (λ _. f x) rows) (sym same) ∙ ap (λ (xs : List Row). f q ∷ xs) (above_not id q (λ _. f x) f rows is less)
+change_by id x q f rows false e less ih h = ap (λ (xs : List Row). q ∷ xs) (ih h)
+
+pub one_changed : (id : ℕ) (x : Row) (f : Row → Row) (rows : List Row) → IdsRise rows → row_of id rows ≡ Some x → changed id (λ _. f x) rows ≡ changed id f rows
+one_changed id x f [] r h = refl
+one_changed id x f (q ∷ rows) r h = change_by id x q f rows (q.id == id) refl r.0 (one_changed id x f rows r.1) h
+
+found_id_by : (id : ℕ) (x q : Row) (b : Bool) (o : Option Row) → (q.id == id) ≡ b → (o ≡ Some x → x.id ≡ id) → cond b (Some q) o ≡ Some x → x.id ≡ id
+found_id_by id x q true o e ih h =
+    let same : q ≡ x = cc in
+    let is : q.id ≡ id = elim (eqb_tells q.id id) [ inl t ↦ t.1 | inr v ↦ let never = sym e ∙ v.0 in cc ] in
+    subst (λ (r : Row). r.id ≡ id) same is
+found_id_by id x q false o e ih h = ih h
+
+pub found_id : (id : ℕ) (x : Row) (rows : List Row) → row_of id rows ≡ Some x → x.id ≡ id
+found_id id x [] h = cc
+found_id id x (q ∷ rows) h = found_id_by id x q (q.id == id) (row_of id rows) refl (found_id id x rows) h
+
+none_by : (id : ℕ) (q : Row) (f : Row → Row) (rows : List Row) (b : Bool) → (row_of id rows ≡ None → changed id f rows ≡ rows) → cond b (Some q) (row_of id rows) ≡ None → cond b (f q) q ∷ changed id f rows ≡ q ∷ rows
+none_by id q f rows true ih h = cc
+none_by id q f rows false ih h = ap (λ (xs : List Row). q ∷ xs) (ih h)
+
+pub none_changed : (id : ℕ) (f : Row → Row) (rows : List Row) → row_of id rows ≡ None → changed id f rows ≡ rows
+none_changed id f [] h = refl
+none_changed id f (q ∷ rows) h = none_by id q f rows (q.id == id) (none_changed id f rows) h
+
+-- a change of one row that leaves it in its place
+abbrev pub at_id : ℕ → (Row → Row) → Row → Row
+at_id id f r = cond (has_id id r) (f r) r
+
+cond_same : {B : Type 0} (h : Row → B) (b : Bool) (x y : Row) → h x ≡ h y → h (cond b x y) ≡ h y
+cond_same h true x y e = e
+cond_same h false x y e = refl
+
+pub stays_at : (id : ℕ) (f : Row → Row) → Stays f → Stays (at_id id f)
+stays_at id f h = record {
+  key = λ r. cond_same key_of (has_id id r) (f r) r (h.key r);
+  id = λ r. cond_same (λ q. q.id) (has_id id r) (f r) r (h.id r);
+  level = λ r. cond_same (λ q. q.level) (has_id id r) (f r) r (h.level r);
+  order = λ r. cond_same (λ q. q.order) (has_id id r) (f r) r (h.order r);
+  parent = λ r. cond_same (λ q. q.parent) (has_id id r) (f r) r (h.parent r);
+  line = λ r. cond_same (λ q. q.line) (has_id id r) (f r) r (h.line r);
+}
+
+-- what a put of the found row, changed, does
+pub put_one : (id : ℕ) (x : Row) (f : Row → Row) → Stays f → (rows new : List Row) → IdsRise rows → row_of id rows ≡ Some x → new ≡ changed (f x).id (λ _. f x) rows → new ≡ changed id f rows
+put_one id x f h rows new r k e =
+    let same : (f x).id ≡ id = h.id x ∙ found_id id x rows k in
+    e ∙ (ap (λ (i : ℕ). changed i (λ _. f x) rows) same ∙ one_changed id x f rows r k)
+
+values_of-entries : (rows : List Row) → values_of (map entry_of rows) ≡ map (λ (r : Row). r.id) rows
+values_of-entries [] = refl
+values_of-entries (r ∷ rows) = ap (λ (xs : List ℕ). r.id ∷ xs) (values_of-entries rows)
+
+pub ids_in_order : (rows : List Row) (es : List (Key × ℕ)) → es ≡ map entry_of (in_order rows) → values_of es ≡ map (λ (r : Row). r.id) (in_order rows)
+ids_in_order rows es e = ap values_of e ∙ values_of-entries (in_order rows)

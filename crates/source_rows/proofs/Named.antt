@@ -1,0 +1,64 @@
+-- The rows of ids, and rows put in others' places.
+use Rattle.std.proofs.Common.{◌≡◌, ℕ, ◌<◌, ◌+◌, ◌==◌, Bool, true, false, cond, Option, Some, None, List, [], ◌∷◌, ◌++◌, inl, inr, map, drop, length, get_or, refl, ap, sym, ◌∙◌, subst}
+use Rattle.std.proofs.lemmas.Bool.Decides.{eqb_tells}
+use Rattle.std.proofs.lemmas.List.{drop_more}
+use Rattle.std.specs.List.{AllByRecursion, cons_option}
+use Rattle.std.specs.Option.{IsSome}
+use Rattle.source_rows.specs.declared.row.Row.{Row}
+use Rattle.source_rows.specs.Rows.{row_of, changed}
+use Rattle.source_rows.specs.InOrder.{rows_of}
+use Rattle.source_rows.specs.Moves.{with_each}
+use Rattle.source_rows.proofs.Placing.{no_row, all_of}
+
+cons_join : (o : Option Row) (xs ys : List Row) → cons_option o (xs ++ ys) ≡ cons_option o xs ++ ys
+cons_join None xs ys = refl
+cons_join (Some r) xs ys = refl
+
+-- one more id
+pub named_push : {A : Type 0} (f : A → ℕ) (table : List Row) (xs : List A) (x : A) → rows_of table (map f (xs ++ x ∷ [])) ≡ rows_of table (map f xs) ++ cons_option (row_of (f x) table) []
+named_push f table [] x = refl
+named_push f table (y ∷ xs) x = ap (cons_option (row_of (f y) table)) (named_push f table xs x) ∙ cons_join (row_of (f y) table) (rows_of table (map f xs)) (cons_option (row_of (f x) table) [])
+
+pub named_none : {A : Type 0} (f : A → ℕ) (table : List Row) (xs : List A) (x : A) → row_of (f x) table ≡ None → rows_of table (map f (xs ++ x ∷ [])) ≡ rows_of table (map f xs)
+named_none f table [] x h = ap (λ (o : Option Row). cons_option o []) h
+named_none f table (y ∷ xs) x h = ap (cons_option (row_of (f y) table)) (named_none f table xs x h)
+
+-- ---- rows put in others' places
+
+same_id : (n : ℕ) → (n == n) ≡ true
+same_id n = elim (eqb_tells n n) [ inl t ↦ t.0 | inr f ↦ absurd (f.1 refl) ]
+
+-- a row put in another's place leaves a row of each id
+there_by : (id : ℕ) (row q : Row) (s t : Option Row) (b : Bool) → (q.id == row.id) ≡ b → (IsSome s → IsSome t) → IsSome (cond (q.id == id) (Some q) s) → IsSome (cond ((cond b row q).id == id) (Some (cond b row q)) t)
+there_by id row q s t false e ih h = by_test (q.id == id) h
+  where
+    by_test : (v : Bool) → IsSome (cond v (Some q) s) → IsSome (cond v (Some q) t)
+    by_test true k = refl
+    by_test false k = ih k
+there_by id row q s t true e ih h =
+    let same : q.id ≡ row.id = elim (eqb_tells q.id row.id) [ inl v ↦ v.1 | inr v ↦ let never = sym e ∙ v.0 in cc ] in
+    subst (λ (n : ℕ). IsSome (cond (n == id) (Some row) t)) same (by_test (q.id == id) h)
+  where
+    by_test : (v : Bool) → IsSome (cond v (Some q) s) → IsSome (cond v (Some row) t)
+    by_test true k = refl
+    by_test false k = ih k
+
+there : (id : ℕ) (row : Row) (rows : List Row) → IsSome (row_of id rows) → IsSome (row_of id (changed row.id (λ _. row) rows))
+there id row [] h = h
+there id row (q ∷ rows) h = there_by id row q (row_of id rows) (row_of id (changed row.id (λ _. row) rows)) (q.id == row.id) refl (there id row rows) h
+
+pub record Puts (rs rows : List Row) (i : ℕ) (d : Row) : Type 0 where
+  pub row : IsSome (row_of d.id rows)
+  pub there : AllByRecursion (λ r. IsSome (row_of r.id (changed d.id (λ _. d) rows))) (drop (i + 1) rs)
+  pub same : with_each (drop i rs) rows ≡ with_each (drop (i + 1) rs) (changed d.id (λ _. d) rows)
+
+pub puts : (rs rows : List Row) (i : ℕ) → i < length rs → AllByRecursion (λ r. IsSome (row_of r.id rows)) (drop i rs) → Puts rs rows i (get_or rs i no_row)
+puts rs rows i less h =
+    let e = drop_more rs i no_row less in
+    let k = subst (AllByRecursion (λ r. IsSome (row_of r.id rows))) e h in
+    let d = get_or rs i no_row in
+    record {
+      row = k.0;
+      there = all_of (λ r. IsSome (row_of r.id rows)) (λ r. IsSome (row_of r.id (changed d.id (λ _. d) rows))) (λ r. there r.id d rows) (drop (i + 1) rs) k.1;
+      same = ap (λ (xs : List Row). with_each xs rows) e;
+    }

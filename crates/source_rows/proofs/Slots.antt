@@ -1,0 +1,283 @@
+use Rattle.std.proofs.Common.{◌≡◌, ◌≢◌, ℕ, ◌<◌, ◌==◌, zero, suc, Bool, true, false, not, cond, Option, Some, None, List, [], ◌∷◌, ◌++◌, inl, inr, filter, refl, ap, sym, ◌∙◌, arith, subst}
+use Rattle.std.proofs.lemmas.Bool.Decides.{eqb_tells, nat_tests}
+use Rattle.std.specs.Prelude.{slice_index_or, slice_set}
+use Rattle.std.specs.List.{AllByRecursion, cons_option}
+use Rattle.std.specs.Option.{option_map}
+use Rattle.std.specs.declared.cmp.Ordering.TheVariants.{Greater}
+use Rattle.std.specs.Ordering.{nat_cmp}
+use Rattle.std.specs.BTreeMap.{insert_entry, is_at}
+use Rattle.std.specs.Map.{remove_entry, lookup}
+use Rattle.slab.specs.Slab.{Slab, get, Updates, with_value}
+use Rattle.source_rows.specs.declared.row.Row.{Row}
+use Rattle.source_rows.specs.Rows.{row_of, has_id, changed}
+use Rattle.source_rows.specs.Slots.{rows_at, Names, Rising, IsTable}
+
+abbrev pub id_of : Row → ℕ
+id_of r = r.id
+
+abbrev pub at_id : ℕ → ℕ → Bool
+at_id id = is_at (nat_cmp id)
+
+tests : (id n : ℕ) → at_id id n ≡ (n == id)
+tests id n = by_test (at_id id n) refl
+  where
+    by_test : (b : Bool) → at_id id n ≡ b → b ≡ (n == id)
+    by_test true e = grind (arith, nat_tests)
+    by_test false e = grind (arith, nat_tests)
+
+-- what an id names
+named_by : (o : Option Row) (n : ℕ) → option_map id_of o ≡ Some n → (r : Row) × (o ≡ Some r) × (r.id ≡ n)
+named_by None n e = let never : None ≡ Some n = e in cc
+named_by (Some r) n e = (r, refl, some_same r.id n e)
+  where
+    some_same : (a b : ℕ) → Some a ≡ Some b → a ≡ b
+    some_same a b e = cc
+
+-- ---- the row of an id
+
+abbrev pub at_key : Slab Row → Option ℕ → Option Row
+at_key s None = None
+at_key s (Some k) = get s k
+
+find_by : (s : Slab Row) (id : ℕ) (r : Row) (k n : ℕ) (es : List (ℕ × ℕ)) → get s k ≡ Some r → r.id ≡ n → (b : Bool) → at_id id n ≡ b → row_of id (rows_at s es) ≡ at_key s (lookup (at_id id) es)
+    → row_of id (r ∷ rows_at s es) ≡ at_key s (cond b (Some k) (lookup (at_id id) es))
+find_by s id r k n es g e true t ih =
+    let same : (r.id == id) ≡ true = ap (λ (m : ℕ). m == id) e ∙ (sym (tests id n) ∙ t) in
+    rw same (sym g)
+find_by s id r k n es g e false t ih =
+    let same : (r.id == id) ≡ false = ap (λ (m : ℕ). m == id) e ∙ (sym (tests id n) ∙ t) in
+    rw same ih
+
+pub row_is : (s : Slab Row) (id : ℕ) (es : List (ℕ × ℕ)) → AllByRecursion (Names s) es → row_of id (rows_at s es) ≡ at_key s (lookup (at_id id) es)
+row_is s id [] h = refl
+row_is s id (e ∷ es) h =
+    let w = named_by (get s e.1) e.0 h.0 in
+    ap (λ (o : Option Row). row_of id (cons_option o (rows_at s es))) w.1
+    ∙ find_by s id w.0 e.1 e.0 es w.1 w.2 (at_id id e.0) refl (row_is s id es h.1)
+
+-- ---- a slot that no id names
+
+other_key : (s : Slab Row) (k key n : ℕ) → get s key ≡ None → option_map id_of (get s k) ≡ Some n → k ≢ key
+other_key s k key n free h e =
+    let w = named_by (get s k) n h in
+    let never = sym free ∙ (ap (get s) (sym e) ∙ w.1) in cc
+
+pub unmoved : (s t : Slab Row) (key : ℕ) (v : Option Row) (es : List (ℕ × ℕ)) → get s key ≡ None → Updates s t key v → AllByRecursion (Names s) es → (rows_at t es ≡ rows_at s es) × AllByRecursion (Names t) es
+unmoved s t key v [] free u h = (refl, tt)
+unmoved s t key v (e ∷ es) free u h =
+    let rest = unmoved s t key v es free u h.1 in
+    let same = u.others e.1 (other_key s e.1 key e.0 free h.0) in (
+      ap (λ (o : Option Row). cons_option o (rows_at t es)) same ∙ ap (λ (xs : List Row). cons_option (get s e.1) xs) rest.0,
+      (ap (option_map id_of) same ∙ h.0, rest.1),
+    )
+
+-- ---- a row at the end
+
+all_ids : (s : Slab Row) (id : ℕ) (es : List (ℕ × ℕ)) → AllByRecursion (Names s) es → AllByRecursion (λ r. r.id < id) (rows_at s es) → AllByRecursion (λ e. e.0 < id) es
+all_ids s id [] h k = tt
+all_ids s id (e ∷ es) h k =
+    let w = named_by (get s e.1) e.0 h.0 in
+    let t = subst (λ (o : Option Row). AllByRecursion (λ r. r.id < id) (cons_option o (rows_at s es))) w.1 k in
+    (subst (λ (n : ℕ). n < id) w.2 t.0, all_ids s id es h.1 t.1)
+
+after : (id n : ℕ) → n < id → nat_cmp id n ≡ Greater
+after id n h = grind (arith, nat_tests)
+
+pub insert-end : (id key : ℕ) (es : List (ℕ × ℕ)) → AllByRecursion (λ e. e.0 < id) es → insert_entry nat_cmp es id key ≡ es ++ (id, key) ∷ []
+insert-end id key [] h = refl
+insert-end id key (e ∷ es) h = rw (after id e.0 h.0) (ap (λ (xs : List (ℕ × ℕ)). e ∷ xs) (insert-end id key es h.1))
+
+cons_join : (o : Option Row) (xs ys : List Row) → cons_option o (xs ++ ys) ≡ cons_option o xs ++ ys
+cons_join None xs ys = refl
+cons_join (Some r) xs ys = refl
+
+rows_at-end : (t : Slab Row) (id key : ℕ) (r : Row) (es : List (ℕ × ℕ)) → get t key ≡ Some r → rows_at t (es ++ (id, key) ∷ []) ≡ rows_at t es ++ r ∷ []
+rows_at-end t id key r [] g = ap (λ (o : Option Row). cons_option o []) g
+rows_at-end t id key r (e ∷ es) g = ap (cons_option (get t e.1)) (rows_at-end t id key r es g) ∙ cons_join (get t e.1) (rows_at t es) (r ∷ [])
+
+all_push : (P : ℕ × ℕ → Type 0) (es : List (ℕ × ℕ)) (e : ℕ × ℕ) → AllByRecursion P es → P e → AllByRecursion P (es ++ e ∷ [])
+all_push P [] e h k = (k, tt)
+all_push P (q ∷ es) e h k = (h.0, all_push P es e h.1 k)
+
+rising_push : (es : List (ℕ × ℕ)) (id key : ℕ) → Rising es → AllByRecursion (λ e. e.0 < id) es → Rising (es ++ (id, key) ∷ [])
+rising_push [] id key h k = (tt, tt)
+rising_push (e ∷ es) id key h k = (all_push (λ q. e.0 < q.0) es (id, key) h.0 k.0, rising_push es id key h.1 k.1)
+
+pub record Pushed (t : Slab Row) (es fs : List (ℕ × ℕ)) (rows : List Row) : Type 0 where
+  pub table : IsTable t fs
+  pub rows_are : rows_at t fs ≡ rows
+
+pub pushed : (s t : Slab Row) (key : ℕ) (r : Row) (es fs : List (ℕ × ℕ)) → IsTable s es → get s key ≡ None → Updates s t key (Some r) → AllByRecursion (λ q. q.id < r.id) (rows_at s es) → fs ≡ insert_entry nat_cmp es r.id key
+    → Pushed t es fs (rows_at s es ++ r ∷ [])
+pushed s t key r es fs h free u above e =
+    let ids = all_ids s r.id es h.named above in
+    let is : fs ≡ es ++ (r.id, key) ∷ [] = e ∙ insert-end r.id key es ids in
+    let same = unmoved s t key (Some r) es free u h.named in
+    rw is (record {
+      table = record {
+        named = all_push (Names t) es (r.id, key) same.1 (ap (option_map id_of) u.changed);
+        rising = rising_push es r.id key h.rising ids;
+      };
+      rows_are = rows_at-end t r.id key r es u.changed ∙ ap (λ (xs : List Row). xs ++ r ∷ []) same.0;
+    })
+
+pub both : (s t u : Slab Row) (key : ℕ) (v w : Option Row) → Updates s t key v → Updates t u key w → Updates s u key w
+both s t u key v w a b = record { changed = b.changed; others = λ o n. b.others o n ∙ a.others o n }
+
+pub undone : (s t u : Slab Row) (key : ℕ) (v w : Option Row) (es fs : List (ℕ × ℕ)) → IsTable s es → get s key ≡ None → Updates s t key v → Updates t u key w → fs ≡ es → Pushed u es fs (rows_at s es)
+undone s t u key v w es fs h free a b e =
+    let same = unmoved s u key w es free (both s t u key v w a b) h.named in
+    rw e (record { table = record { named = same.1; rising = h.rising }; rows_are = same.0 })
+
+pub same_get : (s t : Slab Row) → t.slots ≡ s.slots → (k : ℕ) → get t k ≡ get s k
+same_get s t e k = ap (λ (xs : List (Option Row)). slice_index_or xs k None) e
+
+pub rebased : (s t u : Slab Row) (key : ℕ) (v : Option Row) → t.slots ≡ s.slots → Updates t u key v → Updates s u key v
+rebased s t u key v e a = record { changed = a.changed; others = λ o n. a.others o n ∙ same_get s t e o }
+
+-- ---- a row put in another's place, or taken away
+
+set_here : (xs : List (Option Row)) (k : ℕ) (r : Row) (v : Option Row) → slice_index_or xs k None ≡ Some r → slice_index_or (slice_set xs k v) k None ≡ v
+set_here [] k r v h = cc
+set_here (x ∷ xs) zero r v h = refl
+set_here (x ∷ xs) (suc k) r v h = set_here xs k r v h
+
+set_there : (xs : List (Option Row)) (k o : ℕ) (v : Option Row) → o ≢ k → slice_index_or (slice_set xs k v) o None ≡ slice_index_or xs o None
+set_there [] k o v h = refl
+set_there (x ∷ xs) zero zero v h = absurd (h refl)
+set_there (x ∷ xs) zero (suc o) v h = refl
+set_there (x ∷ xs) (suc k) zero v h = refl
+set_there (x ∷ xs) (suc k) (suc o) v h = set_there xs k o v (λ e. h (ap suc e))
+
+pub put_updates : (s : Slab Row) (key id : ℕ) (r : Row) → option_map id_of (get s key) ≡ Some id → Updates s (with_value s key r) key (Some r)
+put_updates s key id r h =
+    let w = named_by (get s key) id h in
+    record { changed = set_here s.slots key w.0 (Some r) w.1; others = λ o n. set_there s.slots key o (Some r) n }
+
+-- the slot that an id was found to name
+looked_by : (s : Slab Row) (id key : ℕ) (e : ℕ × ℕ) (o : Option ℕ) (b : Bool) → at_id id e.0 ≡ b → Names s e → (o ≡ Some key → option_map id_of (get s key) ≡ Some id) → cond b (Some e.1) o ≡ Some key → option_map id_of (get s key) ≡ Some id
+looked_by s id key e o true t n ih h =
+    let same : e.1 ≡ key = some_nat e.1 key h in
+    let is : e.0 ≡ id = elim (eqb_tells e.0 id) [ inl u ↦ u.1 | inr u ↦ let never = sym t ∙ (tests id e.0 ∙ u.0) in cc ] in
+    subst (λ (k : ℕ). option_map id_of (get s k) ≡ Some id) same (n ∙ ap (λ (m : ℕ). Some m) is)
+  where
+    some_nat : (a b : ℕ) → Some a ≡ Some b → a ≡ b
+    some_nat a b e = cc
+looked_by s id key e o false t n ih h = ih h
+
+pub looked : (s : Slab Row) (id key : ℕ) (es : List (ℕ × ℕ)) → AllByRecursion (Names s) es → lookup (at_id id) es ≡ Some key → option_map id_of (get s key) ≡ Some id
+looked s id key [] n h = let never : None ≡ Some key = h in cc
+looked s id key (e ∷ es) n h = looked_by s id key e (lookup (at_id id) es) (at_id id e.0) refl n.0 (looked s id key es n.1) h
+
+none_of : (id n : ℕ) (es : List (ℕ × ℕ)) → n ≡ id → AllByRecursion (λ q. n < q.0) es → AllByRecursion (λ q. q.0 ≢ id) es
+none_of id n [] e h = tt
+none_of id n (q ∷ es) e h = let less = h.0 in (λ same. absurd (omega (arith, same, less, e)), none_of id n es e h.1)
+
+none_named : (id key : ℕ) (es : List (ℕ × ℕ)) → AllByRecursion (λ q. q.0 ≢ id) es → AllByRecursion (λ q. q.0 ≡ id → q.1 ≡ key) es
+none_named id key [] h = tt
+none_named id key (q ∷ es) h = (λ same. absurd (h.0 same), none_named id key es h.1)
+
+unique_by : (id key : ℕ) (e : ℕ × ℕ) (es : List (ℕ × ℕ)) (o : Option ℕ) (b : Bool) → at_id id e.0 ≡ b → AllByRecursion (λ q. e.0 < q.0) es → (o ≡ Some key → AllByRecursion (λ q. q.0 ≡ id → q.1 ≡ key) es) → cond b (Some e.1) o ≡ Some key
+    → (e.0 ≡ id → e.1 ≡ key) × AllByRecursion (λ q. q.0 ≡ id → q.1 ≡ key) es
+unique_by id key e es o true t less ih h =
+    let is : e.0 ≡ id = elim (eqb_tells e.0 id) [ inl u ↦ u.1 | inr u ↦ let never = sym t ∙ (tests id e.0 ∙ u.0) in cc ] in
+    (λ same. some_nat e.1 key h, none_named id key es (none_of id e.0 es is less))
+  where
+    some_nat : (a b : ℕ) → Some a ≡ Some b → a ≡ b
+    some_nat a b e = cc
+unique_by id key e es o false t less ih h =
+    (λ same. elim (eqb_tells e.0 id) [ inl u ↦ let never = sym t ∙ (tests id e.0 ∙ u.0) in cc | inr u ↦ absurd (u.1 same) ], ih h)
+
+unique : (id key : ℕ) (es : List (ℕ × ℕ)) → Rising es → lookup (at_id id) es ≡ Some key → AllByRecursion (λ q. q.0 ≡ id → q.1 ≡ key) es
+unique id key [] r h = tt
+unique id key (e ∷ es) r h = unique_by id key e es (lookup (at_id id) es) (at_id id e.0) refl r.0 (unique id key es r.1) h
+
+-- an entry of another id names another slot
+far : (s : Slab Row) (id key : ℕ) (e : ℕ × ℕ) → option_map id_of (get s key) ≡ Some id → Names s e → e.0 ≢ id → e.1 ≢ key
+far s id key e h n apart same =
+    let x = sym n ∙ (ap (λ (k : ℕ). option_map id_of (get s k)) same ∙ h) in
+    apart (some_nat e.0 id x)
+  where
+    some_nat : (a b : ℕ) → Some a ≡ Some b → a ≡ b
+    some_nat a b e = cc
+
+put_by : (s t : Slab Row) (key : ℕ) (row r : Row) (e : ℕ × ℕ) (xs ys : List Row) → option_map id_of (get s key) ≡ Some row.id → Updates s t key (Some row) → Names s e → (e.0 ≡ row.id → e.1 ≡ key) → get s e.1 ≡ Some r → r.id ≡ e.0 → xs ≡ ys
+    → (b : Bool) → (r.id == row.id) ≡ b → (cons_option (get t e.1) xs ≡ cond b row r ∷ ys) × Names t e
+put_by s t key row r e xs ys k u n one g is same true f =
+    let id : r.id ≡ row.id = elim (eqb_tells r.id row.id) [ inl v ↦ v.1 | inr v ↦ let never = sym f ∙ v.0 in cc ] in
+    let at : get t e.1 ≡ Some row = ap (get t) (one (sym is ∙ id)) ∙ u.changed in
+    (rw at (ap (λ (zs : List Row). row ∷ zs) same), rw at (ap (λ (m : ℕ). Some m) (sym id ∙ is)))
+put_by s t key row r e xs ys k u n one g is same false f =
+    let apart : e.0 ≢ row.id = λ h. elim (eqb_tells r.id row.id) [ inl v ↦ let never = sym f ∙ v.0 in cc | inr v ↦ v.1 (is ∙ h) ] in
+    let kept : get t e.1 ≡ Some r = u.others e.1 (far s row.id key e k n apart) ∙ g in
+    (rw kept (ap (λ (zs : List Row). r ∷ zs) same), rw kept (ap (λ (m : ℕ). Some m) is))
+
+put_all : (s t : Slab Row) (key : ℕ) (row : Row) (es : List (ℕ × ℕ)) → option_map id_of (get s key) ≡ Some row.id → Updates s t key (Some row) → AllByRecursion (Names s) es → AllByRecursion (λ q. q.0 ≡ row.id → q.1 ≡ key) es
+    → (rows_at t es ≡ changed row.id (λ _. row) (rows_at s es)) × AllByRecursion (Names t) es
+put_all s t key row [] k u n one = (refl, tt)
+put_all s t key row (e ∷ es) k u n one =
+    let w = named_by (get s e.1) e.0 n.0 in
+    let rest = put_all s t key row es k u n.1 one.1 in
+    let head = put_by s t key row w.0 e (rows_at t es) (changed row.id (λ _. row) (rows_at s es)) k u n.0 one.0 w.1 w.2 rest.0 (w.0.id == row.id) refl in
+    (head.0 ∙ sym (ap (λ (o : Option Row). changed row.id (λ _. row) (cons_option o (rows_at s es))) w.1), (head.1, rest.1))
+
+pub put_done : (s : Slab Row) (key : ℕ) (row : Row) (es : List (ℕ × ℕ)) → IsTable s es → lookup (at_id row.id) es ≡ Some key → Pushed (with_value s key row) es es (changed row.id (λ _. row) (rows_at s es))
+put_done s key row es h l =
+    let k = looked s row.id key es h.named l in
+    let both = put_all s (with_value s key row) key row es k (put_updates s key row.id row k) h.named (unique row.id key es h.rising l) in
+    record { table = record { named = both.1; rising = h.rising }; rows_are = both.0 }
+
+pub none_there : (s : Slab Row) (id : ℕ) (es : List (ℕ × ℕ)) → IsTable s es → lookup (at_id id) es ≡ None → row_of id (rows_at s es) ≡ None
+none_there s id es h e = row_is s id es h.named ∙ ap (at_key s) e
+
+-- ---- a row taken away
+
+all_above : (s t : Slab Row) (id key : ℕ) (es : List (ℕ × ℕ)) → option_map id_of (get s key) ≡ Some id → Updates s t key None → AllByRecursion (Names s) es → AllByRecursion (λ q. q.0 ≢ id) es
+    → (rows_at t es ≡ filter (λ r. not (has_id id r)) (rows_at s es)) × AllByRecursion (Names t) es
+all_above s t id key [] k u n h = (refl, tt)
+all_above s t id key (e ∷ es) k u n h =
+    let w = named_by (get s e.1) e.0 n.0 in
+    let rest = all_above s t id key es k u n.1 h.1 in
+    let kept : get t e.1 ≡ Some w.0 = u.others e.1 (far s id key e k n.0 h.0) ∙ w.1 in
+    let apart : (w.0.id == id) ≡ false = elim (eqb_tells w.0.id id) [ inl v ↦ absurd (h.0 (sym w.2 ∙ v.1)) | inr v ↦ v.0 ] in
+    let keeps : filter (λ r. not (has_id id r)) (w.0 ∷ rows_at s es) ≡ w.0 ∷ filter (λ r. not (has_id id r)) (rows_at s es) = rw apart refl in (
+      ap (λ (o : Option Row). cons_option o (rows_at t es)) kept ∙ (ap (λ (xs : List Row). w.0 ∷ xs) rest.0 ∙ sym (ap (λ (o : Option Row). filter (λ r. not (has_id id r)) (cons_option o (rows_at s es))) w.1 ∙ keeps)),
+      (rw kept (ap (λ (m : ℕ). Some m) w.2), rest.1),
+    )
+
+pub record Left (s t : Slab Row) (id : ℕ) (es fs : List (ℕ × ℕ)) : Type 0 where
+  pub rows_are : rows_at t fs ≡ filter (λ r. not (has_id id r)) (rows_at s es)
+  pub named : AllByRecursion (Names t) fs
+  pub rising : Rising fs
+  pub lower : (n : ℕ) → AllByRecursion (λ q. n < q.0) es → AllByRecursion (λ q. n < q.0) fs
+
+left_by : (s t : Slab Row) (id key : ℕ) (e : ℕ × ℕ) (es : List (ℕ × ℕ)) → option_map id_of (get s key) ≡ Some id → Updates s t key None → AllByRecursion (Names s) (e ∷ es) → Rising (e ∷ es) → Left s t id es (remove_entry (at_id id) es)
+    → (b : Bool) → at_id id e.0 ≡ b → Left s t id (e ∷ es) (cond b es (e ∷ remove_entry (at_id id) es))
+left_by s t id key e es k u n r ih true f =
+    let is : e.0 ≡ id = elim (eqb_tells e.0 id) [ inl v ↦ v.1 | inr v ↦ let never = sym f ∙ (tests id e.0 ∙ v.0) in cc ] in
+    let w = named_by (get s e.1) e.0 n.0 in
+    let rest = all_above s t id key es k u n.1 (none_of id e.0 es is r.0) in
+    let same : (w.0.id == id) ≡ true = ap (λ (m : ℕ). m == id) w.2 ∙ (sym (tests id e.0) ∙ f) in
+    let goes : filter (λ r. not (has_id id r)) (w.0 ∷ rows_at s es) ≡ filter (λ r. not (has_id id r)) (rows_at s es) = rw same refl in
+    record {
+      rows_are = rest.0 ∙ sym (ap (λ (o : Option Row). filter (λ r. not (has_id id r)) (cons_option o (rows_at s es))) w.1 ∙ goes);
+      named = rest.1;
+      rising = r.1;
+      lower = λ m h. h.1;
+    }
+left_by s t id key e es k u n r ih false f =
+    let apart : e.0 ≢ id = λ h. elim (eqb_tells e.0 id) [ inl v ↦ let never = sym f ∙ (tests id e.0 ∙ v.0) in cc | inr v ↦ v.1 h ] in
+    let w = named_by (get s e.1) e.0 n.0 in
+    let kept : get t e.1 ≡ Some w.0 = u.others e.1 (far s id key e k n.0 apart) ∙ w.1 in
+    let other : (w.0.id == id) ≡ false = ap (λ (m : ℕ). m == id) w.2 ∙ (sym (tests id e.0) ∙ f) in
+    let keeps : filter (λ r. not (has_id id r)) (w.0 ∷ rows_at s es) ≡ w.0 ∷ filter (λ r. not (has_id id r)) (rows_at s es) = rw other refl in
+    record {
+      rows_are = ap (λ (o : Option Row). cons_option o (rows_at t (remove_entry (at_id id) es))) kept ∙ (ap (λ (xs : List Row). w.0 ∷ xs) ih.rows_are ∙ sym (ap (λ (o : Option Row). filter (λ r. not (has_id id r)) (cons_option o (rows_at s es))) w.1 ∙ keeps));
+      named = (rw kept (ap (λ (m : ℕ). Some m) w.2), ih.named);
+      rising = (ih.lower e.0 r.0, ih.rising);
+      lower = λ m h. (h.0, ih.lower m h.1);
+    }
+
+pub left : (s t : Slab Row) (id key : ℕ) (es : List (ℕ × ℕ)) → option_map id_of (get s key) ≡ Some id → Updates s t key None → AllByRecursion (Names s) es → Rising es → Left s t id es (remove_entry (at_id id) es)
+left s t id key [] k u n r = record { rows_are = refl; named = tt; rising = tt; lower = λ m h. tt }
+left s t id key (e ∷ es) k u n r = left_by s t id key e es k u n r (left s t id key es k u n.1 r.1) (at_id id e.0) refl

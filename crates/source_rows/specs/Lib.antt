@@ -1,0 +1,14 @@
+pub mod Row
+pub mod Rows
+pub mod Order
+pub mod Tree
+pub mod Laws
+pub mod Kept
+pub mod New
+pub mod Slots
+pub mod InOrder
+pub mod Removal
+pub mod Worked
+pub mod Moves
+pub mod Band
+pub mod Soonest

@@ -1,0 +1,68 @@
+-- What is kept of a source, and where it stands in its tree.
+use Rattle.std.specs.Prelude.{ℕ, ◌+◌, ◌*◌, ◌^◌, ◌-◌, ◌==◌, ℤ, pos, negsuc, Some, None, List, [], ◌∷◌, slice_index, if◌then◌else◌}
+use Rattle.loop_script.specs.declared.SourceSpec.{SourceSpec}
+use Rattle.loop_script.specs.declared.Kind.{Kind}
+use Rattle.loop_script.specs.declared.Kind.TheVariants.{Idle, Timeout, ReadyTime, Fd, Cancel}
+use Rattle.source_rows.specs.declared.row.Row.{Row}
+
+-- the ready time of a source that is made at a time
+abbrev pub ready_at : Kind → ℕ → ℤ
+ready_at Idle now = negsuc 0
+ready_at (Timeout ms) now = pos (now + ms * 1000)
+ready_at (ReadyTime us) now = us
+ready_at (Fd fd bits) now = negsuc 0
+ready_at (Cancel c) now = negsuc 0
+
+-- what fills up a path: no order number comes near it
+abbrev pub no_number : ℕ
+no_number = 2 ^ 64 - 1
+
+abbrev pub root_line : ℕ → List ℕ
+root_line id = id ∷ id ∷ id ∷ id ∷ []
+
+abbrev pub root_path : ℕ → List ℕ
+root_path order = order ∷ no_number ∷ no_number ∷ no_number ∷ []
+
+-- the ids from the root down, filled up with the last
+abbrev pub line_under : ℕ → List ℕ → ℕ → List ℕ
+line_under level line id = if level == 1 then slice_index line 0 ∷ id ∷ id ∷ id ∷ []
+    else if level == 2 then slice_index line 0 ∷ slice_index line 1 ∷ id ∷ id ∷ []
+    else slice_index line 0 ∷ slice_index line 1 ∷ slice_index line 2 ∷ id ∷ []
+
+-- the order numbers from the root down, filled up with the greatest number: so a longer path stands before its beginnings
+abbrev pub path_under : ℕ → List ℕ → ℕ → List ℕ
+path_under level path order = if level == 1 then slice_index path 0 ∷ order ∷ no_number ∷ no_number ∷ []
+    else if level == 2 then slice_index path 0 ∷ slice_index path 1 ∷ order ∷ no_number ∷ []
+    else slice_index path 0 ∷ slice_index path 1 ∷ slice_index path 2 ∷ order ∷ []
+
+abbrev pub root_row : SourceSpec → ℕ → ℕ → ℕ → Row
+root_row spec now id order = record {
+  id = id;
+  kind = spec.kind;
+  priority = spec.priority;
+  order = order;
+  parent = None;
+  recurse = spec.recurse;
+  ready = ready_at spec.kind now;
+  call = spec.call;
+  count = 0;
+  level = 1;
+  line = root_line id;
+  path = root_path order;
+}
+
+abbrev pub child_row : Row → SourceSpec → ℕ → ℕ → ℕ → Row
+child_row parent spec now id order = record {
+  id = id;
+  kind = spec.kind;
+  priority = parent.priority;
+  order = order;
+  parent = Some parent.id;
+  recurse = spec.recurse;
+  ready = ready_at spec.kind now;
+  call = spec.call;
+  count = 0;
+  level = parent.level + 1;
+  line = line_under parent.level parent.line id;
+  path = path_under parent.level parent.path order;
+}

@@ -1,0 +1,25 @@
+//! The sources of one context as rows with an order, and the edits of them.
+//!
+//! A row is what is kept of a source. Rows stand in trees, a child below its parent, and in the order in which an
+//! iteration dispatches them: by priority, and in each tree the children before their parent.
+#![tactic(auto)]
+
+mod fault;
+mod in_order;
+mod laws;
+mod levels;
+mod moves;
+mod removal;
+mod row;
+mod rows;
+mod soonest;
+mod table;
+#[cfg(test)]
+mod tests;
+
+pub use fault::RowsFault;
+pub use in_order::InOrder;
+pub use laws::{order_changes_little, order_is_post_order, paths_stand_together, worked_orders};
+pub use levels::Levels;
+pub use row::Row;
+pub use rows::{Ordered, Rows};

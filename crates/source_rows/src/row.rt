@@ -1,0 +1,146 @@
+//! What is kept of a source.
+ghost use Rattle.std.specs.Prelude.{◌≡◌, ◌<◌, ◌≤◌, ◌^◌, length};
+ghost use Rattle.source_rows.specs.Rows.{key_of};
+ghost use Rattle.source_rows.specs.Band.{first_key, last_key};
+ghost use Rattle.source_rows.specs.Moves.{moved_row};
+ghost use Rattle.source_rows.specs.Row.{ready_at, root_row, child_row, line_under, path_under};
+
+use loop_script::{Kind, SourceSpec};
+
+/// What is kept of a source.
+#[derive(Clone, Copy, Debug, PartialEq, Eq)]
+pub struct Row {
+    /// From 1 on, rising, and never given again.
+    pub id: u64,
+    /// What makes it ready besides its ready time.
+    pub kind: Kind,
+    /// A smaller number is more urgent. A child has its parent's.
+    pub priority: i32,
+    /// Where it stands among rows of one priority, or among the children of one parent.
+    pub order: u64,
+    /// The id of the row that it is a child of.
+    pub parent: Option<u64>,
+    /// Whether it may be dispatched while a call of it is in progress.
+    pub recurse: bool,
+    /// When it is ready, in microseconds; -1 is never.
+    pub ready: i64,
+    /// The procedure that it calls; without one its call does nothing.
+    pub call: Option<u32>,
+    /// How often it was dispatched.
+    pub count: u64,
+    /// 1 for a root, and one more for each step down.
+    pub level: u8,
+    /// The ids from the root down to the row, filled up with its own.
+    pub line: [u64; 4],
+    /// The order numbers from the root down to the row, filled up with the greatest number.
+    pub path: [u64; 4],
+}
+
+impl Row {
+    /// Where the row stands: by priority, and then by its path.
+    pub(crate) fn key(&self) -> (i32, [u64; 4])
+        ensures { result ≡ key_of self.now }
+    {
+        let path = self.path;
+        (self.priority, path)
+    }
+
+    /// The least and the greatest key of a row in the tree of a root.
+    pub(crate) fn tree_keys(&self) -> ((i32, [u64; 4]), (i32, [u64; 4]))
+        ensures { result ≡ (first_key self.now, last_key self.now) }
+    {
+        let front = self.path[0];
+        let first = [front, 0, 0, 0];
+        let last = [front, u64::MAX, u64::MAX, u64::MAX];
+        ((self.priority, first), (self.priority, last))
+    }
+
+    /// The row as it stands once the root with the id, the row itself or one above it, has a priority and an order number.
+    pub(crate) fn moved(&self, id: u64, priority: i32, order: u64) -> Row
+        ensures { result ≡ moved_row id priority order self.now }
+    {
+        let mut path = self.path;
+        path[0] = order;
+        Row {
+            priority,
+            order: if self.id == id { order } else { self.order },
+            path,
+            ..*self
+        }
+    }
+}
+
+/// When a source is ready that is made at `now`.
+pub(crate) fn ready_time(kind: Kind, now: u64) -> i64
+    requires { now ≤ 2 ^ 62 }
+    ensures { result ≡ ready_at kind now }
+{
+    match kind {
+        Kind::Timeout(ms) => (now + ms as u64 * 1000) as i64,
+        Kind::ReadyTime(us) => us,
+        _ => -1,
+    }
+}
+
+/// The row of a source with no parent.
+pub(crate) fn make_root(spec: SourceSpec, now: u64, id: u64, order: u64) -> Row
+    requires { now ≤ 2 ^ 62 }
+    ensures { result ≡ root_row spec now id order }
+{
+    Row {
+        id,
+        kind: spec.kind,
+        priority: spec.priority,
+        order,
+        parent: None,
+        recurse: spec.recurse,
+        ready: ready_time(spec.kind, now),
+        call: spec.call,
+        count: 0,
+        level: 1,
+        line: [id, id, id, id],
+        path: [order, u64::MAX, u64::MAX, u64::MAX],
+    }
+}
+
+fn line_below(level: u8, line: [u64; 4], id: u64) -> [u64; 4]
+    ensures { result ≡ line_under level line id }
+{
+    match level {
+        1 => [line[0], id, id, id],
+        2 => [line[0], line[1], id, id],
+        _ => [line[0], line[1], line[2], id],
+    }
+}
+
+fn path_below(level: u8, path: [u64; 4], order: u64) -> [u64; 4]
+    ensures { result ≡ path_under level path order }
+{
+    match level {
+        1 => [path[0], order, u64::MAX, u64::MAX],
+        2 => [path[0], path[1], order, u64::MAX],
+        _ => [path[0], path[1], path[2], order],
+    }
+}
+
+/// The row of a child.
+pub(crate) fn make_child(parent: Row, spec: SourceSpec, now: u64, id: u64, order: u64) -> Row
+    requires now { now ≤ 2 ^ 62 }
+    requires level { parent.level < 4 }
+    ensures { result ≡ child_row parent spec now id order }
+{
+    Row {
+        id,
+        kind: spec.kind,
+        priority: parent.priority,
+        order,
+        parent: Some(parent.id),
+        recurse: spec.recurse,
+        ready: ready_time(spec.kind, now),
+        call: spec.call,
+        count: 0,
+        level: parent.level + 1,
+        line: line_below(parent.level, parent.line, id),
+        path: path_below(parent.level, parent.path, order),
+    }
+}

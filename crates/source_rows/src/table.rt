@@ -1,0 +1,100 @@
+//! Rows by their ids.
+ghost use Rattle.std.specs.Prelude.{◌≡◌, ◌<◌, ◌≤◌, ◌^◌, ◌++◌, ◌∷◌, [], OnOk, OnErr, is_some, IsSome, filter, not};
+ghost use Rattle.std.specs.List.{AllByRecursion};
+ghost use Rattle.source_rows.specs.Rows.{row_of, has_id, changed, next_ready};
+
+use crate::row::Row;
+use crate::soonest::soonest_in;
+use slab::Slab;
+use std::alloc::{AllocError, Global};
+use std::collections::BTreeMap;
+use std::marker::Model;
+
+/// Rows by rising id, each found by its id.
+#[derive(Drop)]
+pub(crate) struct Table {
+    slots: Slab<Row>,
+    keys: BTreeMap<u64, usize>,
+}
+
+impl Model for Table {
+    ghost use Rattle.std.specs.Prelude.{List};
+    ghost use Rattle.source_rows.specs.declared.row.Row.{Row};
+
+    ghost Value = { List Row };
+
+    ghost use Rattle.source_rows.specs.Slots.{rows_at, IsTable};
+
+    ghost view = { λ t. rows_at t.slots t.keys.entries };
+
+    ghost invariant = { λ t. IsTable t.slots t.keys.entries };
+}
+
+impl Table {
+    pub fn new(alloc: Global) -> Self
+        ensures { result ≡ [] }
+    {
+        Table {
+            slots: Slab::new(alloc),
+            keys: BTreeMap::new(alloc),
+        }
+    }
+
+    /// The row of an id.
+    pub fn row(&self, id: u64) -> Option<Row>
+        ensures { result ≡ row_of id self.now }
+    {
+        match self.keys.get(&id) {
+            None => None,
+            Some(key) => self.slots.get(*key).copied(),
+        }
+    }
+
+    /// The least ready time above `now`.
+    pub fn next_ready(&self, now: u64) -> Option<i64>
+        requires { now ≤ 2 ^ 62 }
+        ensures { result ≡ next_ready now self.now }
+    {
+        soonest_in(&self.slots, &self.keys, now)
+    }
+
+    /// Puts a row behind the others.
+    pub fn push(&mut self, row: Row) -> Result<(), AllocError>
+        requires { AllByRecursion (λ r. r.id < row.id) self.old }
+        ensures ok { OnOk result (self.new ≡ self.old ++ row ∷ []) }
+        ensures err { OnErr result (self.new ≡ self.old) }
+    {
+        self.slots.reserve(1)?;
+        let key = self.slots.insert_reserved(row);
+        match self.keys.insert(row.id, key) {
+            Ok(_) => Ok(()),
+            Err(_) => {
+                let _ = self.slots.remove(key);
+                Err(AllocError)
+            }
+        }
+    }
+
+    /// Puts a row in the place of the one that has its id.
+    pub fn put(&mut self, row: Row)
+        requires { IsSome (row_of row.id self.old) }
+        ensures { self.new ≡ changed row.id (λ _. row) self.old }
+    {
+        if let Some(key) = self.keys.get(&row.id) {
+            let key = *key;
+            if let Some(slot) = self.slots.get_mut(key) {
+                *slot = row;
+            }
+        }
+    }
+
+    /// Takes the row of an id away.
+    pub fn remove(&mut self, id: u64)
+        requires { IsSome (row_of id self.old) }
+        ensures { self.new ≡ filter (λ r. not (has_id id r)) self.old }
+    {
+        if let Some(key) = self.keys.remove(&id) {
+            let _ = self.slots.try_remove(key);
+        }
+    }
+}

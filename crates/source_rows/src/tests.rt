@@ -1,0 +1,204 @@
+//! Single calls of rows, with ample memory and with memory refused, and random edits beside plain rows.
+mod plain;
+mod tried;
+
+use crate::{Levels, RowsFault};
+use loop_script::{Kind, SourceSpec};
+use plain::{Plain, Random};
+use std::alloc::Global;
+use std::test::Fail;
+use tried::Tried;
+
+fn idle() -> SourceSpec {
+    SourceSpec {
+        kind: Kind::Idle,
+        priority: 200,
+        recurse: false,
+        call: None,
+    }
+}
+
+fn timeout() -> SourceSpec {
+    SourceSpec {
+        kind: Kind::Timeout(2),
+        priority: 0,
+        recurse: false,
+        call: Some(7),
+    }
+}
+
+/// A call, of which a test knows the answer and the order after it.
+#[derive(Clone, Copy)]
+enum Step {
+    Attach(SourceSpec),
+    Child(u64, SourceSpec),
+    Priority(u64, i32),
+    Ready(u64, i64),
+    NextReady(u64),
+    Dispatched(u64),
+    Destroy(u64),
+}
+
+/// Takes a step. Where a call answers true or false the number is 1 or 0, and where it answers none it is 0.
+fn take(rows: &mut Tried, step: &Step) -> Result<u64, RowsFault> {
+    match step {
+        Step::Attach(spec) => rows.attach(*spec, 0),
+        Step::Child(parent, spec) => rows.add_child(*parent, *spec, 0),
+        Step::Priority(id, priority) => rows.set_priority(*id, *priority).map(|_| 0),
+        Step::Ready(id, ready) => Ok(rows.set_ready(*id, *ready) as u64),
+        Step::NextReady(now) => Ok(rows.next_ready(*now)),
+        Step::Dispatched(id) => Ok(rows.dispatched(*id).unwrap_or(0)),
+        Step::Destroy(id) => Ok(rows.destroy(*id) as u64),
+    }
+}
+
+type Known = (Step, Result<u64, RowsFault>, &'static [u64]);
+
+fn steps_of_two_levels() -> [Known; 15] {
+    [
+        (Step::Attach(idle()), Ok(1), &[1]),
+        (Step::Attach(timeout()), Ok(2), &[2, 1]),
+        (Step::Child(1, idle()), Ok(3), &[2, 3, 1]),
+        (Step::Child(3, idle()), Err(RowsFault::IsChild), &[2, 3, 1]),
+        (Step::Child(9, idle()), Err(RowsFault::NoSource), &[2, 3, 1]),
+        (Step::Priority(3, 0), Err(RowsFault::IsChild), &[2, 3, 1]),
+        (Step::Priority(1, -5), Ok(0), &[3, 1, 2]),
+        (Step::NextReady(1_999), Ok(2_000), &[3, 1, 2]),
+        (Step::NextReady(2_000), Ok(0), &[3, 1, 2]),
+        (Step::Ready(2, 5), Ok(1), &[3, 1, 2]),
+        (Step::NextReady(4), Ok(5), &[3, 1, 2]),
+        (Step::Destroy(1), Ok(1), &[2]),
+        (Step::Destroy(1), Ok(0), &[2]),
+        (Step::Dispatched(2), Ok(1), &[2]),
+        (Step::Dispatched(1), Ok(0), &[2]),
+    ]
+}
+
+/// A chain of four, and then a root with two branches and one that is more urgent until the first has its priority.
+fn steps_of_four_levels() -> [Known; 14] {
+    [
+        (Step::Attach(idle()), Ok(1), &[1]),
+        (Step::Child(1, idle()), Ok(2), &[2, 1]),
+        (Step::Child(2, idle()), Ok(3), &[3, 2, 1]),
+        (Step::Child(3, idle()), Ok(4), &[4, 3, 2, 1]),
+        (
+            Step::Child(4, idle()),
+            Err(RowsFault::TooDeep),
+            &[4, 3, 2, 1],
+        ),
+        (Step::Priority(2, 0), Err(RowsFault::IsChild), &[4, 3, 2, 1]),
+        (Step::Destroy(2), Ok(1), &[1]),
+        (Step::Child(1, idle()), Ok(5), &[5, 1]),
+        (Step::Child(1, idle()), Ok(6), &[5, 6, 1]),
+        (Step::Child(5, timeout()), Ok(7), &[7, 5, 6, 1]),
+        (Step::Attach(timeout()), Ok(8), &[8, 7, 5, 6, 1]),
+        (Step::Priority(1, 0), Ok(0), &[8, 7, 5, 6, 1]),
+        (Step::Priority(1, -1), Ok(0), &[7, 5, 6, 1, 8]),
+        (Step::Destroy(5), Ok(1), &[6, 1, 8]),
+    ]
+}
+
+#[test]
+fn two_levels(rt: HostRuntime) -> Result<(), Fail> {
+    let mut rows = Tried::new(rt.alloc(), Levels::Two);
+    for (step, answer, order) in steps_of_two_levels().iter() {
+        assert_eq!(rt; take(&mut rows, step), *answer);
+        assert_eq!(rt; rows.ids(rt.alloc())?.as_slice(), *order);
+    }
+    Ok(())
+}
+
+#[test]
+fn four_levels(rt: HostRuntime) -> Result<(), Fail> {
+    let mut rows = Tried::new(rt.alloc(), Levels::Four);
+    for (step, answer, order) in steps_of_four_levels().iter() {
+        assert_eq!(rt; take(&mut rows, step), *answer);
+        assert_eq!(rt; rows.ids(rt.alloc())?.as_slice(), *order);
+    }
+    Ok(())
+}
+
+/// Each call answers that memory was refused, and leaves the rows as they were, or gives the exact answer.
+#[test]
+fn refused_rows(rt: HostRuntime) {
+    let mut rows = Tried::new(rt.alloc(), Levels::Two);
+    let attached = rows.attach(idle(), 0);
+    if attached == Err(RowsFault::OutOfMemory) {
+        assert_eq!(rt; rows.rows.row(1), None);
+        assert_eq!(rt; rows.rows.ordered().count(), 0);
+        return;
+    }
+    assert_eq!(rt; attached, Ok(1));
+    let added = rows.add_child(1, idle(), 0);
+    if added == Err(RowsFault::OutOfMemory) {
+        assert_eq!(rt; rows.rows.row(2), None);
+        assert_eq!(rt; rows.rows.ordered().count(), 1);
+        return;
+    }
+    assert_eq!(rt; added, Ok(2));
+    match rows.set_priority(1, 0) {
+        Ok(()) => assert_eq!(rt; rows.rows.row(2).map(|row| row.priority), Some(0)),
+        Err(fault) => {
+            assert_eq!(rt; fault, RowsFault::OutOfMemory);
+            assert_eq!(rt; rows.rows.row(1).map(|row| row.priority), Some(200));
+            assert_eq!(rt; rows.rows.row(2).map(|row| row.priority), Some(200));
+            assert_eq!(rt; rows.rows.ordered().count(), 2);
+        }
+    }
+    assert_eq!(rt; rows.destroy(1), true);
+    assert_eq!(rt; rows.rows.ordered().count(), 0);
+}
+
+/// One random edit of the rows and of the plain ones; both then have the same rows in the same order.
+fn edit(
+    alloc: Global,
+    random: &mut Random,
+    rows: &mut Tried,
+    plain: &mut Plain,
+) -> Result<(), Fail> {
+    let choice = if plain.len() > 24 {
+        12
+    } else {
+        random.below(20)
+    };
+    let id = plain.some_id(random);
+    let ready = random.below(50) as i64 - 1;
+    let spec = SourceSpec {
+        priority: random.below(3) as i32 * 100 - 100,
+        ..idle()
+    };
+    let same = match choice {
+        0..=3 => rows.attach(spec, 0) == Ok(plain.attach(spec.priority)?),
+        4..=9 => rows.add_child(id, spec, 0) == plain.add_child(id)?,
+        10..=13 => rows.destroy(id) == plain.destroy(id),
+        14..=15 => rows.set_ready(id, ready) == plain.set_ready(id, ready),
+        16..=17 => rows.set_priority(id, spec.priority) == plain.set_priority(id, spec.priority),
+        _ => rows.dispatched(id) == plain.dispatched(id),
+    };
+    if !same {
+        return Err("another answer".into());
+    }
+    if rows.rows.next_ready(20) != plain.next_ready(20) {
+        return Err("another ready time".into());
+    }
+    if rows.ids(alloc)?.as_slice() != plain.ordered(alloc)?.as_slice() {
+        return Err("another order".into());
+    }
+    Ok(())
+}
+
+#[test]
+fn random_edits(rt: HostRuntime) -> Result<(), Fail> {
+    for levels in [Levels::Two, Levels::Four] {
+        let mut random = Random::new(20);
+        let mut rows = Tried::new(rt.alloc(), levels);
+        let mut plain = Plain::new(rt.alloc(), levels);
+        for _ in 0..2_000_u64 {
+            edit(rt.alloc(), &mut random, &mut rows, &mut plain)?;
+            for row in rows.rows.in_order() {
+                assert!(rt; plain.has(&row), "a row as it was made and edited");
+            }
+        }
+    }
+    Ok(())
+}
