@@ -1,0 +1,5 @@
+pub mod Walk
+pub mod Cutoff
+pub mod Wait
+pub mod Called
+pub mod Phased

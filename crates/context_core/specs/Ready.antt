@@ -1,0 +1,60 @@
+-- Which sources of a context are dispatched next.
+use Rattle.std.specs.Prelude.{ℕ, ◌==◌, ◌&&◌, ◌||◌, Bool, true, false, not, ℤ, pos, int_le, List, map, filter, bit_and, bit_or}
+use Rattle.std.specs.List.{list_any, list_all}
+use Rattle.loop_script.specs.declared.source.Kind.{Kind}
+use Rattle.loop_script.specs.declared.source.Kind.TheVariants.{Idle, Timeout, ReadyTime, Fd, Cancel}
+use Rattle.source_rows.specs.declared.row.Row.{Row}
+use Rattle.source_rows.specs.Rows.{in_order, is_under}
+
+-- ---- what makes a source ready by itself
+
+abbrev pub Own : Type 0
+Own = Row → Bool
+
+-- its ready time has come
+abbrev pub is_due : ℕ → ℤ → Bool
+is_due now ready = int_le (pos 0) ready && int_le ready (pos now)
+
+-- a descriptor shows a bit that is asked for, or an error, a hang-up or that it is invalid
+abbrev pub has_bit : ℕ → ℕ → Bool
+has_bit level bits = not (bit_and level (bit_or bits 56) == 0)
+
+abbrev pub kind_ready : (level : ℕ → ℕ) → (cancelled : ℕ → Bool) → Kind → Bool
+kind_ready level cancelled Idle = true
+kind_ready level cancelled (Timeout ms) = false
+kind_ready level cancelled (ReadyTime us) = false
+kind_ready level cancelled (Fd fd bits) = has_bit (level fd) bits
+kind_ready level cancelled (Cancel c) = cancelled c
+
+abbrev pub own_ready : (level : ℕ → ℕ) → (cancelled : ℕ → Bool) → ℕ → Own
+own_ready level cancelled now r = kind_ready level cancelled r.kind || is_due now r.ready
+
+-- ---- what calls in progress and the sources below say of it
+
+-- a call of the source, or of one above it, is in progress
+abbrev pub is_blocked : List ℕ → Row → Bool
+is_blocked busy r = list_any (λ id. list_any (λ b. b == id) busy) r.line
+
+abbrev pub is_free : List ℕ → Row → Bool
+is_free busy r = not (is_blocked busy r)
+
+-- free, and ready by itself
+abbrev pub calls : Own → List ℕ → Row → Bool
+calls own busy r = is_free busy r && own r
+
+-- free, and it or a source below it calls
+abbrev pub is_ready : Own → List ℕ → List Row → Row → Bool
+is_ready own busy rows r = is_free busy r && list_any (λ q. is_under r.id q && calls own busy q) rows
+
+-- ---- the selection
+
+abbrev pub ready_rows : Own → List ℕ → List Row → List Row
+ready_rows own busy rows = filter (is_ready own busy rows) rows
+
+-- no row is more urgent
+abbrev pub is_most_urgent : List Row → Row → Bool
+is_most_urgent rows r = list_all (λ q. int_le r.priority q.priority) rows
+
+-- the ids of the ready rows of the least priority, in order
+abbrev pub selected : Own → List ℕ → List Row → List ℕ
+selected own busy rows = map (λ r. r.id) (in_order (filter (is_most_urgent (ready_rows own busy rows)) (ready_rows own busy rows)))

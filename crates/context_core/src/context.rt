@@ -1,0 +1,211 @@
+//! A context, and its three phases.
+ghost use Rattle.std.specs.Prelude.{◌≡◌, ◌≤◌, ◌^◌, ◌==◌, ◌&&◌, ◌||◌, IfOk, OnOk, ℕ, filter};
+ghost use Rattle.std.specs.Borrow.{sem};
+ghost use Rattle.context_core.specs.Lending.{LendsRows};
+ghost use Rattle.source_rows.specs.Rows.{no_rows, level_count, next_ready, in_order, is_under};
+ghost use Rattle.source_rows.specs.Tree.{IsOneTree};
+ghost use Rattle.std.specs.List.{list_any};
+ghost use Rattle.std.specs.Ordering.{nat_cmp};
+ghost use Rattle.std.specs.BTreeSet.{contains};
+ghost use Rattle.context_core.specs.Ready.{own_ready, selected, is_free, calls};
+ghost use Rattle.context_core.specs.Phases.{none_cancelled, ms_until, least_ready, wait_of, interests, asked_rows, levels_for, shown, handed, walk};
+
+use crate::interest::{Interest, Prepared, Shown};
+use crate::ready::{calls, interest, is_beyond, is_free, level_at, ms_until, sooner};
+use source_rows::{Levels, Row, Rows};
+use std::alloc::{AllocError, Global};
+use std::collections::BTreeSet;
+
+/// A context: its sources.
+#[derive(Drop)]
+pub struct Context {
+    rows: Rows,
+}
+
+impl Context {
+    /// A context with no source, whose sources may stand at so many levels.
+    pub fn new(alloc: Global, levels: Levels) -> Self
+        ensures { result ≡ record { rows = no_rows (level_count levels) } }
+    {
+        Context {
+            rows: Rows::new(alloc, levels),
+        }
+    }
+
+    /// The sources.
+    pub fn rows(&self) -> &Rows
+        ensures { result.now ≡ self.now.rows }
+    {
+        &self.rows
+    }
+
+    /// The sources, to edit them.
+    pub fn rows_mut(&mut self) -> &mut Rows
+        ensures* writes_back { sem 𝓛 (LendsRows self.entry result) }
+        ensures rows { result.now ≡ self.old.rows }
+    {
+        &mut self.rows
+    }
+
+    /// How many milliseconds a poll may wait where nothing is ready.
+    fn wait(&self, now: u64, busy: &[u64]) -> i64
+        requires { now ≤ 2 ^ 62 }
+        ensures { result ≡ ms_until now (next_ready now (filter (is_free busy.now) self.now.rows.rows)) }
+    {
+        let mut least = None;
+        'rows: for row in self.rows.in_order() {
+            if is_free(&row, busy) {
+                least = sooner(least, row.ready, now);
+            }
+        }
+        ms_until(now, least)
+    }
+
+    /// What is ready before any descriptor is asked, at a time in microseconds, with the ids of the sources of this
+    /// context whose calls are in progress and may not be dispatched again.
+    pub fn prepare(&self, now: u64, busy: &[u64]) -> Prepared
+        requires { now ≤ 2 ^ 62 }
+        ensures priority { result.priority ≡ least_ready now busy.now self.now.rows.rows }
+        ensures timeout { result.timeout_ms ≡ wait_of now busy.now self.now.rows.rows result.priority }
+    {
+        'rows: for row in self.rows.in_order() {
+            if calls(&row, &[], now, busy) {
+                return Prepared {
+                    priority: Some(row.priority),
+                    timeout_ms: 0,
+                };
+            }
+        }
+        Prepared {
+            priority: None,
+            timeout_ms: self.wait(now, busy),
+        }
+    }
+
+    /// What the free sources that are not less urgent than what is ready ask of descriptors, in order.
+    pub fn query(
+        &self,
+        alloc: Global,
+        prepared: &Prepared,
+        busy: &[u64],
+    ) -> Result<Vec<Interest>, AllocError>
+        ensures { IfOk result (λ list. list.items ≡ interests prepared.now.priority busy.now self.now.rows.rows) }
+    {
+        let mut list = Vec::new(alloc);
+        'rows: for row in self.rows.in_order() {
+            if let Some(interest) = interest(&row, prepared.priority, busy) {
+                list.push(interest)?;
+            }
+        }
+        Ok(list)
+    }
+
+    /// The descriptors that were asked, with the levels handed in for them.
+    fn polled(
+        &self,
+        alloc: Global,
+        least: Option<i32>,
+        busy: &[u64],
+        levels: &[u8],
+    ) -> Result<Vec<Shown>, AllocError>
+        ensures { IfOk result (λ list. list.items ≡ handed (asked_rows least busy.now self.now.rows.rows) levels.now) }
+    {
+        let mut list = Vec::new(alloc);
+        'rows: for row in self.rows.in_order() {
+            if let Some(interest) = interest(&row, least, busy) {
+                if let Some(level) = level_at(levels, list.len()) {
+                    list.push(Shown {
+                        fd: interest.fd,
+                        level,
+                    })?;
+                }
+            }
+        }
+        Ok(list)
+    }
+
+    /// The ids of all sources that a calling one is, or is below.
+    fn lent(
+        &self,
+        alloc: Global,
+        polled: &[Shown],
+        now: u64,
+        busy: &[u64],
+    ) -> Result<BTreeSet<u64>, AllocError>
+        requires { now ≤ 2 ^ 62 }
+        ensures { IfOk result (λ ids. (id : ℕ) → contains nat_cmp ids id
+            ≡ list_any (λ q. is_under id q && calls (own_ready (shown polled.now) none_cancelled now) busy.now q) self.now.rows.rows) }
+    {
+        let mut ids = BTreeSet::new(alloc);
+        'rows: for row in self.rows.in_order() {
+            if calls(&row, polled, now, busy) {
+                lend(&mut ids, &row.line)?;
+            }
+        }
+        Ok(ids)
+    }
+
+    /// The ids of the free rows that are lent readiness, up to the least priority of them.
+    fn walk(
+        &self,
+        alloc: Global,
+        least: Option<i32>,
+        lent: &BTreeSet<u64>,
+        busy: &[u64],
+    ) -> Result<Vec<u64>, AllocError>
+        ensures one_tree { IsOneTree self.now.rows.rows }
+        ensures ids { IfOk result (λ ids. ids.items ≡ walk (λ r. is_free busy.now r && contains nat_cmp lent.now r.id) least (in_order self.now.rows.rows)) }
+    {
+        let mut bound = least;
+        let mut ids = Vec::new(alloc);
+        'rows: for row in self.rows.in_order() {
+            if is_beyond(bound, row.priority) {
+                break;
+            }
+            if is_lent(&row, lent, busy) {
+                bound = Some(row.priority);
+                ids.push(row.id)?;
+            }
+        }
+        Ok(ids)
+    }
+
+    /// The ids of the sources that are dispatched next, in order, by the levels that descriptors show to the interests
+    /// of `query`, one each. The rows, the time and what is busy are those of the `prepare`.
+    pub fn check(
+        &self,
+        alloc: Global,
+        prepared: &Prepared,
+        now: u64,
+        busy: &[u64],
+        levels: &[u8],
+    ) -> Result<Vec<u64>, AllocError>
+        requires now { now ≤ 2 ^ 62 }
+        requires prepared { prepared.now.priority ≡ least_ready now busy.now self.now.rows.rows }
+        ensures { (level : ℕ → ℕ) → levels.now ≡ levels_for level (asked_rows prepared.now.priority busy.now self.now.rows.rows)
+            → IfOk result (λ ids. ids.items ≡ selected (own_ready level none_cancelled now) busy.now self.now.rows.rows) }
+    {
+        let polled = self.polled(alloc, prepared.priority, busy, levels)?;
+        let lent = self.lent(alloc, &polled, now, busy)?;
+        self.walk(alloc, prepared.priority, &lent, busy)
+    }
+}
+
+/// Whether a row is free and lent readiness.
+fn is_lent(row: &Row, lent: &BTreeSet<u64>, busy: &[u64]) -> bool
+    ensures { result ≡ (is_free busy.now row.now && contains nat_cmp lent.now row.now.id) }
+{
+    is_free(row, busy) && lent.contains(&row.id)
+}
+
+/// Puts the ids of a line into a set.
+fn lend(ids: &mut BTreeSet<u64>, line: &[u64]) -> Result<(), AllocError>
+    ensures { OnOk result ((id : ℕ) → contains nat_cmp ids.new id ≡ (list_any (λ i. i == id) line.now || contains nat_cmp ids.old id)) }
+{
+    for id in line {
+        if ids.insert(*id).is_err() {
+            return Err(AllocError);
+        }
+    }
+    Ok(())
+}

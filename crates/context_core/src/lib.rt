@@ -1,0 +1,15 @@
+//! Which sources of a context an iteration dispatches, by GLib's three phases.
+//!
+//! A context has sources. `prepare` tells what is ready before any descriptor is asked, `query` what descriptors to ask
+//! for what, and `check` the sources that are dispatched next.
+#![tactic(auto)]
+
+mod context;
+mod interest;
+mod ready;
+
+pub use context::Context;
+pub use interest::{Interest, Prepared};
+
+#[cfg(test)]
+mod tests;

@@ -1,0 +1,142 @@
+//! What makes a source ready.
+ghost use Rattle.std.specs.Prelude.{◌≡◌, ◌≤◌, ◌^◌, ◌==◌, Some, None, IfSome, IsTrue, int_lt, slice_get, pos, if◌then◌else◌};
+ghost use Rattle.source_rows.specs.Rows.{sooner};
+ghost use Rattle.std.specs.List.{find, list_any};
+ghost use Rattle.context_core.specs.Ready.{is_due, has_bit, own_ready, is_blocked, is_free, calls};
+ghost use Rattle.context_core.specs.Phases.{less_urgent, shown, none_cancelled, is_asked, interest_of, ms_until};
+
+use crate::interest::{Interest, Shown};
+use loop_script::Kind;
+use source_rows::Row;
+
+/// Whether a ready time has come.
+fn is_due(ready: i64, now: u64) -> bool
+    requires { now ≤ 2 ^ 62 }
+    ensures { result ≡ is_due now ready }
+{
+    0 <= ready && ready <= now as i64
+}
+
+/// Whether a level has a bit that is asked for, or that of an error, a hang-up or an invalid descriptor.
+fn has_bit(level: u8, bits: u8) -> bool
+    ensures { result ≡ has_bit level bits }
+{
+    level & (bits | 56) != 0
+}
+
+/// What is listed of a descriptor.
+fn find_shown(polled: &[Shown], fd: u32) -> Option<Shown>
+    ensures { result ≡ find (λ s. s.fd == fd) polled.now }
+{
+    polled.iter().copied().find(|s| s.fd == fd)
+}
+
+/// The level that a descriptor shows; 0 where it is not listed.
+fn level_in(polled: &[Shown], fd: u32) -> u8
+    ensures { result ≡ shown polled.now fd }
+{
+    match find_shown(polled, fd) {
+        Some(s) => s.level,
+        None => 0,
+    }
+}
+
+/// Whether a source is ready by itself.
+fn own_ready(row: &Row, polled: &[Shown], now: u64) -> bool
+    requires { now ≤ 2 ^ 62 }
+    ensures { result ≡ own_ready (shown polled.now) none_cancelled now row.now }
+{
+    match row.kind {
+        Kind::Idle => true,
+        Kind::Fd(fd, bits) => has_bit(level_in(polled, fd), bits) || is_due(row.ready, now),
+        _ => is_due(row.ready, now),
+    }
+}
+
+/// Whether an id is listed.
+fn is_listed(id: u64, busy: &[u64]) -> bool
+    ensures { result ≡ list_any (λ b. b == id) busy.now }
+{
+    busy.iter().any(|b| *b == id)
+}
+
+/// Whether a call of a source, or of one above it, is in progress.
+fn is_blocked(row: &Row, busy: &[u64]) -> bool
+    ensures { result ≡ is_blocked busy.now row.now }
+{
+    row.line.iter().any(|id| is_listed(*id, busy))
+}
+
+/// Whether no call of a source, or of one above it, is in progress.
+pub(crate) fn is_free(row: &Row, busy: &[u64]) -> bool
+    ensures { result ≡ is_free busy.now row.now }
+{
+    !is_blocked(row, busy)
+}
+
+/// Whether a source is free, and ready by itself.
+pub(crate) fn calls(row: &Row, polled: &[Shown], now: u64, busy: &[u64]) -> bool
+    requires { now ≤ 2 ^ 62 }
+    ensures { result ≡ calls (own_ready (shown polled.now) none_cancelled now) busy.now row.now }
+{
+    is_free(row, busy) && own_ready(row, polled, now)
+}
+
+/// Whether a priority is less urgent than the least known.
+pub(crate) fn is_beyond(least: Option<i32>, priority: i32) -> bool
+    ensures { result ≡ less_urgent least priority }
+{
+    match least {
+        None => false,
+        Some(known) => known < priority,
+    }
+}
+
+/// What a source asks of a descriptor, where it is free and not less urgent than the least known priority.
+pub(crate) fn interest(row: &Row, least: Option<i32>, busy: &[u64]) -> Option<Interest>
+    ensures { result ≡ (if is_asked least busy.now row.now then Some (interest_of row.now) else None) }
+{
+    match row.kind {
+        Kind::Fd(fd, bits) => {
+            if is_free(row, busy) && !is_beyond(least, row.priority) {
+                Some(Interest { fd, bits })
+            } else {
+                None
+            }
+        }
+        _ => None,
+    }
+}
+
+/// The sooner of a ready time and one that there may be, where it is above now.
+pub(crate) fn sooner(least: Option<i64>, ready: i64, now: u64) -> Option<i64>
+    requires { now ≤ 2 ^ 62 }
+    ensures { result ≡ (if int_lt (pos now) ready then Some (sooner ready least) else least) }
+{
+    if ready <= now as i64 {
+        return least;
+    }
+    match least {
+        Some(known) if known < ready => least,
+        _ => Some(ready),
+    }
+}
+
+/// Whole milliseconds, rounded up, from a time in microseconds to a later one; -1 where there is none.
+pub(crate) fn ms_until(now: u64, time: Option<i64>) -> i64
+    requires now { now ≤ 2 ^ 62 }
+    requires later { IfSome time (λ t. IsTrue (int_lt (pos now) t)) }
+    ensures { result ≡ ms_until now time }
+{
+    match time {
+        None => -1,
+        Some(time) => (time as u64 - now).div_ceil(1000) as i64,
+    }
+}
+
+/// The level at a place.
+pub(crate) fn level_at(levels: &[u8], place: usize) -> Option<u8>
+    ensures { result ≡ slice_get levels.now place }
+{
+    levels.get(place).copied()
+}
