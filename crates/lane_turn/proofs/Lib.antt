@@ -1,9 +1,10 @@
 pub mod Layers
 pub mod Lists
-pub mod Urgent
-pub mod Ordered
+pub mod Polled
 pub mod Measure
 pub mod Mild
+pub mod Edits
 pub mod Steps
 pub mod Finish
 pub mod Opening
+pub mod Iterations

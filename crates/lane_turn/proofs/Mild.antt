@@ -1,6 +1,6 @@
 -- What a counted thing does to a lane stays within what it pays for.
-use Rattle.std.proofs.Common.{◌≡◌, ℕ, ℤ, zero, suc, ◌+◌, ◌≤◌, Bool, true, false, not, cond, Option, Some, None, List, [], ◌∷◌, map, length, slice_set, refl, ap, sym, arith, subst, ◌==◌, length-append, option_map, find}
-use Rattle.std.specs.Prelude.{slice_get, unwrap_or}
+use Rattle.std.proofs.Common.{◌≡◌, ℕ, ℤ, zero, suc, ◌+◌, ◌^◌, ◌<◌, ◌≤◌, Bool, true, false, not, cond, Option, Some, None, List, [], ◌∷◌, map, length, slice_set, refl, ap, sym, arith, subst, ◌==◌, length-append, option_map, find}
+use Rattle.std.specs.Prelude.{slice_get, unwrap_or, IfSome}
 use Rattle.std.proofs.lemmas.List.{length-map}
 use Rattle.std.proofs.lemmas.List.Sums.{length-filter, count_by-le-length}
 use Rattle.std.specs.List.{AllByRecursion}
@@ -9,11 +9,19 @@ use Rattle.loop_script.specs.declared.source.SourceSpec.{SourceSpec}
 use Rattle.loop_script.specs.declared.action.Action.{Action}
 use Rattle.loop_script.specs.declared.action.Action.TheVariants.{Attach, Child, Destroy, SetReady, SetPriority, Iterate, Pending, Run, Quit, Cancel, Connect, Disconnect, Task, Push, Pop, ShowDefault, Acquire, Release, Invoke, Give, Log}
 use Rattle.loop_script.specs.Parts.{time_of}
-use Rattle.lane_turn.specs.declared.row.Row.{Row}
+use Rattle.source_rows.specs.declared.row.Row.{Row}
+use Rattle.source_rows.specs.Row.{root_row, child_row}
+use Rattle.source_rows.specs.Rows.{RowSet, attached, child_added, destroyed, counted, ready_set, reprioritised, moved, changed, has_id, is_under, row_of as row_with}
+use Rattle.context_core.specs.declared.context.Context.{Context}
+use Rattle.lane_turn.specs.declared.slot.Place.{Place}
 use Rattle.lane_turn.specs.Frames.{Frame, CallOf, IterOf, LoopOf, advanced, emptied, busy}
-use Rattle.lane_turn.specs.Sources.{Sources, new_row, attached, destroyed, raised, raised_row, next_time, restarted, restarted_row}
-use Rattle.lane_turn.specs.Lane.{Lane, known, own, edited, taken, iterating, row_in, row_of, chosen, chosen_in}
-use Rattle.lane_turn.specs.Acted.{acted}
+use Rattle.lane_turn.specs.Sources.{restarted, restarted_row, restarted_kind, due_after, own_ready_at, chosen_in}
+use Rattle.loop_script.specs.declared.source.Kind.{Kind}
+use Rattle.loop_script.specs.declared.source.Kind.TheVariants as kinds
+use Rattle.lane_turn.specs.Lane.{Lane, known, own, with_rows, edited, taken, iterating, row_in, row_of, place_at, next_place, named, chosen}
+use Rattle.lane_turn.specs.Acted.{acted, attach, born, child_of, on_source, set_priority_of}
+use Rattle.lane_turn.specs.declared.line.Word.{Word}
+use Rattle.lane_turn.specs.declared.line.Word.TheVariants as words
 use Rattle.lane_turn.specs.Step.{dispatching}
 use Rattle.lane_turn.specs.Turn.{nest_work, rows_in, row_count}
 use Rattle.lane_turn.specs.Sound.{IsBounded, Bounded, IsWithin}
@@ -26,11 +34,11 @@ pub record Mild (lane after : Lane) : Type 0 where
   pub within : (m : ℕ) → IsWithin m lane → IsWithin (m + 2) after
 
 -- a larger bound
-bounded_weaker : (m n : ℕ) → m ≤ n → (o : Option Sources) → Bounded m o → Bounded n o
+bounded_weaker : (m n : ℕ) → m ≤ n → (o : Option Context) → Bounded m o → Bounded n o
 bounded_weaker m n h None b = tt
-bounded_weaker m n h (Some s) b = record { id = omega (arith, b.id); order = omega (arith, b.order); counts = each_weaker _ _ (λ r k. omega arith) s.rows b.counts }
+bounded_weaker m n h (Some c) b = record { id = omega (arith, b.id); order = omega (arith, b.order); counts = each_weaker _ _ (λ r k. omega arith) c.rows.rows b.counts }
 
-pub each_bounded : (m n : ℕ) → m ≤ n → (contexts : List (Option Sources)) → AllByRecursion (Bounded m) contexts → AllByRecursion (Bounded n) contexts
+pub each_bounded : (m n : ℕ) → m ≤ n → (contexts : List (Option Context)) → AllByRecursion (Bounded m) contexts → AllByRecursion (Bounded n) contexts
 each_bounded m n h [] b = tt
 each_bounded m n h (o ∷ contexts) b = (bounded_weaker m n h o b.0, each_bounded m n h contexts b.1)
 
@@ -64,24 +72,24 @@ begins_frame lane after c f l = record {
 }
 
 -- An edit of one context: k more rows, and j more on each counter.
-pub record MildEdit (k j : ℕ) (edit : Sources → Sources) : Type 0 where
-  pub rows : (s : Sources) → length (edit s).rows ≤ length s.rows + k
-  pub bounded : (m : ℕ) (s : Sources) → IsBounded m s → IsBounded (m + j) (edit s)
+pub record MildEdit (k j : ℕ) (edit : RowSet → RowSet) : Type 0 where
+  pub rows : (s : RowSet) → length (edit s).rows ≤ length s.rows + k
+  pub bounded : (m : ℕ) (s : RowSet) → IsBounded m s → IsBounded (m + j) (edit s)
 
-rows_mapped : (k j : ℕ) (edit : Sources → Sources) → MildEdit k j edit → (o : Option Sources) → rows_in (option_map edit o) ≤ rows_in o + k
+rows_mapped : (k j : ℕ) (edit : RowSet → RowSet) → MildEdit k j edit → (o : Option Context) → rows_in (option_map (with_rows edit) o) ≤ rows_in o + k
 rows_mapped k j edit e None = omega arith
-rows_mapped k j edit e (Some s) = e.rows s
+rows_mapped k j edit e (Some c) = e.rows c.rows
 
-bounded_mapped : (k j m : ℕ) (edit : Sources → Sources) → MildEdit k j edit → (o : Option Sources) → Bounded m o → Bounded (m + j) (option_map edit o)
+bounded_mapped : (k j m : ℕ) (edit : RowSet → RowSet) → MildEdit k j edit → (o : Option Context) → Bounded m o → Bounded (m + j) (option_map (with_rows edit) o)
 bounded_mapped k j m edit e None b = tt
-bounded_mapped k j m edit e (Some s) b = e.bounded m s b
+bounded_mapped k j m edit e (Some c) b = e.bounded m c.rows b
 
-pub rows_edited : (k j : ℕ) (edit : Sources → Sources) → MildEdit k j edit → (contexts : List (Option Sources)) (i : ℕ) → row_count (slice_set contexts i (option_map edit (known (slice_get contexts i)))) ≤ row_count contexts + k
+pub rows_edited : (k j : ℕ) (edit : RowSet → RowSet) → MildEdit k j edit → (contexts : List (Option Context)) (i : ℕ) → row_count (slice_set contexts i (option_map (with_rows edit) (known (slice_get contexts i)))) ≤ row_count contexts + k
 rows_edited k j edit e [] i = omega arith
 rows_edited k j edit e (o ∷ contexts) zero = omega (arith, rows_mapped k j edit e o)
 rows_edited k j edit e (o ∷ contexts) (suc i) = omega (arith, rows_edited k j edit e contexts i)
 
-pub bounded_edited : (k j m : ℕ) (edit : Sources → Sources) → MildEdit k j edit → (contexts : List (Option Sources)) (i : ℕ) → AllByRecursion (Bounded m) contexts → AllByRecursion (Bounded (m + j)) (slice_set contexts i (option_map edit (known (slice_get contexts i))))
+pub bounded_edited : (k j m : ℕ) (edit : RowSet → RowSet) → MildEdit k j edit → (contexts : List (Option Context)) (i : ℕ) → AllByRecursion (Bounded m) contexts → AllByRecursion (Bounded (m + j)) (slice_set contexts i (option_map (with_rows edit) (known (slice_get contexts i))))
 bounded_edited k j m edit e [] i b = tt
 bounded_edited k j m edit e (o ∷ contexts) zero b = (bounded_mapped k j m edit e o b.0, each_bounded m (m + j) (omega arith) contexts b.1)
 bounded_edited k j m edit e (o ∷ contexts) (suc i) b = (bounded_weaker m (m + j) (omega arith) o b.0, bounded_edited k j m edit e contexts i b.1)
@@ -89,7 +97,7 @@ bounded_edited k j m edit e (o ∷ contexts) (suc i) b = (bounded_weaker m (m + 
 -- the edits
 pub mild_attached : (spec : SourceSpec) (now : ℕ) → MildEdit 1 2 (attached spec now)
 mild_attached spec now = record {
-  rows = λ s. omega (arith, length-append s.rows (new_row spec now s ∷ []));
+  rows = λ s. omega (arith, length-append s.rows (root_row spec now s.next_id s.next_order ∷ []));
   bounded = λ m s b. record {
     id = omega (arith, b.id);
     order = omega (arith, b.order);
@@ -97,42 +105,117 @@ mild_attached spec now = record {
   };
 }
 
+born_rows : (spec : SourceSpec) (now : ℕ) (s : RowSet) (o : Option Row) → length (child_added spec now o s).rows ≤ length s.rows + 1
+born_rows spec now s None = omega arith
+born_rows spec now s (Some parent) = omega (arith, length-append s.rows (child_row parent spec now s.next_id s.next_order ∷ []))
+
+born_bounded : (spec : SourceSpec) (now m : ℕ) (s : RowSet) (o : Option Row) → IsBounded m s → IsBounded (m + 2) (child_added spec now o s)
+born_bounded spec now m s None b = record { id = omega (arith, b.id); order = omega (arith, b.order); counts = each_weaker _ _ (λ r k. omega arith) s.rows b.counts }
+born_bounded spec now m s (Some parent) b = record {
+  id = omega (arith, b.id);
+  order = omega (arith, b.order);
+  counts = each-push _ s.rows _ (each_weaker _ _ (λ r k. omega arith) s.rows b.counts) (omega arith);
+}
+
+pub mild_born : (spec : SourceSpec) (now id : ℕ) → MildEdit 1 2 (born spec now id)
+mild_born spec now id = record {
+  rows = λ s. born_rows spec now s (row_with id s.rows);
+  bounded = λ m s b. born_bounded spec now m s (row_with id s.rows) b;
+}
+
 pub mild_destroyed : (id : ℕ) → MildEdit 0 0 (destroyed id)
 mild_destroyed id = record {
-  rows = λ s. let other : Row → Bool = λ r. not (r.id == id) in omega (arith, length-filter other s.rows, count_by-le-length other s.rows);
+  rows = λ s. let other : Row → Bool = λ r. not (is_under id r) in omega (arith, length-filter other s.rows, count_by-le-length other s.rows);
   bounded = λ m s b. record {
     id = omega (arith, b.id);
     order = omega (arith, b.order);
-    counts = each-filter _ (λ r. not (r.id == id)) s.rows (each_weaker _ _ (λ r k. omega arith) s.rows b.counts);
+    counts = each-filter _ (λ r. not (is_under id r)) s.rows (each_weaker _ _ (λ r k. omega arith) s.rows b.counts);
   };
 }
 
-raised_by : (m : ℕ) (r : Row) (b : Bool) → r.count ≤ m → (cond b (record r { count = r.count + 1 }) r).count ≤ m + 1
-raised_by m r true h = omega arith
-raised_by m r false h = omega arith
+-- an edit of each row that raises its count by at most j
+each_raised : (f : Row → Row) (j m : ℕ) → ((r : Row) → (f r).count ≤ r.count + j) → (rows : List Row) → AllByRecursion (λ r. r.count ≤ m) rows → AllByRecursion (λ r. r.count ≤ m + j) (map f rows)
+each_raised f j m e [] h = tt
+each_raised f j m e (r ∷ rows) h = (omega (arith, e r, h.0), each_raised f j m e rows h.1)
 
-raised_each : (id m : ℕ) (rows : List Row) → AllByRecursion (λ r. r.count ≤ m) rows → AllByRecursion (λ r. r.count ≤ m + 1) (map (raised_row id) rows)
-raised_each id m [] h = tt
-raised_each id m (r ∷ rows) h = (raised_by m r (r.id == id) h.0, raised_each id m rows h.1)
+count_by : (f : Row → Row) (r : Row) (j : ℕ) (b : Bool) → (f r).count ≤ r.count + j → (cond b (f r) r).count ≤ r.count + j
+count_by f r j true h = h
+count_by f r j false h = omega arith
 
-pub mild_raised : (id : ℕ) → MildEdit 0 1 (raised id)
-mild_raised id = record {
-  rows = λ s. let e : length (map (raised_row id) s.rows) ≡ length s.rows = simp length-map in omega (arith, e);
-  bounded = λ m s b. record { id = omega (arith, b.id); order = omega (arith, b.order); counts = raised_each id m s.rows b.counts };
+changed_rows : (id : ℕ) (f : Row → Row) (rows : List Row) → length (changed id f rows) ≡ length rows
+changed_rows id f rows = simp length-map
+
+each_changed : (id : ℕ) (f : Row → Row) (j m : ℕ) → ((r : Row) → (f r).count ≤ r.count + j) → (rows : List Row) → AllByRecursion (λ r. r.count ≤ m) rows → AllByRecursion (λ r. r.count ≤ m + j) (changed id f rows)
+each_changed id f j m e rows h = each_raised (λ r. cond (has_id id r) (f r) r) j m (λ r. count_by f r j (has_id id r) (e r)) rows h
+
+pub mild_counted : (id : ℕ) → MildEdit 0 1 (counted id)
+mild_counted id = record {
+  rows = λ s. omega (arith, changed_rows id (λ r. record r { count = r.count + 1 }) s.rows);
+  bounded = λ m s b. record {
+    id = omega (arith, b.id);
+    order = omega (arith, b.order);
+    counts = each_changed id (λ r. record r { count = r.count + 1 }) 1 m (λ r. omega arith) s.rows b.counts;
+  };
 }
 
-restarted_by : (m : ℕ) (t : ℤ) (r : Row) (b : Bool) → r.count ≤ m → (cond b (record r { ready = t }) r).count ≤ m
-restarted_by m t r true h = h
-restarted_by m t r false h = h
+pub mild_ready_set : (id : ℕ) (ready : ℤ) → MildEdit 0 0 (ready_set id ready)
+mild_ready_set id ready = record {
+  rows = λ s. omega (arith, changed_rows id (λ r. record r { ready = ready }) s.rows);
+  bounded = λ m s b. record {
+    id = omega (arith, b.id);
+    order = omega (arith, b.order);
+    counts = each_changed id (λ r. record r { ready = ready }) 0 m (λ r. omega arith) s.rows b.counts;
+  };
+}
 
-restarted_each : (now id m : ℕ) (rows : List Row) → AllByRecursion (λ r. r.count ≤ m) rows → AllByRecursion (λ r. r.count ≤ m) (map (restarted_row now id) rows)
-restarted_each now id m [] h = tt
-restarted_each now id m (r ∷ rows) h = (restarted_by m (next_time now r.kind r.ready) r (r.id == id) h.0, restarted_each now id m rows h.1)
+moved_count : (id : ℕ) (priority : ℤ) (order : ℕ) (r : Row) (b : Bool) → (cond b (record r { priority = priority; order = cond (r.id == id) order r.order; path = slice_set r.path 0 order }) r).count ≤ r.count + 0
+moved_count id priority order r true = omega arith
+moved_count id priority order r false = omega arith
+
+pub mild_reprioritised : (id : ℕ) (priority : ℤ) → MildEdit 0 1 (reprioritised id priority)
+mild_reprioritised id priority = record {
+  rows = λ s. let e : length (map (moved id priority s.next_order) s.rows) ≡ length s.rows = simp length-map in omega (arith, e);
+  bounded = λ m s b. record {
+    id = omega (arith, b.id);
+    order = omega (arith, b.order);
+    counts = each_weaker _ _ (λ r k. omega arith) (reprioritised id priority s).rows
+        (each_raised (moved id priority s.next_order) 0 m (λ r. moved_count id priority s.next_order r (is_under id r)) s.rows b.counts);
+  };
+}
+
+-- what leaves the sources as they are
+mild_same : (s : RowSet) → length s.rows ≤ length s.rows + 0
+mild_same s = omega arith
+
+same_bounded : (m : ℕ) (s : RowSet) → IsBounded m s → IsBounded (m + 0) s
+same_bounded m s b = record { id = omega (arith, b.id); order = omega (arith, b.order); counts = each_weaker _ _ (λ r k. omega arith) s.rows b.counts }
+
+kind_rows : (now id : ℕ) (k : Kind) (s : RowSet) → length (restarted_kind now id k s).rows ≤ length s.rows + 0
+kind_rows now id kinds.Idle s = mild_same s
+kind_rows now id (kinds.Timeout ms) s = (mild_ready_set id (due_after ms now)).rows s
+kind_rows now id (kinds.ReadyTime us) s = mild_same s
+kind_rows now id (kinds.Fd fd bits) s = mild_same s
+kind_rows now id (kinds.Cancel c) s = mild_same s
+
+kind_bounded : (now id : ℕ) (k : Kind) (m : ℕ) (s : RowSet) → IsBounded m s → IsBounded (m + 0) (restarted_kind now id k s)
+kind_bounded now id kinds.Idle m s b = same_bounded m s b
+kind_bounded now id (kinds.Timeout ms) m s b = (mild_ready_set id (due_after ms now)).bounded m s b
+kind_bounded now id (kinds.ReadyTime us) m s b = same_bounded m s b
+kind_bounded now id (kinds.Fd fd bits) m s b = same_bounded m s b
+kind_bounded now id (kinds.Cancel c) m s b = same_bounded m s b
+
+restarted_rows : (now id : ℕ) (o : Option Row) (s : RowSet) → length (restarted_row now id o s).rows ≤ length s.rows + 0
+restarted_rows now id None s = mild_same s
+restarted_rows now id (Some r) s = kind_rows now id r.kind s
+
+restarted_bounded : (now id : ℕ) (o : Option Row) (m : ℕ) (s : RowSet) → IsBounded m s → IsBounded (m + 0) (restarted_row now id o s)
+restarted_bounded now id None m s b = same_bounded m s b
+restarted_bounded now id (Some r) m s b = kind_bounded now id r.kind m s b
 
 pub mild_restarted : (now id : ℕ) → MildEdit 0 0 (restarted now id)
 mild_restarted now id = record {
-  rows = λ s. let e : length (map (restarted_row now id) s.rows) ≡ length s.rows = simp length-map in omega (arith, e);
-  bounded = λ m s b. record { id = omega (arith, b.id); order = omega (arith, b.order); counts = restarted_each now id (m + 0) s.rows (each_weaker _ _ (λ r k. omega arith) s.rows b.counts) };
+  rows = λ s. restarted_rows now id (row_with id s.rows) s;
+  bounded = λ m s b. restarted_bounded now id (row_with id s.rows) m s b;
 }
 
 -- what frames hold
@@ -149,23 +232,23 @@ work_emptied c (LoopOf number context ∷ frames) = omega (arith, work_emptied c
 pub length_emptied : (c : ℕ) (frames : List Frame) → length (emptied c frames) ≡ length frames
 length_emptied c frames = simp length-map
 
-rows_own : (contexts : List (Option Sources)) (i : ℕ) → rows_in (known (slice_get contexts i)) ≤ row_count contexts
+rows_own : (contexts : List (Option Context)) (i : ℕ) → rows_in (known (slice_get contexts i)) ≤ row_count contexts
 rows_own [] i = omega arith
 rows_own (o ∷ contexts) zero = omega arith
 rows_own (o ∷ contexts) (suc i) = omega (arith, rows_own contexts i)
 
-chosen_rows : (now : ℕ) (busy : List ℕ) (o : Option Sources) → length (chosen_in now busy o) ≤ rows_in o
-chosen_rows now busy None = omega arith
-chosen_rows now busy (Some s) = length-selected now busy s.rows
+chosen_rows : (script : Plan) (tick : ℕ) (busy : List ℕ) (o : Option Context) → length (chosen_in script tick busy o) ≤ rows_in o
+chosen_rows script tick busy None = omega arith
+chosen_rows script tick busy (Some c) = length-selected (own_ready_at script tick) busy c.rows.rows
 
-pub length-chosen : (now context : ℕ) (lane : Lane) → length (chosen now context lane) ≤ row_count lane.contexts
-length-chosen now context lane = omega (arith, chosen_rows now (busy context lane.frames) (own context lane), rows_own lane.contexts context)
+pub length-chosen : (script : Plan) (tick context : ℕ) (lane : Lane) → length (chosen script tick context lane) ≤ row_count lane.contexts
+length-chosen script tick context lane = omega (arith, chosen_rows script tick (busy context lane.frames) (own context lane), rows_own lane.contexts context)
 
-pub mild_iterating : (lane : Lane) (now context : ℕ) (answer : Option Bool) → Mild lane (iterating now context answer lane)
-mild_iterating lane now context answer =
-    begins_frame lane _ refl (omega (arith, work_emptied context lane.frames, length-chosen now context lane)) (omega (arith, length_emptied context lane.frames))
+pub mild_iterating : (lane : Lane) (script : Plan) (tick context : ℕ) (answer : Option Bool) → Mild lane (iterating script tick context answer lane)
+mild_iterating lane script tick context answer =
+    begins_frame lane _ refl (omega (arith, work_emptied context lane.frames, length-chosen script tick context lane)) (omega (arith, length_emptied context lane.frames))
 
-pub mild_edit : (lane : Lane) (context : ℕ) (edit : Sources → Sources) (k j : ℕ) → k ≤ 1 → j ≤ 2 → MildEdit k j edit → Mild lane (edited context edit lane)
+pub mild_edit : (lane : Lane) (context : ℕ) (edit : RowSet → RowSet) (k j : ℕ) → k ≤ 1 → j ≤ 2 → MildEdit k j edit → Mild lane (edited context edit lane)
 mild_edit lane context edit k j a b e = record {
   rows = omega (arith, rows_edited k j edit e lane.contexts context);
   frames = omega arith;
@@ -175,16 +258,43 @@ mild_edit lane context edit k j a b e = record {
   };
 }
 
+-- a slot that names a source
+mild_named : (lane after : Lane) (slot : ℕ) (place : Place) → Mild lane after → Mild lane (named slot place after)
+mild_named lane after slot place h = record {
+  rows = h.rows;
+  frames = h.frames;
+  within = λ m w. record { contexts = (h.within m w).contexts; frames = (h.within m w).frames };
+}
+
+mild_child : (tick now slot : ℕ) (spec : SourceSpec) (o : Option Place) (lane : Lane) → Mild lane (child_of tick now slot spec o lane)
+mild_child tick now slot spec None lane = quiet lane _ refl refl
+mild_child tick now slot spec (Some place) lane =
+    either lane _ _ _
+    (mild_named lane _ slot (next_place place.context lane) (mild_edit lane place.context (born spec now place.id) 1 2 (omega arith) (omega arith) (mild_born spec now place.id)))
+    (quiet lane _ refl refl)
+
+mild_on_source : (tick : ℕ) (word : Word) (edit : ℕ → RowSet → RowSet) → ((id : ℕ) → MildEdit 0 0 (edit id)) → (o : Option Place) (lane : Lane) → Mild lane (on_source tick word edit o lane)
+mild_on_source tick word edit e None lane = quiet lane _ refl refl
+mild_on_source tick word edit e (Some place) lane =
+    either lane _ _ _ (mild_edit lane place.context (edit place.id) 0 0 (omega arith) (omega arith) (e place.id)) (quiet lane _ refl refl)
+
+mild_set_priority : (tick : ℕ) (priority : ℤ) (o : Option Place) (lane : Lane) → Mild lane (set_priority_of tick priority o lane)
+mild_set_priority tick priority None lane = quiet lane _ refl refl
+mild_set_priority tick priority (Some place) lane =
+    either lane _ _ _ (mild_edit lane place.context (reprioritised place.id priority) 0 1 (omega arith) (omega arith) (mild_reprioritised place.id priority)) (quiet lane _ refl refl)
+
 -- what each action does is mild
 pub mild_acted : (script : Plan) (tick : ℕ) (action : Action) (lane : Lane) → Mild lane (acted script tick action lane)
 mild_acted script tick (Attach context slot spec) lane =
     let now = time_of script tick in
-    either lane _ _ _ (mild_edit lane context (attached spec now) 1 2 (omega arith) (omega arith) (mild_attached spec now)) (quiet lane _ refl refl)
-mild_acted script tick (Child parent slot spec) lane = quiet lane _ refl refl
-mild_acted script tick (Destroy slot) lane = quiet lane _ refl refl
-mild_acted script tick (SetReady slot us) lane = quiet lane _ refl refl
-mild_acted script tick (SetPriority slot priority) lane = quiet lane _ refl refl
-mild_acted script tick (Iterate context) lane = either lane _ _ _ (mild_iterating lane (time_of script tick) context _) (quiet lane _ refl refl)
+    either lane _ _ _
+    (mild_named lane _ slot (next_place context lane) (mild_edit lane context (attached spec now) 1 2 (omega arith) (omega arith) (mild_attached spec now)))
+    (quiet lane _ refl refl)
+mild_acted script tick (Child parent slot spec) lane = mild_child tick (time_of script tick) slot spec (place_at parent lane) lane
+mild_acted script tick (Destroy slot) lane = mild_on_source tick words.Destroy destroyed mild_destroyed (place_at slot lane) lane
+mild_acted script tick (SetReady slot us) lane = mild_on_source tick words.SetReady (λ id. ready_set id us) (λ id. mild_ready_set id us) (place_at slot lane) lane
+mild_acted script tick (SetPriority slot priority) lane = mild_set_priority tick priority (place_at slot lane) lane
+mild_acted script tick (Iterate context) lane = either lane _ _ _ (mild_iterating lane script tick context _) (quiet lane _ refl refl)
 mild_acted script tick (Pending context) lane = quiet lane _ refl refl
 mild_acted script tick (Run number) lane = either lane _ _ _ (begins_frame lane _ refl (omega arith) (omega arith)) (quiet lane _ refl refl)
 mild_acted script tick (Quit number) lane = either lane _ _ _ (quiet lane _ refl refl) (quiet lane _ refl refl)
@@ -224,10 +334,10 @@ mild_taken lane after h = record {
 pub mild_dispatching : (lane : Lane) (tick context : ℕ) (row : Row) → Mild lane (dispatching tick context row lane)
 mild_dispatching lane tick context row = either lane _ _ _
     (record {
-      rows = omega (arith, rows_edited 0 1 (raised row.id) (mild_raised row.id) lane.contexts context);
+      rows = omega (arith, rows_edited 0 1 (counted row.id) (mild_counted row.id) lane.contexts context);
       frames = omega (arith, work_taken lane.frames);
       within = λ m w. record {
-        contexts = each_bounded (m + 1) (m + 2) (omega arith) _ (bounded_edited 0 1 m (raised row.id) (mild_raised row.id) lane.contexts context w.contexts);
+        contexts = each_bounded (m + 1) (m + 2) (omega arith) _ (bounded_edited 0 1 m (counted row.id) (mild_counted row.id) lane.contexts context w.contexts);
         frames = omega (arith, w.frames, length_taken lane.frames);
       };
     })
@@ -245,14 +355,21 @@ found : (m : ℕ) (p : Row → Bool) (rows : List Row) (row : Row) → AllByRecu
 found m p [] row h e = cc
 found m p (r ∷ rows) row h e = found_by m p r rows row (p r) refl h (found m p rows row h.1) e
 
-bounded_at : (m : ℕ) (contexts : List (Option Sources)) (i : ℕ) → AllByRecursion (Bounded m) contexts → Bounded m (known (slice_get contexts i))
+count_by_bound : (o : Option Row) → ((r : Row) → Some r ≡ o → r.count ≤ 2 ^ 62) → IfSome o (λ r. r.count < 2 ^ 63)
+count_by_bound None h = tt
+count_by_bound (Some r) h = let k = h r refl in omega (arith, k)
+
+pub count_fits : (id : ℕ) (s : RowSet) → IsBounded (2 ^ 62) s → IfSome (row_with id s.rows) (λ r. r.count < 2 ^ 63)
+count_fits id s b = count_by_bound (row_with id s.rows) (λ r e. found (2 ^ 62) (λ q. q.id == id) s.rows r b.counts e)
+
+bounded_at : (m : ℕ) (contexts : List (Option Context)) (i : ℕ) → AllByRecursion (Bounded m) contexts → Bounded m (known (slice_get contexts i))
 bounded_at m [] i b = tt
 bounded_at m (o ∷ contexts) zero b = b.0
 bounded_at m (o ∷ contexts) (suc i) b = bounded_at m contexts i b.1
 
-in_bounded : (m id : ℕ) (row : Row) (o : Option Sources) → Bounded m o → Some row ≡ row_in id o → row.count ≤ m
+in_bounded : (m id : ℕ) (row : Row) (o : Option Context) → Bounded m o → Some row ≡ row_in id o → row.count ≤ m
 in_bounded m id row None b e = cc
-in_bounded m id row (Some s) b e = found m (λ r. r.id == id) s.rows row b.counts e
+in_bounded m id row (Some c) b e = found m (λ r. r.id == id) c.rows.rows row b.counts e
 
 pub row_within : (m context id : ℕ) (lane : Lane) (row : Row) → IsWithin m lane → Some row ≡ row_of context id lane → row.count ≤ m
 row_within m context id lane row w e = in_bounded m id row (own context lane) (bounded_at m lane.contexts context w.contexts) e

@@ -4,11 +4,12 @@ use Rattle.std.specs.List.{AllByRecursion}
 use Rattle.loop_script.specs.declared.plan.Plan.{Plan}
 use Rattle.loop_script.specs.Parts.{home_of}
 use Rattle.loop_script.specs.References.{sizes}
-use Rattle.lane_turn.specs.Sources.{Sources, no_sources}
+use Rattle.context_core.specs.declared.context.Context.{Context}
+use Rattle.lane_turn.specs.Sources.{no_sources}
 use Rattle.lane_turn.specs.Turn.{opening, open_context, open_contexts_to}
 use Rattle.lane_turn.specs.Sound.{Bounded, IsWithin}
 
-each_pushed : (P : Option Sources → Type 0) (os : List (Option Sources)) (o : Option Sources) → AllByRecursion P os → P o → AllByRecursion P (os ++ o ∷ [])
+each_pushed : (P : Option Context → Type 0) (os : List (Option Context)) (o : Option Context) → AllByRecursion P os → P o → AllByRecursion P (os ++ o ∷ [])
 each_pushed P [] o h p = (p, tt)
 each_pushed P (x ∷ os) o h p = (h.0, each_pushed P os o h.1 p)
 

@@ -6,7 +6,8 @@ use Rattle.loop_script.specs.declared.plan.Plan.{Plan}
 use Rattle.loop_script.specs.declared.action.Action.{Action}
 use Rattle.loop_script.specs.declared.body.Body.{Body}
 use Rattle.loop_script.specs.Parts.{time_of, actions_of, stays}
-use Rattle.lane_turn.specs.declared.row.Row.{Row}
+use Rattle.source_rows.specs.declared.row.Row.{Row}
+use Rattle.source_rows.specs.Rows.{RowSet, destroyed}
 use Rattle.lane_turn.specs.declared.line.Event.TheVariants as events
 use Rattle.lane_turn.specs.declared.parts.Status.{Status}
 use Rattle.lane_turn.specs.declared.parts.Status.TheVariants.{GoesOn, Ended, Halted}
@@ -15,7 +16,7 @@ use Rattle.lane_turn.specs.declared.layer.Caller.{Caller}
 use Rattle.lane_turn.specs.declared.layer.Origin.{Origin}
 use Rattle.lane_turn.specs.declared.layer.Origin.TheVariants.{Start, Source, Invoke}
 use Rattle.lane_turn.specs.Frames.{Frame, CallOf, IterOf, LoopOf}
-use Rattle.lane_turn.specs.Sources.{Sources, destroyed, restarted}
+use Rattle.lane_turn.specs.Sources.{restarted}
 use Rattle.lane_turn.specs.Lane.{Lane, Turn, popped, taken, row_of, iterating, is_running, edited, written}
 use Rattle.lane_turn.specs.Acted.{acted}
 use Rattle.lane_turn.specs.Step.{step, step_call, step_id, returned, left_source, answered, counted_by, in_lane, dispatching}
@@ -70,9 +71,9 @@ less_goes n lane after left iterated g h = record {
   keeps = λ s. record { bound = s.bound; fits = s.fits; within = h.within s.bound s.within };
 }
 
-begun_goes : (n : ℕ) (lane : Lane) (left now context : ℕ) (answer : Option Bool) → lane.status ≡ GoesOn → Goes n (turn lane left false) (turn (iterating now context answer lane) left true)
-begun_goes n lane left now context answer g = record {
-  falls = fall lane.status lane.status _ _ g (begins left (row_count lane.contexts) (nest_work lane.frames) (nest_work (iterating now context answer lane).frames) (omega (arith, work_emptied context lane.frames, length-chosen now context lane)));
+begun_goes : (n : ℕ) (lane : Lane) (script : Plan) (left tick context : ℕ) (answer : Option Bool) → lane.status ≡ GoesOn → Goes n (turn lane left false) (turn (iterating script tick context answer lane) left true)
+begun_goes n lane script left tick context answer g = record {
+  falls = fall lane.status lane.status _ _ g (begins left (row_count lane.contexts) (nest_work lane.frames) (nest_work (iterating script tick context answer lane).frames) (omega (arith, work_emptied context lane.frames, length-chosen script tick context lane)));
   keeps = λ s. record {
     bound = s.bound + 1;
     fits = omega (arith, s.fits);
@@ -100,7 +101,7 @@ less_either lane x y true p q = p
 less_either lane x y false p q = q
 
 -- a call that ends, with an edit that adds no row and raises no counter
-edit_less : (base : Lane) (below : List Frame) (call : Call) (context : ℕ) (edit : Sources → Sources) → MildEdit 0 0 edit
+edit_less : (base : Lane) (below : List Frame) (call : Call) (context : ℕ) (edit : RowSet → RowSet) → MildEdit 0 0 edit
     → let lane : Lane = going base (CallOf call ∷ below) in Less lane (edited context edit (popped lane))
 edit_less base below call context edit mild = record {
   rows = omega (arith, rows_edited 0 0 edit mild base.contexts context);
@@ -146,10 +147,10 @@ id_goes n tick base below left iterated context id ids answer (Some row) =
 
 loop_goes : (script : Plan) (n tick : ℕ) (base : Lane) (below : List Frame) (left : ℕ) (iterated : Bool) (number context : ℕ) (runs : Bool) (u : Turn)
     → let t : Turn = turn (going base (LoopOf number context ∷ below)) left iterated in
-    cond runs (cond iterated None (Some (turn (iterating (time_of script tick) context None t.lane) left true))) (Some (in_lane (λ lane. written tick (events.LoopEnd number) (popped lane)) t)) ≡ Some u → Goes n t u
+    cond runs (cond iterated None (Some (turn (iterating script tick context None t.lane) left true))) (Some (in_lane (λ lane. written tick (events.LoopEnd number) (popped lane)) t)) ≡ Some u → Goes n t u
 loop_goes script n tick base below left true number context true u e = cc
 loop_goes script n tick base below left false number context true u e =
-    subst (Goes n _) (some_same _ _ e) (begun_goes n (going base (LoopOf number context ∷ below)) left (time_of script tick) context None refl)
+    subst (Goes n _) (some_same _ _ e) (begun_goes n (going base (LoopOf number context ∷ below)) script left tick context None refl)
 loop_goes script n tick base below left iterated number context false u e =
     subst (Goes n _) (some_same _ _ e) (less_goes n (going base (LoopOf number context ∷ below)) _ left iterated refl (ends (going base (LoopOf number context ∷ below)) _ (omega arith) (omega arith) refl refl))
 

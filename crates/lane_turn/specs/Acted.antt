@@ -1,5 +1,5 @@
 -- What each action does. Each stands on a lane whose innermost call has taken it.
-use Rattle.std.specs.Prelude.{ℕ, true, false, Some, is_some, if◌then◌else◌}
+use Rattle.std.specs.Prelude.{ℕ, ℤ, Bool, true, false, Option, Some, None, is_some, is_none, if◌then◌else◌}
 use Rattle.loop_script.specs.declared.action.Action.{Action}
 use Rattle.loop_script.specs.declared.action.Action.TheVariants.{Attach, Child, Destroy, SetReady, SetPriority, Iterate, Pending, Run, Quit, Cancel, Connect, Disconnect, Task, Push, Pop, ShowDefault, Acquire, Release, Invoke, Give, Log}
 use Rattle.loop_script.specs.declared.plan.Plan.{Plan}
@@ -8,24 +8,75 @@ use Rattle.loop_script.specs.Parts.{time_of, context_of}
 use Rattle.lane_turn.specs.declared.line.Event.TheVariants as events
 use Rattle.lane_turn.specs.declared.line.Word.{Word}
 use Rattle.lane_turn.specs.declared.line.Word.TheVariants as words
+use Rattle.lane_turn.specs.declared.slot.Place.{Place}
+use Rattle.source_rows.specs.Rows.{RowSet, attached, child_added, child_fault, destroyed, ready_set, reprioritised, priority_fault, row_of as row_with}
+use Rattle.context_core.specs.declared.context.Context.{Context}
 use Rattle.lane_turn.specs.Frames.{LoopOf}
-use Rattle.lane_turn.specs.Sources.{attached}
-use Rattle.lane_turn.specs.Lane.{Lane, written, pushed, set_running, own, edited, chosen, is_any, iterating}
+use Rattle.lane_turn.specs.Lane.{Lane, written, pushed, set_running, own, edited, place_at, row_at, next_place, named, chosen, is_any, iterating}
 
 abbrev pub missed : ℕ → Word → Lane → Lane
 missed tick word lane = written tick (events.Miss word) lane
 
-abbrev pub attach : ℕ → ℕ → ℕ → SourceSpec → Lane → Lane
-attach tick now context spec lane = if is_some (own context lane) then edited context (attached spec now) lane else missed tick words.Attach lane
-
-abbrev pub iterate : ℕ → ℕ → ℕ → Lane → Lane
-iterate tick now context lane =
+-- a slot names the source that a context gets
+abbrev pub attach : ℕ → ℕ → ℕ → ℕ → SourceSpec → Lane → Lane
+attach tick now context slot spec lane =
     if is_some (own context lane)
-    then iterating now context (Some (is_any (chosen now context lane))) lane
+    then named slot (next_place context lane) (edited context (attached spec now) lane)
+    else missed tick words.Attach lane
+
+-- a source below the one of an id
+abbrev pub born : SourceSpec → ℕ → ℕ → RowSet → RowSet
+born spec now id s = child_added spec now (row_with id s.rows) s
+
+-- whether a source can have a child
+abbrev pub can_bear_in : ℕ → Option Context → Bool
+can_bear_in id None = false
+can_bear_in id (Some context) = is_none (child_fault context.rows.levels (row_with id context.rows.rows))
+
+abbrev pub can_bear : Place → Lane → Bool
+can_bear place lane = can_bear_in place.id (own place.context lane)
+
+abbrev pub child_of : ℕ → ℕ → ℕ → SourceSpec → Option Place → Lane → Lane
+child_of tick now slot spec None lane = missed tick words.Child lane
+child_of tick now slot spec (Some place) lane =
+    if can_bear place lane
+    then named slot (next_place place.context lane) (edited place.context (born spec now place.id) lane)
+    else missed tick words.Child lane
+
+abbrev pub child : ℕ → ℕ → ℕ → ℕ → SourceSpec → Lane → Lane
+child tick now parent slot spec lane = child_of tick now slot spec (place_at parent lane) lane
+
+-- an edit of a source that is there
+abbrev pub on_source : ℕ → Word → (ℕ → RowSet → RowSet) → Option Place → Lane → Lane
+on_source tick word edit None lane = missed tick word lane
+on_source tick word edit (Some place) lane =
+    if is_some (row_at place lane) then edited place.context (edit place.id) lane else missed tick word lane
+
+abbrev pub destroy : ℕ → ℕ → Lane → Lane
+destroy tick slot lane = on_source tick words.Destroy destroyed (place_at slot lane) lane
+
+abbrev pub set_ready : ℕ → ℕ → ℤ → Lane → Lane
+set_ready tick slot us lane = on_source tick words.SetReady (λ id. ready_set id us) (place_at slot lane) lane
+
+-- a priority of a source that is there and no child
+abbrev pub set_priority_of : ℕ → ℤ → Option Place → Lane → Lane
+set_priority_of tick priority None lane = missed tick words.SetPriority lane
+set_priority_of tick priority (Some place) lane =
+    if is_none (priority_fault (row_at place lane))
+    then edited place.context (reprioritised place.id priority) lane
+    else missed tick words.SetPriority lane
+
+abbrev pub set_priority : ℕ → ℕ → ℤ → Lane → Lane
+set_priority tick slot priority lane = set_priority_of tick priority (place_at slot lane) lane
+
+abbrev pub iterate : Plan → ℕ → ℕ → Lane → Lane
+iterate script tick context lane =
+    if is_some (own context lane)
+    then iterating script tick context (Some (is_any (chosen script tick context lane))) lane
     else written tick (events.Iterate context false) lane
 
-abbrev pub pending : ℕ → ℕ → ℕ → Lane → Lane
-pending tick now context lane = written tick (events.Pending context (is_any (chosen now context lane))) lane
+abbrev pub pending : Plan → ℕ → ℕ → Lane → Lane
+pending script tick context lane = written tick (events.Pending context (is_any (chosen script tick context lane))) lane
 
 abbrev pub run : ℕ → ℕ → ℕ → Lane → Lane
 run tick number context lane =
@@ -36,13 +87,13 @@ quit tick number context lane = if is_some (own context lane) then set_running n
 
 -- the words that no script may hold yet change nothing
 abbrev pub acted : Plan → ℕ → Action → Lane → Lane
-acted script tick (Attach context slot spec) lane = attach tick (time_of script tick) context spec lane
-acted script tick (Child parent slot spec) lane = lane
-acted script tick (Destroy slot) lane = lane
-acted script tick (SetReady slot us) lane = lane
-acted script tick (SetPriority slot priority) lane = lane
-acted script tick (Iterate context) lane = iterate tick (time_of script tick) context lane
-acted script tick (Pending context) lane = pending tick (time_of script tick) context lane
+acted script tick (Attach context slot spec) lane = attach tick (time_of script tick) context slot spec lane
+acted script tick (Child parent slot spec) lane = child tick (time_of script tick) parent slot spec lane
+acted script tick (Destroy slot) lane = destroy tick slot lane
+acted script tick (SetReady slot us) lane = set_ready tick slot us lane
+acted script tick (SetPriority slot priority) lane = set_priority tick slot priority lane
+acted script tick (Iterate context) lane = iterate script tick context lane
+acted script tick (Pending context) lane = pending script tick context lane
 acted script tick (Run number) lane = run tick number (context_of script number) lane
 acted script tick (Quit number) lane = quit tick number (context_of script number) lane
 acted script tick (Cancel c) lane = lane

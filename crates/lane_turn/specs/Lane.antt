@@ -1,17 +1,21 @@
 -- A lane, a turn of it, and their small changes.
 use Rattle.std.specs.Prelude.{ℕ, Option, Some, None, Bool, true, false, List, [], ◌∷◌, ◌++◌, drop, slice_get, slice_set, unwrap_or, option_map, if◌then◌else◌}
-use Rattle.lane_turn.specs.declared.row.Row.{Row}
+use Rattle.loop_script.specs.declared.plan.Plan.{Plan}
+use Rattle.source_rows.specs.declared.row.Row.{Row}
+use Rattle.source_rows.specs.Rows.{RowSet, row_of as row_with}
+use Rattle.context_core.specs.declared.context.Context.{Context}
 use Rattle.lane_turn.specs.declared.line.Line.{Line}
 use Rattle.lane_turn.specs.declared.line.Event.{Event}
 use Rattle.lane_turn.specs.declared.parts.Status.{Status}
+use Rattle.lane_turn.specs.declared.slot.Place.{Place}
 use Rattle.lane_turn.specs.Frames.{Frame, IterOf, advanced, emptied, busy}
-use Rattle.lane_turn.specs.Sources.{Sources, row_at}
-use Rattle.lane_turn.specs.Select.{selected}
+use Rattle.lane_turn.specs.Sources.{chosen_in}
 
--- a lane: its contexts by number, where those of other lanes are none; its frames with the innermost first; the loops
--- that run; what it wrote
+-- a lane: its contexts by number, where those of other lanes are none; the sources that its slots name; its frames with
+-- the innermost first; the loops that run; what it wrote
 pub record Lane : Type 0 where
-  pub contexts : List (Option Sources)
+  pub contexts : List (Option Context)
+  pub slots : List (Option Place)
   pub frames : List Frame
   pub running : List Bool
   pub trace : List Line
@@ -52,36 +56,57 @@ abbrev pub is_running : ℕ → Lane → Bool
 is_running number lane = unwrap_or (slice_get lane.running number) false
 
 -- a context of the lane
-abbrev pub known : Option (Option Sources) → Option Sources
+abbrev pub known : Option (Option Context) → Option Context
 known None = None
-known (Some sources) = sources
+known (Some context) = context
 
-abbrev pub own : ℕ → Lane → Option Sources
+abbrev pub own : ℕ → Lane → Option Context
 own context lane = known (slice_get lane.contexts context)
 
--- an edit of an own context; with another's nothing changes
-abbrev pub edited : ℕ → (Sources → Sources) → Lane → Lane
-edited context edit lane = record lane { contexts = slice_set lane.contexts context (option_map edit (own context lane)) }
+-- an edit of the sources of an own context; with another's nothing changes
+abbrev pub with_rows : (RowSet → RowSet) → Context → Context
+with_rows edit context = record context { rows = edit context.rows }
 
-abbrev pub row_in : ℕ → Option Sources → Option Row
+abbrev pub edited : ℕ → (RowSet → RowSet) → Lane → Lane
+edited context edit lane = record lane { contexts = slice_set lane.contexts context (option_map (with_rows edit) (own context lane)) }
+
+abbrev pub row_in : ℕ → Option Context → Option Row
 row_in id None = None
-row_in id (Some sources) = row_at id sources.rows
+row_in id (Some context) = row_with id context.rows.rows
 
 abbrev pub row_of : ℕ → ℕ → Lane → Option Row
 row_of context id lane = row_in id (own context lane)
 
--- the ids that an iteration of a context would dispatch at a time: none of another's context
-abbrev pub chosen_in : ℕ → List ℕ → Option Sources → List ℕ
-chosen_in now busy None = []
-chosen_in now busy (Some sources) = selected now busy sources.rows
+-- what a slot names, and the row of it: none where it is destroyed
+abbrev pub held : Option (Option Place) → Option Place
+held None = None
+held (Some place) = place
 
-abbrev pub chosen : ℕ → ℕ → Lane → List ℕ
-chosen now context lane = chosen_in now (busy context lane.frames) (own context lane)
+abbrev pub place_at : ℕ → Lane → Option Place
+place_at slot lane = held (slice_get lane.slots slot)
+
+abbrev pub row_at : Place → Lane → Option Row
+row_at place lane = row_of place.context place.id lane
+
+-- where the next source of a context will be
+abbrev pub next_id : Option Context → ℕ
+next_id None = 0
+next_id (Some context) = context.rows.next_id
+
+abbrev pub next_place : ℕ → Lane → Place
+next_place context lane = record { context = context; id = next_id (own context lane) }
+
+abbrev pub named : ℕ → Place → Lane → Lane
+named slot place lane = record lane { slots = slice_set lane.slots slot (Some place) }
+
+-- the ids that an iteration of a context would dispatch at a tick
+abbrev pub chosen : Plan → ℕ → ℕ → Lane → List ℕ
+chosen script tick context lane = chosen_in script tick (busy context lane.frames) (own context lane)
 
 abbrev pub is_any : List ℕ → Bool
 is_any [] = false
 is_any (id ∷ ids) = true
 
 -- an iteration begun in the innermost frame: the older ones of its context have no id left
-abbrev pub iterating : ℕ → ℕ → Option Bool → Lane → Lane
-iterating now context answer lane = record lane { frames = IterOf context (chosen now context lane) answer ∷ emptied context lane.frames }
+abbrev pub iterating : Plan → ℕ → ℕ → Option Bool → Lane → Lane
+iterating script tick context answer lane = record lane { frames = IterOf context (chosen script tick context lane) answer ∷ emptied context lane.frames }

@@ -1,10 +1,10 @@
 pub mod Frames
 pub mod Nest
 pub mod Sources
-pub mod Select
 pub mod Lane
 pub mod Acted
 pub mod Step
 pub mod Turn
 pub mod Sound
 pub mod Meaning
+pub mod Iterations

@@ -6,6 +6,7 @@ use Rattle.lane_turn.specs.Lane.{Lane, Turn}
 abbrev pub lane_of : Parts → Lane
 lane_of p = record {
   contexts = p.contexts.items;
+  slots = p.slots.items;
   frames = p.frames;
   running = p.running.items;
   trace = p.trace.items;

@@ -1,70 +1,44 @@
--- The sources of a context, and their edits.
-use Rattle.std.specs.Prelude.{ℕ, ◌+◌, ◌*◌, ℤ, pos, negsuc, Option, List, [], ◌∷◌, ◌++◌, ◌==◌, filter, find, map, not, if◌then◌else◌}
+-- The contexts of a lane: their sources, and what a call's end does to one.
+use Rattle.std.specs.Prelude.{ℕ, ◌+◌, ◌*◌, ℤ, pos, Option, Some, None, List, []}
+use Rattle.loop_script.specs.declared.plan.Plan.{Plan}
 use Rattle.loop_script.specs.declared.source.Kind.{Kind}
 use Rattle.loop_script.specs.declared.source.Kind.TheVariants.{Idle, Timeout, ReadyTime, Fd, Cancel}
-use Rattle.loop_script.specs.declared.source.SourceSpec.{SourceSpec}
-use Rattle.lane_turn.specs.declared.row.Row.{Row}
+use Rattle.loop_script.specs.Parts.{time_of, level_of}
+use Rattle.source_rows.specs.declared.row.Row.{Row}
+use Rattle.source_rows.specs.Rows.{RowSet, no_rows, row_of, ready_set}
+use Rattle.context_core.specs.declared.context.Context.{Context}
+use Rattle.context_core.specs.Ready.{Own, own_ready, selected}
+use Rattle.context_core.specs.Phases.{none_cancelled}
 
--- the sources of a context: the set of its rows as the list by rising id, the next id and the next order number
-pub record Sources : Type 0 where
-  pub rows : List Row
-  pub next_id : ℕ
-  pub next_order : ℕ
-
-abbrev pub no_sources : Sources
-no_sources = record { rows = []; next_id = 1; next_order = 1 }
-
-abbrev pub row_at : ℕ → List Row → Option Row
-row_at id rows = find (λ r. r.id == id) rows
+-- a context with no source, whose sources may have children that have none
+abbrev pub no_sources : Context
+no_sources = record { rows = no_rows 2 }
 
 -- so many milliseconds after a time in microseconds
 abbrev pub due_after : ℕ → ℕ → ℤ
 due_after ms now = pos (now + ms * 1000)
 
--- the ready time at the making; -1 is never
-abbrev pub first_ready : Kind → ℕ → ℤ
-first_ready Idle now = negsuc 0
-first_ready (Timeout ms) now = due_after ms now
-first_ready (ReadyTime us) now = us
-first_ready (Fd fd bits) now = negsuc 0
-first_ready (Cancel c) now = negsuc 0
+-- a source that stays after a call: a timeout begins anew, and lost time is not caught up
+abbrev pub restarted_kind : ℕ → ℕ → Kind → RowSet → RowSet
+restarted_kind now id Idle s = s
+restarted_kind now id (Timeout ms) s = ready_set id (due_after ms now) s
+restarted_kind now id (ReadyTime us) s = s
+restarted_kind now id (Fd fd bits) s = s
+restarted_kind now id (Cancel c) s = s
 
-abbrev pub new_row : SourceSpec → ℕ → Sources → Row
-new_row spec now s = record {
-  id = s.next_id;
-  kind = spec.kind;
-  priority = spec.priority;
-  order = s.next_order;
-  recurse = spec.recurse;
-  ready = first_ready spec.kind now;
-  call = spec.call;
-  count = 0;
-}
+abbrev pub restarted_row : ℕ → ℕ → Option Row → RowSet → RowSet
+restarted_row now id None s = s
+restarted_row now id (Some r) s = restarted_kind now id r.kind s
 
--- a new source
-abbrev pub attached : SourceSpec → ℕ → Sources → Sources
-attached spec now s = record { rows = s.rows ++ new_row spec now s ∷ []; next_id = s.next_id + 1; next_order = s.next_order + 1 }
+abbrev pub restarted : ℕ → ℕ → RowSet → RowSet
+restarted now id s = restarted_row now id (row_of id s.rows) s
 
-abbrev pub destroyed : ℕ → Sources → Sources
-destroyed id s = record s { rows = filter (λ r. not (r.id == id)) s.rows }
+-- what makes a source ready by itself at a tick
+abbrev pub own_ready_at : Plan → ℕ → Own
+own_ready_at script tick = own_ready (λ fd. level_of script fd tick) none_cancelled (time_of script tick)
 
--- a dispatch counted
-abbrev pub raised_row : ℕ → Row → Row
-raised_row id r = if r.id == id then record r { count = r.count + 1 } else r
-
-abbrev pub raised : ℕ → Sources → Sources
-raised id s = record s { rows = map (raised_row id) s.rows }
-
--- the ready time of a source that stays after a call: a timeout begins anew, and lost time is not caught up
-abbrev pub next_time : ℕ → Kind → ℤ → ℤ
-next_time now Idle ready = ready
-next_time now (Timeout ms) ready = due_after ms now
-next_time now (ReadyTime us) ready = ready
-next_time now (Fd fd bits) ready = ready
-next_time now (Cancel c) ready = ready
-
-abbrev pub restarted_row : ℕ → ℕ → Row → Row
-restarted_row now id r = if r.id == id then record r { ready = next_time now r.kind r.ready } else r
-
-abbrev pub restarted : ℕ → ℕ → Sources → Sources
-restarted now id s = record s { rows = map (restarted_row now id) s.rows }
+-- the ids that an iteration of a context would dispatch, with the ids that calls in progress block: none of another
+-- lane's context
+abbrev pub chosen_in : Plan → ℕ → List ℕ → Option Context → List ℕ
+chosen_in script tick busy None = []
+chosen_in script tick busy (Some context) = selected (own_ready_at script tick) busy context.rows.rows

@@ -5,7 +5,8 @@ use Rattle.loop_script.specs.declared.action.Action.{Action}
 use Rattle.loop_script.specs.declared.body.Body.{Body}
 use Rattle.loop_script.specs.declared.body.Body.TheVariants.{Procedure, Nothing}
 use Rattle.loop_script.specs.Parts.{time_of, actions_of, stays}
-use Rattle.lane_turn.specs.declared.row.Row.{Row}
+use Rattle.source_rows.specs.declared.row.Row.{Row}
+use Rattle.source_rows.specs.Rows.{destroyed, counted as counted_once}
 use Rattle.lane_turn.specs.declared.line.Event.TheVariants as events
 use Rattle.lane_turn.specs.declared.parts.Status.{Status}
 use Rattle.lane_turn.specs.declared.parts.Status.TheVariants.{GoesOn, Ended, Halted}
@@ -16,7 +17,7 @@ use Rattle.lane_turn.specs.declared.layer.Origin.TheVariants.{Start, Source, Inv
 use Rattle.lane_turn.specs.declared.layer.Top.{Top}
 use Rattle.lane_turn.specs.declared.layer.Top.TheVariants as tops
 use Rattle.lane_turn.specs.Frames.{CallOf, top_of, depth, calls}
-use Rattle.lane_turn.specs.Sources.{destroyed, raised, restarted}
+use Rattle.lane_turn.specs.Sources.{restarted}
 use Rattle.lane_turn.specs.Lane.{Lane, Turn, written, pushed, popped, taken, stopped, is_running, edited, row_of, iterating}
 use Rattle.lane_turn.specs.Acted.{acted}
 
@@ -35,7 +36,7 @@ called context row lane = pushed (CallOf (record {
 
 abbrev pub dispatched : ℕ → ℕ → Row → Lane → Lane
 dispatched tick context row lane =
-    called context row (written tick (events.Dispatch context row.id row.priority (depth lane.frames + 1)) (edited context (raised row.id) (taken lane)))
+    called context row (written tick (events.Dispatch context row.id row.priority (depth lane.frames + 1)) (edited context (counted_once row.id) (taken lane)))
 
 abbrev pub dispatching : ℕ → ℕ → Row → Lane → Lane
 dispatching tick context row lane =
@@ -88,7 +89,7 @@ step_iteration tick t context answer (Some id) = step_id tick t context (row_of 
 abbrev pub step_loop : Plan → ℕ → Turn → ℕ → ℕ → Option Turn
 step_loop script tick t number context =
     if is_running number t.lane
-    then if t.iterated then None else Some (record t { lane = iterating (time_of script tick) context None t.lane; iterated = true })
+    then if t.iterated then None else Some (record t { lane = iterating script tick context None t.lane; iterated = true })
     else Some (in_lane (λ lane. written tick (events.LoopEnd number) (popped lane)) t)
 
 abbrev pub step_top : Plan → ℕ → Turn → Top → Option Turn

@@ -9,7 +9,9 @@ use Rattle.lane_turn.specs.declared.parts.Status.{Status}
 use Rattle.lane_turn.specs.declared.parts.Status.TheVariants.{GoesOn, Ended, Halted}
 use Rattle.lane_turn.specs.declared.layer.Origin.TheVariants as origins
 use Rattle.lane_turn.specs.Frames.{Frame, CallOf, IterOf, LoopOf}
-use Rattle.lane_turn.specs.Sources.{Sources, no_sources}
+use Rattle.lane_turn.specs.declared.slot.Place.{Place}
+use Rattle.context_core.specs.declared.context.Context.{Context}
+use Rattle.lane_turn.specs.Sources.{no_sources}
 use Rattle.lane_turn.specs.Lane.{Lane, Turn}
 use Rattle.lane_turn.specs.Step.{step}
 
@@ -28,11 +30,11 @@ nest_work [] = 0
 nest_work (frame ∷ below) = frame_work frame + nest_work below
 
 -- how many rows there are in all
-abbrev pub rows_in : Option Sources → ℕ
+abbrev pub rows_in : Option Context → ℕ
 rows_in None = 0
-rows_in (Some sources) = length sources.rows
+rows_in (Some context) = length context.rows.rows
 
-abbrev pub row_count : List (Option Sources) → ℕ
+abbrev pub row_count : List (Option Context) → ℕ
 row_count [] = 0
 row_count (context ∷ contexts) = rows_in context + row_count contexts
 
@@ -66,16 +68,20 @@ abbrev pub turned : Plan → ℕ → Lane → Lane
 turned script tick lane = (finished script tick (begun lane)).lane
 
 -- a context of the script, as a lane has it at first
-abbrev pub open_context : Plan → ℕ → ℕ → Option Sources
+abbrev pub open_context : Plan → ℕ → ℕ → Option Context
 open_context script lane context = if home_of script context == lane then Some no_sources else None
 
 -- the first n contexts of the script
-abbrev pub open_contexts_to : Plan → ℕ → ℕ → List (Option Sources)
+abbrev pub open_contexts_to : Plan → ℕ → ℕ → List (Option Context)
 open_contexts_to script lane zero = []
 open_contexts_to script lane (suc n) = open_contexts_to script lane n ++ open_context script lane n ∷ []
 
-abbrev pub open_contexts : Plan → ℕ → List (Option Sources)
+abbrev pub open_contexts : Plan → ℕ → List (Option Context)
 open_contexts script lane = open_contexts_to script lane (sizes script).contexts
+
+abbrev pub open_slots : ℕ → List (Option Place)
+open_slots zero = []
+open_slots (suc n) = open_slots n ++ None ∷ []
 
 abbrev pub open_loops : ℕ → List Bool
 open_loops zero = []
@@ -85,6 +91,7 @@ open_loops (suc n) = open_loops n ++ false ∷ []
 abbrev pub opening : Plan → ℕ → Lane
 opening script lane = record {
   contexts = open_contexts script lane;
+  slots = open_slots 256;
   frames = CallOf (record { origin = origins.Start; body = bodies.Start lane; place = 0 }) ∷ [];
   running = open_loops (length script.loops);
   trace = [];

@@ -1,12 +1,13 @@
 //! What each action does.
 ghost use Rattle.std.specs.Prelude.{◌≡◌, ◌^◌, ◌≤◌, true, OnOk};
 ghost use Rattle.loop_script.specs.References.{sizes, action_refers};
-ghost use Rattle.lane_turn.specs.Acted.{attach as attached_to, iterate as iterated, pending as asked, run as run_to, quit as quit_to, acted};
+ghost use Rattle.lane_turn.specs.Acted.{attach as attached_to, child as child_born, destroy as destroyed_at, set_ready as ready_set_at, set_priority as priority_set_at, iterate as iterated, pending as asked, run as run_to, quit as quit_to, acted};
 ghost use Rattle.lane_turn.specs.Sound.{IsWithin};
 ghost use Rattle.lane_turn.specs.Meaning.{lane_of};
 
 use crate::line::{Event, Word};
 use crate::parts::Parts;
+use crate::slot::Place;
 use loop_script::{Action, Script, SourceSpec};
 use std::alloc::{AllocError, Global};
 
@@ -16,49 +17,114 @@ impl Parts {
         tick: u32,
         now: u64,
         context: u32,
+        slot: u8,
         spec: SourceSpec,
     ) -> Result<(), AllocError>
         requires within { IsWithin (2 ^ 62) (lane_of self.old) }
         requires now { now ≤ 2 ^ 62 }
-        ensures { OnOk result (lane_of self.new ≡ attached_to tick now context spec (lane_of self.old)) }
+        ensures { OnOk result (lane_of self.new ≡ attached_to tick now context slot spec (lane_of self.old)) }
     {
-        if self.owns(context) {
-            self.attach(context, spec, now)
+        if !self.owns(context) {
+            return self.miss(tick, Word::Attach);
+        }
+        let id = self.attach(context, spec, now)?;
+        self.name(slot, Place { context, id });
+        Ok(())
+    }
+
+    fn act_child(
+        &mut self,
+        tick: u32,
+        now: u64,
+        parent: u8,
+        slot: u8,
+        spec: SourceSpec,
+    ) -> Result<(), AllocError>
+        requires within { IsWithin (2 ^ 62) (lane_of self.old) }
+        requires now { now ≤ 2 ^ 62 }
+        ensures { OnOk result (lane_of self.new ≡ child_born tick now parent slot spec (lane_of self.old)) }
+    {
+        let Some(place) = self.place(parent) else {
+            return self.miss(tick, Word::Child);
+        };
+        match self.add_child(place, spec, now)? {
+            None => self.miss(tick, Word::Child),
+            Some(id) => {
+                let context = place.context;
+                self.name(slot, Place { context, id });
+                Ok(())
+            }
+        }
+    }
+
+    fn act_destroy(&mut self, tick: u32, slot: u8) -> Result<(), AllocError>
+        ensures { OnOk result (lane_of self.new ≡ destroyed_at tick slot (lane_of self.old)) }
+    {
+        let Some(place) = self.place(slot) else {
+            return self.miss(tick, Word::Destroy);
+        };
+        if self.row(place.context, place.id).is_none() {
+            return self.miss(tick, Word::Destroy);
+        }
+        self.destroy(place.context, place.id);
+        Ok(())
+    }
+
+    fn act_set_ready(&mut self, tick: u32, slot: u8, ready: i64) -> Result<(), AllocError>
+        ensures { OnOk result (lane_of self.new ≡ ready_set_at tick slot ready (lane_of self.old)) }
+    {
+        let Some(place) = self.place(slot) else {
+            return self.miss(tick, Word::SetReady);
+        };
+        if self.row(place.context, place.id).is_none() {
+            return self.miss(tick, Word::SetReady);
+        }
+        self.set_ready(place.context, place.id, ready);
+        Ok(())
+    }
+
+    fn act_set_priority(&mut self, tick: u32, slot: u8, priority: i32) -> Result<(), AllocError>
+        requires { IsWithin (2 ^ 62) (lane_of self.old) }
+        ensures { OnOk result (lane_of self.new ≡ priority_set_at tick slot priority (lane_of self.old)) }
+    {
+        let Some(place) = self.place(slot) else {
+            return self.miss(tick, Word::SetPriority);
+        };
+        if self.set_priority(place, priority)? {
+            Ok(())
         } else {
-            self.write(tick, Event::Miss(Word::Attach))
+            self.miss(tick, Word::SetPriority)
         }
     }
 
     fn act_iterate(
         &mut self,
         alloc: Global,
+        script: &Script,
         tick: u32,
-        now: u64,
         context: u32,
     ) -> Result<(), AllocError>
         requires within { IsWithin (2 ^ 62) (lane_of self.old) }
-        requires now { now ≤ 2 ^ 62 }
-        ensures { OnOk result (lane_of self.new ≡ iterated tick now context (lane_of self.old)) }
+        ensures { OnOk result (lane_of self.new ≡ iterated script.now tick context (lane_of self.old)) }
     {
         if !self.owns(context) {
             return self.write(tick, Event::Iterate(context, false));
         }
-        let ids = self.choose(alloc, now, context)?;
+        let ids = self.choose(alloc, script, tick, context)?;
         let any = !ids.is_empty();
-        self.begin_iteration(now, context, ids, Some(any))
+        self.frames.begin_iteration(context, ids, Some(any))
     }
 
     fn act_pending(
         &mut self,
         alloc: Global,
+        script: &Script,
         tick: u32,
-        now: u64,
         context: u32,
     ) -> Result<(), AllocError>
-        requires { now ≤ 2 ^ 62 }
-        ensures { OnOk result (lane_of self.new ≡ asked tick now context (lane_of self.old)) }
+        ensures { OnOk result (lane_of self.new ≡ asked script.now tick context (lane_of self.old)) }
     {
-        let ids = self.choose(alloc, now, context)?;
+        let ids = self.choose(alloc, script, tick, context)?;
         self.write(tick, Event::Pending(context, !ids.is_empty()))
     }
 
@@ -69,7 +135,7 @@ impl Parts {
             self.set_running(number, true);
             self.frames.begin_loop(number, context)
         } else {
-            self.write(tick, Event::Miss(Word::Run))
+            self.miss(tick, Word::Run)
         }
     }
 
@@ -80,7 +146,7 @@ impl Parts {
             self.set_running(number, false);
             Ok(())
         } else {
-            self.write(tick, Event::Miss(Word::Quit))
+            self.miss(tick, Word::Quit)
         }
     }
 
@@ -98,9 +164,15 @@ impl Parts {
     {
         let now = script.now(tick);
         match action {
-            Action::Attach(context, _, spec) => self.act_attach(tick, now, *context, *spec),
-            Action::Iterate(context) => self.act_iterate(alloc, tick, now, *context),
-            Action::Pending(context) => self.act_pending(alloc, tick, now, *context),
+            Action::Attach(context, slot, spec) => {
+                self.act_attach(tick, now, *context, *slot, *spec)
+            }
+            Action::Child(parent, slot, spec) => self.act_child(tick, now, *parent, *slot, *spec),
+            Action::Destroy(slot) => self.act_destroy(tick, *slot),
+            Action::SetReady(slot, us) => self.act_set_ready(tick, *slot, *us),
+            Action::SetPriority(slot, priority) => self.act_set_priority(tick, *slot, *priority),
+            Action::Iterate(context) => self.act_iterate(alloc, script, tick, *context),
+            Action::Pending(context) => self.act_pending(alloc, script, tick, *context),
             Action::Run(number) => self.act_run(tick, *number, script.loop_context(*number)),
             Action::Quit(number) => self.act_quit(tick, *number, script.loop_context(*number)),
             Action::Log(n) => self.write(tick, Event::Log(*n)),

@@ -5,19 +5,20 @@
 #![tactic(auto)]
 
 mod act;
-mod context;
 mod frames;
 mod laws;
 mod layer;
 mod line;
 mod nest;
 mod parts;
-mod row;
+mod select;
+mod slot;
+mod sources;
 mod state;
 mod step;
 mod turn;
 
-pub use laws::turns_end;
+pub use laws::{iterations_go_on, turns_end};
 pub use line::{Event, Invoked, Line, Word};
 pub use parts::Status;
 pub use state::{LaneFault, LaneState};

@@ -1,15 +1,23 @@
 //! What a lane keeps, and the changes of its parts.
-ghost use Rattle.std.specs.Prelude.{◌≡◌, ◌^◌, ◌≤◌, IfOk, OnOk, is_some, option_map};
-ghost use Rattle.lane_turn.specs.Sources.{attached, destroyed, raised, restarted};
-ghost use Rattle.lane_turn.specs.Lane.{written, set_running, is_running, own, edited, row_of, chosen, iterating, stopped};
-ghost use Rattle.lane_turn.specs.Sound.{IsWithin, Bounded};
+ghost use Rattle.std.specs.Prelude.{◌≡◌, ◌^◌, ◌≤◌, IfOk, OnOk, IfSome, OnSome, None, true, false, is_some, is_none};
+ghost use Rattle.source_rows.specs.Rows.{attached, destroyed, ready_set, reprioritised, counted, priority_fault};
+ghost use Rattle.lane_turn.specs.Sources.{restarted};
+ghost use Rattle.lane_turn.specs.Lane.{written, set_running, is_running, own, next_id, edited, row_of, row_at, place_at, named, chosen, stopped};
+ghost use Rattle.lane_turn.specs.Acted.{born, can_bear, missed};
+ghost use Rattle.lane_turn.specs.Sound.{IsWithin};
 ghost use Rattle.lane_turn.specs.Meaning.{lane_of};
 
-use crate::context::Context;
 use crate::frames::Frames;
-use crate::line::{Event, Line};
-use crate::row::Row;
-use loop_script::SourceSpec;
+use crate::line::{Event, Line, Word};
+use crate::select::select_in;
+use crate::slot::Place;
+use crate::sources::{
+    add_child_in, attach_in, count_in, destroy_in, restart_in, row_in, set_priority_in,
+    set_ready_in,
+};
+use context_core::Context;
+use loop_script::{Script, SourceSpec};
+use source_rows::Row;
 use std::alloc::{AllocError, Global};
 
 /// Whether a lane goes on.
@@ -26,55 +34,13 @@ pub enum Status {
 #[derive(Drop)]
 pub struct Parts {
     pub contexts: Vec<Option<Context>>,
+    /// The sources that the slots name.
+    pub slots: Vec<Option<Place>>,
     pub frames: Frames,
     /// Which loops run.
     pub running: Vec<bool>,
     pub trace: Vec<Line>,
     pub status: Status,
-}
-
-/// Attaches a source to an own context.
-fn attach_in(place: &mut Option<Context>, spec: SourceSpec, now: u64) -> Result<(), AllocError>
-    requires bounded { Bounded (2 ^ 62) place.old }
-    requires now { now ≤ 2 ^ 62 }
-    ensures { OnOk result (place.new ≡ option_map (attached spec now) place.old) }
-{
-    match place {
-        Some(sources) => sources.attach(spec, now),
-        None => Ok(()),
-    }
-}
-
-/// Destroys a source of an own context.
-fn destroy_in(place: &mut Option<Context>, id: u64)
-    ensures { place.new ≡ option_map (destroyed id) place.old }
-{
-    match place {
-        Some(sources) => sources.destroy(id),
-        None => {}
-    }
-}
-
-/// Counts a dispatch of a source of an own context.
-fn raise_in(place: &mut Option<Context>, id: u64)
-    requires { Bounded (2 ^ 62) place.old }
-    ensures { place.new ≡ option_map (raised id) place.old }
-{
-    match place {
-        Some(sources) => sources.raise(id),
-        None => {}
-    }
-}
-
-/// Gives a timeout of an own context its next ready time.
-fn restart_in(place: &mut Option<Context>, id: u64, now: u64)
-    requires { now ≤ 2 ^ 62 }
-    ensures { place.new ≡ option_map (restarted now id) place.old }
-{
-    match place {
-        Some(sources) => sources.restart(id, now),
-        None => {}
-    }
 }
 
 impl Parts {
@@ -95,6 +61,13 @@ impl Parts {
         Ok(())
     }
 
+    /// Writes that an action found nothing to act on.
+    pub(crate) fn miss(&mut self, tick: u32, word: Word) -> Result<(), AllocError>
+        ensures { OnOk result (lane_of self.new ≡ missed tick word (lane_of self.old)) }
+    {
+        self.write(tick, Event::Miss(word))
+    }
+
     /// Whether a context is one of the lane's.
     pub(crate) fn owns(&self, context: u32) -> bool
         ensures { result ≡ is_some (own context (lane_of self.now)) }
@@ -110,8 +83,27 @@ impl Parts {
         ensures { result ≡ row_of context id (lane_of self.now) }
     {
         match self.contexts.get(context as usize) {
-            Some(Some(sources)) => sources.row(id),
-            _ => None,
+            Some(context) => row_in(context, id),
+            None => None,
+        }
+    }
+
+    /// The source that a slot names.
+    pub(crate) fn place(&self, slot: u8) -> Option<Place>
+        ensures { result ≡ place_at slot (lane_of self.now) }
+    {
+        match self.slots.get(slot as usize) {
+            Some(place) => *place,
+            None => None,
+        }
+    }
+
+    /// Lets a slot name a source.
+    pub(crate) fn name(&mut self, slot: u8, place: Place)
+        ensures { lane_of self.new ≡ named slot place (lane_of self.old) }
+    {
+        if let Some(named) = self.slots.get_mut(slot as usize) {
+            *named = Some(place);
         }
     }
 
@@ -119,33 +111,67 @@ impl Parts {
     pub(crate) fn choose(
         &self,
         alloc: Global,
-        now: u64,
+        script: &Script,
+        tick: u32,
         context: u32,
     ) -> Result<Vec<u64>, AllocError>
-        requires { now ≤ 2 ^ 62 }
-        ensures { IfOk result (λ ids. ids.items ≡ chosen now context (lane_of self.now)) }
+        ensures { IfOk result (λ ids. ids.items ≡ chosen script.now tick context (lane_of self.now)) }
     {
         let busy = self.frames.busy(context)?;
         match self.contexts.get(context as usize) {
-            Some(Some(sources)) => sources.select(now, &busy),
-            _ => Ok(Vec::new(alloc)),
+            Some(context) => select_in(alloc, context, script, tick, &busy),
+            None => Ok(Vec::new(alloc)),
         }
     }
 
-    /// Attaches a source to a context; to another lane's nothing.
+    /// Attaches a source to a context, and answers its id; to another lane's nothing.
     pub(crate) fn attach(
         &mut self,
         context: u32,
         spec: SourceSpec,
         now: u64,
-    ) -> Result<(), AllocError>
+    ) -> Result<u64, AllocError>
         requires within { IsWithin (2 ^ 62) (lane_of self.old) }
         requires now { now ≤ 2 ^ 62 }
-        ensures { OnOk result (lane_of self.new ≡ edited context (attached spec now) (lane_of self.old)) }
+        ensures attached { OnOk result (lane_of self.new ≡ edited context (attached spec now) (lane_of self.old)) }
+        ensures id { IfOk result (λ id. id ≡ next_id (own context (lane_of self.old))) }
     {
         match self.contexts.get_mut(context as usize) {
-            Some(place) => attach_in(place, spec, now),
-            None => Ok(()),
+            Some(context) => attach_in(context, spec, now),
+            None => Ok(0),
+        }
+    }
+
+    /// Attaches a source below another, and answers its id; none where the other is not there or can have no child.
+    pub(crate) fn add_child(
+        &mut self,
+        parent: Place,
+        spec: SourceSpec,
+        now: u64,
+    ) -> Result<Option<u64>, AllocError>
+        requires within { IsWithin (2 ^ 62) (lane_of self.old) }
+        requires now { now ≤ 2 ^ 62 }
+        ensures bears { IfOk result (λ child. is_some child ≡ can_bear parent (lane_of self.old)) }
+        ensures id { IfOk result (λ child. IfSome child (λ id. id ≡ next_id (own parent.context (lane_of self.old)))) }
+        ensures born { IfOk result (λ child. OnSome child (lane_of self.new ≡ edited parent.context (born spec now parent.id) (lane_of self.old))) }
+        ensures none { IfOk result (λ child. child ≡ None → lane_of self.new ≡ lane_of self.old) }
+    {
+        match self.contexts.get_mut(parent.context as usize) {
+            Some(context) => add_child_in(context, parent.id, spec, now),
+            None => Ok(None),
+        }
+    }
+
+    /// Gives a source a priority, and answers whether it is there and no child.
+    pub(crate) fn set_priority(&mut self, place: Place, priority: i32) -> Result<bool, AllocError>
+        requires { IsWithin (2 ^ 62) (lane_of self.old) }
+        ensures moves { IfOk result (λ moves. moves ≡ is_none (priority_fault (row_at place (lane_of self.old)))) }
+        ensures moved { IfOk result (λ moves. moves ≡ true → lane_of self.new ≡ edited place.context (reprioritised place.id priority) (lane_of self.old)) }
+        ensures none { IfOk result (λ moves. moves ≡ false → lane_of self.new ≡ lane_of self.old) }
+    {
+        match self.contexts.get_mut(place.context as usize) {
+            Some(context) => set_priority_in(context, place.id, priority),
+            None => Ok(false),
         }
     }
 
@@ -153,18 +179,27 @@ impl Parts {
     pub(crate) fn destroy(&mut self, context: u32, id: u64)
         ensures { lane_of self.new ≡ edited context (destroyed id) (lane_of self.old) }
     {
-        if let Some(place) = self.contexts.get_mut(context as usize) {
-            destroy_in(place, id);
+        if let Some(context) = self.contexts.get_mut(context as usize) {
+            destroy_in(context, id);
+        }
+    }
+
+    /// Gives a source of a context a ready time.
+    pub(crate) fn set_ready(&mut self, context: u32, id: u64, ready: i64)
+        ensures { lane_of self.new ≡ edited context (ready_set id ready) (lane_of self.old) }
+    {
+        if let Some(context) = self.contexts.get_mut(context as usize) {
+            set_ready_in(context, id, ready);
         }
     }
 
     /// Counts a dispatch of a source of a context.
-    pub(crate) fn raise(&mut self, context: u32, id: u64)
+    pub(crate) fn count(&mut self, context: u32, id: u64)
         requires { IsWithin (2 ^ 62) (lane_of self.old) }
-        ensures { lane_of self.new ≡ edited context (raised id) (lane_of self.old) }
+        ensures { lane_of self.new ≡ edited context (counted id) (lane_of self.old) }
     {
-        if let Some(place) = self.contexts.get_mut(context as usize) {
-            raise_in(place, id);
+        if let Some(context) = self.contexts.get_mut(context as usize) {
+            count_in(context, id);
         }
     }
 
@@ -173,8 +208,8 @@ impl Parts {
         requires { now ≤ 2 ^ 62 }
         ensures { lane_of self.new ≡ edited context (restarted now id) (lane_of self.old) }
     {
-        if let Some(place) = self.contexts.get_mut(context as usize) {
-            restart_in(place, id, now);
+        if let Some(context) = self.contexts.get_mut(context as usize) {
+            restart_in(context, id, now);
         }
     }
 
@@ -195,20 +230,5 @@ impl Parts {
         if let Some(place) = self.running.get_mut(number as usize) {
             *place = runs;
         }
-    }
-
-    /// Begins an iteration of a context with what it selects now.
-    pub(crate) fn begin_iteration(
-        &mut self,
-        now: u64,
-        context: u32,
-        ids: Vec<u64>,
-        answer: Option<bool>,
-    ) -> Result<(), AllocError>
-        requires within { IsWithin (2 ^ 62) (lane_of self.old) }
-        requires chosen { ids.items ≡ chosen now context (lane_of self.old) }
-        ensures { OnOk result (lane_of self.new ≡ iterating now context answer (lane_of self.old)) }
-    {
-        self.frames.begin_iteration(context, ids, answer)
     }
 }

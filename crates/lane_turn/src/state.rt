@@ -1,18 +1,23 @@
 //! A lane between its turns.
 ghost use Rattle.std.specs.Prelude.{◌≡◌, ℕ, ◌+◌, ◌^◌, ◌≤◌, ◌↔◌, ◌≢◌, false, IsTrue, OnOk, IfOk, Err};
-ghost use Rattle.lane_turn.specs.Turn.{turned, opening, open_context, open_contexts, open_loops};
+ghost use Rattle.lane_turn.specs.Turn.{turned, opening, open_context, open_contexts, open_slots, open_loops};
 ghost use Rattle.lane_turn.specs.Meaning.{lane_of};
 ghost use Rattle.lane_turn.specs.Sound.{IsWithin};
 
-use crate::context::Context;
 use crate::frames::Frames;
 use crate::layer::{Call, Origin};
 use crate::line::Line;
 use crate::parts::{Parts, Status};
+use crate::slot::Place;
+use context_core::Context;
 use loop_script::{Body, Script};
+use source_rows::Levels;
 use std::alloc::{AllocError, Global};
 use std::marker::Model;
 use thiserror::Error;
+
+/// How many slots a lane has.
+const SLOTS: usize = 256;
 
 /// Why a call of a lane was refused.
 #[derive(Clone, Copy, Debug, PartialEq, Eq, Error)]
@@ -74,10 +79,21 @@ fn open_context(alloc: Global, script: &Script, lane: u32, context: u32) -> Opti
     ensures { result ≡ open_context script.now lane context }
 {
     if script.home(context) == lane {
-        Some(Context::new(alloc))
+        Some(Context::new(alloc, Levels::Two))
     } else {
         None
     }
+}
+
+/// Slots that name nothing.
+fn open_slots(alloc: Global, slots: usize) -> Result<Vec<Option<Place>>, AllocError>
+    ensures { IfOk result (λ places. places.items ≡ open_slots slots) }
+{
+    let mut places = Vec::new(alloc);
+    for _ in 0..slots {
+        places.push(None)?;
+    }
+    Ok(places)
 }
 
 /// Loops that do not run.
@@ -103,6 +119,7 @@ fn open_parts(alloc: Global, script: &Script, lane: u32) -> Result<Parts, AllocE
     })?;
     Ok(Parts {
         contexts: open_contexts(alloc, script, lane)?,
+        slots: open_slots(alloc, SLOTS)?,
         frames,
         running: open_loops(alloc, script.loops())?,
         trace: Vec::new(alloc),

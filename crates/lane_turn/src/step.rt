@@ -2,7 +2,7 @@
 ghost use Rattle.std.specs.Prelude.{◌≡◌, ◌^◌, ◌≤◌, OnOk, IfOk, is_some, slice_get, unwrap_or};
 ghost use Rattle.loop_script.specs.Parts.{actions_of, time_of};
 ghost use Rattle.lane_turn.specs.Frames.{HasRoom, top_of};
-ghost use Rattle.lane_turn.specs.Lane.{popped};
+ghost use Rattle.lane_turn.specs.Lane.{popped, taken};
 ghost use Rattle.lane_turn.specs.Step.{body_of, dispatching, returned, left_source, step_call, step_iteration, step_loop, step};
 ghost use Rattle.lane_turn.specs.Turn.{stepped};
 ghost use Rattle.lane_turn.specs.Sound.{IsWithin};
@@ -11,8 +11,8 @@ ghost use Rattle.lane_turn.specs.Meaning.{lane_of, turn_of};
 use crate::layer::{Call, Caller, Origin, Top};
 use crate::line::Event;
 use crate::parts::{Parts, Status};
-use crate::row::Row;
 use loop_script::{Body, Script};
+use source_rows::Row;
 use std::alloc::{AllocError, Global};
 
 /// How far a turn has come.
@@ -104,7 +104,7 @@ impl Parts {
             return self.halt(tick, Event::HaltDepth);
         }
         self.frames.advance();
-        self.raise(context, row.id);
+        self.count(context, row.id);
         self.write(
             tick,
             Event::Dispatch(context, row.id, row.priority, depth + 1),
@@ -119,6 +119,15 @@ impl Parts {
             body: body(row.call),
             place: 0,
         })
+    }
+
+    /// Passes over an id whose source is destroyed.
+    fn pass_over(&mut self) -> Result<(), AllocError>
+        requires { HasRoom (lane_of self.old).frames }
+        ensures { OnOk result (lane_of self.new ≡ taken (lane_of self.old)) }
+    {
+        self.frames.advance();
+        Ok(())
     }
 
     /// A step of the innermost iteration.
@@ -143,10 +152,7 @@ impl Parts {
                 }
             }
             Some(id) => match self.row(context, id) {
-                None => {
-                    self.frames.advance();
-                    Ok(())
-                }
+                None => self.pass_over(),
                 Some(row) => {
                     if progress.left == 0 {
                         return self.halt(tick, Event::HaltSteps);
@@ -181,9 +187,8 @@ impl Parts {
         if progress.iterated {
             return Ok(false);
         }
-        let now = script.now(tick);
-        let ids = self.choose(alloc, now, context)?;
-        self.begin_iteration(now, context, ids, None)?;
+        let ids = self.choose(alloc, script, tick, context)?;
+        self.frames.begin_iteration(context, ids, None)?;
         progress.iterated = true;
         Ok(true)
     }

@@ -3,8 +3,9 @@ use crate::{Event, LaneFault, LaneState, Line};
 use loop_script::Script;
 use std::test::Fail;
 
-const FIRST_RUN: &[u8] =
-    b"{\"version\":1,\"ticks\":2,\"tick_us\":1000,\"loops\":[0],\"procs\":[{\"do\":[[\"log\",7]]}],\"lanes\":[{\"contexts\":1,\"start\":[[\"attach\",0,0,{\"kind\":[\"idle\"],\"call\":0}],[\"run\",0]]}]}";
+fn first_run_script() -> &'static str {
+    r#"{"version":1,"ticks":2,"tick_us":1000,"loops":[0],"procs":[{"do":[["log",7]]}],"lanes":[{"contexts":1,"start":[["attach",0,0,{"kind":["idle"],"call":0}],["run",0]]}]}"#
+}
 
 const LINES: [Line; 2] = [
     Line {
@@ -19,7 +20,7 @@ const LINES: [Line; 2] = [
 
 #[test]
 fn first_run(rt: HostRuntime) -> Result<(), Fail> {
-    let script = Script::read(rt.alloc(), FIRST_RUN)?;
+    let script = Script::read(rt.alloc(), first_run_script().as_bytes())?;
     let mut lane = LaneState::new(rt.alloc(), &script, 0)?;
     lane.turn(&script, 0)?;
     lane.turn(&script, 1)?;
@@ -30,7 +31,7 @@ fn first_run(rt: HostRuntime) -> Result<(), Fail> {
 
 #[test]
 fn refused_turn(rt: HostRuntime) {
-    let Ok(script) = Script::read(rt.alloc(), FIRST_RUN) else {
+    let Ok(script) = Script::read(rt.alloc(), first_run_script().as_bytes()) else {
         return;
     };
     let mut lane = match LaneState::new(rt.alloc(), &script, 0) {

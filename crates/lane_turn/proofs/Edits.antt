@@ -1,0 +1,30 @@
+-- An edit of the sources of one context.
+use Rattle.std.proofs.Common.{◌≡◌, ℕ, zero, suc, ◌<◌, Option, Some, List, [], ◌∷◌, length, get_or, option_map, slice_set, ap, sym, ◌∙◌, arith}
+use Rattle.std.specs.Prelude.{slice_get}
+use Rattle.loop_script.specs.declared.source.Kind.{Kind}
+use Rattle.loop_script.specs.declared.source.Kind.TheVariants.{Timeout}
+use Rattle.source_rows.specs.declared.row.Row.{Row}
+use Rattle.source_rows.specs.Rows.{RowSet, row_of, ready_set}
+use Rattle.context_core.specs.declared.context.Context.{Context}
+use Rattle.lane_turn.specs.Sources.{due_after, restarted, restarted_row, restarted_kind}
+use Rattle.lane_turn.specs.Lane.{Lane, known, with_rows, edited}
+
+pub edited_one : (edit : RowSet → RowSet) (o : Option Context) (c : Context) (now new : RowSet) → o ≡ Some c → now ≡ c.rows → new ≡ edit now → Some (with_rows (λ _. new) c) ≡ option_map (with_rows edit) o
+edited_one edit o c now new e h k =
+    ap (λ (s : RowSet). Some (with_rows (λ _. s) c)) (k ∙ ap edit h) ∙ ap (option_map (with_rows edit)) (sym e)
+
+pub edited_at : (edit : RowSet → RowSet) (lane : Lane) (context : ℕ) (o new : Option Context) → slice_get lane.contexts context ≡ Some o → new ≡ option_map (with_rows edit) o
+    → record lane { contexts = slice_set lane.contexts context new } ≡ edited context edit lane
+edited_at edit lane context o new e n =
+    ap (λ (x : Option Context). record lane { contexts = slice_set lane.contexts context x }) (n ∙ ap (λ (s : Option (Option Context)). option_map (with_rows edit) (known s)) (sym e))
+
+-- a timeout that begins anew
+pub restarted_timeout : (now id ms : ℕ) (s : RowSet) (row : Row) → Some row ≡ row_of id s.rows → row.kind ≡ Timeout ms → ready_set id (due_after ms now) s ≡ restarted now id s
+restarted_timeout now id ms s row e k =
+    ap (λ (kind : Kind). restarted_kind now id kind s) (sym k) ∙ ap (λ (o : Option Row). restarted_row now id o s) e
+
+-- an item that is there
+pub get_some : (xs : List (Option Context)) (i : ℕ) (x : Option Context) → i < length xs → x ≡ get_or xs i x → slice_get xs i ≡ Some x
+get_some [] i x h e = absurd (omega arith)
+get_some (y ∷ xs) zero x h e = ap (λ (z : Option Context). Some z) (sym e)
+get_some (y ∷ xs) (suc i) x h e = get_some xs i x (omega arith) e

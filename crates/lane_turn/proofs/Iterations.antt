@@ -1,0 +1,223 @@
+-- What each step does to the frames.
+use Rattle.std.proofs.Common.{◌≡◌, ℕ, ℤ, zero, suc, ◌+◌, ◌==◌, Bool, true, false, cond, Option, Some, None, List, [], ◌∷◌, ◌⊎◌, inl, inr, drop, refl, ap, sym, ◌∙◌, subst, arith}
+use Rattle.std.specs.Prelude.{slice_get, nat_lt, is_some}
+use Rattle.std.specs.List.{AllByRecursion, find}
+use Rattle.std.proofs.lemmas.Bool.Decides.{eqb_tells}
+use Rattle.loop_script.specs.declared.plan.Plan.{Plan}
+use Rattle.loop_script.specs.declared.action.Action.{Action}
+use Rattle.loop_script.specs.declared.action.Action.TheVariants.{Attach, Child, Destroy, SetReady, SetPriority, Iterate, Pending, Run, Quit, Cancel, Connect, Disconnect, Task, Push, Pop, ShowDefault, Acquire, Release, Invoke, Give, Log}
+use Rattle.loop_script.specs.declared.body.Body.{Body}
+use Rattle.loop_script.specs.Parts.{actions_of, context_of}
+use Rattle.source_rows.specs.declared.row.Row.{Row}
+use Rattle.source_rows.specs.Rows.{RowSet, has_id}
+use Rattle.context_core.specs.declared.context.Context.{Context}
+use Rattle.loop_script.specs.declared.source.SourceSpec.{SourceSpec}
+use Rattle.lane_turn.specs.declared.line.Event.TheVariants as events
+use Rattle.lane_turn.specs.declared.slot.Place.{Place}
+use Rattle.lane_turn.specs.declared.line.Word.{Word}
+use Rattle.lane_turn.specs.declared.line.Word.TheVariants as words
+use Rattle.lane_turn.specs.declared.parts.Status.{Status}
+use Rattle.lane_turn.specs.declared.parts.Status.TheVariants.{GoesOn, Ended, Halted}
+use Rattle.lane_turn.specs.declared.layer.Call.{Call}
+use Rattle.lane_turn.specs.declared.layer.Origin.{Origin}
+use Rattle.lane_turn.specs.declared.layer.Origin.TheVariants as origins
+use Rattle.lane_turn.specs.Frames.{Frame, CallOf, IterOf, LoopOf, advanced, advanced_one, emptied, emptied_one, calls}
+use Rattle.lane_turn.specs.Lane.{Lane, Turn, taken, pushed, popped, stopped, set_running, written, iterating, own, place_at, row_in, row_of, is_running}
+use Rattle.lane_turn.specs.Acted.{acted, missed, child_of, on_source, set_priority_of}
+use Rattle.lane_turn.specs.Step.{step, step_call, step_id, returned, answered, counted_by, in_lane, dispatched, dispatching}
+use Rattle.lane_turn.specs.Iterations.{IsRest, Later, EachLater, IsOver, TakesNext, Begun, FramesGoOn}
+
+-- ---- frames later on
+
+later_same : (f : Frame) → Later f f
+later_same (CallOf call) = tt
+later_same (IterOf context ids answer) = (refl, (0, refl))
+later_same (LoopOf number context) = tt
+
+each_same : (fs : List Frame) → EachLater fs fs
+each_same [] = tt
+each_same (f ∷ fs) = (later_same f, each_same fs)
+
+later_taken : (f : Frame) → Later f (advanced_one f)
+later_taken (CallOf call) = tt
+later_taken (IterOf context ids answer) = (refl, (1, refl))
+later_taken (LoopOf number context) = tt
+
+each_taken : (fs : List Frame) → EachLater fs (advanced fs)
+each_taken [] = tt
+each_taken (f ∷ fs) = (later_taken f, each_same fs)
+
+drop_all : (ids : List ℕ) → (k : ℕ) × ([] ≡ drop k ids)
+drop_all [] = (0, refl)
+drop_all (id ∷ ids) = let k = drop_all ids in (suc k.0, k.1)
+
+left_or_none : (b : Bool) (ids left : List ℕ) → IsRest left ids → IsRest (cond b [] left) ids
+left_or_none true ids left h = drop_all ids
+left_or_none false ids left h = h
+
+later_emptied : (c : ℕ) (f g : Frame) → Later f g → Later f (emptied_one c g)
+later_emptied c (CallOf call) (CallOf call') h = tt
+later_emptied c (IterOf context ids answer) (IterOf context' left answer') h = (h.0, left_or_none (context' == c) ids left h.1)
+later_emptied c (LoopOf number context) (LoopOf number' context') h = tt
+later_emptied c (CallOf call) (IterOf context ids answer) h = absurd h
+later_emptied c (CallOf call) (LoopOf number context) h = absurd h
+later_emptied c (IterOf context ids answer) (CallOf call) h = absurd h
+later_emptied c (IterOf context ids answer) (LoopOf number context') h = absurd h
+later_emptied c (LoopOf number context) (CallOf call) h = absurd h
+later_emptied c (LoopOf number context) (IterOf context' ids answer) h = absurd h
+
+each_emptied : (c : ℕ) (fs gs : List Frame) → EachLater fs gs → EachLater fs (emptied c gs)
+each_emptied c [] [] h = tt
+each_emptied c [] (g ∷ gs) h = absurd h
+each_emptied c (f ∷ fs) [] h = absurd h
+each_emptied c (f ∷ fs) (g ∷ gs) h = (later_emptied c f g h.0, each_emptied c fs gs h.1)
+
+none_if : (b : Bool) (c d : ℕ) (ids : List ℕ) → (d == c) ≡ b → d ≡ c → cond b [] ids ≡ []
+none_if true c d ids e h = refl
+none_if false c d ids e h = elim (eqb_tells d c) [ inl t ↦ let no = sym e ∙ t.0 in cc | inr f ↦ absurd (f.1 h) ]
+
+over_one : (c : ℕ) (f : Frame) → IsOver c (emptied_one c f)
+over_one c (CallOf call) = tt
+over_one c (IterOf d ids answer) = λ h. none_if (d == c) c d ids refl h
+over_one c (LoopOf number d) = tt
+
+each_over : (c : ℕ) (fs : List Frame) → AllByRecursion (IsOver c) (emptied c fs)
+each_over c [] = tt
+each_over c (f ∷ fs) = (over_one c f, each_over c fs)
+
+-- ---- what a step does
+
+pub by_either : (fs : List Frame) (x y : Lane) (b : Bool) → FramesGoOn fs x.frames → FramesGoOn fs y.frames → FramesGoOn fs (cond b x y).frames
+by_either fs x y true h k = h
+by_either fs x y false h k = k
+
+taken_on : (fs : List Frame) → FramesGoOn fs (advanced fs)
+taken_on fs = inl (each_taken fs)
+
+iterated_on : (fs : List Frame) (c : ℕ) (ids : List ℕ) (answer : Option Bool) → FramesGoOn fs (IterOf c ids answer ∷ emptied c (advanced fs))
+iterated_on fs c ids answer = inr (inr (each_emptied c fs (advanced fs) (each_taken fs), each_over c (advanced fs)))
+
+child_on : (tick now slot : ℕ) (spec : SourceSpec) (o : Option Place) (lane : Lane) (fs : List Frame) → FramesGoOn fs lane.frames → FramesGoOn fs (child_of tick now slot spec o lane).frames
+child_on tick now slot spec None lane fs h = h
+child_on tick now slot spec (Some place) lane fs h = by_either fs _ _ _ h h
+
+source_on : (tick : ℕ) (word : Word) (edit : ℕ → RowSet → RowSet) (o : Option Place) (lane : Lane) (fs : List Frame) → FramesGoOn fs lane.frames → FramesGoOn fs (on_source tick word edit o lane).frames
+source_on tick word edit None lane fs h = h
+source_on tick word edit (Some place) lane fs h = by_either fs _ _ _ h h
+
+priority_on : (tick : ℕ) (priority : ℤ) (o : Option Place) (lane : Lane) (fs : List Frame) → FramesGoOn fs lane.frames → FramesGoOn fs (set_priority_of tick priority o lane).frames
+priority_on tick priority None lane fs h = h
+priority_on tick priority (Some place) lane fs h = by_either fs _ _ _ h h
+
+acted_on : (script : Plan) (tick : ℕ) (action : Action) (lane : Lane) → FramesGoOn lane.frames (acted script tick action (taken lane)).frames
+acted_on script tick (Attach context slot spec) lane = by_either lane.frames _ _ _ (taken_on lane.frames) (taken_on lane.frames)
+acted_on script tick (Child parent slot spec) lane = child_on tick _ slot spec (place_at parent (taken lane)) (taken lane) lane.frames (taken_on lane.frames)
+acted_on script tick (Destroy slot) lane = source_on tick _ _ (place_at slot (taken lane)) (taken lane) lane.frames (taken_on lane.frames)
+acted_on script tick (SetReady slot us) lane = source_on tick _ _ (place_at slot (taken lane)) (taken lane) lane.frames (taken_on lane.frames)
+acted_on script tick (SetPriority slot priority) lane = priority_on tick priority (place_at slot (taken lane)) (taken lane) lane.frames (taken_on lane.frames)
+acted_on script tick (Iterate context) lane = by_either lane.frames _ _ _ (iterated_on lane.frames context _ _) (taken_on lane.frames)
+acted_on script tick (Pending context) lane = taken_on lane.frames
+acted_on script tick (Run number) lane =
+    let begun : Begun lane.frames (LoopOf number (context_of script number) ∷ advanced lane.frames) = (each_taken lane.frames, tt) in
+    by_either lane.frames (pushed (LoopOf number (context_of script number)) (set_running number true (taken lane))) (missed tick words.Run (taken lane)) (is_some (own (context_of script number) (taken lane)))
+    (inr (inr begun)) (taken_on lane.frames)
+acted_on script tick (Quit number) lane = by_either lane.frames _ _ _ (taken_on lane.frames) (taken_on lane.frames)
+acted_on script tick (Cancel c) lane = taken_on lane.frames
+acted_on script tick (Connect c slot proc) lane = taken_on lane.frames
+acted_on script tick (Disconnect slot) lane = taken_on lane.frames
+acted_on script tick (Task spec) lane = taken_on lane.frames
+acted_on script tick (Push context) lane = taken_on lane.frames
+acted_on script tick (Pop context) lane = taken_on lane.frames
+acted_on script tick ShowDefault lane = taken_on lane.frames
+acted_on script tick (Acquire context) lane = taken_on lane.frames
+acted_on script tick (Release context) lane = taken_on lane.frames
+acted_on script tick (Invoke context proc) lane = taken_on lane.frames
+acted_on script tick (Give context to) lane = taken_on lane.frames
+acted_on script tick (Log n) lane = taken_on lane.frames
+
+some_turn : (t u : Turn) → Some t ≡ Some u → t ≡ u
+some_turn t u e = cc
+
+abbrev On : List Frame → Turn → Type 0
+On fs u = FramesGoOn fs u.lane.frames
+
+counted_on : (tick : ℕ) (f : Lane → Lane) (t : Turn) (left : ℕ) → FramesGoOn t.lane.frames (f t.lane).frames → On t.lane.frames (counted_by tick f t left)
+counted_on tick f t zero h = inl (each_same t.lane.frames)
+counted_on tick f t (suc n) h = h
+
+returned_on : (script : Plan) (tick : ℕ) (body : Body) (origin : Origin) (lane : Lane) (fs : List Frame) → FramesGoOn fs lane.frames → FramesGoOn fs (returned script tick body origin lane).frames
+returned_on script tick body origins.Start lane fs h = h
+returned_on script tick body (origins.Source caller) lane fs h = by_either fs _ _ _ h h
+returned_on script tick body (origins.Invoke acquired) lane fs h = h
+
+answered_on : (tick context : ℕ) (answer : Option Bool) (lane : Lane) (fs : List Frame) → FramesGoOn fs lane.frames → FramesGoOn fs (answered tick context answer lane).frames
+answered_on tick context None lane fs h = h
+answered_on tick context (Some any) lane fs h = h
+
+ended_on : (fs : List Frame) → FramesGoOn fs (drop 1 fs)
+ended_on fs = inr (inl (each_same (drop 1 fs)))
+
+call_on : (script : Plan) (tick : ℕ) (t : Turn) (call : Call) (action : Option Action) → On t.lane.frames (step_call script tick t call action)
+call_on script tick t call (Some action) = counted_on tick (λ lane. acted script tick action (taken lane)) t t.left (acted_on script tick action t.lane)
+call_on script tick t call None = returned_on script tick call.body call.origin (popped t.lane) t.lane.frames (ended_on t.lane.frames)
+
+-- ---- a dispatch is of the next id
+
+row_same : (a b : Row) → Some a ≡ Some b → a ≡ b
+row_same a b e = cc
+
+row_by : (id : ℕ) (r : Row) (rows : List Row) (row : Row) (b : Bool) → (r.id == id) ≡ b → (Some row ≡ find (has_id id) rows → row.id ≡ id) → Some row ≡ cond b (Some r) (find (has_id id) rows) → row.id ≡ id
+row_by id r rows row true e ih h = elim (eqb_tells r.id id) [ inl t ↦ ap (λ (x : Row). x.id) (row_same row r h) ∙ t.1 | inr f ↦ let no = sym e ∙ f.0 in cc ]
+row_by id r rows row false e ih h = ih h
+
+row_found : (id : ℕ) (rows : List Row) (row : Row) → Some row ≡ find (has_id id) rows → row.id ≡ id
+row_found id [] row h = let no : Some row ≡ None = h in cc
+row_found id (r ∷ rows) row h = row_by id r rows row (r.id == id) refl (row_found id rows row) h
+
+row_in_id : (id : ℕ) (o : Option Context) (row : Row) → Some row ≡ row_in id o → row.id ≡ id
+row_in_id id None row h = let no : Some row ≡ None = h in cc
+row_in_id id (Some c) row h = row_found id c.rows.rows row h
+
+abbrev turn : Lane → ℕ → Bool → Turn
+turn lane left iterated = record { lane = lane; left = left; iterated = iterated }
+
+abbrev going : Lane → List Frame → Lane
+going base frames = record base { frames = frames; status = GoesOn }
+
+id_on : (tick : ℕ) (base : Lane) (below : List Frame) (left : ℕ) (iterated : Bool) (context id : ℕ) (ids : List ℕ) (answer : Option Bool) (r : Option Row)
+    → let lane : Lane = going base (IterOf context (id ∷ ids) answer ∷ below) in
+    r ≡ row_of context id lane → On lane.frames (step_id tick (turn lane left iterated) context r)
+id_on tick base below left iterated context id ids answer None e = inl (each_taken (IterOf context (id ∷ ids) answer ∷ below))
+id_on tick base below left iterated context id ids answer (Some row) e =
+    let lane : Lane = going base (IterOf context (id ∷ ids) answer ∷ below) in
+    let begun : Begun lane.frames (dispatched tick context row lane).frames = (each_taken lane.frames, (refl, sym (row_in_id id (own context lane) row e))) in
+    counted_on tick (dispatching tick context row) (turn lane left iterated) left (by_either lane.frames (dispatched tick context row lane) (stopped Halted (written tick events.HaltDepth lane)) (nat_lt (calls lane.frames) 32) (inr (inr begun)) (inl (each_same lane.frames)))
+
+loop_on : (script : Plan) (tick : ℕ) (base : Lane) (below : List Frame) (left : ℕ) (iterated : Bool) (number context : ℕ) (runs : Bool) (u : Turn)
+    → let lane : Lane = going base (LoopOf number context ∷ below) in let t : Turn = turn lane left iterated in
+    cond runs (cond iterated None (Some (turn (iterating script tick context None t.lane) left true))) (Some (in_lane (λ lane. written tick (events.LoopEnd number) (popped lane)) t)) ≡ Some u → On lane.frames u
+loop_on script tick base below left true number context true u e = cc
+loop_on script tick base below left false number context true u e =
+    let fs : List Frame = LoopOf number context ∷ below in
+    subst (On fs) (some_turn _ _ e) (inr (inr (each_emptied context fs fs (each_same fs), each_over context fs)))
+loop_on script tick base below left iterated number context false u e =
+    subst (On (LoopOf number context ∷ below)) (some_turn _ _ e) (ended_on (LoopOf number context ∷ below))
+
+step_on : (script : Plan) (tick : ℕ) (base : Lane) (frames : List Frame) (status : Status) (left : ℕ) (iterated : Bool) (u : Turn)
+    → step script tick (turn (record base { frames = frames; status = status }) left iterated) ≡ Some u → On frames u
+step_on script tick base [] GoesOn left iterated u e = cc
+step_on script tick base (CallOf call ∷ below) GoesOn left iterated u e =
+    subst (On (CallOf call ∷ below)) (some_turn _ _ e) (call_on script tick (turn (going base (CallOf call ∷ below)) left iterated) call (slice_get (actions_of script call.body) call.place))
+step_on script tick base (IterOf context [] answer ∷ below) GoesOn left iterated u e =
+    let fs : List Frame = IterOf context [] answer ∷ below in
+    subst (On fs) (some_turn _ _ e) (answered_on tick context answer (popped (going base fs)) fs (ended_on fs))
+step_on script tick base (IterOf context (id ∷ ids) answer ∷ below) GoesOn left iterated u e =
+    let lane : Lane = going base (IterOf context (id ∷ ids) answer ∷ below) in
+    subst (On lane.frames) (some_turn _ _ e) (id_on tick base below left iterated context id ids answer (row_of context id lane) refl)
+step_on script tick base (LoopOf number context ∷ below) GoesOn left iterated u e =
+    loop_on script tick base below left iterated number context (is_running number (going base (LoopOf number context ∷ below))) u e
+step_on script tick base frames Ended left iterated u e = cc
+step_on script tick base frames Halted left iterated u e = cc
+
+pub goes_on : (script : Plan) (tick : ℕ) (t u : Turn) → step script tick t ≡ Some u → FramesGoOn t.lane.frames u.lane.frames
+goes_on script tick t u e = step_on script tick t.lane t.lane.frames t.lane.status t.left t.iterated u e

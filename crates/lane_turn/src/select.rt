@@ -1,0 +1,56 @@
+//! What an iteration selects, by the three phases.
+ghost use Rattle.std.specs.Prelude.{◌≡◌, map, IfOk, Some};
+ghost use Rattle.loop_script.specs.Parts.{level_of};
+ghost use Rattle.lane_turn.specs.Sources.{chosen_in};
+
+use context_core::{Context, Interest};
+use loop_script::Script;
+use std::alloc::{AllocError, Global};
+
+/// The levels that descriptors show at a tick, one for each interest.
+fn poll(
+    alloc: Global,
+    script: &Script,
+    tick: u32,
+    interests: &[Interest],
+) -> Result<Vec<u8>, AllocError>
+    ensures { IfOk result (λ levels. levels.items ≡ map (λ i. level_of script.now i.fd tick) interests.now) }
+{
+    interests
+        .iter()
+        .map(|interest| script.level(interest.fd, tick))
+        .collect(alloc)
+}
+
+/// The ids that an iteration of a context would dispatch at a tick.
+fn select(
+    alloc: Global,
+    context: &Context,
+    script: &Script,
+    tick: u32,
+    busy: &[u64],
+) -> Result<Vec<u64>, AllocError>
+    ensures { IfOk result (λ ids. ids.items ≡ chosen_in script.now tick busy.now (Some context.now)) }
+{
+    let now = script.now(tick);
+    let prepared = context.prepare(now, busy);
+    let interests = context.query(alloc, &prepared, busy)?;
+    let levels = poll(alloc, script, tick, &interests)?;
+    context.check(alloc, &prepared, now, busy, &levels)
+}
+
+/// The ids that an iteration of a context would dispatch at a tick: none of another lane's.
+pub(crate) fn select_in(
+    alloc: Global,
+    context: &Option<Context>,
+    script: &Script,
+    tick: u32,
+    busy: &[u64],
+) -> Result<Vec<u64>, AllocError>
+    ensures { IfOk result (λ ids. ids.items ≡ chosen_in script.now tick busy.now context.now) }
+{
+    match context {
+        None => Ok(Vec::new(alloc)),
+        Some(context) => select(alloc, context, script, tick, busy),
+    }
+}
