@@ -5,14 +5,14 @@ use Rattle.std.specs.Str.{bytes_eq}
 use Rattle.serde_json.specs.Data.{Data, Num, unsigned, negative, float, Items, no_items, item, Members}
 use Rattle.serde_json.specs.Find.{as_number, as_bool, as_null, as_array, as_object}
 use Rattle.loop_script.specs.Read.{Read, done, misshapen, beyond, ◌>>=◌, optional, nullable}
-use Rattle.loop_script.specs.Number.{number_within, whole, integer_from, integer_within, integer, index, index_or_null, slot, bits, priority, ready_time, flag_from, flag, flag_or}
+use Rattle.loop_script.specs.Number.{number_within, whole, integer_from, integer_within, integer, index, index_or_null, slot, bits, priority, ready_time, count_or, flag_from, flag, flag_or}
 use Rattle.loop_script.specs.Object.{are_among, names, only_among, only, field}
 use Rattle.loop_script.specs.Array.{part, parts_are, arity, word}
 use Rattle.loop_script.specs.Rows.{count, each, counted, rows_of, rows, rows_or}
 use Rattle.loop_script.specs.Words.{choice}
-use Rattle.loop_script.specs.Source.{idle, timeout, ready, fd, kinds, kind, usual_priority, priority_or, source_spec, child_spec}
+use Rattle.loop_script.specs.Source.{idle, timeout, ready, fd, cancel as cancel_kind, kinds, kind, usual_priority, priority_or, source_spec, child_spec}
 use Rattle.loop_script.specs.Level.{level, levels}
-use Rattle.loop_script.specs.Action.{attach, child, destroy, set_ready, set_priority, iterate, pending, run, quit, log, forms, action}
+use Rattle.loop_script.specs.Action.{attach, child, destroy, set_ready, set_priority, iterate, pending, run, quit, cancel, connect, disconnect, log, forms, action}
 use Rattle.loop_script.specs.Plan.{actions, lane, lanes, few_contexts, keep_or, procedure, plan}
 use Rattle.loop_script.specs.declared.action.Action.TheVariants.{Log}
 use Rattle.loop_script.specs.declared.source.Kind.{Kind}
@@ -100,6 +100,10 @@ of_ready_time : (d : Option Data) → ClearsNone (ready_time d)
 unfolding ready_time
 of_ready_time d = of_integer _ _ d
 
+of_count_or : (high : ℕ) (d : Option Data) → ClearsNone (count_or high d)
+unfolding count_or
+of_count_or high d = of_optional 0 (whole 0 high) (of_whole 0 high) d
+
 flag_by : (b : Bool) (o : Option Bool) → ClearsNone (flag_from b o)
 flag_by b None = of_misshapen b
 flag_by b (Some c) = of_done c
@@ -180,10 +184,14 @@ of_fd d s =
     along (index (part 1 d)) (of_index _) _ _ (
     along (bits (part 2 d)) (of_bits _) _ _ (same _)))
 
+of_cancel_kind : (d : Option Data) → ClearsNone (cancel_kind d)
+unfolding cancel_kind
+of_cancel_kind d s = along (arity 2 d) (of_arity 2 d) s _ (along (index (part 1 d)) (of_index _) _ _ (same _))
+
 of_kind : (d : Option Data) → ClearsNone (kind d)
 unfolding kind
 of_kind d =
-    let rows : RowsClear (kinds d) = (of_idle d, (of_timeout d, (of_ready d, (of_fd d, tt)))) in
+    let rows : RowsClear (kinds d) = (of_idle d, (of_timeout d, (of_ready d, (of_fd d, (of_cancel_kind d, tt))))) in
     of_choice (word d) (kinds d) (misshapen Idle) rows (of_misshapen Idle)
 
 of_priority_or : (k : Kind) (d : Option Data) → ClearsNone (priority_or k d)
@@ -268,6 +276,22 @@ of_quit : (d : Option Data) → ClearsNone (quit d)
 unfolding quit
 of_quit d s = along (arity 2 d) (of_arity 2 d) s _ (along (index (part 1 d)) (of_index _) _ _ (same _))
 
+of_cancel : (d : Option Data) → ClearsNone (cancel d)
+unfolding cancel
+of_cancel d s = along (arity 2 d) (of_arity 2 d) s _ (along (index (part 1 d)) (of_index _) _ _ (same _))
+
+of_connect : (d : Option Data) → ClearsNone (connect d)
+unfolding connect
+of_connect d s =
+    along (arity 4 d) (of_arity 4 d) s _ (
+    along (index (part 1 d)) (of_index _) _ _ (
+    along (slot (part 2 d)) (of_slot _) _ _ (
+    along (index (part 3 d)) (of_index _) _ _ (same _))))
+
+of_disconnect : (d : Option Data) → ClearsNone (disconnect d)
+unfolding disconnect
+of_disconnect d s = along (arity 2 d) (of_arity 2 d) s _ (along (slot (part 1 d)) (of_slot _) _ _ (same _))
+
 of_log : (d : Option Data) → ClearsNone (log d)
 unfolding log
 of_log d s = along (arity 2 d) (of_arity 2 d) s _ (along (whole 0 4294967295 (part 1 d)) (of_whole 0 4294967295 _) _ _ (same _))
@@ -275,7 +299,7 @@ of_log d s = along (arity 2 d) (of_arity 2 d) s _ (along (whole 0 4294967295 (pa
 of_action : (d : Option Data) → ClearsNone (action d)
 unfolding action
 of_action d =
-    let rows : RowsClear (forms d) = (of_attach d, (of_child d, (of_destroy d, (of_set_ready d, (of_set_priority d, (of_iterate d, (of_pending d, (of_run d, (of_quit d, (of_log d, tt)))))))))) in
+    let rows : RowsClear (forms d) = (of_attach d, (of_child d, (of_destroy d, (of_set_ready d, (of_set_priority d, (of_iterate d, (of_pending d, (of_run d, (of_quit d, (of_cancel d, (of_connect d, (of_disconnect d, (of_log d, tt))))))))))))) in
     of_choice (word d) (forms d) (misshapen (Log 0)) rows (of_misshapen (Log 0))
 
 of_actions : (d : Option Data) → ClearsNone (actions d)
@@ -310,14 +334,15 @@ of_lanes d s = along (rows 1 1 lane d) (of_rows 1 1 lane of_lane d) s _ (of_few 
 of_plan : (d : Option Data) → ClearsNone (plan d)
 unfolding plan
 of_plan d s =
-    along (only (codes "version" ∷ codes "ticks" ∷ codes "tick_us" ∷ codes "lanes" ∷ codes "fds" ∷ codes "loops" ∷ codes "procs" ∷ []) d) (of_only _ d) s _ (
+    along (only (codes "version" ∷ codes "ticks" ∷ codes "tick_us" ∷ codes "lanes" ∷ codes "cancellables" ∷ codes "fds" ∷ codes "loops" ∷ codes "procs" ∷ []) d) (of_only _ d) s _ (
     along (whole 1 1 (field (codes "version") d)) (of_whole 1 1 _) _ _ (
     along (whole 1 4096 (field (codes "ticks") d)) (of_whole 1 4096 _) _ _ (
     along (whole 1 1000000000 (field (codes "tick_us") d)) (of_whole 1 1000000000 _) _ _ (
     along (lanes (field (codes "lanes") d)) (of_lanes _) _ _ (
+    along (count_or 256 (field (codes "cancellables") d)) (of_count_or 256 _) _ _ (
     along (rows_or 256 levels (field (codes "fds") d)) (of_rows_or 256 levels of_levels _) _ _ (
     along (rows_or 256 index (field (codes "loops") d)) (of_rows_or 256 index of_index _) _ _ (
-    along (rows_or 1024 procedure (field (codes "procs") d)) (of_rows_or 1024 procedure of_procedure _) _ _ (same _))))))))
+    along (rows_or 1024 procedure (field (codes "procs") d)) (of_rows_or 1024 procedure of_procedure _) _ _ (same _)))))))))
 
 pub none_cleared : NoFaultIsCleared
 none_cleared = record {

@@ -150,4 +150,4 @@ rising_among (ls ∷ fds) zero h = (and_parts (rises ls) (list_all rises fds) h)
 rising_among (ls ∷ fds) (suc fd) h = rising_among fds fd (and_parts (rises ls) (list_all rises fds) h).1
 
 pub levels_rise : (p : Plan) (fd : ℕ) → plan_rules p ≡ true → rises (levels_of p fd) ≡ true
-levels_rise p fd h = rising_among p.fds fd h
+levels_rise p fd h = rising_among p.fds fd (and_parts _ _ (and_parts _ _ h).0).0

@@ -7,7 +7,7 @@ use Rattle.loop_script.specs.Array.{part, arity, word}
 use Rattle.loop_script.specs.Words.{choice}
 use Rattle.loop_script.specs.Source.{source_spec, child_spec}
 use Rattle.loop_script.specs.declared.action.Action.{Action}
-use Rattle.loop_script.specs.declared.action.Action.TheVariants.{Attach, Child, Destroy, SetReady, SetPriority, Iterate, Pending, Run, Quit, Log}
+use Rattle.loop_script.specs.declared.action.Action.TheVariants.{Attach, Child, Destroy, SetReady, SetPriority, Iterate, Pending, Run, Quit, Cancel, Connect, Disconnect, Log}
 
 unfoldable pub attach : Option Data → Read Action
 attach d = do
@@ -69,6 +69,26 @@ quit d = do
   loop ← index (part 1 d)
   done (Quit loop)
 
+unfoldable pub cancel : Option Data → Read Action
+cancel d = do
+  _ ← arity 2 d
+  c ← index (part 1 d)
+  done (Cancel c)
+
+unfoldable pub connect : Option Data → Read Action
+connect d = do
+  _ ← arity 4 d
+  c ← index (part 1 d)
+  slot ← slot (part 2 d)
+  proc ← index (part 3 d)
+  done (Connect c slot proc)
+
+unfoldable pub disconnect : Option Data → Read Action
+disconnect d = do
+  _ ← arity 2 d
+  slot ← slot (part 1 d)
+  done (Disconnect slot)
+
 unfoldable pub log : Option Data → Read Action
 log d = do
   _ ← arity 2 d
@@ -86,6 +106,9 @@ forms d =
     ∷ (codes "pending", pending d)
     ∷ (codes "run", run d)
     ∷ (codes "quit", quit d)
+    ∷ (codes "cancel", cancel d)
+    ∷ (codes "connect", connect d)
+    ∷ (codes "disconnect", disconnect d)
     ∷ (codes "log", log d)
     ∷ []
 

@@ -9,6 +9,7 @@ pub record IsBounded (p : Plan) : Type 0 where
   pub contexts : sum_by (λ l. l.contexts) p.lanes ≤ 256
   pub ticks : p.ticks ≤ 4096
   pub tick_us : p.tick_us ≤ 1000000000
+  pub cancellables : p.cancellables ≤ 256
   pub loops : length p.loops ≤ 256
 
 -- a plan within its bounds, whose numbers all name something of it, and which keeps the rules

@@ -2,7 +2,7 @@
 use Rattle.std.specs.Prelude.{ℕ, List, [], ◌∷◌, codes, Option, Some, nat_le, sum_by, if◌then◌else◌}
 use Rattle.serde_json.specs.Data.{Data}
 use Rattle.loop_script.specs.Read.{Read, done, beyond, ◌>>=◌, optional, nullable}
-use Rattle.loop_script.specs.Number.{whole, index}
+use Rattle.loop_script.specs.Number.{whole, count_or, index}
 use Rattle.loop_script.specs.Object.{only, field}
 use Rattle.loop_script.specs.Rows.{rows, rows_or}
 use Rattle.loop_script.specs.Level.{levels}
@@ -41,12 +41,13 @@ procedure d = do
 
 unfoldable pub plan : Option Data → Read Plan
 plan d = do
-  _ ← only (codes "version" ∷ codes "ticks" ∷ codes "tick_us" ∷ codes "lanes" ∷ codes "fds" ∷ codes "loops" ∷ codes "procs" ∷ []) d
+  _ ← only (codes "version" ∷ codes "ticks" ∷ codes "tick_us" ∷ codes "lanes" ∷ codes "cancellables" ∷ codes "fds" ∷ codes "loops" ∷ codes "procs" ∷ []) d
   version ← whole 1 1 (field (codes "version") d)
   ticks ← whole 1 4096 (field (codes "ticks") d)
   tick_us ← whole 1 1000000000 (field (codes "tick_us") d)
   lanes ← lanes (field (codes "lanes") d)
+  cancellables ← count_or 256 (field (codes "cancellables") d)
   fds ← rows_or 256 levels (field (codes "fds") d)
   loops ← rows_or 256 index (field (codes "loops") d)
   procs ← rows_or 1024 procedure (field (codes "procs") d)
-  done (record { version = version; ticks = ticks; tick_us = tick_us; lanes = lanes; cancellables = 0; fds = fds; loops = loops; procs = procs })
+  done (record { version = version; ticks = ticks; tick_us = tick_us; lanes = lanes; cancellables = cancellables; fds = fds; loops = loops; procs = procs })

@@ -1,8 +1,32 @@
 -- What a script's parts must keep to beside one another.
-use Rattle.std.specs.Prelude.{Bool}
+use Rattle.std.specs.Prelude.{ℕ, ◌&&◌, Bool, true, false, List, slice_get}
 use Rattle.std.specs.List.{list_all}
 use Rattle.loop_script.specs.Level.{rises}
+use Rattle.loop_script.specs.Parts.{actions_of_proc}
+use Rattle.loop_script.specs.declared.action.Action.{Action}
+use Rattle.loop_script.specs.declared.action.Action.TheVariants.{Destroy, SetReady, Quit, Connect, Log}
+use Rattle.loop_script.specs.declared.plan.Proc.{Proc}
 use Rattle.loop_script.specs.declared.plan.Plan.{Plan}
 
+-- what a handler may do
+abbrev pub is_plain : Action → Bool
+is_plain (Destroy slot) = true
+is_plain (SetReady slot us) = true
+is_plain (Quit loop) = true
+is_plain (Log n) = true
+is_plain _ = false
+
+-- a procedure of plain actions alone
+abbrev pub is_handler : List Proc → ℕ → Bool
+is_handler procs proc = list_all is_plain (actions_of_proc (slice_get procs proc))
+
+-- what is connected is a handler
+abbrev pub action_rules : List Proc → Action → Bool
+action_rules procs (Connect c slot proc) = is_handler procs proc
+action_rules procs _ = true
+
 abbrev pub plan_rules : Plan → Bool
-plan_rules p = list_all rises p.fds
+plan_rules p =
+    list_all rises p.fds
+    && list_all (λ l. list_all (action_rules p.procs) l.start) p.lanes
+    && list_all (λ q. list_all (action_rules p.procs) q.actions) p.procs

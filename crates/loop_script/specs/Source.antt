@@ -34,8 +34,20 @@ fd d = do
   bits ← bits (part 2 d)
   done (Fd descriptor bits)
 
+unfoldable pub cancel : Option Data → Read Kind
+cancel d = do
+  _ ← arity 2 d
+  c ← index (part 1 d)
+  done (Cancel c)
+
 abbrev pub kinds : Option Data → List (List ℕ × Read Kind)
-kinds d = (codes "idle", idle d) ∷ (codes "timeout", timeout d) ∷ (codes "ready", ready d) ∷ (codes "fd", fd d) ∷ []
+kinds d =
+    (codes "idle", idle d)
+    ∷ (codes "timeout", timeout d)
+    ∷ (codes "ready", ready d)
+    ∷ (codes "fd", fd d)
+    ∷ (codes "cancel", cancel d)
+    ∷ []
 
 unfoldable pub kind : Option Data → Read Kind
 kind d = choice (word d) (kinds d) (misshapen Idle)

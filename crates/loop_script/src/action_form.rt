@@ -1,7 +1,7 @@
 //! Reading the actions of a script.
 ghost use Rattle.std.specs.Prelude.{◌≡◌, IfOk, OnOk};
 ghost use Rattle.loop_script.specs.Read.{after};
-ghost use Rattle.loop_script.specs.Action.{attach, child, destroy, set_ready, set_priority, iterate, pending, run, quit, log, action};
+ghost use Rattle.loop_script.specs.Action.{attach, child, destroy, set_ready, set_priority, iterate, pending, run, quit, cancel, connect, disconnect, log, action};
 ghost use Rattle.loop_script.specs.Seen.{seen};
 
 use crate::action::Action;
@@ -42,6 +42,9 @@ fn read_action(value: Option<&Value>, faults: &mut Faults) -> Action
         "pending" => read_pending(value, faults),
         "run" => read_run(value, faults),
         "quit" => read_quit(value, faults),
+        "cancel" => read_cancel(value, faults),
+        "connect" => read_connect(value, faults),
+        "disconnect" => read_disconnect(value, faults),
         "log" => read_log(value, faults),
         _ => {
             faults.shape = true;
@@ -139,6 +142,36 @@ fn read_quit(value: Option<&Value>, faults: &mut Faults) -> Action
 {
     check_arity(value, 2, faults);
     Action::Quit(index_number(part_of(value, 1), faults))
+}
+
+#[tactic(auto, unfolding(crate::specs::Action::cancel))]
+fn read_cancel(value: Option<&Value>, faults: &mut Faults) -> Action
+    ensures value { result ≡ (cancel (seen value.entry)).value }
+    ensures faults { faults.new ≡ after faults.old (cancel (seen value.entry)) }
+{
+    check_arity(value, 2, faults);
+    Action::Cancel(index_number(part_of(value, 1), faults))
+}
+
+#[tactic(auto, unfolding(crate::specs::Action::connect))]
+fn read_connect(value: Option<&Value>, faults: &mut Faults) -> Action
+    ensures value { result ≡ (connect (seen value.entry)).value }
+    ensures faults { faults.new ≡ after faults.old (connect (seen value.entry)) }
+{
+    check_arity(value, 4, faults);
+    let c = index_number(part_of(value, 1), faults);
+    let slot = slot_number(part_of(value, 2), faults);
+    let proc = index_number(part_of(value, 3), faults);
+    Action::Connect(c, slot, proc)
+}
+
+#[tactic(auto, unfolding(crate::specs::Action::disconnect))]
+fn read_disconnect(value: Option<&Value>, faults: &mut Faults) -> Action
+    ensures value { result ≡ (disconnect (seen value.entry)).value }
+    ensures faults { faults.new ≡ after faults.old (disconnect (seen value.entry)) }
+{
+    check_arity(value, 2, faults);
+    Action::Disconnect(slot_number(part_of(value, 1), faults))
 }
 
 #[tactic(auto, unfolding(crate::specs::Action::log))]

@@ -10,7 +10,7 @@ use crate::faults::Faults;
 use crate::form::{Form, rows_or_none, rows_within};
 use crate::items::Items;
 use crate::level::Level;
-use crate::number::{index_number, whole_number};
+use crate::number::{index_number, optional_count, whole_number};
 use crate::object::only_keys;
 use crate::part::field_of;
 use crate::references::context_count;
@@ -169,7 +169,14 @@ impl Plan {
         only_keys(
             value,
             &[
-                "version", "ticks", "tick_us", "lanes", "fds", "loops", "procs",
+                "version",
+                "ticks",
+                "tick_us",
+                "lanes",
+                "cancellables",
+                "fds",
+                "loops",
+                "procs",
             ],
             faults,
         );
@@ -177,6 +184,7 @@ impl Plan {
         let ticks = whole_number(field_of(value, "ticks"), 1, 4096, faults);
         let tick_us = whole_number(field_of(value, "tick_us"), 1, 1_000_000_000, faults);
         let lanes = read_lanes(alloc, field_of(value, "lanes"), faults)?;
+        let cancellables = optional_count(field_of(value, "cancellables"), 256, faults);
         let fds = rows_or_none(alloc, field_of(value, "fds"), 256, faults)?;
         let loops = rows_or_none(alloc, field_of(value, "loops"), 256, faults)?;
         let procs = rows_or_none(alloc, field_of(value, "procs"), 1024, faults)?;
@@ -185,7 +193,7 @@ impl Plan {
             ticks: ticks as u32,
             tick_us,
             lanes,
-            cancellables: 0,
+            cancellables: cancellables as u32,
             fds,
             loops,
             procs,

@@ -2,17 +2,22 @@
 ghost use Rattle.std.specs.Prelude.{◌≡◌};
 ghost use Rattle.std.specs.List.{list_all};
 ghost use Rattle.loop_script.specs.Level.{rises as rising};
-ghost use Rattle.loop_script.specs.Rules.{plan_rules};
+ghost use Rattle.loop_script.specs.Rules.{is_plain as is_plain_action, is_handler as is_handler_among, action_rules, plan_rules};
 
+use crate::action::Action;
 use crate::items::Items;
 use crate::level::{Level, rises};
-use crate::plan::Plan;
+use crate::plan::{LaneSpec, Plan, Proc};
+use crate::script::proc_actions;
 
 impl Plan {
     pub(crate) fn keeps_rules(&self) -> bool
         ensures { result ≡ plan_rules self.now }
     {
+        let procs = self.procs.as_slice();
         all_rise(self.fds.as_slice())
+            && lanes_keep_rules(self.lanes.as_slice(), procs)
+            && procs_keep_rules(procs, procs)
     }
 }
 
@@ -20,4 +25,54 @@ fn all_rise(fds: &[Items<Level>]) -> bool
     ensures { result ≡ list_all rising fds.now }
 {
     fds.iter().all(|levels| rises(levels.as_slice()))
+}
+
+fn lanes_keep_rules(lanes: &[LaneSpec], procs: &[Proc]) -> bool
+    ensures { result ≡ list_all (λ l. list_all (action_rules procs.now) l.start) lanes.now }
+{
+    lanes
+        .iter()
+        .all(|lane| actions_keep_rules(lane.start.as_slice(), procs))
+}
+
+/// Whether the actions of some procedures keep the rules, `procs` being all of them.
+fn procs_keep_rules(some: &[Proc], procs: &[Proc]) -> bool
+    ensures { result ≡ list_all (λ q. list_all (action_rules procs.now) q.actions) some.now }
+{
+    some.iter()
+        .all(|proc| actions_keep_rules(proc.actions.as_slice(), procs))
+}
+
+fn actions_keep_rules(actions: &[Action], procs: &[Proc]) -> bool
+    ensures { result ≡ list_all (action_rules procs.now) actions.now }
+{
+    actions.iter().all(|action| keeps_rules(action, procs))
+}
+
+fn keeps_rules(action: &Action, procs: &[Proc]) -> bool
+    ensures { result ≡ action_rules procs.now action.now }
+{
+    match action {
+        Action::Connect(_, _, proc) => is_handler(procs, *proc),
+        _ => true,
+    }
+}
+
+/// Whether a procedure is of plain actions alone.
+fn is_handler(procs: &[Proc], proc: u32) -> bool
+    ensures { result ≡ is_handler_among procs.now proc }
+{
+    proc_actions(procs, proc)
+        .iter()
+        .all(|action| is_plain(action))
+}
+
+/// Whether a handler may do this.
+fn is_plain(action: &Action) -> bool
+    ensures { result ≡ is_plain_action action.now }
+{
+    matches!(
+        action,
+        Action::Destroy(_) | Action::SetReady(_, _) | Action::Quit(_) | Action::Log(_)
+    )
 }

@@ -5,6 +5,7 @@ ghost use Rattle.loop_script.specs.Script.{Answers, IsRead, verdict};
 ghost use Rattle.loop_script.specs.Limits.{IsBounded};
 ghost use Rattle.loop_script.specs.Level.{rises};
 ghost use Rattle.loop_script.specs.References.{sizes, action_refers};
+ghost use Rattle.loop_script.specs.Rules.{action_rules};
 ghost use Rattle.loop_script.specs.Parts.{time_of, start_of, actions_of_proc, actions_of, context_of, home_of, home_in, is_kept, stays, levels_of, level_of, next_change_of};
 
 use crate::action::Action;
@@ -117,6 +118,14 @@ impl Script {
         self.plan.loops.as_slice()[number as usize]
     }
 
+    /// How many cancellables there are.
+    pub fn cancellables(&self) -> u32
+        ensures cancellables { result ≡ self.now.cancellables }
+        ensures few { result ≤ 256 }
+    {
+        self.plan.cancellables
+    }
+
     /// What a descriptor shows at a tick: the bits of the last of its levels whose tick has come, and none before the
     /// first. A number that no descriptor has shows none.
     pub fn level(&self, fd: u32, tick: u32) -> u8
@@ -153,10 +162,12 @@ impl Script {
 }
 
 impl Script {
-    /// The actions of a call; none for the number of no lane or procedure. Each names what the script has.
+    /// The actions of a call; none for the number of no lane or procedure. Each names what the script has, and
+    /// connects handlers alone.
     pub fn actions(&self, body: Body) -> &[Action]
         ensures actions { result.now ≡ actions_of self.now body }
         ensures refer { list_all (action_refers (sizes self.now)) result.now ≡ true }
+        ensures rules { list_all (action_rules self.now.procs) result.now ≡ true }
     {
         match body {
             Body::Start(lane) => start_actions(self.plan.lanes.as_slice(), lane),
@@ -188,7 +199,7 @@ fn start_actions(lanes: &[LaneSpec], lane: u32) -> &[Action]
     }
 }
 
-fn proc_actions(procs: &[Proc], proc: u32) -> &[Action]
+pub(crate) fn proc_actions(procs: &[Proc], proc: u32) -> &[Action]
     ensures { result.now ≡ actions_of_proc (slice_get procs.now proc) }
 {
     match procs.get(proc as usize) {

@@ -1,7 +1,7 @@
 //! The sources of a script, and their reading.
 ghost use Rattle.std.specs.Prelude.{◌≡◌};
 ghost use Rattle.loop_script.specs.Read.{after};
-ghost use Rattle.loop_script.specs.Source.{kind, idle, timeout, ready, fd, source_spec, child_spec, usual_priority as priority_of, priority_or};
+ghost use Rattle.loop_script.specs.Source.{kind, idle, timeout, ready, fd, cancel, source_spec, child_spec, usual_priority as priority_of, priority_or};
 ghost use Rattle.loop_script.specs.Seen.{seen};
 
 use crate::faults::Faults;
@@ -107,6 +107,7 @@ fn read_kind(value: Option<&Value>, faults: &mut Faults) -> Kind
         "timeout" => read_timeout(value, faults),
         "ready" => read_ready(value, faults),
         "fd" => read_fd(value, faults),
+        "cancel" => read_cancel(value, faults),
         _ => {
             faults.shape = true;
             Kind::Idle
@@ -150,4 +151,13 @@ fn read_fd(value: Option<&Value>, faults: &mut Faults) -> Kind
     let descriptor = index_number(part_of(value, 1), faults);
     let bits = bits_number(part_of(value, 2), faults);
     Kind::Fd(descriptor, bits)
+}
+
+#[tactic(auto, unfolding(crate::specs::Source::cancel))]
+fn read_cancel(value: Option<&Value>, faults: &mut Faults) -> Kind
+    ensures value { result ≡ (cancel (seen value.entry)).value }
+    ensures faults { faults.new ≡ after faults.old (cancel (seen value.entry)) }
+{
+    check_arity(value, 2, faults);
+    Kind::Cancel(index_number(part_of(value, 1), faults))
 }

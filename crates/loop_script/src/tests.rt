@@ -9,7 +9,7 @@ fn first_run() -> &'static str {
 }
 
 fn each_action() -> &'static str {
-    r#"{"version":1,"ticks":1,"tick_us":1,"loops":[0],"procs":[{"do":[["attach",0,255,{"kind":["idle"]}],["child",255,0,{"kind":["idle"],"recurse":true,"call":0}],["destroy",0],["set_ready",0,-1],["set_priority",0,-2147483648],["iterate",1],["pending",0],["run",0],["quit",0],["log",4294967295]]}],"lanes":[{"contexts":256,"start":[["run",0]]}]}"#
+    r#"{"version":1,"ticks":1,"tick_us":1,"loops":[0],"cancellables":256,"procs":[{"do":[["attach",0,255,{"kind":["idle"]}],["child",255,0,{"kind":["idle"],"recurse":true,"call":0}],["destroy",0],["set_ready",0,-1],["set_priority",0,-2147483648],["iterate",1],["pending",0],["run",0],["quit",0],["cancel",255],["connect",0,0,1],["disconnect",0],["log",4294967295]]},{"do":[["log",1],["set_ready",0,1],["quit",0],["destroy",0]]}],"lanes":[{"contexts":256,"start":[["run",0]]}]}"#
 }
 
 #[test]
@@ -45,13 +45,14 @@ fn tells_its_lists(rt: HostRuntime) -> Result<(), Fail> {
 }
 
 fn two_descriptors() -> &'static str {
-    r#"{"version":1,"ticks":9,"tick_us":1,"fds":[[],[[2,1],[5,20]]],"lanes":[{"contexts":1,"start":[["attach",0,0,{"kind":["fd",1,63]}],["attach",0,0,{"kind":["timeout",1]}],["attach",0,0,{"kind":["ready",1]}]]}]}"#
+    r#"{"version":1,"ticks":9,"tick_us":1,"cancellables":1,"fds":[[],[[2,1],[5,20]]],"lanes":[{"contexts":1,"start":[["attach",0,0,{"kind":["fd",1,63]}],["attach",0,0,{"kind":["timeout",1]}],["attach",0,0,{"kind":["ready",1]}],["attach",0,0,{"kind":["cancel",0]}]]}]}"#
 }
 
 /// The levels of two descriptors, and each word of a kind, as the format writes it.
 #[test]
 fn tells_levels(rt: HostRuntime) -> Result<(), Fail> {
     let script = Script::read(rt.alloc(), two_descriptors().as_bytes())?;
+    assert_eq!(rt; script.cancellables(), 1);
     assert_eq!(rt; script.level(1, 1), 0);
     assert_eq!(rt; script.level(1, 4), 1);
     assert_eq!(rt; script.level(1, 5), 20);
@@ -66,7 +67,7 @@ fn tells_levels(rt: HostRuntime) -> Result<(), Fail> {
 fn reads_each_action(rt: HostRuntime) -> Result<(), Fail> {
     let script = Script::read(rt.alloc(), each_action().as_bytes())?;
     assert_eq!(rt; script.actions(Body::Start(0)).len(), 1);
-    assert_eq!(rt; script.actions(Body::Procedure(0)).len(), 10);
+    assert_eq!(rt; script.actions(Body::Procedure(0)).len(), 13);
     Ok(())
 }
 
