@@ -1,5 +1,5 @@
 //! A lane's view of the cancellables, with its handlers.
-ghost use Rattle.std.specs.Prelude.{◌≡◌, ◌+◌, ◌<◌, ◌^◌, [], Some, None, false, length, replicate, IfOk, OnOk, OnErr, option_map, if◌then◌else◌};
+ghost use Rattle.std.specs.Prelude.{◌≡◌, ◌+◌, ◌<◌, ◌^◌, [], Some, None, true, false, replicate, slice_index_or, slice_set, IfOk, OnOk, OnErr, option_map, if◌then◌else◌};
 
 use crate::handler::{Connected, Fired, Handler};
 use crate::handlers::{handlers_of, holds, remove};
@@ -25,6 +25,25 @@ impl Model for View {
     ghost invariant = { λ v. IsSound (record { members = v.members.items; handlers = v.handlers.items; next_id = v.next_id }) };
 }
 
+/// Whether a cancellable is a member; a number that none has is not.
+fn has_member(members: &[bool], c: u32) -> bool
+    ensures { result ≡ slice_index_or members.now c false }
+{
+    match members.get(c as usize) {
+        Some(is_member) => *is_member,
+        None => false,
+    }
+}
+
+/// Makes a cancellable a member.
+fn add_member(members: &mut Vec<bool>, c: u32)
+    ensures { members.new.items ≡ slice_set members.old.items c true }
+{
+    if let Some(is_member) = members.get_mut(c as usize) {
+        *is_member = true;
+    }
+}
+
 impl View {
     ghost use Rattle.cancel_view.specs.Seen.{has, fired, cancelled, connected, connecting, without, may_disconnect, IsRising};
 
@@ -42,40 +61,37 @@ impl View {
 
     /// Whether the view has the cancellable.
     pub fn is_cancelled(&self, c: u32) -> bool
-        requires { c < length self.now.members }
         ensures { result ≡ has c self.now }
     {
-        self.members[c as usize]
+        has_member(&self.members, c)
     }
 
     /// Brings a cancellable into the view, and gives the handlers to call, by rising id; they stay connected. None
     /// where the view had it. After `OutOfMemory` the view is unchanged.
     #[tactic(auto, using(crate::proofs::Rising::rise_fired))]
     pub fn cancel(&mut self, alloc: Global, c: u32) -> Result<Option<Vec<Fired>>, OutOfMemory>
-        requires { c < length self.old.members }
         ensures fired { IfOk result (λ f. option_map (λ v. v.items) f ≡ (if has c self.old then None else Some (fired c self.old))) }
         ensures rising { IsRising (fired c self.old) }
         ensures view { OnOk result (self.new ≡ cancelled c self.old) }
         ensures same { OnErr result (self.new ≡ self.old) }
     {
-        if self.members[c as usize] {
+        if has_member(&self.members, c) {
             return Ok(None);
         }
         let fired = handlers_of(alloc, &self.handlers, c)?;
-        self.members[c as usize] = true;
+        add_member(&mut self.members, c);
         Ok(Some(fired))
     }
 
     /// Connects a handler, where the view does not have its cancellable. After `OutOfMemory` the view is unchanged.
     #[tactic(auto, using(crate::proofs::Rising::rise_pushed))]
     pub fn connect(&mut self, c: u32, proc: u32) -> Result<Connected, OutOfMemory>
-        requires within { c < length self.old.members }
         requires room { self.old.next_id < 2 ^ 63 }
         ensures answer { IfOk result (λ r. r ≡ connecting c self.old) }
         ensures view { OnOk result (self.new ≡ connected c proc self.old) }
         ensures same { OnErr result (self.new ≡ self.old) }
     {
-        if self.members[c as usize] {
+        if has_member(&self.members, c) {
             return Ok(Connected::Already);
         }
         let id = self.next_id;

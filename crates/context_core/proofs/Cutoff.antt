@@ -13,7 +13,7 @@ use Rattle.std.specs.Int.Bits.{and_zero_l}
 use Rattle.source_rows.specs.Tree.{IsOneTree}
 use Rattle.context_core.specs.declared.interest.Shown.{Shown}
 use Rattle.context_core.specs.Ready.{own_ready, kind_ready, is_due, has_bit, is_blocked, calls, is_ready, is_most_urgent, selected}
-use Rattle.context_core.specs.Phases.{least_of, less_urgent, nothing_shown, none_cancelled, least_ready, is_asked, is_fd, fd_of, asked_rows, levels_for, level_of, shown, handed, walk}
+use Rattle.context_core.specs.Phases.{least_of, less_urgent, nothing_shown, least_ready, is_asked, is_fd, fd_of, asked_rows, levels_for, level_of, shown, handed, walk}
 use Rattle.context_core.proofs.Walk.{walked, upto, id_of, SomeAt}
 
 -- ---- the least priority of a list
@@ -344,17 +344,17 @@ each_ready f g now view busy bound rows (r ∷ xs) tree asked =
     (λ h. ap (λ (b : Bool). not (is_blocked busy r) && b) (any_same _ _ rows (each_calls f g now view busy bound r rows h tree.0 asked)), each_ready f g now view busy bound rows xs tree.1 asked)
 
 -- the levels of what was asked for are enough
-pub cutoff : (level : ℕ → ℕ) (now : ℕ) (busy : List ℕ) (rows : List Row) → IsOneTree rows
-    → let asked : List Row = asked_rows (least_ready now busy rows) busy rows in
-    walk (is_ready (own_ready (shown (handed asked (levels_for level asked))) none_cancelled now) busy rows) (least_ready now busy rows) (in_order rows)
-    ≡ selected (own_ready level none_cancelled now) busy rows
-cutoff level now busy rows tree =
-    let bound : Option ℤ = least_ready now busy rows in
+pub cutoff : (level : ℕ → ℕ) (cancelled : ℕ → Bool) (now : ℕ) (busy : List ℕ) (rows : List Row) → IsOneTree rows
+    → let asked : List Row = asked_rows (least_ready cancelled now busy rows) busy rows in
+    walk (is_ready (own_ready (shown (handed asked (levels_for level asked))) cancelled now) busy rows) (least_ready cancelled now busy rows) (in_order rows)
+    ≡ selected (own_ready level cancelled now) busy rows
+cutoff level cancelled now busy rows tree =
+    let bound : Option ℤ = least_ready cancelled now busy rows in
     let asked : List Row = asked_rows bound busy rows in
     let f : ℕ → ℕ = shown (handed asked (levels_for level asked)) in
-    let ready : Row → Bool = is_ready (own_ready level none_cancelled now) busy rows in
+    let ready : Row → Bool = is_ready (own_ready level cancelled now) busy rows in
     let shows = all_of_order (λ q. is_asked bound busy q ≡ true → f (fd_of q.kind) ≡ level (fd_of q.kind)) rows (if_passes (is_asked bound busy) (λ q. f (fd_of q.kind) ≡ level (fd_of q.kind)) (in_order rows) (handed_is level asked)) in
-    let same = each_ready f level now none_cancelled busy bound rows rows tree shows in
-    let less = within_by (is_ready (own_ready nothing_shown none_cancelled now) busy rows) ready rows
-    (ready_more (own_ready nothing_shown none_cancelled now) (own_ready level none_cancelled now) busy rows (λ r. own_more level none_cancelled (is_due now r.ready) r.kind)) bound (least_of (filter ready rows)) refl refl in
+    let same = each_ready f level now cancelled busy bound rows rows tree shows in
+    let less = within_by (is_ready (own_ready nothing_shown cancelled now) busy rows) ready rows
+    (ready_more (own_ready nothing_shown cancelled now) (own_ready level cancelled now) busy rows (λ r. own_more level cancelled (is_due now r.ready) r.kind)) bound (least_of (filter ready rows)) refl refl in
     walk_same _ ready bound (in_order rows) (all_in_order _ rows same) ∙ walk_finds ready bound rows less

@@ -11,7 +11,7 @@ use Rattle.context_core.proofs.Cutoff.{cutoff}
 use Rattle.source_rows.specs.declared.row.Row.{Row}
 use Rattle.source_rows.specs.Rows.{in_order, placed, stands_before}
 use Rattle.context_core.specs.declared.interest.Interest.{Interest}
-use Rattle.context_core.specs.Phases.{is_asked, asked_rows, interest_of, less_urgent, least_ready, none_cancelled, levels_for, shown, handed, walk}
+use Rattle.context_core.specs.Phases.{is_asked, asked_rows, interest_of, less_urgent, least_ready, levels_for, shown, handed, walk}
 
 some_number : (a b : ℕ) → Some a ≡ Some b → a ≡ b
 some_number a b e = cc
@@ -120,12 +120,12 @@ walk_taken ready bound r rs it ids now all u t s n h =
     ∙ (append_assoc ids (r.id ∷ []) (walk ready (Some r.priority) rs) ∙ (ap (λ (l : List ℕ). ids ++ l) (sym next) ∙ (ap (λ (l : List Row). ids ++ walk ready bound l) (sym s) ∙ h)))
 
 -- what a check's parts find is what is selected
-pub checked : (level : ℕ → ℕ) (now : ℕ) (busy : List ℕ) (rows : List Row) (bound : Option ℤ) (levels : List ℕ) (list : List Shown) (lent : ℕ → Bool) → IsOneTree rows
-    → bound ≡ least_ready now busy rows → levels ≡ levels_for level (asked_rows bound busy rows) → list ≡ handed (asked_rows bound busy rows) levels
-    → ((id : ℕ) → lent id ≡ list_any (λ q. is_under id q && calls (own_ready (shown list) none_cancelled now) busy q) rows)
-    → walk (λ r. is_free busy r && lent r.id) bound (in_order rows) ≡ selected (own_ready level none_cancelled now) busy rows
-checked level now busy rows bound levels list lent tree b l h k =
-    let asked : List Row = asked_rows (least_ready now busy rows) busy rows in
+pub checked : (level : ℕ → ℕ) (cancelled : ℕ → Bool) (now : ℕ) (busy : List ℕ) (rows : List Row) (bound : Option ℤ) (levels : List ℕ) (list : List Shown) (lent : ℕ → Bool) → IsOneTree rows
+    → bound ≡ least_ready cancelled now busy rows → levels ≡ levels_for level (asked_rows bound busy rows) → list ≡ handed (asked_rows bound busy rows) levels
+    → ((id : ℕ) → lent id ≡ list_any (λ q. is_under id q && calls (own_ready (shown list) cancelled now) busy q) rows)
+    → walk (λ r. is_free busy r && lent r.id) bound (in_order rows) ≡ selected (own_ready level cancelled now) busy rows
+checked level cancelled now busy rows bound levels list lent tree b l h k =
+    let asked : List Row = asked_rows (least_ready cancelled now busy rows) busy rows in
     let same : list ≡ handed asked (levels_for level asked) = rw (sym b, sym l) h in
-    walk_agree (λ r. is_free busy r && lent r.id) (is_ready (own_ready (shown list) none_cancelled now) busy rows) (λ r. ap (λ (x : Bool). is_free busy r && x) (k r.id)) bound (in_order rows)
-    ∙ rw (same, b) (cutoff level now busy rows tree)
+    walk_agree (λ r. is_free busy r && lent r.id) (is_ready (own_ready (shown list) cancelled now) busy rows) (λ r. ap (λ (x : Bool). is_free busy r && x) (k r.id)) bound (in_order rows)
+    ∙ rw (same, b) (cutoff level cancelled now busy rows tree)

@@ -25,13 +25,9 @@ least_of (r ∷ rs) = if less_urgent (least_of rs) r.priority then least_of rs e
 abbrev pub nothing_shown : ℕ → ℕ
 nothing_shown fd = 0
 
--- nothing is cancelled
-abbrev pub none_cancelled : ℕ → Bool
-none_cancelled c = false
-
 -- the least priority of what is ready while no descriptor shows anything
-abbrev pub least_ready : ℕ → List ℕ → List Row → Option ℤ
-least_ready now busy rows = least_of (ready_rows (own_ready nothing_shown none_cancelled now) busy rows)
+abbrev pub least_ready : (cancelled : ℕ → Bool) → ℕ → List ℕ → List Row → Option ℤ
+least_ready cancelled now busy rows = least_of (ready_rows (own_ready nothing_shown cancelled now) busy rows)
 
 -- whole milliseconds, rounded up, from a time in microseconds to another; -1 where there is no other
 abbrev pub ms_until : ℕ → Option ℤ → ℤ

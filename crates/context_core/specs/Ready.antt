@@ -4,6 +4,7 @@ use Rattle.std.specs.List.{list_any, list_all}
 use Rattle.loop_script.specs.declared.source.Kind.{Kind}
 use Rattle.loop_script.specs.declared.source.Kind.TheVariants.{Idle, Timeout, ReadyTime, Fd, Cancel}
 use Rattle.source_rows.specs.declared.row.Row.{Row}
+use Rattle.cancel_view.specs.Seen.{Seen, has}
 use Rattle.source_rows.specs.Rows.{in_order, is_under}
 
 -- ---- what makes a source ready by itself
@@ -25,6 +26,10 @@ kind_ready level cancelled (Timeout ms) = false
 kind_ready level cancelled (ReadyTime us) = false
 kind_ready level cancelled (Fd fd bits) = has_bit (level fd) bits
 kind_ready level cancelled (Cancel c) = cancelled c
+
+-- the cancellables of a view
+abbrev pub in_view : Seen → ℕ → Bool
+in_view view c = has c view
 
 abbrev pub own_ready : (level : ℕ → ℕ) → (cancelled : ℕ → Bool) → ℕ → Own
 own_ready level cancelled now r = kind_ready level cancelled r.kind || is_due now r.ready

@@ -7,11 +7,12 @@ ghost use Rattle.source_rows.specs.Tree.{IsOneTree};
 ghost use Rattle.std.specs.List.{list_any};
 ghost use Rattle.std.specs.Ordering.{nat_cmp};
 ghost use Rattle.std.specs.BTreeSet.{contains};
-ghost use Rattle.context_core.specs.Ready.{own_ready, selected, is_free, calls};
-ghost use Rattle.context_core.specs.Phases.{none_cancelled, ms_until, least_ready, wait_of, interests, asked_rows, levels_for, shown, handed, walk};
+ghost use Rattle.context_core.specs.Ready.{in_view, own_ready, selected, is_free, calls};
+ghost use Rattle.context_core.specs.Phases.{ms_until, least_ready, wait_of, interests, asked_rows, levels_for, shown, handed, walk};
 
 use crate::interest::{Interest, Prepared, Shown};
 use crate::ready::{calls, interest, is_beyond, is_free, level_at, ms_until, sooner};
+use cancel_view::View;
 use source_rows::{Levels, Row, Rows};
 use std::alloc::{AllocError, Global};
 use std::collections::BTreeSet;
@@ -63,13 +64,13 @@ impl Context {
 
     /// What is ready before any descriptor is asked, at a time in microseconds, with the ids of the sources of this
     /// context whose calls are in progress and may not be dispatched again.
-    pub fn prepare(&self, now: u64, busy: &[u64]) -> Prepared
+    pub fn prepare(&self, now: u64, busy: &[u64], view: &View) -> Prepared
         requires { now ≤ 2 ^ 62 }
-        ensures priority { result.priority ≡ least_ready now busy.now self.now.rows.rows }
+        ensures priority { result.priority ≡ least_ready (in_view view.now) now busy.now self.now.rows.rows }
         ensures timeout { result.timeout_ms ≡ wait_of now busy.now self.now.rows.rows result.priority }
     {
         'rows: for row in self.rows.in_order() {
-            if calls(&row, &[], now, busy) {
+            if calls(&row, &[], now, busy, view) {
                 return Prepared {
                     priority: Some(row.priority),
                     timeout_ms: 0,
@@ -131,14 +132,15 @@ impl Context {
         polled: &[Shown],
         now: u64,
         busy: &[u64],
+        view: &View,
     ) -> Result<BTreeSet<u64>, AllocError>
         requires { now ≤ 2 ^ 62 }
         ensures { IfOk result (λ ids. (id : ℕ) → contains nat_cmp ids id
-            ≡ list_any (λ q. is_under id q && calls (own_ready (shown polled.now) none_cancelled now) busy.now q) self.now.rows.rows) }
+            ≡ list_any (λ q. is_under id q && calls (own_ready (shown polled.now) (in_view view.now) now) busy.now q) self.now.rows.rows) }
     {
         let mut ids = BTreeSet::new(alloc);
         'rows: for row in self.rows.in_order() {
-            if calls(&row, polled, now, busy) {
+            if calls(&row, polled, now, busy, view) {
                 lend(&mut ids, &row.line)?;
             }
         }
@@ -178,15 +180,16 @@ impl Context {
         prepared: &Prepared,
         now: u64,
         busy: &[u64],
+        view: &View,
         levels: &[u8],
     ) -> Result<Vec<u64>, AllocError>
         requires now { now ≤ 2 ^ 62 }
-        requires prepared { prepared.now.priority ≡ least_ready now busy.now self.now.rows.rows }
+        requires prepared { prepared.now.priority ≡ least_ready (in_view view.now) now busy.now self.now.rows.rows }
         ensures { (level : ℕ → ℕ) → levels.now ≡ levels_for level (asked_rows prepared.now.priority busy.now self.now.rows.rows)
-            → IfOk result (λ ids. ids.items ≡ selected (own_ready level none_cancelled now) busy.now self.now.rows.rows) }
+            → IfOk result (λ ids. ids.items ≡ selected (own_ready level (in_view view.now) now) busy.now self.now.rows.rows) }
     {
         let polled = self.polled(alloc, prepared.priority, busy, levels)?;
-        let lent = self.lent(alloc, &polled, now, busy)?;
+        let lent = self.lent(alloc, &polled, now, busy, view)?;
         self.walk(alloc, prepared.priority, &lent, busy)
     }
 }

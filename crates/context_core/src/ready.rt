@@ -2,10 +2,11 @@
 ghost use Rattle.std.specs.Prelude.{◌≡◌, ◌≤◌, ◌^◌, ◌==◌, Some, None, IfSome, IsTrue, int_lt, slice_get, pos, if◌then◌else◌};
 ghost use Rattle.source_rows.specs.Rows.{sooner};
 ghost use Rattle.std.specs.List.{find, list_any};
-ghost use Rattle.context_core.specs.Ready.{is_due, has_bit, own_ready, is_blocked, is_free, calls};
-ghost use Rattle.context_core.specs.Phases.{less_urgent, shown, none_cancelled, is_asked, interest_of, ms_until};
+ghost use Rattle.context_core.specs.Ready.{in_view, is_due, has_bit, own_ready, is_blocked, is_free, calls};
+ghost use Rattle.context_core.specs.Phases.{less_urgent, shown, is_asked, interest_of, ms_until};
 
 use crate::interest::{Interest, Shown};
+use cancel_view::View;
 use loop_script::Kind;
 use source_rows::Row;
 
@@ -42,13 +43,14 @@ fn level_in(polled: &[Shown], fd: u32) -> u8
 }
 
 /// Whether a source is ready by itself.
-fn own_ready(row: &Row, polled: &[Shown], now: u64) -> bool
+fn own_ready(row: &Row, polled: &[Shown], now: u64, view: &View) -> bool
     requires { now ≤ 2 ^ 62 }
-    ensures { result ≡ own_ready (shown polled.now) none_cancelled now row.now }
+    ensures { result ≡ own_ready (shown polled.now) (in_view view.now) now row.now }
 {
     match row.kind {
         Kind::Idle => true,
         Kind::Fd(fd, bits) => has_bit(level_in(polled, fd), bits) || is_due(row.ready, now),
+        Kind::Cancel(c) => view.is_cancelled(c) || is_due(row.ready, now),
         _ => is_due(row.ready, now),
     }
 }
@@ -75,11 +77,11 @@ pub(crate) fn is_free(row: &Row, busy: &[u64]) -> bool
 }
 
 /// Whether a source is free, and ready by itself.
-pub(crate) fn calls(row: &Row, polled: &[Shown], now: u64, busy: &[u64]) -> bool
+pub(crate) fn calls(row: &Row, polled: &[Shown], now: u64, busy: &[u64], view: &View) -> bool
     requires { now ≤ 2 ^ 62 }
-    ensures { result ≡ calls (own_ready (shown polled.now) none_cancelled now) busy.now row.now }
+    ensures { result ≡ calls (own_ready (shown polled.now) (in_view view.now) now) busy.now row.now }
 {
-    is_free(row, busy) && own_ready(row, polled, now)
+    is_free(row, busy) && own_ready(row, polled, now, view)
 }
 
 /// Whether a priority is less urgent than the least known.

@@ -1,5 +1,6 @@
 //! The phases on single contexts.
 use crate::{Context, Interest, Prepared};
+use cancel_view::View;
 use loop_script::{Kind, SourceSpec};
 use source_rows::Levels;
 use std::test::Fail;
@@ -21,7 +22,8 @@ fn asks_what_can_matter(rt: HostRuntime) -> Result<(), Fail> {
     context.rows_mut().attach(source(Kind::Idle, 200), 0)?;
     context.rows_mut().attach(source(Kind::Fd(0, 1), 0), 0)?;
     context.rows_mut().attach(source(Kind::Fd(1, 1), 300), 0)?;
-    let prepared = context.prepare(0, &[]);
+    let view = View::new(alloc, 1)?;
+    let prepared = context.prepare(0, &[], &view);
     assert_eq!(rt;
         prepared,
         Prepared {
@@ -34,9 +36,9 @@ fn asks_what_can_matter(rt: HostRuntime) -> Result<(), Fail> {
         interests.as_slice(),
         [Interest { fd: 0, bits: 1 }].as_slice()
     );
-    let shown = context.check(alloc, &prepared, 0, &[], &[1])?;
+    let shown = context.check(alloc, &prepared, 0, &[], &view, &[1])?;
     assert_eq!(rt; shown.as_slice(), [2].as_slice());
-    let nothing = context.check(alloc, &prepared, 0, &[], &[0])?;
+    let nothing = context.check(alloc, &prepared, 0, &[], &view, &[0])?;
     assert_eq!(rt; nothing.as_slice(), [1].as_slice());
     Ok(())
 }
@@ -44,12 +46,13 @@ fn asks_what_can_matter(rt: HostRuntime) -> Result<(), Fail> {
 /// A ready time in the middle of a millisecond.
 #[test]
 fn waits_in_whole_milliseconds(rt: HostRuntime) -> Result<(), Fail> {
+    let view = View::new(rt.alloc(), 1)?;
     let mut context = Context::new(rt.alloc(), Levels::Two);
     context
         .rows_mut()
         .attach(source(Kind::ReadyTime(1500), 0), 0)?;
     assert_eq!(rt;
-        context.prepare(0, &[]),
+        context.prepare(0, &[], &view),
         Prepared {
             priority: None,
             timeout_ms: 2
@@ -62,7 +65,8 @@ fn waits_in_whole_milliseconds(rt: HostRuntime) -> Result<(), Fail> {
 fn empty(rt: HostRuntime) -> Result<(), Fail> {
     let alloc = rt.alloc();
     let context = Context::new(alloc, Levels::Two);
-    let prepared = context.prepare(0, &[]);
+    let view = View::new(alloc, 1)?;
+    let prepared = context.prepare(0, &[], &view);
     assert_eq!(rt;
         prepared,
         Prepared {
@@ -71,6 +75,34 @@ fn empty(rt: HostRuntime) -> Result<(), Fail> {
         }
     );
     assert!(rt; context.query(alloc, &prepared, &[])?.is_empty());
-    assert!(rt; context.check(alloc, &prepared, 0, &[], &[])?.is_empty());
+    assert!(rt;
+        context
+            .check(alloc, &prepared, 0, &[], &view, &[])?
+            .is_empty()
+    );
+    Ok(())
+}
+
+/// A source that waits for a cancellable, before it is cancelled and after.
+#[test]
+fn waits_for_a_cancellable(rt: HostRuntime) -> Result<(), Fail> {
+    let alloc = rt.alloc();
+    let mut view = View::new(alloc, 1)?;
+    let mut context = Context::new(alloc, Levels::Two);
+    context.rows_mut().attach(source(Kind::Cancel(0), 0), 0)?;
+    let waiting = context.prepare(0, &[], &view);
+    assert_eq!(rt; waiting.priority, None);
+    assert!(rt;
+        context
+            .check(alloc, &waiting, 0, &[], &view, &[])?
+            .is_empty()
+    );
+    view.cancel(alloc, 0)?;
+    let ready = context.prepare(0, &[], &view);
+    assert_eq!(rt; ready.priority, Some(0));
+    assert_eq!(rt;
+        context.check(alloc, &ready, 0, &[], &view, &[])?.as_slice(),
+        [1].as_slice()
+    );
     Ok(())
 }

@@ -22,9 +22,10 @@ use Rattle.lane_turn.specs.declared.layer.Call.{Call}
 use Rattle.lane_turn.specs.declared.layer.Origin.{Origin}
 use Rattle.lane_turn.specs.declared.layer.Origin.TheVariants as origins
 use Rattle.lane_turn.specs.Frames.{Frame, CallOf, IterOf, LoopOf, advanced, advanced_one, emptied, emptied_one, calls}
-use Rattle.lane_turn.specs.Lane.{Lane, Turn, taken, pushed, popped, stopped, set_running, written, iterating, own, place_at, row_in, row_of, is_running}
-use Rattle.lane_turn.specs.Acted.{acted, missed, child_of, on_source, set_priority_of}
+use Rattle.lane_turn.specs.Lane.{Lane, Turn, taken, pushed, popped, stopped, set_running, written, iterating, own, place_at, handler_at, row_in, row_of, is_running}
+use Rattle.lane_turn.specs.Acted.{acted, missed, child_of, on_source, set_priority_of, disconnect_of}
 use Rattle.lane_turn.specs.Step.{step, step_call, step_id, returned, answered, counted_by, in_lane, dispatched, dispatching}
+use Rattle.lane_turn.proofs.Mild.{Plain, plain_cancel, plain_handled}
 use Rattle.lane_turn.specs.Iterations.{IsRest, Later, EachLater, IsOver, TakesNext, Begun, FramesGoOn}
 
 -- ---- frames later on
@@ -109,6 +110,13 @@ priority_on : (tick : ℕ) (priority : ℤ) (o : Option Place) (lane : Lane) (fs
 priority_on tick priority None lane fs h = h
 priority_on tick priority (Some place) lane fs h = by_either fs _ _ _ h h
 
+plain_on : (fs : List Frame) (lane after : Lane) → Plain lane after → FramesGoOn fs lane.frames → FramesGoOn fs after.frames
+plain_on fs lane after p h = subst (FramesGoOn fs) (sym p.frames) h
+
+disconnect_on : (tick : ℕ) (o : Option ℕ) (lane : Lane) (fs : List Frame) → FramesGoOn fs lane.frames → FramesGoOn fs (disconnect_of tick o lane).frames
+disconnect_on tick None lane fs h = h
+disconnect_on tick (Some id) lane fs h = by_either fs _ _ _ h h
+
 acted_on : (script : Plan) (tick : ℕ) (action : Action) (lane : Lane) → FramesGoOn lane.frames (acted script tick action (taken lane)).frames
 acted_on script tick (Attach context slot spec) lane = by_either lane.frames _ _ _ (taken_on lane.frames) (taken_on lane.frames)
 acted_on script tick (Child parent slot spec) lane = child_on tick _ slot spec (place_at parent (taken lane)) (taken lane) lane.frames (taken_on lane.frames)
@@ -122,9 +130,10 @@ acted_on script tick (Run number) lane =
     by_either lane.frames (pushed (LoopOf number (context_of script number)) (set_running number true (taken lane))) (missed tick words.Run (taken lane)) (is_some (own (context_of script number) (taken lane)))
     (inr (inr begun)) (taken_on lane.frames)
 acted_on script tick (Quit number) lane = by_either lane.frames _ _ _ (taken_on lane.frames) (taken_on lane.frames)
-acted_on script tick (Cancel c) lane = taken_on lane.frames
-acted_on script tick (Connect c slot proc) lane = taken_on lane.frames
-acted_on script tick (Disconnect slot) lane = taken_on lane.frames
+acted_on script tick (Cancel c) lane = plain_on lane.frames (taken lane) _ (plain_cancel script tick c (taken lane)) (taken_on lane.frames)
+acted_on script tick (Connect c slot proc) lane =
+    by_either lane.frames _ _ _ (plain_on lane.frames (taken lane) _ (plain_handled script tick (record { id = 0; proc = proc }) (taken lane)) (taken_on lane.frames)) (taken_on lane.frames)
+acted_on script tick (Disconnect slot) lane = disconnect_on tick (handler_at slot (taken lane)) (taken lane) lane.frames (taken_on lane.frames)
 acted_on script tick (Task spec) lane = taken_on lane.frames
 acted_on script tick (Push context) lane = taken_on lane.frames
 acted_on script tick (Pop context) lane = taken_on lane.frames

@@ -1,5 +1,5 @@
 -- What a counted thing does to a lane stays within what it pays for.
-use Rattle.std.proofs.Common.{◌≡◌, ℕ, ℤ, zero, suc, ◌+◌, ◌^◌, ◌<◌, ◌≤◌, Bool, true, false, not, cond, Option, Some, None, List, [], ◌∷◌, map, length, slice_set, refl, ap, sym, arith, subst, ◌==◌, length-append, option_map, find}
+use Rattle.std.proofs.Common.{◌≡◌, ℕ, ℤ, zero, suc, ◌+◌, ◌^◌, ◌<◌, ◌≤◌, Bool, true, false, not, cond, Option, Some, None, List, [], ◌∷◌, ◌++◌, map, filter, length, slice_set, refl, ap, sym, ◌∙◌, arith, subst, ◌==◌, length-append, option_map, find}
 use Rattle.std.specs.Prelude.{slice_get, unwrap_or, IfSome}
 use Rattle.std.proofs.lemmas.List.{length-map}
 use Rattle.std.proofs.lemmas.List.Sums.{length-filter, count_by-le-length}
@@ -8,18 +8,24 @@ use Rattle.loop_script.specs.declared.plan.Plan.{Plan}
 use Rattle.loop_script.specs.declared.source.SourceSpec.{SourceSpec}
 use Rattle.loop_script.specs.declared.action.Action.{Action}
 use Rattle.loop_script.specs.declared.action.Action.TheVariants.{Attach, Child, Destroy, SetReady, SetPriority, Iterate, Pending, Run, Quit, Cancel, Connect, Disconnect, Task, Push, Pop, ShowDefault, Acquire, Release, Invoke, Give, Log}
-use Rattle.loop_script.specs.Parts.{time_of}
+use Rattle.loop_script.specs.Parts.{time_of, actions_of}
 use Rattle.source_rows.specs.declared.row.Row.{Row}
 use Rattle.source_rows.specs.Row.{root_row, child_row}
 use Rattle.source_rows.specs.Rows.{RowSet, attached, child_added, destroyed, counted, ready_set, reprioritised, moved, changed, has_id, is_under, row_of as row_with}
 use Rattle.context_core.specs.declared.context.Context.{Context}
 use Rattle.lane_turn.specs.declared.slot.Place.{Place}
+use Rattle.lane_turn.specs.declared.slot.Held.{Held}
+use Rattle.lane_turn.specs.declared.slot.Held.TheVariants.{Source, Handler}
+use Rattle.cancel_view.specs.declared.handler.Fired.{Fired}
+use Rattle.cancel_view.specs.Seen.{Seen, has, fired, cancelled, connected, has_other_id, without}
+use Rattle.loop_script.specs.declared.body.Body.TheVariants.{Procedure}
+use Rattle.lane_turn.specs.declared.line.Event.TheVariants as events
 use Rattle.lane_turn.specs.Frames.{Frame, CallOf, IterOf, LoopOf, advanced, emptied, busy}
 use Rattle.lane_turn.specs.Sources.{restarted, restarted_row, restarted_kind, due_after, own_ready_at, chosen_in}
 use Rattle.loop_script.specs.declared.source.Kind.{Kind}
 use Rattle.loop_script.specs.declared.source.Kind.TheVariants as kinds
-use Rattle.lane_turn.specs.Lane.{Lane, known, own, with_rows, edited, taken, iterating, row_in, row_of, place_at, next_place, named, chosen}
-use Rattle.lane_turn.specs.Acted.{acted, attach, born, child_of, on_source, set_priority_of}
+use Rattle.lane_turn.specs.Lane.{Lane, known, own, with_rows, edited, taken, iterating, row_in, row_of, place_at, handler_at, next_place, named, viewing, written, chosen}
+use Rattle.lane_turn.specs.Acted.{acted, born, child_of, on_source, set_priority_of, plain_acted, all_acted, handled, all_handled, cancel, connect, disconnect_of}
 use Rattle.lane_turn.specs.declared.line.Word.{Word}
 use Rattle.lane_turn.specs.declared.line.Word.TheVariants as words
 use Rattle.lane_turn.specs.Step.{dispatching}
@@ -43,16 +49,17 @@ each_bounded m n h [] b = tt
 each_bounded m n h (o ∷ contexts) b = (bounded_weaker m n h o b.0, each_bounded m n h contexts b.1)
 
 pub within_weaker : (m n : ℕ) → m ≤ n → (lane : Lane) → IsWithin m lane → IsWithin n lane
-within_weaker m n h lane w = record { contexts = each_bounded m n h lane.contexts w.contexts; frames = omega (arith, w.frames) }
+within_weaker m n h lane w = record { contexts = each_bounded m n h lane.contexts w.contexts; frames = omega (arith, w.frames); handlers = omega (arith, w.handlers) }
 
--- what leaves contexts and frames alone
-pub quiet : (lane after : Lane) → after.contexts ≡ lane.contexts → after.frames ≡ lane.frames → Mild lane after
-quiet lane after c f = record {
+-- what leaves contexts and frames alone, and connects at most two handlers
+pub quiet : (lane after : Lane) → after.contexts ≡ lane.contexts → after.frames ≡ lane.frames → after.view.next_id ≤ lane.view.next_id + 2 → Mild lane after
+quiet lane after c f v = record {
   rows = omega (arith, ap row_count c);
   frames = omega (arith, ap nest_work f);
   within = λ m w. record {
     contexts = subst (AllByRecursion (Bounded (m + 2))) (sym c) (each_bounded m (m + 2) (omega arith) lane.contexts w.contexts);
     frames = omega (arith, ap (λ (fs : List Frame). length fs) f, w.frames);
+    handlers = omega (arith, v, w.handlers);
   };
 }
 
@@ -61,13 +68,14 @@ either lane x y true p q = p
 either lane x y false p q = q
 
 -- what leaves the contexts alone and begins a frame
-pub begins_frame : (lane after : Lane) → after.contexts ≡ lane.contexts → nest_work after.frames ≤ nest_work lane.frames + row_count lane.contexts + 2 → length after.frames ≤ length lane.frames + 1 → Mild lane after
-begins_frame lane after c f l = record {
+pub begins_frame : (lane after : Lane) → after.contexts ≡ lane.contexts → after.view ≡ lane.view → nest_work after.frames ≤ nest_work lane.frames + row_count lane.contexts + 2 → length after.frames ≤ length lane.frames + 1 → Mild lane after
+begins_frame lane after c v f l = record {
   rows = omega (arith, ap row_count c);
   frames = f;
   within = λ m w. record {
     contexts = subst (AllByRecursion (Bounded (m + 2))) (sym c) (each_bounded m (m + 2) (omega arith) lane.contexts w.contexts);
     frames = omega (arith, w.frames);
+    handlers = omega (arith, ap (λ (s : Seen). s.next_id) v, w.handlers);
   };
 }
 
@@ -237,16 +245,16 @@ rows_own [] i = omega arith
 rows_own (o ∷ contexts) zero = omega arith
 rows_own (o ∷ contexts) (suc i) = omega (arith, rows_own contexts i)
 
-chosen_rows : (script : Plan) (tick : ℕ) (busy : List ℕ) (o : Option Context) → length (chosen_in script tick busy o) ≤ rows_in o
-chosen_rows script tick busy None = omega arith
-chosen_rows script tick busy (Some c) = length-selected (own_ready_at script tick) busy c.rows.rows
+chosen_rows : (script : Plan) (tick : ℕ) (view : Seen) (busy : List ℕ) (o : Option Context) → length (chosen_in script tick view busy o) ≤ rows_in o
+chosen_rows script tick view busy None = omega arith
+chosen_rows script tick view busy (Some c) = length-selected (own_ready_at script tick view) busy c.rows.rows
 
 pub length-chosen : (script : Plan) (tick context : ℕ) (lane : Lane) → length (chosen script tick context lane) ≤ row_count lane.contexts
-length-chosen script tick context lane = omega (arith, chosen_rows script tick (busy context lane.frames) (own context lane), rows_own lane.contexts context)
+length-chosen script tick context lane = omega (arith, chosen_rows script tick lane.view (busy context lane.frames) (own context lane), rows_own lane.contexts context)
 
 pub mild_iterating : (lane : Lane) (script : Plan) (tick context : ℕ) (answer : Option Bool) → Mild lane (iterating script tick context answer lane)
 mild_iterating lane script tick context answer =
-    begins_frame lane _ refl (omega (arith, work_emptied context lane.frames, length-chosen script tick context lane)) (omega (arith, length_emptied context lane.frames))
+    begins_frame lane _ refl refl (omega (arith, work_emptied context lane.frames, length-chosen script tick context lane)) (omega (arith, length_emptied context lane.frames))
 
 pub mild_edit : (lane : Lane) (context : ℕ) (edit : RowSet → RowSet) (k j : ℕ) → k ≤ 1 → j ≤ 2 → MildEdit k j edit → Mild lane (edited context edit lane)
 mild_edit lane context edit k j a b e = record {
@@ -255,61 +263,175 @@ mild_edit lane context edit k j a b e = record {
   within = λ m w. record {
     contexts = each_bounded (m + j) (m + 2) (omega arith) _ (bounded_edited k j m edit e lane.contexts context w.contexts);
     frames = omega (arith, w.frames);
+    handlers = omega (arith, w.handlers);
   };
 }
 
 -- a slot that names a source
-mild_named : (lane after : Lane) (slot : ℕ) (place : Place) → Mild lane after → Mild lane (named slot place after)
-mild_named lane after slot place h = record {
+mild_named : (lane after : Lane) (slot : ℕ) (thing : Held) → Mild lane after → Mild lane (named slot thing after)
+mild_named lane after slot thing h = record {
   rows = h.rows;
   frames = h.frames;
-  within = λ m w. record { contexts = (h.within m w).contexts; frames = (h.within m w).frames };
+  within = λ m w. record { contexts = (h.within m w).contexts; frames = (h.within m w).frames; handlers = (h.within m w).handlers };
 }
 
 mild_child : (tick now slot : ℕ) (spec : SourceSpec) (o : Option Place) (lane : Lane) → Mild lane (child_of tick now slot spec o lane)
-mild_child tick now slot spec None lane = quiet lane _ refl refl
+mild_child tick now slot spec None lane = quiet lane _ refl refl (omega arith)
 mild_child tick now slot spec (Some place) lane =
     either lane _ _ _
-    (mild_named lane _ slot (next_place place.context lane) (mild_edit lane place.context (born spec now place.id) 1 2 (omega arith) (omega arith) (mild_born spec now place.id)))
-    (quiet lane _ refl refl)
+    (mild_named lane _ slot (Source (next_place place.context lane)) (mild_edit lane place.context (born spec now place.id) 1 2 (omega arith) (omega arith) (mild_born spec now place.id)))
+    (quiet lane _ refl refl (omega arith))
 
 mild_on_source : (tick : ℕ) (word : Word) (edit : ℕ → RowSet → RowSet) → ((id : ℕ) → MildEdit 0 0 (edit id)) → (o : Option Place) (lane : Lane) → Mild lane (on_source tick word edit o lane)
-mild_on_source tick word edit e None lane = quiet lane _ refl refl
+mild_on_source tick word edit e None lane = quiet lane _ refl refl (omega arith)
 mild_on_source tick word edit e (Some place) lane =
-    either lane _ _ _ (mild_edit lane place.context (edit place.id) 0 0 (omega arith) (omega arith) (e place.id)) (quiet lane _ refl refl)
+    either lane _ _ _ (mild_edit lane place.context (edit place.id) 0 0 (omega arith) (omega arith) (e place.id)) (quiet lane _ refl refl (omega arith))
 
 mild_set_priority : (tick : ℕ) (priority : ℤ) (o : Option Place) (lane : Lane) → Mild lane (set_priority_of tick priority o lane)
-mild_set_priority tick priority None lane = quiet lane _ refl refl
+mild_set_priority tick priority None lane = quiet lane _ refl refl (omega arith)
 mild_set_priority tick priority (Some place) lane =
-    either lane _ _ _ (mild_edit lane place.context (reprioritised place.id priority) 0 1 (omega arith) (omega arith) (mild_reprioritised place.id priority)) (quiet lane _ refl refl)
+    either lane _ _ _ (mild_edit lane place.context (reprioritised place.id priority) 0 1 (omega arith) (omega arith) (mild_reprioritised place.id priority)) (quiet lane _ refl refl (omega arith))
+
+-- What a handler does: it adds no row, leaves the frames, and raises no counter.
+pub record Plain (lane after : Lane) : Type 0 where
+  pub rows : row_count after.contexts ≤ row_count lane.contexts
+  pub frames : after.frames ≡ lane.frames
+  pub handlers : after.view.next_id ≡ lane.view.next_id
+  pub bounded : (m : ℕ) → AllByRecursion (Bounded m) lane.contexts → AllByRecursion (Bounded m) after.contexts
+
+plain_line : (lane after : Lane) → after.contexts ≡ lane.contexts → after.frames ≡ lane.frames → after.view.next_id ≡ lane.view.next_id → Plain lane after
+plain_line lane after c f v = record { rows = omega (arith, ap row_count c); frames = f; handlers = v; bounded = λ m b. subst (AllByRecursion (Bounded m)) (sym c) b }
+
+plain_trans : (a b c : Lane) → Plain a b → Plain b c → Plain a c
+plain_trans a b c h k = record { rows = omega (arith, h.rows, k.rows); frames = k.frames ∙ h.frames; handlers = k.handlers ∙ h.handlers; bounded = λ m w. k.bounded m (h.bounded m w) }
+
+plain_either : (lane x y : Lane) (b : Bool) → Plain lane x → Plain lane y → Plain lane (cond b x y)
+plain_either lane x y true p q = p
+plain_either lane x y false p q = q
+
+plain_edit : (lane : Lane) (context : ℕ) (edit : RowSet → RowSet) → MildEdit 0 0 edit → Plain lane (edited context edit lane)
+plain_edit lane context edit e = record {
+  rows = omega (arith, rows_edited 0 0 edit e lane.contexts context);
+  frames = refl;
+  handlers = refl;
+  bounded = λ m b. each_bounded (m + 0) m (omega arith) _ (bounded_edited 0 0 m edit e lane.contexts context b);
+}
+
+plain_source : (tick : ℕ) (word : Word) (edit : ℕ → RowSet → RowSet) → ((id : ℕ) → MildEdit 0 0 (edit id)) → (o : Option Place) (lane : Lane) → Plain lane (on_source tick word edit o lane)
+plain_source tick word edit e None lane = plain_line lane _ refl refl refl
+plain_source tick word edit e (Some place) lane = plain_either lane _ _ _ (plain_edit lane place.context (edit place.id) (e place.id)) (plain_line lane _ refl refl refl)
+
+plain_one : (script : Plan) (tick : ℕ) (action : Action) (lane : Lane) → Plain lane (plain_acted script tick action lane)
+plain_one script tick (Attach context slot spec) lane = plain_line lane _ refl refl refl
+plain_one script tick (Child parent slot spec) lane = plain_line lane _ refl refl refl
+plain_one script tick (Destroy slot) lane = plain_source tick words.Destroy destroyed mild_destroyed (place_at slot lane) lane
+plain_one script tick (SetReady slot us) lane = plain_source tick words.SetReady (λ id. ready_set id us) (λ id. mild_ready_set id us) (place_at slot lane) lane
+plain_one script tick (SetPriority slot priority) lane = plain_line lane _ refl refl refl
+plain_one script tick (Iterate context) lane = plain_line lane _ refl refl refl
+plain_one script tick (Pending context) lane = plain_line lane _ refl refl refl
+plain_one script tick (Run number) lane = plain_line lane _ refl refl refl
+plain_one script tick (Quit number) lane = plain_either lane _ _ _ (plain_line lane _ refl refl refl) (plain_line lane _ refl refl refl)
+plain_one script tick (Cancel c) lane = plain_line lane _ refl refl refl
+plain_one script tick (Connect c slot proc) lane = plain_line lane _ refl refl refl
+plain_one script tick (Disconnect slot) lane = plain_line lane _ refl refl refl
+plain_one script tick (Task spec) lane = plain_line lane _ refl refl refl
+plain_one script tick (Push context) lane = plain_line lane _ refl refl refl
+plain_one script tick (Pop context) lane = plain_line lane _ refl refl refl
+plain_one script tick ShowDefault lane = plain_line lane _ refl refl refl
+plain_one script tick (Acquire context) lane = plain_line lane _ refl refl refl
+plain_one script tick (Release context) lane = plain_line lane _ refl refl refl
+plain_one script tick (Invoke context proc) lane = plain_line lane _ refl refl refl
+plain_one script tick (Give context to) lane = plain_line lane _ refl refl refl
+plain_one script tick (Log n) lane = plain_line lane _ refl refl refl
+
+plain_all : (script : Plan) (tick : ℕ) (actions : List Action) (lane : Lane) → Plain lane (all_acted script tick actions lane)
+plain_all script tick [] lane = plain_line lane lane refl refl refl
+plain_all script tick (a ∷ actions) lane = plain_trans lane _ _ (plain_one script tick a lane) (plain_all script tick actions (plain_acted script tick a lane))
+
+pub plain_handled : (script : Plan) (tick : ℕ) (f : Fired) (lane : Lane) → Plain lane (handled script tick f lane)
+plain_handled script tick f lane =
+    plain_trans lane _ _ (plain_line lane (written tick (events.Handler f.id) lane) refl refl refl) (plain_all script tick (actions_of script (Procedure f.proc)) (written tick (events.Handler f.id) lane))
+
+plain_all_handled : (script : Plan) (tick : ℕ) (fs : List Fired) (lane : Lane) → Plain lane (all_handled script tick fs lane)
+plain_all_handled script tick [] lane = plain_line lane lane refl refl refl
+plain_all_handled script tick (f ∷ fs) lane = plain_trans lane _ _ (plain_handled script tick f lane) (plain_all_handled script tick fs (handled script tick f lane))
+
+cancelled_id : (view : Seen) (c : ℕ) → (cancelled c view).next_id ≡ view.next_id
+cancelled_id view c = id_by (has c view)
+  where
+    id_by : (b : Bool) → (cond b view (record view { members = slice_set view.members c true })).next_id ≡ view.next_id
+    id_by true = refl
+    id_by false = refl
+
+pub plain_cancel : (script : Plan) (tick c : ℕ) (lane : Lane) → Plain lane (cancel script tick c lane)
+plain_cancel script tick c lane =
+    plain_either lane _ _ _ (plain_line lane lane refl refl refl)
+    (plain_trans lane _ _ (plain_line lane (written tick (events.Cancel c) (viewing (cancelled c lane.view) lane)) refl refl (cancelled_id lane.view c))
+    (plain_all_handled script tick (fired c lane.view) (written tick (events.Cancel c) (viewing (cancelled c lane.view) lane))))
+
+pub mild_plain : (lane after : Lane) → Plain lane after → Mild lane after
+mild_plain lane after h = record {
+  rows = omega (arith, h.rows);
+  frames = omega (arith, ap nest_work h.frames);
+  within = λ m w. record {
+    contexts = each_bounded m (m + 2) (omega arith) after.contexts (h.bounded m w.contexts);
+    frames = omega (arith, ap (λ (fs : List Frame). length fs) h.frames, w.frames);
+    handlers = omega (arith, h.handlers, w.handlers);
+  };
+}
+
+connected_id : (view : Seen) (c proc : ℕ) → (connected c proc view).next_id ≤ view.next_id + 2
+connected_id view c proc = id_by (has c view)
+  where
+    id_by : (b : Bool) → (cond b view (record view { handlers = view.handlers ++ (record { id = view.next_id; cancellable = c; proc = proc }) ∷ []; next_id = view.next_id + 1 })).next_id ≤ view.next_id + 2
+    id_by true = omega arith
+    id_by false = omega arith
+
+without_id : (view : Seen) (id : ℕ) → (without id view).next_id ≡ view.next_id
+without_id view id = id_by (id == 0)
+  where
+    id_by : (b : Bool) → (cond b view (record view { handlers = filter (has_other_id id) view.handlers })).next_id ≡ view.next_id
+    id_by true = refl
+    id_by false = refl
+
+mild_connect : (script : Plan) (tick c slot proc : ℕ) (lane : Lane) → Mild lane (connect script tick c slot proc lane)
+mild_connect script tick c slot proc lane =
+    either lane _ _ _
+    (mild_named lane _ slot (Handler 0) (mild_plain lane _ (plain_handled script tick (record { id = 0; proc = proc }) lane)))
+    (mild_named lane _ slot (Handler lane.view.next_id) (quiet lane (viewing (connected c proc lane.view) lane) refl refl (connected_id lane.view c proc)))
+
+mild_disconnect : (tick : ℕ) (o : Option ℕ) (lane : Lane) → Mild lane (disconnect_of tick o lane)
+mild_disconnect tick None lane = quiet lane _ refl refl (omega arith)
+mild_disconnect tick (Some id) lane =
+    either lane _ _ _ (quiet lane (viewing (without id lane.view) lane) refl refl (omega (arith, without_id lane.view id))) (quiet lane _ refl refl (omega arith))
 
 -- what each action does is mild
 pub mild_acted : (script : Plan) (tick : ℕ) (action : Action) (lane : Lane) → Mild lane (acted script tick action lane)
 mild_acted script tick (Attach context slot spec) lane =
     let now = time_of script tick in
     either lane _ _ _
-    (mild_named lane _ slot (next_place context lane) (mild_edit lane context (attached spec now) 1 2 (omega arith) (omega arith) (mild_attached spec now)))
-    (quiet lane _ refl refl)
+    (mild_named lane _ slot (Source (next_place context lane)) (mild_edit lane context (attached spec now) 1 2 (omega arith) (omega arith) (mild_attached spec now)))
+    (quiet lane _ refl refl (omega arith))
 mild_acted script tick (Child parent slot spec) lane = mild_child tick (time_of script tick) slot spec (place_at parent lane) lane
 mild_acted script tick (Destroy slot) lane = mild_on_source tick words.Destroy destroyed mild_destroyed (place_at slot lane) lane
 mild_acted script tick (SetReady slot us) lane = mild_on_source tick words.SetReady (λ id. ready_set id us) (λ id. mild_ready_set id us) (place_at slot lane) lane
 mild_acted script tick (SetPriority slot priority) lane = mild_set_priority tick priority (place_at slot lane) lane
-mild_acted script tick (Iterate context) lane = either lane _ _ _ (mild_iterating lane script tick context _) (quiet lane _ refl refl)
-mild_acted script tick (Pending context) lane = quiet lane _ refl refl
-mild_acted script tick (Run number) lane = either lane _ _ _ (begins_frame lane _ refl (omega arith) (omega arith)) (quiet lane _ refl refl)
-mild_acted script tick (Quit number) lane = either lane _ _ _ (quiet lane _ refl refl) (quiet lane _ refl refl)
-mild_acted script tick (Cancel c) lane = quiet lane _ refl refl
-mild_acted script tick (Connect c slot proc) lane = quiet lane _ refl refl
-mild_acted script tick (Disconnect slot) lane = quiet lane _ refl refl
-mild_acted script tick (Task spec) lane = quiet lane _ refl refl
-mild_acted script tick (Push context) lane = quiet lane _ refl refl
-mild_acted script tick (Pop context) lane = quiet lane _ refl refl
-mild_acted script tick ShowDefault lane = quiet lane _ refl refl
-mild_acted script tick (Acquire context) lane = quiet lane _ refl refl
-mild_acted script tick (Release context) lane = quiet lane _ refl refl
-mild_acted script tick (Invoke context proc) lane = quiet lane _ refl refl
-mild_acted script tick (Give context to) lane = quiet lane _ refl refl
-mild_acted script tick (Log n) lane = quiet lane _ refl refl
+mild_acted script tick (Iterate context) lane = either lane _ _ _ (mild_iterating lane script tick context _) (quiet lane _ refl refl (omega arith))
+mild_acted script tick (Pending context) lane = quiet lane _ refl refl (omega arith)
+mild_acted script tick (Run number) lane = either lane _ _ _ (begins_frame lane _ refl refl (omega arith) (omega arith)) (quiet lane _ refl refl (omega arith))
+mild_acted script tick (Quit number) lane = either lane _ _ _ (quiet lane _ refl refl (omega arith)) (quiet lane _ refl refl (omega arith))
+mild_acted script tick (Cancel c) lane = mild_plain lane _ (plain_cancel script tick c lane)
+mild_acted script tick (Connect c slot proc) lane = mild_connect script tick c slot proc lane
+mild_acted script tick (Disconnect slot) lane = mild_disconnect tick (handler_at slot lane) lane
+mild_acted script tick (Task spec) lane = quiet lane _ refl refl (omega arith)
+mild_acted script tick (Push context) lane = quiet lane _ refl refl (omega arith)
+mild_acted script tick (Pop context) lane = quiet lane _ refl refl (omega arith)
+mild_acted script tick ShowDefault lane = quiet lane _ refl refl (omega arith)
+mild_acted script tick (Acquire context) lane = quiet lane _ refl refl (omega arith)
+mild_acted script tick (Release context) lane = quiet lane _ refl refl (omega arith)
+mild_acted script tick (Invoke context proc) lane = quiet lane _ refl refl (omega arith)
+mild_acted script tick (Give context to) lane = quiet lane _ refl refl (omega arith)
+mild_acted script tick (Log n) lane = quiet lane _ refl refl (omega arith)
 
 -- the innermost call or iteration goes on
 work_taken : (frames : List Frame) → nest_work (advanced frames) ≤ nest_work frames
@@ -327,7 +449,7 @@ pub mild_taken : (lane after : Lane) → Mild (taken lane) after → Mild lane a
 mild_taken lane after h = record {
   rows = h.rows;
   frames = omega (arith, h.frames, work_taken lane.frames);
-  within = λ m w. h.within m (record { contexts = w.contexts; frames = omega (arith, w.frames, length_taken lane.frames) });
+  within = λ m w. h.within m (record { contexts = w.contexts; frames = omega (arith, w.frames, length_taken lane.frames); handlers = w.handlers });
 }
 
 -- a dispatch is mild
@@ -339,9 +461,10 @@ mild_dispatching lane tick context row = either lane _ _ _
       within = λ m w. record {
         contexts = each_bounded (m + 1) (m + 2) (omega arith) _ (bounded_edited 0 1 m (counted row.id) (mild_counted row.id) lane.contexts context w.contexts);
         frames = omega (arith, w.frames, length_taken lane.frames);
+        handlers = omega (arith, w.handlers);
       };
     })
-    (quiet lane _ refl refl)
+    (quiet lane _ refl refl (omega arith))
 
 -- a row that is found is within the bound of its lane
 some_row : (a b : Row) → Some a ≡ Some b → a ≡ b

@@ -22,4 +22,4 @@ open_bounded script lane zero = tt
 open_bounded script lane (suc n) = each_pushed (Bounded 1) (open_contexts_to script lane n) (open_context script lane n) (open_bounded script lane n) (open_by (home_of script n == lane))
 
 pub opening_within : (script : Plan) (lane : ℕ) → IsWithin 1 (opening script lane)
-opening_within script lane = record { contexts = open_bounded script lane (sizes script).contexts; frames = omega arith }
+opening_within script lane = record { contexts = open_bounded script lane (sizes script).contexts; frames = omega arith; handlers = omega arith }

@@ -15,6 +15,7 @@ use Rattle.lane_turn.specs.declared.layer.Call.{Call}
 use Rattle.lane_turn.specs.declared.layer.Caller.{Caller}
 use Rattle.lane_turn.specs.declared.layer.Origin.{Origin}
 use Rattle.lane_turn.specs.declared.layer.Origin.TheVariants.{Start, Source, Invoke}
+use Rattle.cancel_view.specs.Seen.{Seen}
 use Rattle.lane_turn.specs.Frames.{Frame, CallOf, IterOf, LoopOf}
 use Rattle.lane_turn.specs.Sources.{restarted}
 use Rattle.lane_turn.specs.Lane.{Lane, Turn, popped, taken, row_of, iterating, is_running, edited, written}
@@ -58,7 +59,7 @@ counted_goes : (n tick : ℕ) (f : Lane → Lane) (lane : Lane) (left : ℕ) (it
     → Goes n (turn lane left iterated) (counted_by tick f (turn lane left iterated) left)
 counted_goes n tick f lane zero iterated g h = record {
   falls = halted lane.status _ g;
-  keeps = λ s. record { bound = s.bound; fits = omega (arith, s.fits); within = record { contexts = s.within.contexts; frames = s.within.frames } };
+  keeps = λ s. record { bound = s.bound; fits = omega (arith, s.fits); within = record { contexts = s.within.contexts; frames = s.within.frames; handlers = s.within.handlers } };
 }
 counted_goes n tick f lane (suc left) iterated g h = record {
   falls = fall lane.status (f lane).status _ _ g (pays left (row_count lane.contexts) (row_count (f lane).contexts) (nest_work lane.frames) (nest_work (f lane).frames) iterated h.rows h.frames);
@@ -77,18 +78,19 @@ begun_goes n lane script left tick context answer g = record {
   keeps = λ s. record {
     bound = s.bound + 1;
     fits = omega (arith, s.fits);
-    within = record { contexts = each_bounded s.bound (s.bound + 1) (omega arith) lane.contexts s.within.contexts; frames = omega (arith, s.within.frames, length_emptied context lane.frames) };
+    within = record { contexts = each_bounded s.bound (s.bound + 1) (omega arith) lane.contexts s.within.contexts; frames = omega (arith, s.within.frames, length_emptied context lane.frames); handlers = omega (arith, s.within.handlers) };
   };
 }
 
 -- what ends a frame, whatever it writes
-ends : (lane after : Lane) → nest_work (drop 1 lane.frames) < nest_work lane.frames → length (drop 1 lane.frames) ≤ length lane.frames → after.contexts ≡ lane.contexts → after.frames ≡ drop 1 lane.frames → Less lane after
-ends lane after w l c f = record {
+ends : (lane after : Lane) → nest_work (drop 1 lane.frames) < nest_work lane.frames → length (drop 1 lane.frames) ≤ length lane.frames → after.contexts ≡ lane.contexts → after.view ≡ lane.view → after.frames ≡ drop 1 lane.frames → Less lane after
+ends lane after w l c v f = record {
   rows = omega (arith, ap row_count c);
   frames = omega (arith, ap nest_work f, w);
   within = λ m i. record {
     contexts = subst (AllByRecursion (Bounded m)) (sym c) i.contexts;
     frames = omega (arith, ap (λ (fs : List Frame). length fs) f, l, i.frames);
+    handlers = omega (arith, ap (λ (s : Seen). s.next_id) v, i.handlers);
   };
 }
 
@@ -109,15 +111,16 @@ edit_less base below call context edit mild = record {
   within = λ m i. record {
     contexts = each_bounded (m + 0) m (omega arith) _ (bounded_edited 0 0 m edit mild base.contexts context i.contexts);
     frames = omega (arith, i.frames);
+    handlers = i.handlers;
   };
 }
 
 returned_less : (script : Plan) (tick : ℕ) (base : Lane) (below : List Frame) (call : Call) (body : Body) (origin : Origin)
     → let lane : Lane = going base (CallOf call ∷ below) in Less lane (returned script tick body origin (popped lane))
 returned_less script tick base below call body Start =
-    ends (going base (CallOf call ∷ below)) _ (omega arith) (omega arith) refl refl
+    ends (going base (CallOf call ∷ below)) _ (omega arith) (omega arith) refl refl refl
 returned_less script tick base below call body (Invoke acquired) =
-    ends (going base (CallOf call ∷ below)) _ (omega arith) (omega arith) refl refl
+    ends (going base (CallOf call ∷ below)) _ (omega arith) (omega arith) refl refl refl
 returned_less script tick base below call body (Source caller) =
     less_either (going base (CallOf call ∷ below)) _ _ (stays script body caller.number)
     (edit_less base below call caller.context (restarted (time_of script tick) caller.id) (mild_restarted (time_of script tick) caller.id))
@@ -133,14 +136,14 @@ call_goes script n tick base below left iterated call None =
 
 answered_less : (tick : ℕ) (base : Lane) (below : List Frame) (context : ℕ) (answer asked : Option Bool)
     → let lane : Lane = going base (IterOf context [] answer ∷ below) in Less lane (answered tick context asked (popped lane))
-answered_less tick base below context answer None = ends (going base (IterOf context [] answer ∷ below)) _ (omega arith) (omega arith) refl refl
-answered_less tick base below context answer (Some any) = ends (going base (IterOf context [] answer ∷ below)) _ (omega arith) (omega arith) refl refl
+answered_less tick base below context answer None = ends (going base (IterOf context [] answer ∷ below)) _ (omega arith) (omega arith) refl refl refl
+answered_less tick base below context answer (Some any) = ends (going base (IterOf context [] answer ∷ below)) _ (omega arith) (omega arith) refl refl refl
 
 id_goes : (n tick : ℕ) (base : Lane) (below : List Frame) (left : ℕ) (iterated : Bool) (context id : ℕ) (ids : List ℕ) (answer : Option Bool) (r : Option Row)
     → let t : Turn = turn (going base (IterOf context (id ∷ ids) answer ∷ below)) left iterated in Goes n t (step_id tick t context r)
 id_goes n tick base below left iterated context id ids answer None =
     less_goes n (going base (IterOf context (id ∷ ids) answer ∷ below)) _ left iterated refl
-    (record { rows = omega arith; frames = omega arith; within = λ m i. record { contexts = i.contexts; frames = omega (arith, i.frames) } })
+    (record { rows = omega arith; frames = omega arith; within = λ m i. record { contexts = i.contexts; frames = omega (arith, i.frames); handlers = i.handlers } })
 id_goes n tick base below left iterated context id ids answer (Some row) =
     let lane : Lane = going base (IterOf context (id ∷ ids) answer ∷ below) in
     counted_goes n tick (dispatching tick context row) lane left iterated refl (mild_dispatching lane tick context row)
@@ -152,7 +155,7 @@ loop_goes script n tick base below left true number context true u e = cc
 loop_goes script n tick base below left false number context true u e =
     subst (Goes n _) (some_same _ _ e) (begun_goes n (going base (LoopOf number context ∷ below)) script left tick context None refl)
 loop_goes script n tick base below left iterated number context false u e =
-    subst (Goes n _) (some_same _ _ e) (less_goes n (going base (LoopOf number context ∷ below)) _ left iterated refl (ends (going base (LoopOf number context ∷ below)) _ (omega arith) (omega arith) refl refl))
+    subst (Goes n _) (some_same _ _ e) (less_goes n (going base (LoopOf number context ∷ below)) _ left iterated refl (ends (going base (LoopOf number context ∷ below)) _ (omega arith) (omega arith) refl refl refl))
 
 step_goes : (script : Plan) (n tick : ℕ) (base : Lane) (frames : List Frame) (status : Status) (left : ℕ) (iterated : Bool) (u : Turn) →
     let t : Turn = turn (record base { frames = frames; status = status }) left iterated in

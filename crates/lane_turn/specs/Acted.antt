@@ -1,18 +1,22 @@
 -- What each action does. Each stands on a lane whose innermost call has taken it.
-use Rattle.std.specs.Prelude.{ℕ, ℤ, Bool, true, false, Option, Some, None, is_some, is_none, if◌then◌else◌}
+use Rattle.std.specs.Prelude.{List, [], ◌∷◌, ℕ, ℤ, Bool, true, false, Option, Some, None, is_some, is_none, if◌then◌else◌}
 use Rattle.loop_script.specs.declared.action.Action.{Action}
 use Rattle.loop_script.specs.declared.action.Action.TheVariants.{Attach, Child, Destroy, SetReady, SetPriority, Iterate, Pending, Run, Quit, Cancel, Connect, Disconnect, Task, Push, Pop, ShowDefault, Acquire, Release, Invoke, Give, Log}
 use Rattle.loop_script.specs.declared.plan.Plan.{Plan}
 use Rattle.loop_script.specs.declared.source.SourceSpec.{SourceSpec}
-use Rattle.loop_script.specs.Parts.{time_of, context_of}
+use Rattle.loop_script.specs.Parts.{time_of, context_of, actions_of}
 use Rattle.lane_turn.specs.declared.line.Event.TheVariants as events
 use Rattle.lane_turn.specs.declared.line.Word.{Word}
 use Rattle.lane_turn.specs.declared.line.Word.TheVariants as words
 use Rattle.lane_turn.specs.declared.slot.Place.{Place}
+use Rattle.lane_turn.specs.declared.slot.Held.TheVariants.{Source, Handler}
+use Rattle.cancel_view.specs.declared.handler.Fired.{Fired}
+use Rattle.cancel_view.specs.Seen.{has, fired, cancelled, connected, may_disconnect, without}
+use Rattle.loop_script.specs.declared.body.Body.TheVariants.{Procedure}
 use Rattle.source_rows.specs.Rows.{RowSet, attached, child_added, child_fault, destroyed, ready_set, reprioritised, priority_fault, row_of as row_with}
 use Rattle.context_core.specs.declared.context.Context.{Context}
 use Rattle.lane_turn.specs.Frames.{LoopOf}
-use Rattle.lane_turn.specs.Lane.{Lane, written, pushed, set_running, own, edited, place_at, row_at, next_place, named, chosen, is_any, iterating}
+use Rattle.lane_turn.specs.Lane.{Lane, written, pushed, set_running, own, edited, place_at, handler_at, row_at, next_place, named, viewing, chosen, is_any, iterating}
 
 abbrev pub missed : ℕ → Word → Lane → Lane
 missed tick word lane = written tick (events.Miss word) lane
@@ -21,7 +25,7 @@ missed tick word lane = written tick (events.Miss word) lane
 abbrev pub attach : ℕ → ℕ → ℕ → ℕ → SourceSpec → Lane → Lane
 attach tick now context slot spec lane =
     if is_some (own context lane)
-    then named slot (next_place context lane) (edited context (attached spec now) lane)
+    then named slot (Source (next_place context lane)) (edited context (attached spec now) lane)
     else missed tick words.Attach lane
 
 -- a source below the one of an id
@@ -40,7 +44,7 @@ abbrev pub child_of : ℕ → ℕ → ℕ → SourceSpec → Option Place → La
 child_of tick now slot spec None lane = missed tick words.Child lane
 child_of tick now slot spec (Some place) lane =
     if can_bear place lane
-    then named slot (next_place place.context lane) (edited place.context (born spec now place.id) lane)
+    then named slot (Source (next_place place.context lane)) (edited place.context (born spec now place.id) lane)
     else missed tick words.Child lane
 
 abbrev pub child : ℕ → ℕ → ℕ → ℕ → SourceSpec → Lane → Lane
@@ -85,6 +89,46 @@ run tick number context lane =
 abbrev pub quit : ℕ → ℕ → ℕ → Lane → Lane
 quit tick number context lane = if is_some (own context lane) then set_running number false lane else missed tick words.Quit lane
 
+-- what a handler does of an action: no handler holds others
+abbrev pub plain_acted : Plan → ℕ → Action → Lane → Lane
+plain_acted script tick (Destroy slot) lane = destroy tick slot lane
+plain_acted script tick (SetReady slot us) lane = set_ready tick slot us lane
+plain_acted script tick (Quit number) lane = quit tick number (context_of script number) lane
+plain_acted script tick (Log n) lane = written tick (events.Log n) lane
+plain_acted script tick _ lane = lane
+
+abbrev pub all_acted : Plan → ℕ → List Action → Lane → Lane
+all_acted script tick [] lane = lane
+all_acted script tick (action ∷ actions) lane = all_acted script tick actions (plain_acted script tick action lane)
+
+-- a handler is called
+abbrev pub handled : Plan → ℕ → Fired → Lane → Lane
+handled script tick f lane = all_acted script tick (actions_of script (Procedure f.proc)) (written tick (events.Handler f.id) lane)
+
+abbrev pub all_handled : Plan → ℕ → List Fired → Lane → Lane
+all_handled script tick [] lane = lane
+all_handled script tick (f ∷ fs) lane = all_handled script tick fs (handled script tick f lane)
+
+-- what was cancelled before is left; else the view gets it, and its handlers are called
+abbrev pub cancel : Plan → ℕ → ℕ → Lane → Lane
+cancel script tick c lane =
+    if has c lane.view then lane
+    else all_handled script tick (fired c lane.view) (written tick (events.Cancel c) (viewing (cancelled c lane.view) lane))
+
+-- to what was cancelled nothing is connected: the handler is called at once, and the slot names none
+abbrev pub connect : Plan → ℕ → ℕ → ℕ → ℕ → Lane → Lane
+connect script tick c slot proc lane =
+    if has c lane.view
+    then named slot (Handler 0) (handled script tick (record { id = 0; proc = proc }) lane)
+    else named slot (Handler lane.view.next_id) (viewing (connected c proc lane.view) lane)
+
+abbrev pub disconnect_of : ℕ → Option ℕ → Lane → Lane
+disconnect_of tick None lane = missed tick words.Disconnect lane
+disconnect_of tick (Some id) lane = if may_disconnect id lane.view then viewing (without id lane.view) lane else missed tick words.Disconnect lane
+
+abbrev pub disconnect : ℕ → ℕ → Lane → Lane
+disconnect tick slot lane = disconnect_of tick (handler_at slot lane) lane
+
 -- the words that no script may hold yet change nothing
 abbrev pub acted : Plan → ℕ → Action → Lane → Lane
 acted script tick (Attach context slot spec) lane = attach tick (time_of script tick) context slot spec lane
@@ -96,9 +140,9 @@ acted script tick (Iterate context) lane = iterate script tick context lane
 acted script tick (Pending context) lane = pending script tick context lane
 acted script tick (Run number) lane = run tick number (context_of script number) lane
 acted script tick (Quit number) lane = quit tick number (context_of script number) lane
-acted script tick (Cancel c) lane = lane
-acted script tick (Connect c slot proc) lane = lane
-acted script tick (Disconnect slot) lane = lane
+acted script tick (Cancel c) lane = cancel script tick c lane
+acted script tick (Connect c slot proc) lane = connect script tick c slot proc lane
+acted script tick (Disconnect slot) lane = disconnect tick slot lane
 acted script tick (Task spec) lane = lane
 acted script tick (Push context) lane = lane
 acted script tick (Pop context) lane = lane

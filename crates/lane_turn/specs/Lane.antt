@@ -8,14 +8,18 @@ use Rattle.lane_turn.specs.declared.line.Line.{Line}
 use Rattle.lane_turn.specs.declared.line.Event.{Event}
 use Rattle.lane_turn.specs.declared.parts.Status.{Status}
 use Rattle.lane_turn.specs.declared.slot.Place.{Place}
+use Rattle.lane_turn.specs.declared.slot.Held.{Held}
+use Rattle.lane_turn.specs.declared.slot.Held.TheVariants.{Source, Handler}
+use Rattle.cancel_view.specs.Seen.{Seen}
 use Rattle.lane_turn.specs.Frames.{Frame, IterOf, advanced, emptied, busy}
 use Rattle.lane_turn.specs.Sources.{chosen_in}
 
--- a lane: its contexts by number, where those of other lanes are none; the sources that its slots name; its frames with
--- the innermost first; the loops that run; what it wrote
+-- a lane: its contexts by number, where those of other lanes are none; what its slots name; its view of cancellations, with
+-- its handlers; its frames with the innermost first; the loops that run; what it wrote
 pub record Lane : Type 0 where
   pub contexts : List (Option Context)
-  pub slots : List (Option Place)
+  pub slots : List (Option Held)
+  pub view : Seen
   pub frames : List Frame
   pub running : List Bool
   pub trace : List Line
@@ -77,14 +81,28 @@ row_in id (Some context) = row_with id context.rows.rows
 abbrev pub row_of : ℕ → ℕ → Lane → Option Row
 row_of context id lane = row_in id (own context lane)
 
--- what a slot names, and the row of it: none where it is destroyed
-abbrev pub held : Option (Option Place) → Option Place
+-- what a slot names
+abbrev pub held : Option (Option Held) → Option Held
 held None = None
-held (Some place) = place
+held (Some thing) = thing
+
+abbrev pub source_of : Option Held → Option Place
+source_of None = None
+source_of (Some (Source place)) = Some place
+source_of (Some (Handler id)) = None
+
+abbrev pub handler_of : Option Held → Option ℕ
+handler_of None = None
+handler_of (Some (Source place)) = None
+handler_of (Some (Handler id)) = Some id
 
 abbrev pub place_at : ℕ → Lane → Option Place
-place_at slot lane = held (slice_get lane.slots slot)
+place_at slot lane = source_of (held (slice_get lane.slots slot))
 
+abbrev pub handler_at : ℕ → Lane → Option ℕ
+handler_at slot lane = handler_of (held (slice_get lane.slots slot))
+
+-- the row of a source: none where it is destroyed
 abbrev pub row_at : Place → Lane → Option Row
 row_at place lane = row_of place.context place.id lane
 
@@ -96,12 +114,16 @@ next_id (Some context) = context.rows.next_id
 abbrev pub next_place : ℕ → Lane → Place
 next_place context lane = record { context = context; id = next_id (own context lane) }
 
-abbrev pub named : ℕ → Place → Lane → Lane
-named slot place lane = record lane { slots = slice_set lane.slots slot (Some place) }
+abbrev pub named : ℕ → Held → Lane → Lane
+named slot thing lane = record lane { slots = slice_set lane.slots slot (Some thing) }
+
+-- another view
+abbrev pub viewing : Seen → Lane → Lane
+viewing view lane = record lane { view = view }
 
 -- the ids that an iteration of a context would dispatch at a tick
 abbrev pub chosen : Plan → ℕ → ℕ → Lane → List ℕ
-chosen script tick context lane = chosen_in script tick (busy context lane.frames) (own context lane)
+chosen script tick context lane = chosen_in script tick lane.view (busy context lane.frames) (own context lane)
 
 abbrev pub is_any : List ℕ → Bool
 is_any [] = false

@@ -7,6 +7,7 @@ abbrev pub lane_of : Parts → Lane
 lane_of p = record {
   contexts = p.contexts.items;
   slots = p.slots.items;
+  view = p.view;
   frames = p.frames;
   running = p.running.items;
   trace = p.trace.items;

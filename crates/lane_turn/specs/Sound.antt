@@ -19,6 +19,7 @@ Bounded m (Some context) = IsBounded m context.rows
 pub record IsWithin (m : ℕ) (lane : Lane) : Type 0 where
   pub contexts : AllByRecursion (Bounded m) lane.contexts
   pub frames : length lane.frames ≤ m
+  pub handlers : lane.view.next_id ≤ m
 
 -- by how much the rest of a turn may raise them
 abbrev pub to_come : Turn → ℕ

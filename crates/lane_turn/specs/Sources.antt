@@ -7,8 +7,8 @@ use Rattle.loop_script.specs.Parts.{time_of, level_of}
 use Rattle.source_rows.specs.declared.row.Row.{Row}
 use Rattle.source_rows.specs.Rows.{RowSet, no_rows, row_of, ready_set}
 use Rattle.context_core.specs.declared.context.Context.{Context}
-use Rattle.context_core.specs.Ready.{Own, own_ready, selected}
-use Rattle.context_core.specs.Phases.{none_cancelled}
+use Rattle.cancel_view.specs.Seen.{Seen}
+use Rattle.context_core.specs.Ready.{Own, in_view, own_ready, selected}
 
 -- a context with no source, whose sources may have children that have none
 abbrev pub no_sources : Context
@@ -33,12 +33,12 @@ restarted_row now id (Some r) s = restarted_kind now id r.kind s
 abbrev pub restarted : ℕ → ℕ → RowSet → RowSet
 restarted now id s = restarted_row now id (row_of id s.rows) s
 
--- what makes a source ready by itself at a tick
-abbrev pub own_ready_at : Plan → ℕ → Own
-own_ready_at script tick = own_ready (λ fd. level_of script fd tick) none_cancelled (time_of script tick)
+-- what makes a source ready by itself at a tick, with what the lane has seen cancelled
+abbrev pub own_ready_at : Plan → ℕ → Seen → Own
+own_ready_at script tick view = own_ready (λ fd. level_of script fd tick) (in_view view) (time_of script tick)
 
 -- the ids that an iteration of a context would dispatch, with the ids that calls in progress block: none of another
 -- lane's context
-abbrev pub chosen_in : Plan → ℕ → List ℕ → Option Context → List ℕ
-chosen_in script tick busy None = []
-chosen_in script tick busy (Some context) = selected (own_ready_at script tick) busy context.rows.rows
+abbrev pub chosen_in : Plan → ℕ → Seen → List ℕ → Option Context → List ℕ
+chosen_in script tick view busy None = []
+chosen_in script tick view busy (Some context) = selected (own_ready_at script tick view) busy context.rows.rows

@@ -1,5 +1,5 @@
 -- A turn: steps until none is left.
-use Rattle.std.specs.Prelude.{◌≡◌, ◌==◌, ℕ, zero, suc, ◌+◌, ◌*◌, Bool, false, Option, Some, None, List, [], ◌∷◌, ◌++◌, length, unwrap_or, if◌then◌else◌}
+use Rattle.std.specs.Prelude.{replicate, ◌≡◌, ◌==◌, ℕ, zero, suc, ◌+◌, ◌*◌, Bool, false, Option, Some, None, List, [], ◌∷◌, ◌++◌, length, unwrap_or, if◌then◌else◌}
 use Rattle.std.specs.Option.{option_map_or}
 use Rattle.loop_script.specs.declared.plan.Plan.{Plan}
 use Rattle.loop_script.specs.declared.body.Body.TheVariants as bodies
@@ -9,7 +9,8 @@ use Rattle.lane_turn.specs.declared.parts.Status.{Status}
 use Rattle.lane_turn.specs.declared.parts.Status.TheVariants.{GoesOn, Ended, Halted}
 use Rattle.lane_turn.specs.declared.layer.Origin.TheVariants as origins
 use Rattle.lane_turn.specs.Frames.{Frame, CallOf, IterOf, LoopOf}
-use Rattle.lane_turn.specs.declared.slot.Place.{Place}
+use Rattle.lane_turn.specs.declared.slot.Held.{Held}
+use Rattle.cancel_view.specs.Seen.{Seen}
 use Rattle.context_core.specs.declared.context.Context.{Context}
 use Rattle.lane_turn.specs.Sources.{no_sources}
 use Rattle.lane_turn.specs.Lane.{Lane, Turn}
@@ -79,7 +80,7 @@ open_contexts_to script lane (suc n) = open_contexts_to script lane n ++ open_co
 abbrev pub open_contexts : Plan → ℕ → List (Option Context)
 open_contexts script lane = open_contexts_to script lane (sizes script).contexts
 
-abbrev pub open_slots : ℕ → List (Option Place)
+abbrev pub open_slots : ℕ → List (Option Held)
 open_slots zero = []
 open_slots (suc n) = open_slots n ++ None ∷ []
 
@@ -87,11 +88,16 @@ abbrev pub open_loops : ℕ → List Bool
 open_loops zero = []
 open_loops (suc n) = open_loops n ++ false ∷ []
 
+-- nothing seen cancelled, and no handler
+abbrev pub open_view : ℕ → Seen
+open_view n = record { members = replicate n false; handlers = []; next_id = 1 }
+
 -- a lane that holds its start call
 abbrev pub opening : Plan → ℕ → Lane
 opening script lane = record {
   contexts = open_contexts script lane;
   slots = open_slots 256;
+  view = open_view script.cancellables;
   frames = CallOf (record { origin = origins.Start; body = bodies.Start lane; place = 0 }) ∷ [];
   running = open_loops (length script.loops);
   trace = [];

@@ -7,7 +7,7 @@ ghost use Rattle.lane_turn.specs.Meaning.{lane_of};
 
 use crate::line::{Event, Word};
 use crate::parts::Parts;
-use crate::slot::Place;
+use crate::slot::{Held, Place};
 use loop_script::{Action, Script, SourceSpec};
 use std::alloc::{AllocError, Global};
 
@@ -28,7 +28,7 @@ impl Parts {
             return self.miss(tick, Word::Attach);
         }
         let id = self.attach(context, spec, now)?;
-        self.name(slot, Place { context, id });
+        self.name(slot, Held::Source(Place { context, id }));
         Ok(())
     }
 
@@ -51,13 +51,13 @@ impl Parts {
             None => self.miss(tick, Word::Child),
             Some(id) => {
                 let context = place.context;
-                self.name(slot, Place { context, id });
+                self.name(slot, Held::Source(Place { context, id }));
                 Ok(())
             }
         }
     }
 
-    fn act_destroy(&mut self, tick: u32, slot: u8) -> Result<(), AllocError>
+    pub(crate) fn act_destroy(&mut self, tick: u32, slot: u8) -> Result<(), AllocError>
         ensures { OnOk result (lane_of self.new ≡ destroyed_at tick slot (lane_of self.old)) }
     {
         let Some(place) = self.place(slot) else {
@@ -70,7 +70,12 @@ impl Parts {
         Ok(())
     }
 
-    fn act_set_ready(&mut self, tick: u32, slot: u8, ready: i64) -> Result<(), AllocError>
+    pub(crate) fn act_set_ready(
+        &mut self,
+        tick: u32,
+        slot: u8,
+        ready: i64,
+    ) -> Result<(), AllocError>
         ensures { OnOk result (lane_of self.new ≡ ready_set_at tick slot ready (lane_of self.old)) }
     {
         let Some(place) = self.place(slot) else {
@@ -139,7 +144,12 @@ impl Parts {
         }
     }
 
-    fn act_quit(&mut self, tick: u32, number: u32, context: u32) -> Result<(), AllocError>
+    pub(crate) fn act_quit(
+        &mut self,
+        tick: u32,
+        number: u32,
+        context: u32,
+    ) -> Result<(), AllocError>
         ensures { OnOk result (lane_of self.new ≡ quit_to tick number context (lane_of self.old)) }
     {
         if self.owns(context) {
@@ -175,6 +185,9 @@ impl Parts {
             Action::Pending(context) => self.act_pending(alloc, script, tick, *context),
             Action::Run(number) => self.act_run(tick, *number, script.loop_context(*number)),
             Action::Quit(number) => self.act_quit(tick, *number, script.loop_context(*number)),
+            Action::Cancel(c) => self.act_cancel(alloc, script, tick, *c),
+            Action::Connect(c, slot, proc) => self.act_connect(script, tick, *c, *slot, *proc),
+            Action::Disconnect(slot) => self.act_disconnect(tick, *slot),
             Action::Log(n) => self.write(tick, Event::Log(*n)),
             _ => Ok(()),
         }

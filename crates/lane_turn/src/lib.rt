@@ -6,6 +6,7 @@
 
 mod act;
 mod frames;
+mod handlers;
 mod laws;
 mod layer;
 mod line;

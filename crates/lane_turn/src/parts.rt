@@ -1,8 +1,8 @@
 //! What a lane keeps, and the changes of its parts.
-ghost use Rattle.std.specs.Prelude.{◌≡◌, ◌^◌, ◌≤◌, IfOk, OnOk, IfSome, OnSome, None, true, false, is_some, is_none};
+ghost use Rattle.std.specs.Prelude.{◌≡◌, ◌^◌, ◌≤◌, IfOk, OnOk, IfSome, OnSome, None, true, false, is_some, is_none, slice_get};
 ghost use Rattle.source_rows.specs.Rows.{attached, destroyed, ready_set, reprioritised, counted, priority_fault};
 ghost use Rattle.lane_turn.specs.Sources.{restarted};
-ghost use Rattle.lane_turn.specs.Lane.{written, set_running, is_running, own, next_id, edited, row_of, row_at, place_at, named, chosen, stopped};
+ghost use Rattle.lane_turn.specs.Lane.{written, set_running, is_running, own, next_id, edited, row_of, row_at, held, place_at, handler_at, named, chosen, stopped};
 ghost use Rattle.lane_turn.specs.Acted.{born, can_bear, missed};
 ghost use Rattle.lane_turn.specs.Sound.{IsWithin};
 ghost use Rattle.lane_turn.specs.Meaning.{lane_of};
@@ -10,11 +10,12 @@ ghost use Rattle.lane_turn.specs.Meaning.{lane_of};
 use crate::frames::Frames;
 use crate::line::{Event, Line, Word};
 use crate::select::select_in;
-use crate::slot::Place;
+use crate::slot::{Held, Place};
 use crate::sources::{
     add_child_in, attach_in, count_in, destroy_in, restart_in, row_in, set_priority_in,
     set_ready_in,
 };
+use cancel_view::View;
 use context_core::Context;
 use loop_script::{Script, SourceSpec};
 use source_rows::Row;
@@ -34,8 +35,9 @@ pub enum Status {
 #[derive(Drop)]
 pub struct Parts {
     pub contexts: Vec<Option<Context>>,
-    /// The sources that the slots name.
-    pub slots: Vec<Option<Place>>,
+    /// What the slots name.
+    pub slots: Vec<Option<Held>>,
+    pub view: View,
     pub frames: Frames,
     /// Which loops run.
     pub running: Vec<bool>,
@@ -88,22 +90,42 @@ impl Parts {
         }
     }
 
-    /// The source that a slot names.
-    pub(crate) fn place(&self, slot: u8) -> Option<Place>
-        ensures { result ≡ place_at slot (lane_of self.now) }
+    /// What a slot names.
+    fn held(&self, slot: u8) -> Option<Held>
+        ensures { result ≡ held (slice_get (lane_of self.now).slots slot) }
     {
         match self.slots.get(slot as usize) {
-            Some(place) => *place,
+            Some(thing) => *thing,
             None => None,
         }
     }
 
-    /// Lets a slot name a source.
-    pub(crate) fn name(&mut self, slot: u8, place: Place)
-        ensures { lane_of self.new ≡ named slot place (lane_of self.old) }
+    /// The source that a slot names.
+    pub(crate) fn place(&self, slot: u8) -> Option<Place>
+        ensures { result ≡ place_at slot (lane_of self.now) }
+    {
+        match self.held(slot) {
+            Some(Held::Source(place)) => Some(place),
+            _ => None,
+        }
+    }
+
+    /// The id of the handler that a slot names.
+    pub(crate) fn handler(&self, slot: u8) -> Option<u64>
+        ensures { result ≡ handler_at slot (lane_of self.now) }
+    {
+        match self.held(slot) {
+            Some(Held::Handler(id)) => Some(id),
+            _ => None,
+        }
+    }
+
+    /// Lets a slot name something.
+    pub(crate) fn name(&mut self, slot: u8, thing: Held)
+        ensures { lane_of self.new ≡ named slot thing (lane_of self.old) }
     {
         if let Some(named) = self.slots.get_mut(slot as usize) {
-            *named = Some(place);
+            *named = Some(thing);
         }
     }
 
@@ -119,7 +141,7 @@ impl Parts {
     {
         let busy = self.frames.busy(context)?;
         match self.contexts.get(context as usize) {
-            Some(context) => select_in(alloc, context, script, tick, &busy),
+            Some(context) => select_in(alloc, context, script, tick, &busy, &self.view),
             None => Ok(Vec::new(alloc)),
         }
     }

@@ -3,6 +3,7 @@ ghost use Rattle.std.specs.Prelude.{◌≡◌, map, IfOk, Some};
 ghost use Rattle.loop_script.specs.Parts.{level_of};
 ghost use Rattle.lane_turn.specs.Sources.{chosen_in};
 
+use cancel_view::View;
 use context_core::{Context, Interest};
 use loop_script::Script;
 use std::alloc::{AllocError, Global};
@@ -29,14 +30,15 @@ fn select(
     script: &Script,
     tick: u32,
     busy: &[u64],
+    view: &View,
 ) -> Result<Vec<u64>, AllocError>
-    ensures { IfOk result (λ ids. ids.items ≡ chosen_in script.now tick busy.now (Some context.now)) }
+    ensures { IfOk result (λ ids. ids.items ≡ chosen_in script.now tick view.now busy.now (Some context.now)) }
 {
     let now = script.now(tick);
-    let prepared = context.prepare(now, busy);
+    let prepared = context.prepare(now, busy, view);
     let interests = context.query(alloc, &prepared, busy)?;
     let levels = poll(alloc, script, tick, &interests)?;
-    context.check(alloc, &prepared, now, busy, &levels)
+    context.check(alloc, &prepared, now, busy, view, &levels)
 }
 
 /// The ids that an iteration of a context would dispatch at a tick: none of another lane's.
@@ -46,11 +48,12 @@ pub(crate) fn select_in(
     script: &Script,
     tick: u32,
     busy: &[u64],
+    view: &View,
 ) -> Result<Vec<u64>, AllocError>
-    ensures { IfOk result (λ ids. ids.items ≡ chosen_in script.now tick busy.now context.now) }
+    ensures { IfOk result (λ ids. ids.items ≡ chosen_in script.now tick view.now busy.now context.now) }
 {
     match context {
         None => Ok(Vec::new(alloc)),
-        Some(context) => select(alloc, context, script, tick, busy),
+        Some(context) => select(alloc, context, script, tick, busy, view),
     }
 }

@@ -6,3 +6,11 @@ pub struct Place {
     pub context: u32,
     pub id: u64,
 }
+
+/// What a slot names.
+#[derive(Clone, Copy, Debug, PartialEq, Eq)]
+pub enum Held {
+    Source(Place),
+    /// A handler by its id, which may be disconnected since; 0 is that of none.
+    Handler(u64),
+}

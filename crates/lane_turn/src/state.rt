@@ -1,6 +1,6 @@
 //! A lane between its turns.
 ghost use Rattle.std.specs.Prelude.{◌≡◌, ℕ, ◌+◌, ◌^◌, ◌≤◌, ◌↔◌, ◌≢◌, false, IsTrue, OnOk, IfOk, Err};
-ghost use Rattle.lane_turn.specs.Turn.{turned, opening, open_context, open_contexts, open_slots, open_loops};
+ghost use Rattle.lane_turn.specs.Turn.{turned, opening, open_context, open_contexts, open_slots, open_view, open_loops};
 ghost use Rattle.lane_turn.specs.Meaning.{lane_of};
 ghost use Rattle.lane_turn.specs.Sound.{IsWithin};
 
@@ -8,7 +8,8 @@ use crate::frames::Frames;
 use crate::layer::{Call, Origin};
 use crate::line::Line;
 use crate::parts::{Parts, Status};
-use crate::slot::Place;
+use crate::slot::Held;
+use cancel_view::View;
 use context_core::Context;
 use loop_script::{Body, Script};
 use source_rows::Levels;
@@ -86,7 +87,7 @@ fn open_context(alloc: Global, script: &Script, lane: u32, context: u32) -> Opti
 }
 
 /// Slots that name nothing.
-fn open_slots(alloc: Global, slots: usize) -> Result<Vec<Option<Place>>, AllocError>
+fn open_slots(alloc: Global, slots: usize) -> Result<Vec<Option<Held>>, AllocError>
     ensures { IfOk result (λ places. places.items ≡ open_slots slots) }
 {
     let mut places = Vec::new(alloc);
@@ -94,6 +95,16 @@ fn open_slots(alloc: Global, slots: usize) -> Result<Vec<Option<Place>>, AllocEr
         places.push(None)?;
     }
     Ok(places)
+}
+
+/// A view that has seen none of a script's cancellables cancelled.
+fn open_view(alloc: Global, script: &Script) -> Result<View, AllocError>
+    ensures { IfOk result (λ view. view ≡ open_view script.now.cancellables) }
+{
+    match View::new(alloc, script.cancellables()) {
+        Ok(view) => Ok(view),
+        Err(_) => Err(AllocError),
+    }
 }
 
 /// Loops that do not run.
@@ -120,6 +131,7 @@ fn open_parts(alloc: Global, script: &Script, lane: u32) -> Result<Parts, AllocE
     Ok(Parts {
         contexts: open_contexts(alloc, script, lane)?,
         slots: open_slots(alloc, SLOTS)?,
+        view: open_view(alloc, script)?,
         frames,
         running: open_loops(alloc, script.loops())?,
         trace: Vec::new(alloc),

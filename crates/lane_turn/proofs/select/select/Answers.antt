@@ -2,8 +2,8 @@ use Rattle.std.proofs.Common.{ℕ, List, map, ap, ◌∙◌}
 use Rattle.std.proofs.lemmas.Result.{IfOk-weaker}
 use Rattle.loop_script.specs.Parts.{level_of}
 use Rattle.context_core.specs.declared.interest.Interest.{Interest}
-use Rattle.context_core.specs.Phases.{asked_rows, none_cancelled}
-use Rattle.context_core.specs.Ready.{own_ready, selected}
+use Rattle.context_core.specs.Phases.{asked_rows}
+use Rattle.context_core.specs.Ready.{in_view, own_ready, selected}
 use Rattle.lane_turn.proofs.Polled.{levels_polled}
 use Rattle.lane_turn.proofs.select.select.Goals as goal
 
@@ -12,6 +12,6 @@ returns c =
     let level = λ (fd : ℕ). level_of c.args.script.now fd c.args.tick in
     let shown = ap (map (λ (i : Interest). level i.fd)) (c.deref.ensures.value ∙ c.in_ok-interests.ensures) in
     IfOk-weaker c.check.result _ _
-    (λ ids i. i ∙ ap (λ (now : ℕ). selected (own_ready level none_cancelled now) c.args.busy.now c.args.context.now.rows.rows) c.now-now.ensures.now)
+    (λ ids i. i ∙ ap (λ (now : ℕ). selected (own_ready level (in_view c.args.view.now) now) c.args.busy.now c.args.context.now.rows.rows) c.now-now.ensures.now)
     (c.check.ensures level (c.deref-2.ensures.value ∙ (c.in_ok-levels.ensures
     ∙ (shown ∙ levels_polled level (asked_rows c.prepare-prepared.result.priority c.args.busy.now c.args.context.now.rows.rows)))))

@@ -2,21 +2,21 @@ use Rattle.std.proofs.Common.{◌≡◌, ℤ, Option, Some, ap, sym, ◌∙◌, 
 use Rattle.std.proofs.lemmas.Int.{to_z-of_z}
 use mir.Val.{SFits, to_z, of_z}
 use Rattle.source_rows.specs.Rows.{in_order}
-use Rattle.context_core.specs.Ready.{own_ready, calls}
-use Rattle.context_core.specs.Phases.{shown, none_cancelled}
+use Rattle.context_core.specs.Ready.{in_view, own_ready, calls}
+use Rattle.context_core.specs.Phases.{shown}
 use Rattle.context_core.proofs.Called.{first_called}
 use Rattle.context_core.proofs.Phased.{found_here, none_here}
 use Rattle.context_core.proofs.context.Context.prepare.Goals as goal
 
 pub returns-clause-priority : goal.returns-clause-priority
 returns-clause-priority c =
-    let own = own_ready (shown []) none_cancelled c.args.now in
+    let own = own_ready (shown []) (in_view c.args.view.now) c.args.now in
     first_called own c.args.busy.now c.args.self.now.rows.rows c.in_order-row-items.ensures.forest c.in_order-row-items.ensures.one_tree _
     (none_here (calls own c.args.busy.now) c.rows.row-iterator (in_order c.args.self.now.rows.rows) c.in-None.ensures.steps.0 c.rows.invariant)
 
 pub returns-then-calls-clause-priority : goal.returns-then-calls-clause-priority
 returns-then-calls-clause-priority c =
-    let own = own_ready (shown []) none_cancelled c.args.now in
+    let own = own_ready (shown []) (in_view c.args.view.now) c.args.now in
     let fits : SFits w32 c.in-Some.row.priority = search rules in
     let same : to_z w32 (of_z w32 c.in-Some.row.priority) ≡ c.in-Some.row.priority = simp to_z-of_z in
     ap (λ (z : ℤ). Some z) same

@@ -1,0 +1,112 @@
+//! What is cancelled, connected and disconnected.
+ghost use Rattle.std.specs.Prelude.{◌≡◌, ◌^◌, ◌≤◌, true, OnOk};
+ghost use Rattle.loop_script.specs.References.{sizes, action_refers};
+ghost use Rattle.lane_turn.specs.Acted.{plain_acted, handled, all_handled, cancel as cancelled_at, connect as connected_to, disconnect as disconnected_at};
+ghost use Rattle.lane_turn.specs.Sound.{IsWithin};
+ghost use Rattle.lane_turn.specs.Meaning.{lane_of};
+
+use crate::line::{Event, Word};
+use crate::parts::Parts;
+use crate::slot::Held;
+use cancel_view::{Connected, Fired};
+use loop_script::{Action, Body, Script};
+use std::alloc::{AllocError, Global};
+
+impl Parts {
+    /// Does what a handler does of an action.
+    fn act_plain(&mut self, script: &Script, tick: u32, action: &Action) -> Result<(), AllocError>
+        requires { action_refers (sizes script.now) action.now ≡ true }
+        ensures { OnOk result (lane_of self.new ≡ plain_acted script.now tick action.now (lane_of self.old)) }
+    {
+        match action {
+            Action::Destroy(slot) => self.act_destroy(tick, *slot),
+            Action::SetReady(slot, us) => self.act_set_ready(tick, *slot, *us),
+            Action::Quit(number) => self.act_quit(tick, *number, script.loop_context(*number)),
+            Action::Log(n) => self.write(tick, Event::Log(*n)),
+            _ => Ok(()),
+        }
+    }
+
+    /// Calls a handler.
+    fn call_handler(&mut self, script: &Script, tick: u32, fired: Fired) -> Result<(), AllocError>
+        ensures { OnOk result (lane_of self.new ≡ handled script.now tick fired (lane_of self.old)) }
+    {
+        self.write(tick, Event::Handler(fired.id))?;
+        'actions: for action in script.actions(Body::Procedure(fired.proc)) {
+            self.act_plain(script, tick, action)?;
+        }
+        Ok(())
+    }
+
+    /// Calls handlers one after another.
+    fn call_handlers(
+        &mut self,
+        script: &Script,
+        tick: u32,
+        list: &[Fired],
+    ) -> Result<(), AllocError>
+        ensures { OnOk result (lane_of self.new ≡ all_handled script.now tick list.now (lane_of self.old)) }
+    {
+        'handlers: for fired in list {
+            self.call_handler(script, tick, *fired)?;
+        }
+        Ok(())
+    }
+
+    pub(crate) fn act_cancel(
+        &mut self,
+        alloc: Global,
+        script: &Script,
+        tick: u32,
+        c: u32,
+    ) -> Result<(), AllocError>
+        ensures { OnOk result (lane_of self.new ≡ cancelled_at script.now tick c (lane_of self.old)) }
+    {
+        match self.view.cancel(alloc, c) {
+            Err(_) => Err(AllocError),
+            Ok(None) => Ok(()),
+            Ok(Some(fired)) => {
+                self.write(tick, Event::Cancel(c))?;
+                self.call_handlers(script, tick, &fired)
+            }
+        }
+    }
+
+    pub(crate) fn act_connect(
+        &mut self,
+        script: &Script,
+        tick: u32,
+        c: u32,
+        slot: u8,
+        proc: u32,
+    ) -> Result<(), AllocError>
+        requires { IsWithin (2 ^ 62) (lane_of self.old) }
+        ensures { OnOk result (lane_of self.new ≡ connected_to script.now tick c slot proc (lane_of self.old)) }
+    {
+        match self.view.connect(c, proc) {
+            Err(_) => Err(AllocError),
+            Ok(Connected::Id(id)) => {
+                self.name(slot, Held::Handler(id));
+                Ok(())
+            }
+            Ok(Connected::Already) => {
+                self.call_handler(script, tick, Fired { id: 0, proc })?;
+                self.name(slot, Held::Handler(0));
+                Ok(())
+            }
+        }
+    }
+
+    pub(crate) fn act_disconnect(&mut self, tick: u32, slot: u8) -> Result<(), AllocError>
+        ensures { OnOk result (lane_of self.new ≡ disconnected_at tick slot (lane_of self.old)) }
+    {
+        let Some(id) = self.handler(slot) else {
+            return self.miss(tick, Word::Disconnect);
+        };
+        if self.view.disconnect(id) {
+            Ok(())
+        } else {
+            self.miss(tick, Word::Disconnect)
+        }
+    }
+}
