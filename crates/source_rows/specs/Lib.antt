@@ -11,4 +11,6 @@ pub mod Removal
 pub mod Worked
 pub mod Moves
 pub mod Band
+pub mod Inserted
+pub mod Times
 pub mod Soonest

@@ -1,0 +1,33 @@
+-- The ready times of rows, each beside its row's id, the least first.
+use Rattle.std.specs.Prelude.{ℕ, ℤ, int_lt, Bool, not, Option, Some, None, List, [], ◌∷◌, filter, if◌then◌else◌}
+use Rattle.std.specs.Ordering.{is_lt, is_eq, ordering_then, int_cmp, nat_cmp}
+use Rattle.std.specs.declared.cmp.Ordering.{Ordering}
+use Rattle.source_rows.specs.declared.row.Row.{Row}
+use Rattle.source_rows.specs.Inserted.{inserted}
+
+-- a ready time and the id of its row
+abbrev pub Time : Type 0
+Time = ℤ × ℕ
+
+abbrev pub time_cmp : Time → Time → Ordering
+time_cmp a b = ordering_then (int_cmp a.0 b.0) (nat_cmp a.1 b.1)
+
+abbrev pub is_sooner : Time → Time → Bool
+is_sooner a b = is_lt (time_cmp a b)
+
+-- the times without one of them
+abbrev pub without : Time → List Time → List Time
+without t times = filter (λ u. not (is_eq (time_cmp t u))) times
+
+-- the first time above now
+abbrev pub first_above : ℤ → List Time → Option ℤ
+first_above now [] = None
+first_above now (t ∷ times) = if int_lt now t.0 then Some t.0 else first_above now times
+
+abbrev pub time_of : Row → Time
+time_of r = (r.ready, r.id)
+
+-- the times of rows
+abbrev pub in_time : List Row → List Time
+in_time [] = []
+in_time (r ∷ rows) = inserted is_sooner (time_of r) (in_time rows)
