@@ -16,4 +16,8 @@ pub mod Replanted
 pub mod Moved
 pub mod Band
 pub mod TreeMoves
-pub mod ReadyTimes
+pub mod Inserted
+pub mod Sooner
+pub mod InTime
+pub mod Timed
+pub mod TimeTree

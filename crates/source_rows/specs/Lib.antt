@@ -13,4 +13,4 @@ pub mod Moves
 pub mod Band
 pub mod Inserted
 pub mod Times
-pub mod Soonest
+pub mod TimeTree

@@ -12,10 +12,10 @@ mod moves;
 mod removal;
 mod row;
 mod rows;
-mod soonest;
 mod table;
 #[cfg(test)]
 mod tests;
+mod times;
 
 pub use fault::RowsFault;
 pub use in_order::InOrder;

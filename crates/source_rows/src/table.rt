@@ -4,17 +4,19 @@ ghost use Rattle.std.specs.List.{AllByRecursion};
 ghost use Rattle.source_rows.specs.Rows.{row_of, has_id, changed, next_ready};
 
 use crate::row::Row;
-use crate::soonest::soonest_in;
+use crate::times::{Place, Times};
 use slab::Slab;
 use std::alloc::{AllocError, Global};
 use std::collections::BTreeMap;
 use std::marker::Model;
 
-/// Rows by rising id, each found by its id.
+/// Rows by rising id, each found by its id, with their ready times in order.
 #[derive(Drop)]
 pub(crate) struct Table {
     slots: Slab<Row>,
     keys: BTreeMap<u64, usize>,
+    times: Times,
+    alloc: Global,
 }
 
 impl Model for Table {
@@ -23,11 +25,11 @@ impl Model for Table {
 
     ghost Value = { List Row };
 
-    ghost use Rattle.source_rows.specs.Slots.{rows_at, IsTable};
+    ghost use Rattle.source_rows.specs.Slots.{rows_at, IsTimed};
 
     ghost view = { λ t. rows_at t.slots t.keys.entries };
 
-    ghost invariant = { λ t. IsTable t.slots t.keys.entries };
+    ghost invariant = { λ t. IsTimed t.slots t.keys.entries t.times };
 }
 
 impl Table {
@@ -37,6 +39,8 @@ impl Table {
         Table {
             slots: Slab::new(alloc),
             keys: BTreeMap::new(alloc),
+            times: Times::new(),
+            alloc,
         }
     }
 
@@ -55,7 +59,7 @@ impl Table {
         requires { now ≤ 2 ^ 62 }
         ensures { result ≡ next_ready now self.now }
     {
-        soonest_in(&self.slots, &self.keys, now)
+        self.times.first_above(now as i64)
     }
 
     /// Puts a row behind the others.
@@ -64,10 +68,14 @@ impl Table {
         ensures ok { OnOk result (self.new ≡ self.old ++ row ∷ []) }
         ensures err { OnErr result (self.new ≡ self.old) }
     {
+        let place = Place::new(self.alloc)?;
         self.slots.reserve(1)?;
         let key = self.slots.insert_reserved(row);
         match self.keys.insert(row.id, key) {
-            Ok(_) => Ok(()),
+            Ok(_) => {
+                self.times.insert(place, (row.ready, row.id));
+                Ok(())
+            }
             Err(_) => {
                 let _ = self.slots.remove(key);
                 Err(AllocError)
@@ -83,7 +91,11 @@ impl Table {
         if let Some(key) = self.keys.get(&row.id) {
             let key = *key;
             if let Some(slot) = self.slots.get_mut(key) {
+                let before = slot.ready;
                 *slot = row;
+                if before != row.ready {
+                    self.times.change(row.id, before, row.ready);
+                }
             }
         }
     }
@@ -94,7 +106,9 @@ impl Table {
         ensures { self.new ≡ filter (λ r. not (has_id id r)) self.old }
     {
         if let Some(key) = self.keys.remove(&id) {
-            let _ = self.slots.try_remove(key);
+            if let Some(row) = self.slots.try_remove(key) {
+                self.times.remove((row.ready, id));
+            }
         }
     }
 }

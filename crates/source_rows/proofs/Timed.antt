@@ -1,0 +1,75 @@
+-- Rows in slots with their times beside them: what an edit of both leaves.
+use Rattle.std.proofs.Common.{◌≡◌, ℕ, ◌<◌, true, Some, List, [], ◌∷◌, ◌++◌, ap, sym, ◌∙◌, subst}
+use Rattle.std.specs.List.{AllByRecursion, list_any}
+use Rattle.std.specs.Map.{lookup}
+use Rattle.std.specs.Option.{option_map}
+use Rattle.std.specs.Ordering.{is_eq}
+use Rattle.slab.specs.Slab.{Slab, get, with_value}
+use Rattle.source_rows.specs.declared.row.Row.{Row}
+use Rattle.source_rows.specs.Inserted.{inserted, Rises}
+use Rattle.source_rows.specs.Rows.{row_of}
+use Rattle.source_rows.specs.Slots.{rows_at, IsTable, IsTimed}
+use Rattle.source_rows.specs.Times.{Time, time_cmp, is_sooner, without, time_of, in_time}
+use Rattle.source_rows.proofs.InTime.{rises_in_time, rises_rows_at, in_time-push, in_time-removed, in_time-changed, in_time-same, timed}
+use Rattle.source_rows.proofs.Slots.{at_id, at_key, row_is, looked, put_done, Left, Pushed, id_of}
+
+pub rises_times : (s : Slab Row) (es : List (ℕ × ℕ)) (ts : List Time) → IsTimed s es ts → Rises is_sooner ts
+rises_times s es ts h = rw h.times_are (rises_in_time (rows_at s es) (rises_rows_at s es h.table))
+
+-- the row in the slot that an id names
+pub in_slot : (s : Slab Row) (id key : ℕ) (r : Row) (es : List (ℕ × ℕ)) → IsTable s es → lookup (at_id id) es ≡ Some key → get s key ≡ Some r → (row_of id (rows_at s es) ≡ Some r) × (r.id ≡ id)
+in_slot s id key r es h l g =
+    (row_is s id es h.named ∙ (ap (at_key s) l ∙ g), some_nat r.id id (sym (ap (option_map id_of) g) ∙ looked s id key es h.named l))
+  where
+    some_nat : (a b : ℕ) → Some a ≡ Some b → a ≡ b
+    some_nat a b e = cc
+
+pub pushed_timed : (s t : Slab Row) (r : Row) (es fs : List (ℕ × ℕ)) (ts us : List Time) → IsTimed s es ts → Pushed t es fs (rows_at s es ++ r ∷ []) → AllByRecursion (λ q. q.id < r.id) (rows_at s es)
+    → us ≡ inserted is_sooner (r.ready, r.id) ts → IsTimed t fs us
+pushed_timed s t r es fs ts us h p above e = record {
+  table = p.table;
+  times_are = e ∙ (ap (inserted is_sooner (time_of r)) h.times_are ∙ (sym (in_time-push (rows_at s es) r above) ∙ ap in_time (sym p.rows_are)));
+}
+
+pub same_timed : (s t : Slab Row) (es fs : List (ℕ × ℕ)) (ts : List Time) → IsTimed s es ts → Pushed t es fs (rows_at s es) → IsTimed t fs ts
+same_timed s t es fs ts h p = record { table = p.table; times_are = h.times_are ∙ ap in_time (sym p.rows_are) }
+
+-- ---- a row put in the place of another
+
+pub there_timed : (s : Slab Row) (key id : ℕ) (old : Row) (es : List (ℕ × ℕ)) (ts : List Time) → IsTimed s es ts → lookup (at_id id) es ≡ Some key → get s key ≡ Some old → list_any (λ u. is_eq (time_cmp (old.ready, id) u)) ts ≡ true
+there_timed s key id old es ts h l g =
+    let w = in_slot s id key old es h.table l g in
+    ap (list_any (λ u. is_eq (time_cmp (old.ready, id) u))) h.times_are
+    ∙ subst (λ (n : ℕ). list_any (λ u. is_eq (time_cmp (old.ready, n) u)) (in_time (rows_at s es)) ≡ true) w.1 (timed id old (rows_at s es) w.0)
+
+pub put_timed : (s : Slab Row) (key : ℕ) (row old : Row) (es : List (ℕ × ℕ)) (ts us : List Time) → IsTimed s es ts → lookup (at_id row.id) es ≡ Some key → get s key ≡ Some old
+    → us ≡ inserted is_sooner (row.ready, row.id) (without (old.ready, row.id) ts) → IsTimed (with_value s key row) es us
+put_timed s key row old es ts us h l g e =
+    let w = in_slot s row.id key old es h.table l g in
+    let done = put_done s key row es h.table l in
+    let rising = rises_rows_at s es h.table in
+    let rest : without (old.ready, row.id) ts ≡ without (time_of old) (in_time (rows_at s es)) = ap (without (old.ready, row.id)) h.times_are ∙ ap (λ (n : ℕ). without (old.ready, n) (in_time (rows_at s es))) (sym w.1) in
+    record {
+      table = done.table;
+      times_are = e ∙ (ap (inserted is_sooner (time_of row)) rest ∙ (sym (in_time-changed row old (rows_at s es) rising w.0) ∙ ap in_time (sym done.rows_are)));
+    }
+
+pub kept_timed : (s : Slab Row) (key : ℕ) (row old : Row) (es : List (ℕ × ℕ)) (ts : List Time) → IsTimed s es ts → lookup (at_id row.id) es ≡ Some key → get s key ≡ Some old → old.ready ≡ row.ready → IsTimed (with_value s key row) es ts
+kept_timed s key row old es ts h l g e =
+    let w = in_slot s row.id key old es h.table l g in
+    let done = put_done s key row es h.table l in
+    record {
+      table = done.table;
+      times_are = h.times_are ∙ (sym (in_time-same row old (rows_at s es) (rises_rows_at s es h.table) w.0 e) ∙ ap in_time (sym done.rows_are));
+    }
+
+-- ---- a row taken away
+
+pub left_timed : (s t : Slab Row) (id key : ℕ) (r : Row) (es fs : List (ℕ × ℕ)) (ts us : List Time) → IsTimed s es ts → Left s t id es fs → lookup (at_id id) es ≡ Some key → get s key ≡ Some r → us ≡ without (r.ready, id) ts → IsTimed t fs us
+left_timed s t id key r es fs ts us h k l g e =
+    let w = in_slot s id key r es h.table l g in
+    let rest : without (r.ready, id) ts ≡ without (time_of r) (in_time (rows_at s es)) = ap (without (r.ready, id)) h.times_are ∙ ap (λ (n : ℕ). without (r.ready, n) (in_time (rows_at s es))) (sym w.1) in
+    record {
+      table = record { named = k.named; rising = k.rising };
+      times_are = e ∙ (rest ∙ (sym (in_time-removed id r (rows_at s es) (rises_rows_at s es h.table) w.0) ∙ ap in_time (sym k.rows_are)));
+    }

@@ -1,0 +1,286 @@
+//! Ready times in their order, in a search tree whose nodes are taken beforehand: so a time is changed without memory.
+ghost use Rattle.std.specs.Prelude.{◌≡◌, [], ◌∷◌, ◌++◌, true, is_some, IfSome, IfNone};
+ghost use Rattle.std.specs.List.{list_any};
+ghost use Rattle.std.specs.Ordering.{is_eq};
+ghost use Rattle.source_rows.specs.Inserted.{inserted, Rises};
+ghost use Rattle.source_rows.specs.Times.{time_cmp, is_sooner, without, first_above};
+ghost use Rattle.source_rows.specs.TimeTree.{times_in, is_fork, LosesRoot};
+
+use std::alloc::{AllocError, Global};
+use std::cmp::Ordering;
+use std::marker::Model;
+use std::mem;
+
+/// Ready times, each beside the id of its row, seen as a list. The tree is balanced: no time stands deep in it.
+#[cycle(times)]
+#[derive(Drop)]
+pub(crate) struct Times {
+    node: Node,
+}
+
+/// What is sooner, a time, how high the tree is from here, and what is later.
+#[cycle(times)]
+#[derive(Drop)]
+enum Node {
+    Leaf,
+    Fork(Box<Times>, (i64, u64), u8, Box<Times>),
+}
+
+/// Room for one time.
+#[derive(Drop)]
+pub(crate) struct Place {
+    sooner: Box<Times>,
+    later: Box<Times>,
+}
+
+impl Model for Times {
+    ghost use Rattle.std.specs.Prelude.{List, length};
+    ghost use Rattle.source_rows.specs.Times.{Time};
+
+    ghost Value = { List Time };
+
+    ghost use Rattle.source_rows.specs.TimeTree.{times_in};
+
+    ghost view = { λ a. times_in a.node };
+
+    ghost size = { length };
+
+    ghost use Rattle.std.proofs.Common.{arith, length-append};
+
+    ghost size_decreases = { λ a h. Prim.grind (arith, length-append) };
+}
+
+impl Place {
+    pub fn new(alloc: Global) -> Result<Place, AllocError> {
+        let sooner = Box::new(alloc, Times::new())?;
+        let later = Box::new(alloc, Times::new())?;
+        Ok(Place { sooner, later })
+    }
+
+    /// A node with a time and nothing else.
+    fn fill(mut self, time: (i64, u64)) -> Node
+        ensures { times_in result ≡ time ∷ [] }
+    {
+        *self.sooner = Times::new();
+        *self.later = Times::new();
+        Node::Fork(self.sooner, time, 1, self.later)
+    }
+}
+
+impl Times {
+    pub fn new() -> Times
+        ensures { result ≡ [] }
+    {
+        Times { node: Node::Leaf }
+    }
+
+    fn height(&self) -> u8 {
+        match self.node {
+            Node::Leaf => 0,
+            Node::Fork(_, _, height, _) => height,
+        }
+    }
+
+    /// Puts a time into a place.
+    pub fn insert(&mut self, place: Place, time: (i64, u64))
+        requires { Rises is_sooner self.old }
+        ensures { self.new ≡ inserted is_sooner time self.old }
+    {
+        match &mut self.node {
+            Node::Leaf => {
+                self.node = place.fill(time);
+                return;
+            }
+            Node::Fork(sooner, other, _, later) => {
+                if time < *other {
+                    sooner.insert(place, time);
+                } else {
+                    later.insert(place, time);
+                }
+            }
+        }
+        balance(&mut self.node);
+    }
+
+    /// Takes the first time out, with its place.
+    fn remove_first(&mut self) -> Option<((i64, u64), Place)>
+        ensures some { IfSome result (λ f. self.old ≡ f.0 ∷ self.new) }
+        ensures none { IfNone result (self.old ≡ []) }
+    {
+        match &mut self.node {
+            Node::Leaf => return None,
+            Node::Fork(sooner, _, _, _) => {
+                if let Some(first) = sooner.remove_first() {
+                    balance(&mut self.node);
+                    return Some(first);
+                }
+            }
+        }
+        match mem::replace(&mut self.node, Node::Leaf) {
+            Node::Leaf => None,
+            Node::Fork(sooner, time, _, mut later) => {
+                self.node = mem::replace(&mut *later, Times::new()).node;
+                Some((time, Place { sooner, later }))
+            }
+        }
+    }
+
+    /// Takes a time out, with its place; None where it isn't there.
+    fn take(&mut self, time: (i64, u64)) -> Option<Place>
+        requires { Rises is_sooner self.old }
+        ensures there { is_some result ≡ list_any (λ u. is_eq (time_cmp time u)) self.old }
+        ensures times { self.new ≡ without time self.old }
+    {
+        let place = match &mut self.node {
+            Node::Leaf => return None,
+            Node::Fork(sooner, other, _, later) => match time.cmp(other) {
+                Ordering::Less => sooner.take(time),
+                Ordering::Greater => later.take(time),
+                Ordering::Equal => remove_root(&mut self.node),
+            },
+        };
+        balance(&mut self.node);
+        place
+    }
+
+    /// Gives a time up, and its place.
+    pub fn remove(&mut self, time: (i64, u64))
+        requires { Rises is_sooner self.old }
+        ensures { self.new ≡ without time self.old }
+    {
+        drop(self.take(time));
+    }
+
+    /// Gives a row another time, in the place of the one that it has.
+    pub fn change(&mut self, id: u64, before: i64, after: i64)
+        requires rises { Rises is_sooner self.old }
+        requires there { list_any (λ u. is_eq (time_cmp (before, id) u)) self.old ≡ true }
+        ensures { self.new ≡ inserted is_sooner (after, id) (without (before, id) self.old) }
+    {
+        if let Some(place) = self.take((before, id)) {
+            self.insert(place, (after, id));
+        }
+    }
+
+    /// The first time above `now`.
+    pub fn first_above(&self, now: i64) -> Option<i64>
+        requires { Rises is_sooner self.now }
+        ensures { result ≡ first_above now self.now }
+    {
+        match &self.node {
+            Node::Leaf => None,
+            Node::Fork(sooner, time, _, later) => {
+                if time.0 <= now {
+                    return later.first_above(now);
+                }
+                match sooner.first_above(now) {
+                    None => Some(time.0),
+                    first => first,
+                }
+            }
+        }
+    }
+}
+
+/// Takes the time out that stands at the root, with its place.
+fn remove_root(node: &mut Node) -> Option<Place>
+    ensures place { is_some result ≡ is_fork node.old }
+    ensures times { LosesRoot node.old node.new }
+{
+    match mem::replace(node, Node::Leaf) {
+        Node::Leaf => None,
+        Node::Fork(mut sooner, _, _, mut later) => match later.remove_first() {
+            Some((next, place)) => {
+                *node = fork(sooner, next, later);
+                Some(place)
+            }
+            None => {
+                *node = mem::replace(&mut *sooner, Times::new()).node;
+                Some(Place { sooner, later })
+            }
+        },
+    }
+}
+
+/// A node over two sides that differ in height by at most one.
+fn fork(sooner: Box<Times>, time: (i64, u64), later: Box<Times>) -> Node
+    ensures { times_in result ≡ sooner.value ++ time ∷ later.value }
+{
+    let height = sooner.height().max(later.height()).saturating_add(1);
+    Node::Fork(sooner, time, height, later)
+}
+
+/// Brings a node back into balance after a change of one side.
+fn balance(node: &mut Node)
+    ensures { times_in node.new ≡ times_in node.old }
+{
+    *node = match mem::replace(node, Node::Leaf) {
+        Node::Leaf => Node::Leaf,
+        Node::Fork(sooner, time, _, later) => balanced(sooner, time, later),
+    };
+}
+
+/// A node over two sides that differ in height by at most two.
+fn balanced(sooner: Box<Times>, time: (i64, u64), later: Box<Times>) -> Node
+    ensures { times_in result ≡ sooner.value ++ time ∷ later.value }
+{
+    if sooner.height() > later.height().saturating_add(1) {
+        lift_sooner(sooner, time, later)
+    } else if later.height() > sooner.height().saturating_add(1) {
+        lift_later(sooner, time, later)
+    } else {
+        fork(sooner, time, later)
+    }
+}
+
+/// A node over two sides of which the sooner is the higher by two.
+fn lift_sooner(mut sooner: Box<Times>, time: (i64, u64), later: Box<Times>) -> Node
+    ensures { times_in result ≡ sooner.value ++ time ∷ later.value }
+{
+    match mem::replace(&mut *sooner, Times::new()).node {
+        Node::Leaf => fork(sooner, time, later),
+        Node::Fork(first, low, _, mut inner) => {
+            if first.height() >= inner.height() {
+                sooner.node = fork(inner, time, later);
+                return fork(first, low, sooner);
+            }
+            match mem::replace(&mut *inner, Times::new()).node {
+                Node::Leaf => {
+                    sooner.node = fork(inner, time, later);
+                    fork(first, low, sooner)
+                }
+                Node::Fork(before, middle, _, after) => {
+                    inner.node = fork(first, low, before);
+                    sooner.node = fork(after, time, later);
+                    fork(inner, middle, sooner)
+                }
+            }
+        }
+    }
+}
+
+/// A node over two sides of which the later is the higher by two.
+fn lift_later(sooner: Box<Times>, time: (i64, u64), mut later: Box<Times>) -> Node
+    ensures { times_in result ≡ sooner.value ++ time ∷ later.value }
+{
+    match mem::replace(&mut *later, Times::new()).node {
+        Node::Leaf => fork(sooner, time, later),
+        Node::Fork(mut inner, high, _, last) => {
+            if last.height() >= inner.height() {
+                later.node = fork(sooner, time, inner);
+                return fork(later, high, last);
+            }
+            match mem::replace(&mut *inner, Times::new()).node {
+                Node::Leaf => {
+                    later.node = fork(sooner, time, inner);
+                    fork(later, high, last)
+                }
+                Node::Fork(before, middle, _, after) => {
+                    later.node = fork(sooner, time, before);
+                    inner.node = fork(after, high, last);
+                    fork(later, middle, inner)
+                }
+            }
+        }
+    }
+}
