@@ -202,3 +202,28 @@ fn random_edits(rt: HostRuntime) -> Result<(), Fail> {
     }
     Ok(())
 }
+
+/// Ready times that come one behind the other, that are changed from the first on, and that go from the first on, stand in
+/// a low tree: in a balanced one of 2,000 at most 15 are above each other, in one of 100 at most 9.
+#[test]
+fn low_tree(rt: HostRuntime) -> Result<(), Fail> {
+    let mut rows = Tried::new(rt.alloc(), Levels::Two);
+    for now in 0..2_000_u32 {
+        assert_eq!(rt; rows.attach(timeout(), now), Ok(now as u64 + 1));
+    }
+    assert!(rt; rows.rows.height() <= 15, "low when built");
+    for id in 1..=1_000_u64 {
+        assert!(rt; rows.set_ready(id, 5_000 + id as i64), "a row");
+    }
+    assert!(rt; rows.rows.height() <= 15, "low when changed");
+    assert_eq!(rt; rows.next_ready(0), 3_000);
+    for id in 1_001..=2_000_u64 {
+        assert!(rt; rows.destroy(id), "a row");
+    }
+    for id in 101..=1_000_u64 {
+        assert!(rt; rows.destroy(id), "a row");
+    }
+    assert!(rt; rows.rows.height() <= 9, "low when most are gone");
+    assert_eq!(rt; rows.next_ready(0), 5_001);
+    Ok(())
+}

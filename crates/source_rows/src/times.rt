@@ -74,7 +74,8 @@ impl Times {
         Times { node: Node::Leaf }
     }
 
-    fn height(&self) -> u8 {
+    /// How many times stand above each other at most.
+    pub fn height(&self) -> u8 {
         match self.node {
             Node::Leaf => 0,
             Node::Fork(_, _, height, _) => height,
