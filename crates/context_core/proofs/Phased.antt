@@ -36,7 +36,7 @@ asked_more least busy r rs it list now all i e n s h =
     ∙ (asked_by least busy r rs list i (is_asked least busy r) e ∙ (ap (λ (l : List Row). list ++ map interest_of (filter (is_asked least busy) l)) (sym s) ∙ h))
 
 -- a level handed in
-handed_none : (rs : List Row) → handed rs [] ≡ []
+pub handed_none : (rs : List Row) → handed rs [] ≡ []
 handed_none [] = refl
 handed_none (r ∷ rs) = refl
 

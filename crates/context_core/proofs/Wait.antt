@@ -1,7 +1,10 @@
 -- The least ready time above now, whatever the order of the rows.
-use Rattle.std.proofs.Common.{◌≡◌, ℕ, Bool, true, false, cond, ℤ, pos, Option, Some, None, List, [], ◌∷◌, filter, refl, ap, sym, ◌∙◌, arith}
+use Rattle.std.proofs.Common.{◌≡◌, ℕ, ◌==◌, Bool, true, false, not, length, cond, ℤ, pos, Option, Some, None, List, [], ◌∷◌, filter, refl, ap, sym, ◌∙◌, arith}
 use Rattle.std.proofs.lemmas.Int.{ints}
-use Rattle.std.specs.Prelude.{int_lt}
+use Rattle.std.proofs.lemmas.Bool.Decides.{nat_tests}
+use Rattle.std.specs.Prelude.{int_lt, IfSome, IsTrue}
+use Rattle.std.specs.List.{list_any}
+use Rattle.context_core.specs.Ready.{is_free}
 use Rattle.source_rows.specs.declared.row.Row.{Row}
 use Rattle.source_rows.specs.Rows.{in_order, placed, stands_before, sooner, next_ready}
 
@@ -88,3 +91,30 @@ pub next_in_order : (now : ℕ) (p : Row → Bool) (rows : List Row) → next_re
 next_in_order now p [] = refl
 next_in_order now p (r ∷ rows) =
     next_placed now p r (in_order rows) ∙ (next_kept now p r (in_order rows) ∙ (ap (joined (kept p now r)) (next_in_order now p rows) ∙ sym (next_kept now p r rows)))
+
+-- ---- nothing in progress
+
+next_later_by : (now : ℕ) (r : Row) (o : Option ℤ) (b : Bool) → int_lt (pos now) r.ready ≡ b → IfSome o (λ t. IsTrue (int_lt (pos now) t)) → IfSome (cond b (Some (sooner r.ready o)) o) (λ t. IsTrue (int_lt (pos now) t))
+next_later_by now r None true e ih = e
+next_later_by now r (Some u) true e ih = sooner_later (int_lt u r.ready)
+  where
+    sooner_later : (b : Bool) → int_lt (pos now) (cond b u r.ready) ≡ true
+    sooner_later true = ih
+    sooner_later false = e
+next_later_by now r o false e ih = ih
+
+pub next_later : (now : ℕ) (rows : List Row) → IfSome (next_ready now rows) (λ t. IsTrue (int_lt (pos now) t))
+next_later now [] = tt
+next_later now (r ∷ rows) = next_later_by now r (next_ready now rows) (int_lt (pos now) r.ready) refl (next_later now rows)
+
+not_blocked : (line : List ℕ) → list_any (λ id. list_any (λ b. b == id) []) line ≡ false
+not_blocked [] = refl
+not_blocked (id ∷ line) = not_blocked line
+
+pub all_free : (rows : List Row) → filter (is_free []) rows ≡ rows
+all_free [] = refl
+all_free (r ∷ rows) = ap (λ (b : Bool). cond (not b) (r ∷ filter (is_free []) rows) (filter (is_free []) rows)) (not_blocked r.line) ∙ ap (λ (rs : List Row). r ∷ rs) (all_free rows)
+
+pub none_if : (xs : List ℕ) → (length xs == 0) ≡ true → xs ≡ []
+none_if [] e = refl
+none_if (x ∷ xs) e = grind (arith, nat_tests, e)

@@ -53,6 +53,9 @@ impl Context {
         requires { now ≤ 2 ^ 62 }
         ensures { result ≡ ms_until now (next_ready now (filter (is_free busy.now) self.now.rows.rows)) }
     {
+        if busy.is_empty() {
+            return ms_until(now, self.rows.next_ready(now));
+        }
         let mut least = None;
         'rows: for row in self.rows.in_order() {
             if is_free(&row, busy) {
@@ -112,6 +115,9 @@ impl Context {
         ensures { IfOk result (λ list. list.items ≡ handed (asked_rows least busy.now self.now.rows.rows) levels.now) }
     {
         let mut list = Vec::new(alloc);
+        if levels.is_empty() {
+            return Ok(list);
+        }
         'rows: for row in self.rows.in_order() {
             if let Some(interest) = interest(&row, least, busy) {
                 if let Some(level) = level_at(levels, list.len()) {
@@ -201,13 +207,17 @@ fn is_lent(row: &Row, lent: &BTreeSet<u64>, busy: &[u64]) -> bool
     is_free(row, busy) && lent.contains(&row.id)
 }
 
-/// Puts the ids of a line into a set.
+/// Puts the ids of a line into a set. A line is filled up with its last id, which is put in once.
 fn lend(ids: &mut BTreeSet<u64>, line: &[u64]) -> Result<(), AllocError>
     ensures { OnOk result ((id : ℕ) → contains nat_cmp ids.new id ≡ (list_any (λ i. i == id) line.now || contains nat_cmp ids.old id)) }
 {
+    let mut last = None;
     for id in line {
-        if ids.insert(*id).is_err() {
-            return Err(AllocError);
+        if last != Some(*id) {
+            if ids.insert(*id).is_err() {
+                return Err(AllocError);
+            }
+            last = Some(*id);
         }
     }
     Ok(())

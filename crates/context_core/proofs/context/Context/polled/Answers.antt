@@ -1,6 +1,8 @@
-use Rattle.std.proofs.Common.{◌≡◌, length, sym, ap, ◌∙◌, rules}
+use Rattle.std.proofs.Common.{◌≡◌, ◌==◌, true, length, sym, ap, ◌∙◌, rules}
 use Rattle.std.specs.Prelude.{slice_get}
-use Rattle.context_core.proofs.Phased.{handed_more, handed_over}
+use Rattle.context_core.specs.Phases.{asked_rows, handed}
+use Rattle.context_core.proofs.Phased.{handed_more, handed_over, handed_none}
+use Rattle.context_core.proofs.Wait.{none_if}
 use Rattle.context_core.proofs.context.Context.polled.Goals as goal
 
 pub rows-preserved-in-Continue-1 : goal.rows-preserved-in-Continue-1
@@ -12,3 +14,9 @@ pub rows-preserved-in_default-level_at : goal.rows-preserved-in_default-level_at
 rows-preserved-in_default-level_at c =
     let n : c.len.result ≡ length c.rows.list.items = search rules in
     handed_over c.args.least c.args.busy.now c.args.levels.now c.next.new.self c.rows.row-iterator c.rows.list.items _ (sym (c.in_default-level_at.ensures ∙ ap (slice_get c.args.levels.now) n)) c.rows.invariant
+
+pub returns-then-is_empty : goal.returns-then-is_empty
+returns-then-is_empty c =
+    let zero : (length c.args.levels.now == 0) ≡ true = search rules in
+    let none = none_if c.args.levels.now zero in
+    c.new-list.ensures.items ∙ (sym (handed_none (asked_rows c.args.least c.args.busy.now c.args.self.now.rows.rows)) ∙ ap (handed (asked_rows c.args.least c.args.busy.now c.args.self.now.rows.rows)) (sym none))
