@@ -128,6 +128,7 @@ impl Rows {
         ensures allowed { OnOk result (child_fault self.old.levels (row_of parent self.old.rows) ≡ None) }
         ensures err { OnErr result (self.new ≡ self.old) }
         ensures fault { IfErr result (λ e. (e ≡ RowsFault.OutOfMemory) ⊎ (child_fault self.old.levels (row_of parent self.old.rows) ≡ Some e)) }
+        ensures memory { IfErr result (λ e. e ≡ RowsFault.OutOfMemory → child_fault self.old.levels (row_of parent self.old.rows) ≡ None) }
     {
         match self.row(parent) {
             None => Err(RowsFault::NoSource),
@@ -172,6 +173,7 @@ impl Rows {
         ensures allowed { OnOk result (priority_fault (row_of id self.old.rows) ≡ None) }
         ensures err { OnErr result (self.new ≡ self.old) }
         ensures fault { IfErr result (λ e. (e ≡ RowsFault.OutOfMemory) ⊎ (priority_fault (row_of id self.old.rows) ≡ Some e)) }
+        ensures memory { IfErr result (λ e. e ≡ RowsFault.OutOfMemory → priority_fault (row_of id self.old.rows) ≡ None) }
     {
         match self.row(id) {
             None => Err(RowsFault::NoSource),
