@@ -17,3 +17,4 @@ pub mod Moved
 pub mod Band
 pub mod TreeMoves
 pub mod ReadyTimes
+pub mod Inserted
