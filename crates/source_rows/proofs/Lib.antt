@@ -18,3 +18,4 @@ pub mod Band
 pub mod TreeMoves
 pub mod ReadyTimes
 pub mod Inserted
+pub mod Times
