@@ -19,3 +19,4 @@ pub mod TreeMoves
 pub mod ReadyTimes
 pub mod Inserted
 pub mod Times
+pub mod InTime

@@ -26,7 +26,7 @@ tests id n = by_test (at_id id n) refl
     by_test false e = grind (arith, nat_tests)
 
 -- what an id names
-named_by : (o : Option Row) (n : ℕ) → option_map id_of o ≡ Some n → (r : Row) × (o ≡ Some r) × (r.id ≡ n)
+pub named_by : (o : Option Row) (n : ℕ) → option_map id_of o ≡ Some n → (r : Row) × (o ≡ Some r) × (r.id ≡ n)
 named_by None n e = let never : None ≡ Some n = e in cc
 named_by (Some r) n e = (r, refl, some_same r.id n e)
   where
