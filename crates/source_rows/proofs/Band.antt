@@ -22,7 +22,8 @@ use Rattle.source_rows.proofs.Kin.{Shares, IsPath, Kin}
 use Rattle.source_rows.specs.InOrder.{rows_of}
 use Rattle.source_rows.specs.Moves.{with_each, moved_row}
 use Rattle.source_rows.specs.Band.{first_key, last_key}
-use Rattle.source_rows.proofs.Order.{all_in_order, all_filter, in_order-filter}
+use Rattle.source_rows.proofs.Lists.{all_filter}
+use Rattle.source_rows.proofs.Order.{all_in_order, in_order-filter}
 use Rattle.source_rows.proofs.Placing.{all_of, all_both, passed_all}
 use Rattle.source_rows.proofs.Moved.{is_moved}
 

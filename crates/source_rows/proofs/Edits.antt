@@ -5,7 +5,7 @@ use Rattle.source_rows.specs.declared.row.Row.{Row}
 use Rattle.source_rows.specs.Row.{line_under, path_under, root_line, root_path}
 use Rattle.source_rows.specs.Rows.{Key, key_of, row_of, is_under}
 use Rattle.source_rows.specs.Tree.{IdsRise, OrdersDiffer, IsRoot, IsChildOf, HasPlace, IsForest}
-use Rattle.source_rows.proofs.Order.{all_filter}
+use Rattle.source_rows.proofs.Lists.{all_filter}
 use Rattle.source_rows.proofs.Forest.{InForest, members, shaped, all_push, all_of, found, under_up, under_down, under_root, each}
 
 -- ---- a new row

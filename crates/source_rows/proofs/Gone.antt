@@ -7,7 +7,8 @@ use Rattle.source_rows.specs.Rows.{Key, key_cmp, key_of, row_of, is_under, stand
 use Rattle.source_rows.specs.Tree.{IsForest}
 use Rattle.source_rows.specs.Kept.{entry_of, IsBelow, IsSound, IsKept}
 use Rattle.source_rows.specs.Removal.{StandNear}
-use Rattle.source_rows.proofs.Order.{key_total, all_filter}
+use Rattle.source_rows.proofs.Lists.{all_filter}
+use Rattle.source_rows.proofs.Order.{key_total}
 use Rattle.source_rows.proofs.Forest.{InForest, members, all_of, found}
 use Rattle.source_rows.proofs.Edits.{rise_filter, forest_filter, under_some}
 use Rattle.source_rows.proofs.Post.{back_by, flip_by, children_first, together}

@@ -1,3 +1,4 @@
+pub mod Lists
 pub mod Order
 pub mod Forest
 pub mod Edits

@@ -11,7 +11,8 @@ use Rattle.source_rows.specs.Rows.{Key, key_cmp, key_of, stands_before, placed, 
 use Rattle.source_rows.specs.Order.{Apart}
 use Rattle.source_rows.specs.Kept.{entry_of, AllApart}
 use Rattle.source_rows.specs.Moves.{with_row, without_row, with_rows, without_rows, HavePlaces}
-use Rattle.source_rows.proofs.Order.{key_total, comm, all_placed, all_in_order, all_filter, in_order-filter}
+use Rattle.source_rows.proofs.Lists.{all_filter}
+use Rattle.source_rows.proofs.Order.{key_total, comm, all_placed, all_in_order, in_order-filter}
 use Rattle.source_rows.proofs.Kept.{entries-placed}
 
 -- ---- putting in and taking out, one by one

@@ -13,7 +13,8 @@ use Rattle.source_rows.specs.Tree.{IdsRise}
 use Rattle.source_rows.specs.Order.{Apart}
 use Rattle.source_rows.specs.Kept.{entry_of, AllApart}
 use Rattle.source_rows.specs.Removal.{IsIndexed, StandNear}
-use Rattle.source_rows.proofs.Order.{key_total, all_placed, all_in_order, all_filter, in_order-filter}
+use Rattle.source_rows.proofs.Lists.{all_filter}
+use Rattle.source_rows.proofs.Order.{key_total, all_placed, all_in_order, in_order-filter}
 use Rattle.source_rows.proofs.Forest.{all_of, all_found, all_both, found, same_self, are_same, not_same}
 use Rattle.source_rows.proofs.Edits.{rise_filter}
 use Rattle.source_rows.proofs.Kept.{apart_flip, equal_not, found_id}
