@@ -1,8 +1,8 @@
 -- The part of an order where a tree stands has the tree's rows and no others.
-use Rattle.std.proofs.Common.{◌≡◌, ℕ, ℤ, ◌<◌, ◌≤◌, ◌==◌, Bool, true, false, not, cond, ◌||◌, ◌&&◌, Option, Some, List, [], ◌∷◌, inl, inr, map, filter, refl, ap, sym, ◌∙◌, arith, subst}
+use Rattle.std.proofs.Common.{◌≡◌, ℕ, ℤ, ◌<◌, ◌≤◌, ◌==◌, Bool, true, false, not, cond, ◌||◌, ◌&&◌, Option, Some, List, [], ◌∷◌, inl, inr, map, map-id, filter, refl, ap, sym, ◌∙◌, arith, subst}
 use Rattle.std.proofs.lemmas.Bool.Decides.{eqb_tells, nat_tests}
 use Rattle.std.specs.Prelude.{slice_index}
-use Rattle.std.specs.List.{AllByRecursion, list_any, cons_option}
+use Rattle.std.specs.List.{AllByRecursion, list_any}
 use Rattle.std.specs.Option.{IsSome}
 use Rattle.std.specs.Map.{values_of}
 use Rattle.std.specs.declared.cmp.Ordering.{Ordering}
@@ -22,9 +22,11 @@ use Rattle.source_rows.proofs.Kin.{Shares, IsPath, Kin}
 use Rattle.source_rows.specs.InOrder.{rows_of}
 use Rattle.source_rows.specs.Moves.{with_each, moved_row}
 use Rattle.source_rows.specs.Band.{first_key, last_key}
-use Rattle.source_rows.proofs.Lists.{all_filter}
+use Rattle.source_rows.proofs.Lists.{all_of, all_both, all_true, all_passed, all_filter, each_with_each}
 use Rattle.source_rows.proofs.Order.{all_in_order, in_order-filter}
-use Rattle.source_rows.proofs.Placing.{all_of, all_both, passed_all}
+use Rattle.source_rows.proofs.Forest.{all_found}
+use Rattle.source_rows.proofs.Kept.{values_of-entries}
+use Rattle.source_rows.proofs.Listed.{same_rows}
 use Rattle.source_rows.proofs.Moved.{is_moved}
 
 -- ---- keys between two
@@ -132,28 +134,8 @@ between x n (r ∷ rows) h =
     between_by x r (entries_between key_cmp (Included (first_key x)) (Included (last_key x)) (map entry_of rows)) (filter (is_under x.id) rows)
     (contains_by x r n h.0 (contains x (key_of r)) (is_under x.id r) refl refl) (between x n rows h.1)
 
-ids_of : (rows : List Row) → values_of (map entry_of rows) ≡ map (λ (r : Row). r.id) rows
-ids_of [] = refl
-ids_of (r ∷ rows) = ap (λ (xs : List ℕ). r.id ∷ xs) (ids_of rows)
-
 same_test : (n : ℕ) → (n == n) ≡ true
 same_test n = elim (eqb_tells n n) [ inl t ↦ t.0 | inr f ↦ absurd (f.1 refl) ]
-
--- each row is the one of its id
-later : (r : Row) (rows qs : List Row) → AllByRecursion (λ q. r.id < q.id) qs → AllByRecursion (λ q. row_of q.id rows ≡ Some q) qs → AllByRecursion (λ q. row_of q.id (r ∷ rows) ≡ Some q) qs
-later r rows [] h k = tt
-later r rows (q ∷ qs) h k =
-    let less = h.0 in
-    let apart : (r.id == q.id) ≡ false = elim (eqb_tells r.id q.id) [ inl t ↦ absurd (omega (arith, t.1, less)) | inr f ↦ f.0 ] in
-    (ap (λ (b : Bool). cond b (Some r) (row_of q.id rows)) apart ∙ k.0, later r rows qs h.1 k.1)
-
-pub found_each : (rows : List Row) → IdsRise rows → AllByRecursion (λ q. row_of q.id rows ≡ Some q) rows
-found_each [] h = tt
-found_each (r ∷ rows) h = (ap (λ (b : Bool). cond b (Some r) (row_of r.id rows)) (same_test r.id), later r rows rows h.0 (found_each rows h.1))
-
-named_each : (rows qs : List Row) → AllByRecursion (λ q. row_of q.id rows ≡ Some q) qs → rows_of rows (map (λ (r : Row). r.id) qs) ≡ qs
-named_each rows [] h = refl
-named_each rows (q ∷ qs) h = ap (λ (o : Option Row). cons_option o (rows_of rows (map (λ (r : Row). r.id) qs))) h.0 ∙ ap (λ (xs : List Row). q ∷ xs) (named_each rows qs h.1)
 
 among : (P : Row → Type 0) (p : Row → Bool) (rows : List Row) → AllByRecursion P rows → AllByRecursion P (filter p (in_order rows))
 among P p rows h = all_filter P p (in_order rows) (all_in_order P rows h)
@@ -164,20 +146,16 @@ pub picked : (x : Row) (n : ℕ) (rows : List Row) → IdsRise rows → AllByRec
 picked x n rows r k =
     let tree : List Row = filter (is_under x.id) (in_order rows) in
     ap (λ (es : List (Key × ℕ)). rows_of rows (values_of es)) (between x n (in_order rows) (all_in_order (Kin x n) rows k))
-    ∙ (ap (rows_of rows) (ids_of tree) ∙ named_each rows tree (among (λ q. row_of q.id rows ≡ Some q) (is_under x.id) rows (found_each rows r)))
+    ∙ (ap (rows_of rows) (values_of-entries tree) ∙ same_rows rows tree (among (λ q. row_of q.id rows ≡ Some q) (is_under x.id) rows (all_found rows r)))
 
 -- the tree, row by row
 moved_each : (id : ℕ) (z : ℤ) (n : ℕ) (rows : List Row) → AllByRecursion (λ r. is_under id r ≡ true) rows → map (moved_row id z n) rows ≡ map (moved id z n) rows
 moved_each id z n [] h = refl
 moved_each id z n (r ∷ rows) h = ap (λ (q : Row). q ∷ map (moved_row id z n) rows) (sym (is_moved id z n r h.0)) ∙ ap (λ (xs : List Row). moved id z n r ∷ xs) (moved_each id z n rows h.1)
 
-all_true : (rows : List Row) (P : Row → Type 0) → ((r : Row) → P r) → AllByRecursion P rows
-all_true [] P f = tt
-all_true (r ∷ rows) P f = (f r, all_true rows P f)
-
 pub moved_tree : (id : ℕ) (z : ℤ) (n : ℕ) (rows : List Row) → map (moved_row id z n) (filter (is_under id) (in_order rows)) ≡ map (moved id z n) (filter (is_under id) (in_order rows))
 moved_tree id z n rows =
-    moved_each id z n (filter (is_under id) (in_order rows)) (passed_all (is_under id) (λ r. is_under id r ≡ true) (in_order rows) (all_true (in_order rows) (λ r. is_under id r ≡ true → is_under id r ≡ true) (λ r e. e)))
+    moved_each id z n (filter (is_under id) (in_order rows)) (all_passed (λ r. is_under id r ≡ is_under id r) (λ r. is_under id r ≡ true) (is_under id) (λ r k e. e) (in_order rows) (all_true (λ r. is_under id r ≡ is_under id r) (λ r. refl) (in_order rows)))
 
 -- ---- the changed rows put into the table
 
@@ -187,7 +165,7 @@ some_each g h rows (q ∷ qs) k =
     (subst (λ (i : ℕ). IsSome (row_of i rows)) (sym (h q)) (subst (λ (o : Option Row). IsSome o) (sym k.0) refl), some_each g h rows qs k.1)
 
 pub tree_there : (p : Row → Bool) (g : Row → Row) → ((r : Row) → (g r).id ≡ r.id) → (rows : List Row) → IdsRise rows → AllByRecursion (λ r. IsSome (row_of r.id rows)) (map g (filter p (in_order rows)))
-tree_there p g h rows r = some_each g h rows (filter p (in_order rows)) (among (λ q. row_of q.id rows ≡ Some q) p rows (found_each rows r))
+tree_there p g h rows r = some_each g h rows (filter p (in_order rows)) (among (λ q. row_of q.id rows ≡ Some q) p rows (all_found rows r))
 
 abbrev last_of : List Row → Row → Row
 last_of [] q = q
@@ -197,12 +175,8 @@ map_twice : (f h : Row → Row) (rows : List Row) → map f (map h rows) ≡ map
 map_twice f h [] = refl
 map_twice f h (r ∷ rows) = ap (λ (xs : List Row). f (h r) ∷ xs) (map_twice f h rows)
 
-map_same : (rows : List Row) → rows ≡ map (λ (r : Row). r) rows
-map_same [] = refl
-map_same (r ∷ rows) = ap (λ (xs : List Row). r ∷ xs) (map_same rows)
-
 each_is : (ms rows : List Row) → with_each ms rows ≡ map (last_of ms) rows
-each_is [] rows = map_same rows
+each_is [] rows = sym (map-id rows)
 each_is (m ∷ ms) rows = each_is ms (changed m.id (λ _. m) rows) ∙ map_twice (last_of ms) (λ r. cond (has_id m.id r) m r) rows
 
 -- the rows have no other row of the id
@@ -235,17 +209,8 @@ gets_last g h q (t ∷ ts) o e =
         let same : t.id ≡ q.id = elim (eqb_tells t.id q.id) [ inl v ↦ v.1 | inr v ↦ let never = sym k ∙ v.0 in cc ] in
         elim (eqb_tells q.id (g t).id) [ inl v ↦ let never = sym f ∙ v.0 in cc | inr v ↦ absurd (v.1 (sym same ∙ sym (h t))) ]
 
-only_first : (r : Row) (rows : List Row) → AllByRecursion (λ q. r.id < q.id) rows → AllByRecursion (IsOnly r) rows
-only_first r [] h = tt
-only_first r (q ∷ rows) h = let less = h.0 in ((λ e. absurd (omega (arith, e, less))), only_first r rows h.1)
-
-only_later : (r : Row) (rows qs : List Row) → AllByRecursion (λ q. r.id < q.id) qs → AllByRecursion (λ q. AllByRecursion (IsOnly q) rows) qs → AllByRecursion (λ q. AllByRecursion (IsOnly q) (r ∷ rows)) qs
-only_later r rows [] h k = tt
-only_later r rows (q ∷ qs) h k = let less = h.0 in (((λ e. absurd (omega (arith, e, less))), k.0), only_later r rows qs h.1 k.1)
-
 only_each : (rows : List Row) → IdsRise rows → AllByRecursion (λ q. AllByRecursion (IsOnly q) rows) rows
-only_each [] h = tt
-only_each (r ∷ rows) h = (((λ e. refl), only_first r rows h.0), only_later r rows rows h.0 (only_each rows h.1))
+only_each rows h = each_with_each (λ r q. r.id < q.id) IsOnly (λ r e. refl) (λ r q less e. absurd (omega (arith, e, less))) (λ r q less e. absurd (omega (arith, e, less))) rows h
 
 -- a row that passes is in the tree
 any_placed_by : (f : Row → Bool) (r q : Row) (qs : List Row) → list_any f (placed r qs) ≡ (f r || list_any f qs) → (b : Bool) → list_any f (cond b (r ∷ q ∷ qs) (q ∷ placed r qs)) ≡ (f r || (f q || list_any f qs))

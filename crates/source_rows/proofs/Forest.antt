@@ -1,25 +1,14 @@
 -- What follows for rows that stand in trees.
-use Rattle.std.proofs.Common.{◌≡◌, ◌≢◌, ℕ, ◌<◌, ◌≤◌, ◌^◌, ◌==◌, zero, suc, cond, Bool, true, false, ◌||◌, Option, Some, None, List, [], ◌∷◌, ◌++◌, ◌⊎◌, inl, inr, refl, ap, sym, ◌∙◌, arith, subst}
+use Rattle.std.proofs.Common.{◌≡◌, ◌≢◌, ℕ, ◌<◌, ◌≤◌, ◌^◌, ◌==◌, zero, suc, cond, Bool, true, false, ◌||◌, Option, Some, None, List, [], ◌∷◌, ◌⊎◌, inl, inr, refl, ap, sym, ◌∙◌, arith, subst}
 use Rattle.std.proofs.lemmas.Bool.Decides.{eqb_tells}
 use Rattle.std.specs.List.{AllByRecursion, list_any}
 use Rattle.source_rows.specs.declared.row.Row.{Row}
 use Rattle.source_rows.specs.Row.{no_number, root_line, line_under, path_under}
 use Rattle.source_rows.specs.Rows.{row_of, is_under}
 use Rattle.source_rows.specs.Tree.{IdsRise, OrdersDiffer, IsRoot, IsChildOf, HasPlace, IsForest}
+use Rattle.source_rows.proofs.Lists.{each_with_each}
 
--- ---- lists of rows
-
-pub all_push : (P : Row → Type 0) (rows : List Row) (r : Row) → AllByRecursion P rows → P r → AllByRecursion P (rows ++ r ∷ [])
-all_push P [] r h k = (k, tt)
-all_push P (q ∷ rows) r h k = (h.0, all_push P rows r h.1 k)
-
-pub all_of : (P Q : Row → Type 0) → ((r : Row) → P r → Q r) → (rows : List Row) → AllByRecursion P rows → AllByRecursion Q rows
-all_of P Q f [] h = tt
-all_of P Q f (r ∷ rows) h = (f r h.0, all_of P Q f rows h.1)
-
-pub all_both : (P Q : Row → Type 0) (rows : List Row) → AllByRecursion P rows → AllByRecursion Q rows → AllByRecursion (λ r. P r × Q r) rows
-all_both P Q [] h k = tt
-all_both P Q (r ∷ rows) h k = ((h.0, k.0), all_both P Q rows h.1 k.1)
+-- ---- a row that is found
 
 pub same_self : (n : ℕ) → (n == n) ≡ true
 same_self n = elim (eqb_tells n n) [ inl t ↦ t.0 | inr f ↦ absurd (f.1 refl) ]
@@ -56,17 +45,8 @@ all_found (r ∷ rows) h = (rw (same_self r.id) refl, later_all r rows rows h.0 
 
 -- ---- an order number is one row's
 
-first_apart : (q : Row) (rows : List Row) → AllByRecursion (λ r. q.order ≢ r.order) rows → AllByRecursion (λ r. q.order ≡ r.order → q ≡ r) rows
-first_apart q [] h = tt
-first_apart q (r ∷ rows) h = (λ e. absurd (h.0 e), first_apart q rows h.1)
-
-rest_apart : (q : Row) (rows xs : List Row) → AllByRecursion (λ r. q.order ≢ r.order) xs → AllByRecursion (λ r. AllByRecursion (λ x. r.order ≡ x.order → r ≡ x) rows) xs → AllByRecursion (λ r. AllByRecursion (λ x. r.order ≡ x.order → r ≡ x) (q ∷ rows)) xs
-rest_apart q rows [] h k = tt
-rest_apart q rows (r ∷ xs) h k = ((λ e. absurd (h.0 (sym e)), k.0), rest_apart q rows xs h.1 k.1)
-
 pub one_order : (rows : List Row) → OrdersDiffer rows → AllByRecursion (λ r. AllByRecursion (λ x. r.order ≡ x.order → r ≡ x) rows) rows
-one_order [] h = tt
-one_order (r ∷ rows) h = ((λ e. refl, first_apart r rows h.0), rest_apart r rows rows h.0 (one_order rows h.1))
+one_order rows h = each_with_each (λ r x. r.order ≢ x.order) (λ r x. r.order ≡ x.order → r ≡ x) (λ r e. refl) (λ r x apart e. absurd (apart e)) (λ r x apart e. absurd (apart (sym e))) rows h
 
 -- ---- a row of a forest
 

@@ -15,11 +15,12 @@ use Rattle.source_rows.specs.Rows.{Key, key_cmp, key_of, stands_before, placed, 
 use Rattle.source_rows.specs.Row.{no_number, path_under, child_row}
 use Rattle.source_rows.specs.Order.{Apart}
 use Rattle.source_rows.specs.New.{IsNew}
-use Rattle.source_rows.specs.Kept.{entry_of, AllApart, IsBelow, IsSound, IsKept}
+use Rattle.source_rows.specs.Kept.{entry_of, IsBelow, IsSound, IsKept}
 use Rattle.source_rows.specs.Tree.{IdsRise, HasPlace}
-use Rattle.source_rows.proofs.Order.{key_total, all_in_order, in_order-push}
-use Rattle.source_rows.proofs.Forest.{all_push, same_self}
-use Rattle.source_rows.proofs.Edits.{Stays, all_map, rise_push, rise_map, forest_push, forest_map, numbers_more}
+use Rattle.source_rows.proofs.Lists.{all_of, all_push, all_map, pairs_push, pairs_map}
+use Rattle.source_rows.proofs.Order.{key_total, flip, all_in_order, in_order-push}
+use Rattle.source_rows.proofs.Forest.{same_self}
+use Rattle.source_rows.proofs.Edits.{Stays, rise_map, forest_push, forest_map, numbers_more}
 
 -- ---- paths with different numbers
 
@@ -75,22 +76,6 @@ entries-placed r (q ∷ qs) h = insert_by r q qs (key_cmp (key_of r) (key_of q))
 
 -- ---- a new row
 
-pub apart_flip : (a b : Row) → Apart a b → Apart b a
-apart_flip a b (inl h) = inr h
-apart_flip a b (inr h) = inl h
-
-apart_push : (rows : List Row) (r : Row) → AllApart rows → AllByRecursion (Apart r) rows → AllApart (rows ++ r ∷ [])
-apart_push [] r h k = (tt, tt)
-apart_push (q ∷ rows) r h k = (all_push (Apart q) rows r h.0 (apart_flip r q k.0), apart_push rows r h.1 k.1)
-
-below_more : (n : ℕ) (rows : List Row) → AllByRecursion (λ q. IsBelow n q.path) rows → AllByRecursion (λ q. IsBelow (n + 1) q.path) rows
-below_more n [] h = tt
-below_more n (q ∷ rows) h = (λ k a b. h.0 k (omega arith) b, below_more n rows h.1)
-
-ids_more : (n : ℕ) (rows : List Row) → AllByRecursion (λ q. q.id < n) rows → AllByRecursion (λ q. q.id < n + 1) rows
-ids_more n [] h = tt
-ids_more n (q ∷ rows) h = let less = h.0 in (omega (arith, less), ids_more n rows h.1)
-
 pub taken_back : (rows : List Row) (r : Row) → AllByRecursion (λ q. q.id < r.id) rows → filter (λ q. not (has_id r.id q)) (rows ++ r ∷ []) ≡ rows
 taken_back [] r h = rw (same_id r.id) refl
   where
@@ -106,11 +91,11 @@ sound-push rows i n r levels f s new is h order place =
     let few = s.few in
     let ids = subst (λ (m : ℕ). AllByRecursion (λ q. q.id < m) rows) (sym is) s.fresh in
     record {
-      below = all_push (λ q. IsBelow (n + 1) q.path) rows r (below_more n rows s.below) new.below;
-      rising = rise_push rows r s.rising ids;
-      apart = apart_push rows r s.apart (all_apart r n rows (omega (arith, f)) new.has s.below);
+      below = all_push (λ q. IsBelow (n + 1) q.path) rows r (all_of (λ q. IsBelow n q.path) (λ q. IsBelow (n + 1) q.path) (λ q h k a b. h k (omega arith) b) rows s.below) new.below;
+      rising = pairs_push (λ q x. q.id < x.id) rows r s.rising ids;
+      apart = pairs_push Apart rows r s.apart (all_of (Apart r) (λ q. Apart q r) (λ q a. flip r q a) rows (all_apart r n rows (omega (arith, f)) new.has s.below));
       within = all_push (λ q. q.level ≤ levels) rows r s.within h;
-      fresh = all_push (λ q. q.id < i + 1) rows r (ids_more i rows s.fresh) (omega (arith, is));
+      fresh = all_push (λ q. q.id < i + 1) rows r (all_of (λ q. q.id < i) (λ q. q.id < i + 1) (λ q less. omega (arith, less)) rows s.fresh) (omega (arith, is));
       some = s.some;
       few = s.few;
       numbered = all_push (λ q. q.order < n + 1) rows r (numbers_more n rows s.numbered) (omega (arith, order));
@@ -202,17 +187,13 @@ apart_map : (g : Row → Row) → Stays g → (r q : Row) → Apart r q → Apar
 apart_map g h r q (inl e) = inl (same_before g h r q ∙ e)
 apart_map g h r q (inr e) = inr (same_before g h q r ∙ e)
 
-apart_all : (g : Row → Row) → Stays g → (rows : List Row) → AllApart rows → AllApart (map g rows)
-apart_all g h [] a = tt
-apart_all g h (r ∷ rows) a = (all_map (Apart r) (Apart (g r)) g (λ q e. apart_map g h r q e) rows a.0, apart_all g h rows a.1)
-
 pub kept_map : (g : Row → Row) → Stays g → (rows : List Row) (es : List (Key × ℕ)) (i n l : ℕ) → IsKept rows es i n l → IsKept (map g rows) es i n l
 kept_map g h rows es i n l k = record {
   sound = record {
     below = all_map (λ r. IsBelow n r.path) (λ r. IsBelow n r.path) g (λ r b. subst (λ (key : Key). IsBelow n key.1) (sym (h.key r)) b) rows k.sound.below;
     fresh = all_map (λ r. r.id < i) (λ r. r.id < i) g (λ r less. let j = h.id r in omega arith) rows k.sound.fresh;
-    rising = rise_map g h rows k.sound.rising;
-    apart = apart_all g h rows k.sound.apart;
+    rising = rise_map g h.id rows k.sound.rising;
+    apart = pairs_map Apart Apart g (apart_map g h) rows k.sound.apart;
     within = all_map (λ r. r.level ≤ l) (λ r. r.level ≤ l) g (λ r less. let j = h.level r in omega arith) rows k.sound.within;
     numbered = all_map (λ r. r.order < n) (λ r. r.order < n) g (λ r less. let j = h.order r in omega arith) rows k.sound.numbered;
     numbers = k.sound.numbers;
@@ -287,7 +268,7 @@ put_one id x f h rows new r k e =
     let same : (f x).id ≡ id = h.id x ∙ found_id id x rows k in
     e ∙ (ap (λ (i : ℕ). changed i (λ _. f x) rows) same ∙ one_changed id x f rows r k)
 
-values_of-entries : (rows : List Row) → values_of (map entry_of rows) ≡ map (λ (r : Row). r.id) rows
+pub values_of-entries : (rows : List Row) → values_of (map entry_of rows) ≡ map (λ (r : Row). r.id) rows
 values_of-entries [] = refl
 values_of-entries (r ∷ rows) = ap (λ (xs : List ℕ). r.id ∷ xs) (values_of-entries rows)
 

@@ -7,7 +7,8 @@ use Rattle.source_rows.specs.Row.{no_number}
 use Rattle.source_rows.specs.Rows.{row_of, is_under}
 use Rattle.source_rows.specs.Tree.{IsForest, starts}
 use Rattle.source_rows.specs.Kept.{IsBelow}
-use Rattle.source_rows.proofs.Forest.{InForest, Shaped, members, shaped, found, all_of, all_both, same_self}
+use Rattle.source_rows.proofs.Lists.{all_of, all_and}
+use Rattle.source_rows.proofs.Forest.{InForest, Shaped, members, shaped, found, same_self}
 use Rattle.source_rows.proofs.Paths.{under, under_path, starts_last}
 
 abbrev pub Shares : Row → Row → Type 0
@@ -58,4 +59,4 @@ pub kins : (x : Row) (n : ℕ) (rows : List Row) → IsForest rows → row_of x.
 kins x n rows f is level below =
     let all = members rows f in
     let g = found (InForest rows) x.id x rows all is in
-    all_of (λ r. InForest rows r × IsBelow n r.path) (Kin x n) (λ r h. kin rows all x n g level r h.0 h.1) rows (all_both (InForest rows) (λ r. IsBelow n r.path) rows all below)
+    all_of (λ r. InForest rows r × IsBelow n r.path) (Kin x n) (λ r h. kin rows all x n g level r h.0 h.1) rows (all_and (InForest rows) (λ r. IsBelow n r.path) rows all below)

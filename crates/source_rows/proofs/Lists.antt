@@ -1,6 +1,6 @@
 -- What holds of all values of a list, and of any two of them.
-use Rattle.std.proofs.Common.{◌≡◌, Bool, true, false, cond, List, [], ◌∷◌, ◌++◌, map, filter, refl}
-use Rattle.std.specs.List.{AllByRecursion}
+use Rattle.std.proofs.Common.{◌≡◌, Bool, true, false, cond, Option, Some, None, List, [], ◌∷◌, ◌++◌, map, filter, refl}
+use Rattle.std.specs.List.{AllByRecursion, cons_option}
 use Rattle.source_rows.specs.Lists.{Pairs}
 
 -- ---- all
@@ -15,6 +15,10 @@ all_both P Q S f (x ∷ xs) h k = (f x h.0 k.0, all_both P Q S f xs h.1 k.1)
 
 pub all_and : {A : Type 0} (P Q : A → Type 0) (xs : List A) → AllByRecursion P xs → AllByRecursion Q xs → AllByRecursion (λ x. P x × Q x) xs
 all_and P Q xs h k = all_both P Q (λ x. P x × Q x) (λ x a b. (a, b)) xs h k
+
+-- what two have from what each has
+pub all_with : {A : Type 0} (S : A → A → Type 0) (K : A → Type 0) → ((x y : A) → K x → K y → S x y) → (ys xs : List A) → AllByRecursion K ys → AllByRecursion K xs → AllByRecursion (λ x. AllByRecursion (S x) ys) xs
+all_with S K f ys xs h k = all_of K (λ x. AllByRecursion (S x) ys) (λ x a. all_of K (S x) (λ y b. f x y a b) ys h) xs k
 
 pub all_true : {A : Type 0} (P : A → Type 0) → ((x : A) → P x) → (xs : List A) → AllByRecursion P xs
 all_true P f [] = tt
@@ -48,6 +52,12 @@ all_passed P Q p f (x ∷ xs) h = passed_by (p x) refl (all_passed P Q p f xs h.
 pub all_filter : {A : Type 0} (P : A → Type 0) (p : A → Bool) (xs : List A) → AllByRecursion P xs → AllByRecursion P (filter p xs)
 all_filter P p xs h = all_passed P P p (λ x k e. k) xs h
 
+-- ---- lists made of others
+
+pub cons_join : {A : Type 0} (o : Option A) (xs ys : List A) → cons_option o (xs ++ ys) ≡ cons_option o xs ++ ys
+cons_join None xs ys = refl
+cons_join (Some x) xs ys = refl
+
 -- ---- any two
 
 pub pairs_push : {A : Type 0} (R : A → A → Type 0) (xs : List A) (x : A) → Pairs R xs → AllByRecursion (λ y. R y x) xs → Pairs R (xs ++ x ∷ [])
@@ -70,3 +80,16 @@ pairs_filter R p (x ∷ xs) h = pairs_cons R x (filter p xs) (all_filter (R x) p
 pub pairs_with : {A : Type 0} (R S : A → A → Type 0) (K : A → Type 0) → ((x y : A) → K x → K y → R x y → S x y) → (xs : List A) → AllByRecursion K xs → Pairs R xs → Pairs S xs
 pairs_with R S K f [] k h = tt
 pairs_with R S K f (x ∷ xs) k h = (all_both K (R x) (S x) (λ y a b. f x y k.0 a b) xs k.1 h.0, pairs_with R S K f xs k.1 h.1)
+
+pub pairs_and : {A : Type 0} (R S : A → A → Type 0) (xs : List A) → Pairs R xs → Pairs S xs → Pairs (λ x y. R x y × S x y) xs
+pairs_and R S [] h k = tt
+pairs_and R S (x ∷ xs) h k = (all_and (R x) (S x) xs h.0 k.0, pairs_and R S xs h.1 k.1)
+
+-- each with each, in either order, from any two and from one with itself
+module _ {A : Type 0} (R S : A → A → Type 0) (itself : (x : A) → S x x) (one : (x y : A) → R x y → S x y) (other : (x y : A) → R x y → S y x) where
+  each_more : (x : A) (xs ys : List A) → AllByRecursion (R x) ys → AllByRecursion (λ y. AllByRecursion (S y) xs) ys → AllByRecursion (λ y. AllByRecursion (S y) (x ∷ xs)) ys
+  each_more x xs ys h k = all_both (R x) (λ y. AllByRecursion (S y) xs) (λ y. AllByRecursion (S y) (x ∷ xs)) (λ y r a. (other x y r, a)) ys h k
+
+  pub each_with_each : (xs : List A) → Pairs R xs → AllByRecursion (λ x. AllByRecursion (S x) xs) xs
+  each_with_each [] h = tt
+  each_with_each (x ∷ xs) h = ((itself x, all_of (R x) (S x) (one x) xs h.0), each_more x xs xs h.0 (each_with_each xs h.1))

@@ -8,11 +8,8 @@ use Rattle.source_rows.specs.declared.row.Row.{Row}
 use Rattle.source_rows.specs.Rows.{row_of, changed}
 use Rattle.source_rows.specs.InOrder.{rows_of}
 use Rattle.source_rows.specs.Moves.{with_each}
-use Rattle.source_rows.proofs.Placing.{no_row, all_of}
-
-cons_join : (o : Option Row) (xs ys : List Row) → cons_option o (xs ++ ys) ≡ cons_option o xs ++ ys
-cons_join None xs ys = refl
-cons_join (Some r) xs ys = refl
+use Rattle.source_rows.proofs.Lists.{all_of, cons_join}
+use Rattle.source_rows.proofs.Placing.{no_row}
 
 -- one more id
 pub named_push : {A : Type 0} (f : A → ℕ) (table : List Row) (xs : List A) (x : A) → rows_of table (map f (xs ++ x ∷ [])) ≡ rows_of table (map f xs) ++ cons_option (row_of (f x) table) []

@@ -1,5 +1,5 @@
 -- Many rows put into an order and taken out again.
-use Rattle.std.proofs.Common.{◌≡◌, ℕ, ◌<◌, ◌≤◌, ◌+◌, ◌-◌, pos, None, length, get_or, arith, Bool, true, false, not, zero, suc, cond, List, [], ◌∷◌, ◌++◌, inl, inr, map, filter, take, refl, ap, sym, ◌∙◌, subst}
+use Rattle.std.proofs.Common.{◌≡◌, ℕ, ◌<◌, ◌≤◌, ◌+◌, ◌-◌, pos, None, length, get_or, arith, Bool, true, false, not, zero, suc, cond, List, [], ◌∷◌, ◌++◌, inl, inr, map, filter, take, map-id, refl, ap, sym, ◌∙◌, subst}
 use Rattle.std.proofs.lemmas.List.{take_more}
 use Rattle.std.specs.List.{AllByRecursion}
 use Rattle.loop_script.specs.declared.Kind.TheVariants.{Idle}
@@ -9,10 +9,11 @@ use Rattle.std.specs.Ordering.{is_lt, is_eq, ordering_reverse}
 use Rattle.source_rows.specs.declared.row.Row.{Row}
 use Rattle.source_rows.specs.Rows.{Key, key_cmp, key_of, stands_before, placed, in_order}
 use Rattle.source_rows.specs.Order.{Apart}
+use Rattle.source_rows.specs.Lists.{Pairs}
 use Rattle.source_rows.specs.Kept.{entry_of, AllApart}
 use Rattle.source_rows.specs.Moves.{with_row, without_row, with_rows, without_rows, HavePlaces}
-use Rattle.source_rows.proofs.Lists.{all_filter}
-use Rattle.source_rows.proofs.Order.{key_total, comm, all_placed, all_in_order, in_order-filter}
+use Rattle.source_rows.proofs.Lists.{all_of, all_both, all_map, all_passed, all_filter, pairs_map, pairs_filter}
+use Rattle.source_rows.proofs.Order.{key_total, flip, comm, all_placed, pairs_in_order, all_in_order, in_order-filter}
 use Rattle.source_rows.proofs.Kept.{entries-placed}
 
 -- ---- putting in and taking out, one by one
@@ -63,10 +64,6 @@ all_put (r ∷ rs) qs = all_put rs (placed r qs)
 -- every row of the one list stands apart from every one of the other
 abbrev pub AreApart : List Row → List Row → Type 0
 AreApart rs qs = AllByRecursion (λ r. AllByRecursion (Apart r) qs) rs
-
-pub flip : (a b : Row) → Apart a b → Apart b a
-flip a b (inl h) = inr h
-flip a b (inr h) = inl h
 
 apart_placed : (m : Row) (qs ms : List Row) → AllByRecursion (Apart m) ms → AreApart ms qs → AreApart ms (placed m qs)
 apart_placed m qs [] h k = tt
@@ -134,56 +131,6 @@ pub split : (p : Row → Bool) (rows : List Row) → AllApart rows → in_order 
 split p [] h = refl
 split p (r ∷ rows) h = split_by p r rows (all_filter (Apart r) p rows h.0) (split p rows h.1) (p r)
 
--- ---- pairs of rows
-
-abbrev pub Pairs : (Row → Row → Type 0) → List Row → Type 0
-Pairs R [] = Unit {0}
-Pairs R (r ∷ rs) = AllByRecursion (R r) rs × Pairs R rs
-
-pub all_of : (P Q : Row → Type 0) → ((r : Row) → P r → Q r) → (rows : List Row) → AllByRecursion P rows → AllByRecursion Q rows
-all_of P Q f [] h = tt
-all_of P Q f (r ∷ rows) h = (f r h.0, all_of P Q f rows h.1)
-
-pub all_both : (P Q S : Row → Type 0) → ((r : Row) → P r → Q r → S r) → (rows : List Row) → AllByRecursion P rows → AllByRecursion Q rows → AllByRecursion S rows
-all_both P Q S f [] h k = tt
-all_both P Q S f (r ∷ rows) h k = (f r h.0 k.0, all_both P Q S f rows h.1 k.1)
-
-pairs_placed_by : (R : Row → Row → Type 0) → ((a b : Row) → R a b → R b a) → (y z : Row) (zs : List Row) → AllByRecursion (R y) (z ∷ zs) → Pairs R (z ∷ zs) → Pairs R (placed y zs) → (b : Bool) → Pairs R (cond b (y ∷ z ∷ zs) (z ∷ placed y zs))
-pairs_placed_by R s y z zs h k ih true = (h, k)
-pairs_placed_by R s y z zs h k ih false = (all_placed (R z) y zs (s y z h.0) k.0, ih)
-
-pub pairs_placed : (R : Row → Row → Type 0) → ((a b : Row) → R a b → R b a) → (y : Row) (zs : List Row) → AllByRecursion (R y) zs → Pairs R zs → Pairs R (placed y zs)
-pairs_placed R s y [] h k = (tt, tt)
-pairs_placed R s y (z ∷ zs) h k = pairs_placed_by R s y z zs h k (pairs_placed R s y zs h.1 k.1) (stands_before y z)
-
-pub pairs_in_order : (R : Row → Row → Type 0) → ((a b : Row) → R a b → R b a) → (rows : List Row) → Pairs R rows → Pairs R (in_order rows)
-pairs_in_order R s [] k = tt
-pairs_in_order R s (r ∷ rows) k = pairs_placed R s r (in_order rows) (all_in_order (R r) rows k.0) (pairs_in_order R s rows k.1)
-
-pairs_filter_by : (R : Row → Row → Type 0) (r : Row) (qs : List Row) → AllByRecursion (R r) qs → Pairs R qs → (b : Bool) → Pairs R (cond b (r ∷ qs) qs)
-pairs_filter_by R r qs h k true = (h, k)
-pairs_filter_by R r qs h k false = k
-
-pub pairs_filter : (R : Row → Row → Type 0) (p : Row → Bool) (rows : List Row) → Pairs R rows → Pairs R (filter p rows)
-pairs_filter R p [] k = tt
-pairs_filter R p (r ∷ rows) k = pairs_filter_by R r (filter p rows) (all_filter (R r) p rows k.0) (pairs_filter R p rows k.1) (p r)
-
-pub all_mapped : (P : Row → Type 0) (g : Row → Row) (rows : List Row) → AllByRecursion (λ r. P (g r)) rows → AllByRecursion P (map g rows)
-all_mapped P g [] h = tt
-all_mapped P g (r ∷ rows) h = (h.0, all_mapped P g rows h.1)
-
-pub pairs_mapped : (g : Row → Row) (rows : List Row) → Pairs (λ r q. Apart (g r) (g q)) rows → AllApart (map g rows)
-pairs_mapped g [] h = tt
-pairs_mapped g (r ∷ rows) h = (all_mapped (Apart (g r)) g rows h.0, pairs_mapped g rows h.1)
-
-pub pairs_apart : (rows : List Row) → AllApart rows → Pairs Apart rows
-pairs_apart [] h = tt
-pairs_apart (r ∷ rows) h = (h.0, pairs_apart rows h.1)
-
-pub apart_pairs : (rows : List Row) → Pairs Apart rows → AllApart rows
-apart_pairs [] h = tt
-apart_pairs (r ∷ rows) h = (h.0, apart_pairs rows h.1)
-
 -- ---- rows put in their order, or as they come
 
 put_placed_by : (g : Row → Row) (y z : Row) (zs qs : List Row) → Apart (g y) (g z) → ((xs : List Row) → all_put (map g (placed y zs)) xs ≡ all_put (map g zs) (placed (g y) xs))
@@ -200,13 +147,9 @@ put_in_order g [] h qs = refl
 put_in_order g (y ∷ ys) h qs =
     put_placed g y (in_order ys) (all_in_order (λ z. Apart (g y) (g z)) ys h.0) qs ∙ put_in_order g ys h.1 (placed (g y) qs)
 
-map_same : (rows : List Row) → map (λ (r : Row). r) rows ≡ rows
-map_same [] = refl
-map_same (r ∷ rows) = ap (λ (xs : List Row). r ∷ xs) (map_same rows)
-
 pub put_as_they_stand : (ys qs : List Row) → Pairs Apart ys → all_put (in_order ys) qs ≡ all_put ys qs
 put_as_they_stand ys qs h =
-    sym (ap (λ (xs : List Row). all_put xs qs) (map_same (in_order ys))) ∙ (put_in_order (λ r. r) ys h qs ∙ ap (λ (xs : List Row). all_put xs qs) (map_same ys))
+    sym (ap (λ (xs : List Row). all_put xs qs) (map-id (in_order ys))) ∙ (put_in_order (λ r. r) ys h qs ∙ ap (λ (xs : List Row). all_put xs qs) (map-id ys))
 
 -- ---- the rows that pass a test, changed
 
@@ -236,14 +179,6 @@ staying : (p : Row → Bool) (g : Row → Row) → ((r : Row) → p (g r) ≡ p 
 staying p g e s [] = refl
 staying p g e s (r ∷ rows) = staying_by p g r (filter (λ q. not (p q)) (map g rows)) (filter (λ q. not (p q)) rows) (e r) (s r) (staying p g e s rows) (p r) refl
 
-passed_by : (P : Row → Type 0) (r : Row) (qs : List Row) (v b : Bool) → v ≡ b → (v ≡ true → P r) → AllByRecursion P qs → AllByRecursion P (cond b (r ∷ qs) qs)
-passed_by P r qs v true e h k = (h e, k)
-passed_by P r qs v false e h k = k
-
-pub passed_all : (p : Row → Bool) (P : Row → Type 0) (rows : List Row) → AllByRecursion (λ r. p r ≡ true → P r) rows → AllByRecursion P (filter p rows)
-passed_all p P [] h = tt
-passed_all p P (r ∷ rows) h = passed_by P r (filter p rows) (p r) (p r) refl h.0 (passed_all p P rows h.1)
-
 all_in : (P : Row → Row → Type 0) (p : Row → Bool) (rs qs : List Row) → AllByRecursion (λ r. AllByRecursion (λ q. p r ≡ true → P r q) qs) rs → AllByRecursion (λ r. p r ≡ true → AllByRecursion (P r) qs) rs
 all_in P p [] qs h = tt
 all_in P p (r ∷ rs) qs h = ((λ e. all_of (λ q. p r ≡ true → P r q) (P r) (λ q k. k e) qs h.0), all_in P p rs qs h.1)
@@ -253,14 +188,14 @@ pub changed_apart : (p : Row → Bool) (g : Row → Row) (rows : List Row) → C
 changed_apart p g rows h qs among =
     let far = all_in (λ r q. Apart (g r) q) p rows rows h.new in
     let moved = all_of (λ r. p r ≡ true → AllByRecursion (Apart (g r)) rows) (λ r. p r ≡ true → AllByRecursion (Apart (g r)) qs) (λ r k e. among (Apart (g r)) (k e)) rows far in
-    all_mapped (λ r. AllByRecursion (Apart r) qs) g (filter p (in_order rows)) (passed_all p (λ r. AllByRecursion (Apart (g r)) qs) (in_order rows) (all_in_order (λ r. p r ≡ true → AllByRecursion (Apart (g r)) qs) rows moved))
+    all_map (λ r. AllByRecursion (Apart (g r)) qs) (λ r. AllByRecursion (Apart r) qs) g (λ r k. k) (filter p (in_order rows)) (all_passed (λ r. p r ≡ true → AllByRecursion (Apart (g r)) qs) (λ r. AllByRecursion (Apart (g r)) qs) p (λ r k e. k e) (in_order rows) (all_in_order (λ r. p r ≡ true → AllByRecursion (Apart (g r)) qs) rows moved))
 
 changed_pairs : (g : Row → Row) (a b : Row) → Apart (g a) (g b) → Apart (g b) (g a)
 changed_pairs g a b h = flip (g a) (g b) h
 
 pub changed_each : (p : Row → Bool) (g : Row → Row) (rows : List Row) → Changes p g rows → AllApart (map g (filter p (in_order rows)))
 changed_each p g rows h =
-    pairs_mapped g (filter p (in_order rows)) (pairs_filter (λ r q. Apart (g r) (g q)) p (in_order rows) (pairs_in_order (λ r q. Apart (g r) (g q)) (changed_pairs g) rows h.changed))
+    pairs_map (λ r q. Apart (g r) (g q)) Apart g (λ r q k. k) (filter p (in_order rows)) (pairs_filter (λ r q. Apart (g r) (g q)) p (in_order rows) (pairs_in_order (λ r q. Apart (g r) (g q)) (changed_pairs g) rows h.changed))
 
 -- the changed rows have places in the order
 pub changed_places : (p : Row → Bool) (g : Row → Row) (rows : List Row) → Changes p g rows → HavePlaces (map g (filter p (in_order rows))) (map entry_of (in_order rows))
@@ -302,13 +237,13 @@ changed_entries p g rows h =
     let stands : tree ≡ in_order (filter p rows) = in_order-filter p rows in
     let apart = h.apart in
     let is : in_order rows ≡ all_put tree others =
-    split p rows (apart_pairs rows apart) ∙ (sym (put_as_they_stand (filter p rows) others (pairs_filter Apart p rows apart)) ∙ ap (λ (xs : List Row). all_put xs others) (sym stands)) in
+    split p rows apart ∙ (sym (put_as_they_stand (filter p rows) others (pairs_filter Apart p rows apart)) ∙ ap (λ (xs : List Row). all_put xs others) (sym stands)) in
     let new_old : AreApart moved tree = changed_apart p g rows h tree (λ P k. all_filter P p (in_order rows) (all_in_order P rows k)) in
     let new_all : AreApart moved (in_order rows) = changed_apart p g rows h (in_order rows) (λ P k. all_in_order P rows k) in
     let old_others : AreApart tree others =
     subst (λ (xs : List Row). AreApart xs others) (sym stands) (all_in_order (λ r. AllByRecursion (Apart r) others) (filter p rows)
     (all_of (λ r. AllByRecursion (Apart r) (filter (λ q. not (p q)) rows)) (λ r. AllByRecursion (Apart r) others) (λ r k. all_in_order (Apart r) (filter (λ q. not (p q)) rows) k) (filter p rows) (others_apart p rows apart))) in
-    let old_each : AllApart tree = apart_pairs tree (pairs_filter Apart p (in_order rows) (pairs_in_order Apart flip rows apart)) in
+    let old_each : AllApart tree = pairs_filter Apart p (in_order rows) (pairs_in_order Apart flip rows apart) in
     let old_new = apart_turned moved tree new_old in
     let old_apart : AreApart tree (all_put moved others) = all_both (λ r. AllByRecursion (Apart r) moved) (λ r. AllByRecursion (Apart r) others) (λ r. AllByRecursion (Apart r) (all_put moved others)) (λ r k m. all_put-all (Apart r) moved others k m) tree old_new old_others in
     let put : with_rows moved (map entry_of (in_order rows)) ≡ with_rows tree (map entry_of (all_put moved others)) =
@@ -318,7 +253,7 @@ changed_entries p g rows h =
     let left : without_rows tree (with_rows moved (map entry_of (in_order rows))) ≡ map entry_of (all_put moved others) =
     ap (without_rows tree) put ∙ undone tree (map entry_of (all_put moved others)) (have_places tree (all_put moved others) old_each old_apart) in
     let whole : in_order (map g rows) ≡ all_put moved others =
-    split p (map g rows) (pairs_mapped g rows h.changed)
+    split p (map g rows) (pairs_map (λ r q. Apart (g r) (g q)) Apart g (λ r q k. k) rows h.changed)
     ∙ (ap (λ (xs : List Row). all_put xs (in_order (filter (λ q. not (p q)) (map g rows)))) (passing p g h.passes rows)
     ∙ (ap (λ (xs : List Row). all_put (map g (filter p rows)) (in_order xs)) (staying p g h.passes h.stays rows)
     ∙ (sym (put_in_order g (filter p rows) (pairs_filter (λ r q. Apart (g r) (g q)) p rows h.changed) others)

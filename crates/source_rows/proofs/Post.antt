@@ -11,12 +11,13 @@ use Rattle.source_rows.specs.declared.row.Row.{Row}
 use Rattle.source_rows.specs.Row.{no_number, root_path}
 use Rattle.source_rows.specs.Rows.{row_of, is_under, stands_before, key_cmp}
 use Rattle.source_rows.specs.Tree.{IsForest, IsOneTree, IsPostOrder, HasPlace, IsChildOf, NotBehind, Fills, order_or, parent_of, side_of, two_level_key}
-use Rattle.source_rows.proofs.Forest.{InForest, Shaped, members, shaped, found, all_of, all_both, path_is}
+use Rattle.source_rows.proofs.Lists.{all_of, all_and, all_with}
+use Rattle.source_rows.proofs.Forest.{InForest, Shaped, members, shaped, found, path_is}
 use Rattle.source_rows.proofs.Paths.{under, under_path}
 use Rattle.source_rows.proofs.Tree.{between, post}
 
 pairs : (rows : List Row) (T : Row → Row → Type 0) → AllByRecursion (InForest rows) rows → ((r q : Row) → InForest rows r → InForest rows q → T r q) → AllByRecursion (λ r. AllByRecursion (λ q. T r q) rows) rows
-pairs rows T all h = all_of (InForest rows) (λ r. AllByRecursion (λ q. T r q) rows) (λ r f. all_of (InForest rows) (T r) (λ q g. h r q f g) rows all) rows all
+pairs rows T all h = all_with T (InForest rows) h rows rows all all
 
 pub one_tree : (rows : List Row) → IsForest rows → IsOneTree rows
 one_tree rows f =
@@ -206,7 +207,7 @@ pub two_levels : (rows : List Row) → IsForest rows → AllByRecursion (λ r. r
     → AllByRecursion (λ r. AllByRecursion (λ q. stands_before r q ≡ is_lt (key_cmp (two_level_key rows r) (two_level_key rows q))) rows) rows
 two_levels rows f low =
     let all = members rows f in
-    let both = all_both (InForest rows) (λ r. r.level ≤ 2) rows all low in
+    let both = all_and (InForest rows) (λ r. r.level ≤ 2) rows all low in
     all_of (λ r. InForest rows r × (r.level ≤ 2)) (λ r. AllByRecursion (λ q. stands_before r q ≡ is_lt (key_cmp (two_level_key rows r) (two_level_key rows q))) rows)
     (λ r g. all_of (λ q. InForest rows q × (q.level ≤ 2)) (λ q. stands_before r q ≡ is_lt (key_cmp (two_level_key rows r) (two_level_key rows q)))
     (λ q h. ap (λ (o : Ordering). is_lt (ordering_then (int_cmp r.priority q.priority) o))

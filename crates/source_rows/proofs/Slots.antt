@@ -11,6 +11,7 @@ use Rattle.slab.specs.Slab.{Slab, get, Updates, with_value}
 use Rattle.source_rows.specs.declared.row.Row.{Row}
 use Rattle.source_rows.specs.Rows.{row_of, has_id, changed}
 use Rattle.source_rows.specs.Slots.{rows_at, Names, Rising, IsTable}
+use Rattle.source_rows.proofs.Lists.{all_push, pairs_push, cons_join}
 
 abbrev pub id_of : Row → ℕ
 id_of r = r.id
@@ -87,21 +88,9 @@ pub insert-end : (id key : ℕ) (es : List (ℕ × ℕ)) → AllByRecursion (λ 
 insert-end id key [] h = refl
 insert-end id key (e ∷ es) h = rw (after id e.0 h.0) (ap (λ (xs : List (ℕ × ℕ)). e ∷ xs) (insert-end id key es h.1))
 
-cons_join : (o : Option Row) (xs ys : List Row) → cons_option o (xs ++ ys) ≡ cons_option o xs ++ ys
-cons_join None xs ys = refl
-cons_join (Some r) xs ys = refl
-
 rows_at-end : (t : Slab Row) (id key : ℕ) (r : Row) (es : List (ℕ × ℕ)) → get t key ≡ Some r → rows_at t (es ++ (id, key) ∷ []) ≡ rows_at t es ++ r ∷ []
 rows_at-end t id key r [] g = ap (λ (o : Option Row). cons_option o []) g
 rows_at-end t id key r (e ∷ es) g = ap (cons_option (get t e.1)) (rows_at-end t id key r es g) ∙ cons_join (get t e.1) (rows_at t es) (r ∷ [])
-
-all_push : (P : ℕ × ℕ → Type 0) (es : List (ℕ × ℕ)) (e : ℕ × ℕ) → AllByRecursion P es → P e → AllByRecursion P (es ++ e ∷ [])
-all_push P [] e h k = (k, tt)
-all_push P (q ∷ es) e h k = (h.0, all_push P es e h.1 k)
-
-rising_push : (es : List (ℕ × ℕ)) (id key : ℕ) → Rising es → AllByRecursion (λ e. e.0 < id) es → Rising (es ++ (id, key) ∷ [])
-rising_push [] id key h k = (tt, tt)
-rising_push (e ∷ es) id key h k = (all_push (λ q. e.0 < q.0) es (id, key) h.0 k.0, rising_push es id key h.1 k.1)
 
 pub record Pushed (t : Slab Row) (es fs : List (ℕ × ℕ)) (rows : List Row) : Type 0 where
   pub table : IsTable t fs
@@ -116,7 +105,7 @@ pushed s t key r es fs h free u above e =
     rw is (record {
       table = record {
         named = all_push (Names t) es (r.id, key) same.1 (ap (option_map id_of) u.changed);
-        rising = rising_push es r.id key h.rising ids;
+        rising = pairs_push (λ e q. e.0 < q.0) es (r.id, key) h.rising ids;
       };
       rows_are = rows_at-end t r.id key r es u.changed ∙ ap (λ (xs : List Row). xs ++ r ∷ []) same.0;
     })
