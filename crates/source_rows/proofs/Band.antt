@@ -1,6 +1,6 @@
 -- The part of an order where a tree stands has the tree's rows and no others.
-use Rattle.std.proofs.Common.{◌≡◌, ℕ, ℤ, ◌<◌, ◌≤◌, ◌==◌, Bool, true, false, not, cond, ◌||◌, ◌&&◌, Option, Some, List, [], ◌∷◌, inl, inr, map, map-id, filter, refl, ap, sym, ◌∙◌, arith, subst}
-use Rattle.std.proofs.lemmas.Bool.Decides.{eqb_tells, nat_tests}
+use Rattle.std.proofs.Common.{◌≡◌, ℕ, ℤ, ◌<◌, ◌≤◌, ◌==◌, Bool, true, false, not, cond, ◌||◌, ◌&&◌, Option, Some, List, [], ◌∷◌, map, map-id, filter, refl, ap, sym, ◌∙◌, arith, subst}
+use Rattle.std.proofs.lemmas.Bool.Decides.{nat_tests}
 use Rattle.std.specs.Prelude.{slice_index}
 use Rattle.std.specs.List.{AllByRecursion, list_any}
 use Rattle.std.specs.Option.{IsSome}
@@ -8,11 +8,12 @@ use Rattle.std.specs.Map.{values_of}
 use Rattle.std.specs.declared.cmp.Ordering.{Ordering}
 use Rattle.std.specs.declared.cmp.Ordering.TheVariants.{Less, Equal, Greater}
 use Rattle.std.specs.declared.ops.Bound.TheVariants.{Included}
-use Rattle.std.specs.Ordering.{is_lt, is_le, is_gt, ordering_then, ordering_reverse, int_cmp, nat_cmp}
-use Rattle.std.specs.Cmp.{int_cmp_total}
+use Rattle.std.specs.Ordering.{is_lt, is_le, is_gt, ordering_then, int_cmp, nat_cmp}
+use Rattle.std.specs.Cmp.{int_cmp_total, nat_cmp_total}
 use Rattle.std.proofs.lemmas.Map.Lookups.{exact_signed}
 use Rattle.std.specs.Cmp.Lexicographic.{slice_cmp}
 use Rattle.std.specs.BTreeMap.Range.{range_contains, entries_between}
+use Rattle.std.proofs.lemmas.Cmp.{tied_itself}
 use Rattle.source_rows.specs.declared.row.Row.{Row}
 use Rattle.source_rows.specs.Rows.{Key, key_cmp, key_of, row_of, has_id, is_under, in_order, placed, stands_before, changed, moved}
 use Rattle.source_rows.specs.Row.{no_number}
@@ -22,6 +23,7 @@ use Rattle.source_rows.proofs.Kin.{Shares, IsPath, Kin}
 use Rattle.source_rows.specs.InOrder.{rows_of}
 use Rattle.source_rows.specs.Moves.{with_each, moved_row}
 use Rattle.source_rows.specs.Band.{first_key, last_key}
+use Rattle.source_rows.proofs.Compared.{same_self, are_same, are_not, or_true, nat_equal}
 use Rattle.source_rows.proofs.Lists.{all_of, all_both, all_true, all_passed, all_filter, each_with_each}
 use Rattle.source_rows.proofs.Order.{all_in_order, in_order-filter}
 use Rattle.source_rows.proofs.Forest.{all_found}
@@ -32,18 +34,7 @@ use Rattle.source_rows.proofs.Moved.{is_moved}
 -- ---- keys between two
 
 int_equal : (y z : ℤ) → y ≡ z → int_cmp y z ≡ Equal
-int_equal y z e = ap (int_cmp y) (sym e) ∙ by_order (int_cmp y y) (int_cmp_total.antisymm y y)
-  where
-    by_order : (o : Ordering) → o ≡ ordering_reverse o → o ≡ Equal
-    by_order Less e = cc
-    by_order Equal e = refl
-    by_order Greater e = cc
-
-nat_equal : (m n : ℕ) → nat_cmp m n ≡ Equal → m ≡ n
-nat_equal m n h = grind (arith, nat_tests)
-
-nat_same : (n : ℕ) → nat_cmp n n ≡ Equal
-nat_same n = grind (arith, nat_tests)
+int_equal y z e = ap (int_cmp y) (sym e) ∙ tied_itself int_cmp_total y
 
 nat_flip : (m n : ℕ) → nat_cmp m n ≡ Less → nat_cmp n m ≡ Less → ⊥
 nat_flip m n h k = grind (arith, nat_tests)
@@ -105,7 +96,7 @@ inside x r p s =
     let front : slice_index x.path 0 ≡ p.a = s.1 ∙ ap (λ (q : List ℕ). slice_index q 0) p.is in
     ap (λ (q : List ℕ). contains x (r.priority, q)) p.is
     ∙ inside_by (int_cmp x.priority r.priority) (nat_cmp (slice_index x.path 0) p.a) (slice_cmp nat_cmp (0 ∷ 0 ∷ 0 ∷ []) (p.b ∷ p.c ∷ p.d ∷ [])) (slice_cmp nat_cmp (no_number ∷ no_number ∷ no_number ∷ []) (p.b ∷ p.c ∷ p.d ∷ []))
-    (int_equal x.priority r.priority s.0) (ap (λ (n : ℕ). nat_cmp n p.a) front ∙ nat_same p.a) (zeros_first p.b p.c p.d) (lasts_not p.b p.c p.d p.b_fits p.c_fits p.d_fits)
+    (int_equal x.priority r.priority s.0) (ap (λ (n : ℕ). nat_cmp n p.a) front ∙ tied_itself nat_cmp_total p.a) (zeros_first p.b p.c p.d) (lasts_not p.b p.c p.d p.b_fits p.c_fits p.d_fits)
 
 outside : (x r : Row) → IsPath r.path → contains x (key_of r) ≡ true → Shares x r
 outside x r p h =
@@ -133,9 +124,6 @@ between x n [] h = refl
 between x n (r ∷ rows) h =
     between_by x r (entries_between key_cmp (Included (first_key x)) (Included (last_key x)) (map entry_of rows)) (filter (is_under x.id) rows)
     (contains_by x r n h.0 (contains x (key_of r)) (is_under x.id r) refl refl) (between x n rows h.1)
-
-same_test : (n : ℕ) → (n == n) ≡ true
-same_test n = elim (eqb_tells n n) [ inl t ↦ t.0 | inr f ↦ absurd (f.1 refl) ]
 
 among : (P : Row → Type 0) (p : Row → Bool) (rows : List Row) → AllByRecursion P rows → AllByRecursion P (filter p (in_order rows))
 among P p rows h = all_filter P p (in_order rows) (all_in_order P rows h)
@@ -191,7 +179,7 @@ stays_last g h q (t ∷ ts) o =
     by_test : (b : Bool) → ((g q).id == (g t).id) ≡ b → cond b (g t) (g q) ≡ g q
     by_test false e = refl
     by_test true e =
-        let same : (g q).id ≡ (g t).id = elim (eqb_tells (g q).id (g t).id) [ inl v ↦ v.1 | inr v ↦ let never = sym e ∙ v.0 in cc ] in
+        let same : (g q).id ≡ (g t).id = are_same (g q).id (g t).id e in
         ap g (o.0 (sym (h t) ∙ (sym same ∙ h q)))
 
 gets_last : (g : Row → Row) → ((r : Row) → (g r).id ≡ r.id) → (q : Row) (ts : List Row) → AllByRecursion (IsOnly q) ts → list_any (λ t. t.id == q.id) ts ≡ true → last_of (map g ts) q ≡ g q
@@ -202,12 +190,12 @@ gets_last g h q (t ∷ ts) o e =
     by_test : (b c : Bool) → (q.id == (g t).id) ≡ b → (t.id == q.id) ≡ c → last_of (map g ts) (g q) ≡ g q → (list_any (λ s. s.id == q.id) ts ≡ true → last_of (map g ts) q ≡ g q) → (c || list_any (λ s. s.id == q.id) ts) ≡ true
         → last_of (map g ts) (cond b (g t) q) ≡ g q
     by_test true c f k stays ih u =
-        let same : q.id ≡ (g t).id = elim (eqb_tells q.id (g t).id) [ inl v ↦ v.1 | inr v ↦ let never = sym f ∙ v.0 in cc ] in
+        let same : q.id ≡ (g t).id = are_same q.id (g t).id f in
         ap (last_of (map g ts)) (ap g (o.0 (sym (h t) ∙ sym same))) ∙ stays
     by_test false false f k stays ih u = ih u
     by_test false true f k stays ih u =
-        let same : t.id ≡ q.id = elim (eqb_tells t.id q.id) [ inl v ↦ v.1 | inr v ↦ let never = sym k ∙ v.0 in cc ] in
-        elim (eqb_tells q.id (g t).id) [ inl v ↦ let never = sym f ∙ v.0 in cc | inr v ↦ absurd (v.1 (sym same ∙ sym (h t))) ]
+        let same : t.id ≡ q.id = are_same t.id q.id k in
+        absurd (are_not q.id (g t).id f (sym same ∙ sym (h t)))
 
 only_each : (rows : List Row) → IdsRise rows → AllByRecursion (λ q. AllByRecursion (IsOnly q) rows) rows
 only_each rows h = each_with_each (λ r q. r.id < q.id) IsOnly (λ r e. refl) (λ r q less e. absurd (omega (arith, e, less))) (λ r q less e. absurd (omega (arith, e, less))) rows h
@@ -231,10 +219,6 @@ any_in_order : (f : Row → Bool) (rows : List Row) → list_any f (in_order row
 any_in_order f [] = refl
 any_in_order f (r ∷ rows) = any_placed f r (in_order rows) ∙ ap (λ (b : Bool). f r || b) (any_in_order f rows)
 
-or_true : (a : Bool) → (a || true) ≡ true
-or_true true = refl
-or_true false = refl
-
 more_by : (q r : Row) (xs : List Row) (b : Bool) → list_any (λ t. t.id == q.id) xs ≡ true → list_any (λ t. t.id == q.id) (cond b (r ∷ xs) xs) ≡ true
 more_by q r xs true e = ap (λ (b : Bool). (r.id == q.id) || b) e ∙ or_true (r.id == q.id)
 more_by q r xs false e = e
@@ -242,7 +226,7 @@ more_by q r xs false e = e
 passing_in : (p : Row → Bool) (rows : List Row) → AllByRecursion (λ q. p q ≡ true → list_any (λ t. t.id == q.id) (filter p rows) ≡ true) rows
 passing_in p [] = tt
 passing_in p (r ∷ rows) = (
-  (λ e. ap (λ (b : Bool). list_any (λ t. t.id == r.id) (cond b (r ∷ filter p rows) (filter p rows))) e ∙ ap (λ (b : Bool). b || list_any (λ t. t.id == r.id) (filter p rows)) (same_test r.id)),
+  (λ e. ap (λ (b : Bool). list_any (λ t. t.id == r.id) (cond b (r ∷ filter p rows) (filter p rows))) e ∙ ap (λ (b : Bool). b || list_any (λ t. t.id == r.id) (filter p rows)) (same_self r.id)),
   all_of (λ q. p q ≡ true → list_any (λ t. t.id == q.id) (filter p rows) ≡ true) (λ q. p q ≡ true → list_any (λ t. t.id == q.id) (filter p (r ∷ rows)) ≡ true) (λ q k e. more_by q r (filter p rows) (p r) (k e)) rows (passing_in p rows),
 )
 

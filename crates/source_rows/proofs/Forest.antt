@@ -1,23 +1,15 @@
 -- What follows for rows that stand in trees.
 use Rattle.std.proofs.Common.{◌≡◌, ◌≢◌, ℕ, ◌<◌, ◌≤◌, ◌^◌, ◌==◌, zero, suc, cond, Bool, true, false, ◌||◌, Option, Some, None, List, [], ◌∷◌, ◌⊎◌, inl, inr, refl, ap, sym, ◌∙◌, arith, subst}
-use Rattle.std.proofs.lemmas.Bool.Decides.{eqb_tells}
 use Rattle.std.specs.List.{AllByRecursion, list_any}
 use Rattle.source_rows.specs.declared.row.Row.{Row}
 use Rattle.source_rows.specs.Row.{no_number, root_line, line_under, path_under}
 use Rattle.source_rows.specs.Rows.{row_of, is_under}
 use Rattle.source_rows.specs.Tree.{IdsRise, OrdersDiffer, IsRoot, IsChildOf, HasPlace, IsForest}
+use Rattle.source_rows.proofs.Compared.{or_true, some_same}
+pub use Rattle.source_rows.proofs.Compared.{same_self, are_same, not_same}
 use Rattle.source_rows.proofs.Lists.{each_with_each}
 
 -- ---- a row that is found
-
-pub same_self : (n : ℕ) → (n == n) ≡ true
-same_self n = elim (eqb_tells n n) [ inl t ↦ t.0 | inr f ↦ absurd (f.1 refl) ]
-
-pub are_same : (a b : ℕ) → (a == b) ≡ true → a ≡ b
-are_same a b h = elim (eqb_tells a b) [ inl t ↦ t.1 | inr f ↦ let never = sym h ∙ f.0 in cc ]
-
-pub not_same : (a b : ℕ) → (a ≡ b → ⊥) → (a == b) ≡ false
-not_same a b h = elim (eqb_tells a b) [ inl t ↦ absurd (h t.1) | inr f ↦ f.0 ]
 
 -- what holds of all rows holds of the one that is found
 found_by : (P : Row → Type 0) (r x : Row) (b : Bool) (o : Option Row) → P r → (o ≡ Some x → P x) → cond b (Some r) o ≡ Some x → P x
@@ -66,9 +58,6 @@ members rows f = members_by rows rows f.placed (all_found rows f.rising) f.numbe
 
 pub same_id : (rows : List Row) (r q : Row) → InForest rows r → InForest rows q → r.id ≡ q.id → r ≡ q
 same_id rows r q f g e = let s = sym f.is ∙ (ap (λ (n : ℕ). row_of n rows) e ∙ g.is) in some_same r q s
-  where
-    some_same : (a b : Row) → Some a ≡ Some b → a ≡ b
-    some_same a b h = cc
 
 pub same_order : (rows : List Row) (r q : Row) → InForest rows r → InForest rows q → r.order ≡ q.order → r ≡ q
 same_order rows r q f g e = found (λ x. r.order ≡ x.order → r ≡ x) q.id q rows f.one g.is e
@@ -190,12 +179,8 @@ or_four false h = cc
 pub under_root : (id : ℕ) (r : Row) → IsRoot r → is_under id r ≡ true → r.id ≡ id
 under_root id r p h = are_same r.id id (or_four (r.id == id) (sym (any_of id r.line (root_line r.id) p.line) ∙ h))
 
-or_last : (a : Bool) → (a || true) ≡ true
-or_last true = refl
-or_last false = refl
-
 pub under_self : (r : Row) → Shaped r → is_under r.id r ≡ true
 under_self r (inl s) = any_of r.id r.line (r.id ∷ r.id ∷ r.id ∷ r.id ∷ []) s.1 ∙ rw (same_self r.id) refl
-under_self r (inr (inl s)) = any_of r.id r.line (s.0 ∷ r.id ∷ r.id ∷ r.id ∷ []) s.3 ∙ rw (same_self r.id) (or_last (s.0 == r.id))
-under_self r (inr (inr (inl s))) = any_of r.id r.line (s.0 ∷ s.1 ∷ r.id ∷ r.id ∷ []) s.5 ∙ rw (same_self r.id, or_last (s.1 == r.id)) (or_last (s.0 == r.id))
-under_self r (inr (inr (inr s))) = any_of r.id r.line (s.0 ∷ s.1 ∷ s.2 ∷ r.id ∷ []) s.7 ∙ rw (same_self r.id, or_last (s.2 == r.id), or_last (s.1 == r.id)) (or_last (s.0 == r.id))
+under_self r (inr (inl s)) = any_of r.id r.line (s.0 ∷ r.id ∷ r.id ∷ r.id ∷ []) s.3 ∙ rw (same_self r.id) (or_true (s.0 == r.id))
+under_self r (inr (inr (inl s))) = any_of r.id r.line (s.0 ∷ s.1 ∷ r.id ∷ r.id ∷ []) s.5 ∙ rw (same_self r.id, or_true (s.1 == r.id)) (or_true (s.0 == r.id))
+under_self r (inr (inr (inr s))) = any_of r.id r.line (s.0 ∷ s.1 ∷ s.2 ∷ r.id ∷ []) s.7 ∙ rw (same_self r.id, or_true (s.2 == r.id), or_true (s.1 == r.id)) (or_true (s.0 == r.id))

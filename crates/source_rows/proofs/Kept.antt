@@ -1,9 +1,8 @@
-use Rattle.std.proofs.Common.{◌≡◌, ℕ, ◌<◌, ◌≤◌, ◌+◌, ◌^◌, ◌==◌, Bool, true, false, not, zero, suc, cond, ◌||◌, Option, Some, None, List, [], ◌∷◌, ◌++◌, inl, inr, map, filter, refl, ap, sym, ◌∙◌, arith, subst}
-use Rattle.std.proofs.lemmas.Bool.Decides.{eqb_tells, nat_tests}
+use Rattle.std.proofs.Common.{◌≡◌, ℕ, ◌<◌, ◌≤◌, ◌+◌, ◌^◌, ◌==◌, Bool, true, false, not, zero, suc, cond, Option, Some, None, List, [], ◌∷◌, ◌++◌, inl, inr, map, filter, refl, ap, sym, ◌∙◌, arith, subst}
 use Rattle.std.specs.List.{AllByRecursion, list_any}
 use Rattle.std.specs.declared.cmp.Ordering.{Ordering}
 use Rattle.std.specs.declared.cmp.Ordering.TheVariants.{Less, Equal, Greater}
-use Rattle.std.specs.Ordering.{is_lt, match_ordering, ordering_then, ordering_reverse, int_cmp, nat_cmp}
+use Rattle.std.specs.Ordering.{is_lt, is_eq, match_ordering, ordering_then, ordering_reverse, int_cmp, nat_cmp}
 use Rattle.std.specs.Cmp.Lexicographic.{slice_cmp}
 use Rattle.std.specs.BTreeMap.{insert_entry}
 use Rattle.std.specs.Map.{values_of}
@@ -17,15 +16,12 @@ use Rattle.source_rows.specs.Order.{Apart}
 use Rattle.source_rows.specs.New.{IsNew}
 use Rattle.source_rows.specs.Kept.{entry_of, IsBelow, IsSound, IsKept}
 use Rattle.source_rows.specs.Tree.{IdsRise, HasPlace}
+use Rattle.source_rows.proofs.Compared.{same_self, are_same, not_same, apart_above, or_true, or_parts, keeps, nat_equal}
 use Rattle.source_rows.proofs.Lists.{all_of, all_push, all_map, pairs_push, pairs_map}
 use Rattle.source_rows.proofs.Order.{key_total, flip, all_in_order, in_order-push}
-use Rattle.source_rows.proofs.Forest.{same_self}
 use Rattle.source_rows.proofs.Edits.{Stays, rise_map, forest_push, forest_map, numbers_more}
 
 -- ---- paths with different numbers
-
-same_number : (x y : ℕ) → nat_cmp x y ≡ Equal → x ≡ y
-same_number x y h = grind (arith, nat_tests)
 
 then_equal : (a b : Ordering) → ordering_then a b ≡ Equal → (a ≡ Equal) × (b ≡ Equal)
 then_equal Less b h = cc
@@ -38,7 +34,7 @@ same_path [] (y ∷ q) h = cc
 same_path (x ∷ p) [] h = cc
 same_path (x ∷ p) (y ∷ q) h =
     let t = then_equal (nat_cmp x y) (slice_cmp nat_cmp p q) h in
-    let e = same_number x y t.0 in
+    let e = nat_equal x y t.0 in
     let f = same_path p q t.1 in
     cc
 
@@ -64,6 +60,14 @@ pub equal_not : (r q : Row) → key_cmp (key_of r) (key_of q) ≡ Equal → Apar
 equal_not r q e (inl h) = let never = sym h ∙ ap is_lt e in cc
 equal_not r q e (inr h) = let never = sym h ∙ ap is_lt (key_total.antisymm (key_of q) (key_of r) ∙ ap ordering_reverse e) in cc
 
+not_equal_by : (r q : Row) (o : Ordering) → key_cmp (key_of r) (key_of q) ≡ o → Apart r q → is_eq o ≡ false
+not_equal_by r q Less e h = refl
+not_equal_by r q Equal e h = absurd (equal_not r q e h)
+not_equal_by r q Greater e h = refl
+
+pub not_equal : (r q : Row) → Apart r q → is_eq (key_cmp (key_of r) (key_of q)) ≡ false
+not_equal r q h = not_equal_by r q (key_cmp (key_of r) (key_of q)) refl h
+
 insert_by : (r q : Row) (qs : List Row) (o : Ordering) → key_cmp (key_of r) (key_of q) ≡ o → Apart r q → insert_entry key_cmp (map entry_of qs) (key_of r) r.id ≡ map entry_of (placed r qs)
     → match_ordering o ((key_of r, r.id) ∷ entry_of q ∷ map entry_of qs) ((key_of q, r.id) ∷ map entry_of qs) (entry_of q ∷ insert_entry key_cmp (map entry_of qs) (key_of r) r.id) ≡ map entry_of (cond (is_lt o) (r ∷ q ∷ qs) (q ∷ placed r qs))
 insert_by r q qs Less e h ih = refl
@@ -77,13 +81,10 @@ entries-placed r (q ∷ qs) h = insert_by r q qs (key_cmp (key_of r) (key_of q))
 -- ---- a new row
 
 pub taken_back : (rows : List Row) (r : Row) → AllByRecursion (λ q. q.id < r.id) rows → filter (λ q. not (has_id r.id q)) (rows ++ r ∷ []) ≡ rows
-taken_back [] r h = rw (same_id r.id) refl
-  where
-    same_id : (n : ℕ) → (n == n) ≡ true
-    same_id n = elim (eqb_tells n n) [ inl t ↦ t.0 | inr f ↦ absurd (f.1 refl) ]
+taken_back [] r h = rw (same_self r.id) refl
 taken_back (q ∷ rows) r h =
     let less = h.0 in
-    let apart : (q.id == r.id) ≡ false = elim (eqb_tells q.id r.id) [ inl t ↦ absurd (omega (arith, t.1, less)) | inr f ↦ f.0 ] in
+    let apart : (q.id == r.id) ≡ false = apart_above q.id r.id less in
     rw apart (ap (λ (xs : List Row). q ∷ xs) (taken_back rows r h.1))
 
 pub sound-push : (rows : List Row) (i n : ℕ) (r : Row) (levels : ℕ) → n < 2 ^ 63 → IsSound rows i n levels → IsNew r n → r.id ≡ i → r.level ≤ levels → r.order ≡ n → HasPlace rows r.parent r → IsSound (rows ++ r ∷ []) (i + 1) (n + 1) levels
@@ -110,24 +111,13 @@ entries-push rows i n r levels f s new =
 
 -- ---- a child's path
 
-or_left : (a b : Bool) → (a || b) ≡ false → (a ≡ false) × (b ≡ false)
-or_left true b e = cc
-or_left false b e = (refl, e)
-
 no_index : (path : List ℕ) (i k : ℕ) → 0 < k → list_any (λ j. j == k) path ≡ false → (slice_index path i == k) ≡ false
-no_index [] i k h e = elim (eqb_tells 0 k) [ inl t ↦ absurd (omega (arith, t.1)) | inr f ↦ f.0 ]
-no_index (x ∷ path) zero k h e = (or_left (x == k) (list_any (λ j. j == k) path) e).0
-no_index (x ∷ path) (suc i) k h e = no_index path i k h (or_left (x == k) (list_any (λ j. j == k) path) e).1
-
-apart_above : (n k : ℕ) → n < k → (n == k) ≡ false
-apart_above n k h = elim (eqb_tells n k) [ inl t ↦ absurd (omega (arith, t.1)) | inr f ↦ f.0 ]
+no_index [] i k h e = apart_above 0 k h
+no_index (x ∷ path) zero k h e = (or_parts (x == k) (list_any (λ j. j == k) path) e).0
+no_index (x ∷ path) (suc i) k h e = no_index path i k h (or_parts (x == k) (list_any (λ j. j == k) path) e).1
 
 apart_fill : (k : ℕ) → k < no_number → (no_number == k) ≡ false
-apart_fill k h = elim (eqb_tells no_number k) [ inl t ↦ absurd (omega (arith, t.1)) | inr f ↦ f.0 ]
-
-or_true : (a : Bool) → (a || true) ≡ true
-or_true true = refl
-or_true false = refl
+apart_fill k h = not_same no_number k (λ e. omega (arith, e, h))
 
 path_has : (level : ℕ) (path : List ℕ) (n : ℕ) → list_any (λ j. j == n) (path_under level path n) ≡ true
 path_has level path n = has_by (level == 1) (level == 2) (slice_index path 0) (slice_index path 1) (slice_index path 2) n
@@ -159,7 +149,7 @@ some_by r true o h = refl
 some_by r false o h = h
 
 pub has_last : (rows : List Row) (r : Row) → IsSome (row_of r.id (rows ++ r ∷ []))
-has_last [] r = elim (eqb_tells r.id r.id) [ inl t ↦ rw t.0 refl | inr f ↦ absurd (f.1 refl) ]
+has_last [] r = rw (same_self r.id) refl
 has_last (q ∷ rows) r = some_by q (q.id == r.id) (row_of r.id (rows ++ r ∷ [])) (has_last rows r)
 
 -- ---- a change that leaves a row in its place
@@ -210,14 +200,14 @@ above_not : (id : ℕ) (r : Row) (f g : Row → Row) (rows : List Row) → r.id 
 above_not id r f g [] e h = refl
 above_not id r f g (q ∷ rows) e h =
     let less = h.0 in
-    let apart : (q.id == id) ≡ false = elim (eqb_tells q.id id) [ inl t ↦ absurd (omega (arith, t.1, less, e)) | inr v ↦ v.0 ] in
+    let apart : (q.id == id) ≡ false = not_same q.id id (λ t. omega (arith, t, less, e)) in
     rw apart (ap (λ (xs : List Row). q ∷ xs) (above_not id r f g rows e h.1))
 
 change_by : (id : ℕ) (x q : Row) (f : Row → Row) (rows : List Row) (b : Bool) → (q.id == id) ≡ b → AllByRecursion (λ z. q.id < z.id) rows → (row_of id rows ≡ Some x → changed id (λ _. f x) rows ≡ changed id f rows) → cond b (Some q) (row_of id rows) ≡ Some x
     → cond b (f x) q ∷ changed id (λ _. f x) rows ≡ cond b (f q) q ∷ changed id f rows
 change_by id x q f rows true e less ih h =
     let same : q ≡ x = cc in
-    let is : q.id ≡ id = elim (eqb_tells q.id id) [ inl t ↦ t.1 | inr v ↦ let never = sym e ∙ v.0 in cc ] in
+    let is : q.id ≡ id = are_same q.id id e in
     ap (λ (r : Row). f r ∷ changed id (λ _. f x) rows) (sym same) ∙ ap (λ (xs : List Row). f q ∷ xs) (above_not id q (λ _. f x) f rows is less)
 change_by id x q f rows false e less ih h = ap (λ (xs : List Row). q ∷ xs) (ih h)
 
@@ -228,7 +218,7 @@ one_changed id x f (q ∷ rows) r h = change_by id x q f rows (q.id == id) refl 
 found_id_by : (id : ℕ) (x q : Row) (b : Bool) (o : Option Row) → (q.id == id) ≡ b → (o ≡ Some x → x.id ≡ id) → cond b (Some q) o ≡ Some x → x.id ≡ id
 found_id_by id x q true o e ih h =
     let same : q ≡ x = cc in
-    let is : q.id ≡ id = elim (eqb_tells q.id id) [ inl t ↦ t.1 | inr v ↦ let never = sym e ∙ v.0 in cc ] in
+    let is : q.id ≡ id = are_same q.id id e in
     subst (λ (r : Row). r.id ≡ id) same is
 found_id_by id x q false o e ih h = ih h
 
@@ -248,18 +238,14 @@ none_changed id f (q ∷ rows) h = none_by id q f rows (q.id == id) (none_change
 abbrev pub at_id : ℕ → (Row → Row) → Row → Row
 at_id id f r = cond (has_id id r) (f r) r
 
-cond_same : {B : Type 0} (h : Row → B) (b : Bool) (x y : Row) → h x ≡ h y → h (cond b x y) ≡ h y
-cond_same h true x y e = e
-cond_same h false x y e = refl
-
 pub stays_at : (id : ℕ) (f : Row → Row) → Stays f → Stays (at_id id f)
 stays_at id f h = record {
-  key = λ r. cond_same key_of (has_id id r) (f r) r (h.key r);
-  id = λ r. cond_same (λ q. q.id) (has_id id r) (f r) r (h.id r);
-  level = λ r. cond_same (λ q. q.level) (has_id id r) (f r) r (h.level r);
-  order = λ r. cond_same (λ q. q.order) (has_id id r) (f r) r (h.order r);
-  parent = λ r. cond_same (λ q. q.parent) (has_id id r) (f r) r (h.parent r);
-  line = λ r. cond_same (λ q. q.line) (has_id id r) (f r) r (h.line r);
+  key = λ r. keeps key_of (has_id id r) (f r) r (h.key r);
+  id = λ r. keeps (λ q. q.id) (has_id id r) (f r) r (h.id r);
+  level = λ r. keeps (λ q. q.level) (has_id id r) (f r) r (h.level r);
+  order = λ r. keeps (λ q. q.order) (has_id id r) (f r) r (h.order r);
+  parent = λ r. keeps (λ q. q.parent) (has_id id r) (f r) r (h.parent r);
+  line = λ r. keeps (λ q. q.line) (has_id id r) (f r) r (h.line r);
 }
 
 -- what a put of the found row, changed, does

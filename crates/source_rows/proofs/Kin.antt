@@ -7,8 +7,9 @@ use Rattle.source_rows.specs.Row.{no_number}
 use Rattle.source_rows.specs.Rows.{row_of, is_under}
 use Rattle.source_rows.specs.Tree.{IsForest, starts}
 use Rattle.source_rows.specs.Kept.{IsBelow}
+use Rattle.source_rows.proofs.Compared.{same_self}
 use Rattle.source_rows.proofs.Lists.{all_of, all_and}
-use Rattle.source_rows.proofs.Forest.{InForest, Shaped, members, shaped, found, same_self}
+use Rattle.source_rows.proofs.Forest.{InForest, Shaped, members, shaped, found}
 use Rattle.source_rows.proofs.Paths.{under, under_path, starts_last}
 
 abbrev pub Shares : Row → Row → Type 0

@@ -1,3 +1,4 @@
+pub mod Compared
 pub mod Lists
 pub mod Order
 pub mod Forest

@@ -1,13 +1,12 @@
 -- The rows of a tree whose root gets a priority and an order number.
 use Rattle.std.proofs.Common.{◌≡◌, ℕ, ℤ, ◌<◌, ◌≤◌, ◌+◌, ◌^◌, ◌==◌, Some, Bool, true, false, cond, ◌||◌, List, [], ◌∷◌, inl, inr, map, refl, ap, sym, ◌∙◌, arith, subst}
-use Rattle.std.proofs.lemmas.Bool.Decides.{eqb_tells, nat_tests}
 use Rattle.std.specs.Prelude.{slice_index, slice_set}
 use Rattle.std.specs.List.{AllByRecursion, list_any}
 use Rattle.std.specs.declared.cmp.Ordering.{Ordering}
-use Rattle.std.specs.declared.cmp.Ordering.TheVariants.{Less, Equal, Greater}
-use Rattle.std.specs.Ordering.{is_lt, ordering_then, ordering_reverse, int_cmp, nat_cmp}
-use Rattle.std.specs.Cmp.{int_cmp_total}
+use Rattle.std.specs.Ordering.{is_lt, ordering_then, nat_cmp}
+use Rattle.std.specs.Cmp.{int_cmp_total, nat_cmp_total}
 use Rattle.std.specs.Cmp.Lexicographic.{slice_cmp}
+use Rattle.std.proofs.lemmas.Cmp.{tied_itself}
 use Rattle.source_rows.specs.declared.row.Row.{Row}
 use Rattle.source_rows.specs.Rows.{key_cmp, key_of, row_of, stands_before, is_under, moved}
 use Rattle.source_rows.specs.Row.{no_number}
@@ -16,18 +15,12 @@ use Rattle.source_rows.specs.Kept.{AllApart, IsBelow, IsSound}
 use Rattle.source_rows.specs.Moves.{moved_row}
 use Rattle.source_rows.proofs.Kept.{apart_paths}
 use Rattle.source_rows.proofs.Kin.{Shares, IsPath, Kin}
+use Rattle.source_rows.proofs.Compared.{same_self, or_parts, apart_above, keeps}
 use Rattle.source_rows.proofs.Lists.{all_map, all_with, pairs_map, pairs_with}
 use Rattle.source_rows.proofs.Order.{flip}
 use Rattle.source_rows.proofs.Edits.{rise_map}
 use Rattle.source_rows.proofs.Replanted.{moved_id, moved_level, forest_moved}
 use Rattle.source_rows.proofs.Placing.{Changes}
-
-same_test : (n : ℕ) → (n == n) ≡ true
-same_test n = elim (eqb_tells n n) [ inl t ↦ t.0 | inr f ↦ absurd (f.1 refl) ]
-
-or_true : (a : Bool) → (a || true) ≡ true
-or_true true = refl
-or_true false = refl
 
 -- ---- one row, moved
 
@@ -36,10 +29,6 @@ is_moved id z n r e = ap (λ (b : Bool). cond b (moved_row id z n r) r) e
 
 pub not_moved : (id : ℕ) (z : ℤ) (n : ℕ) (r : Row) → is_under id r ≡ false → moved id z n r ≡ r
 not_moved id z n r e = ap (λ (b : Bool). cond b (moved_row id z n r) r) e
-
-keeps : {B : Type 0} (h : Row → B) (b : Bool) (x y : Row) → h x ≡ h y → h (cond b x y) ≡ h y
-keeps h true x y e = e
-keeps h false x y e = refl
 
 pub moved_line : (id : ℕ) (z : ℤ) (n : ℕ) (r : Row) → (moved id z n r).line ≡ r.line
 moved_line id z n r = keeps (λ q. q.line) (is_under id r) (moved_row id z n r) r refl
@@ -59,14 +48,7 @@ path_front : (n : ℕ) (path : List ℕ) → IsPath path → slice_index (slice_
 path_front n path p = ap (λ (q : List ℕ). slice_index q 0) (set_four n path p)
 
 path_has : (n : ℕ) (path : List ℕ) → IsPath path → list_any (λ i. i == n) (slice_set path 0 n) ≡ true
-path_has n path p = ap (list_any (λ i. i == n)) (set_four n path p) ∙ rw (same_test n) refl
-
-or_parts : (a b : Bool) → (a || b) ≡ false → (a ≡ false) × (b ≡ false)
-or_parts true b e = cc
-or_parts false b e = (refl, e)
-
-apart_above : (n k : ℕ) → n < k → (n == k) ≡ false
-apart_above n k h = elim (eqb_tells n k) [ inl t ↦ absurd (omega (arith, t.1)) | inr f ↦ f.0 ]
+path_has n path p = ap (list_any (λ i. i == n)) (set_four n path p) ∙ rw (same_self n) refl
 
 path_below : (n : ℕ) (path : List ℕ) → IsPath path → IsBelow n path → IsBelow (n + 1) (slice_set path 0 n)
 path_below n path p h = λ k le f.
@@ -80,19 +62,8 @@ below_more n path h = λ k le f. h k (omega arith) f
 
 -- ---- pairs of rows
 
-int_same : (z : ℤ) → int_cmp z z ≡ Equal
-int_same z = by_order (int_cmp z z) (int_cmp_total.antisymm z z)
-  where
-    by_order : (o : Ordering) → o ≡ ordering_reverse o → o ≡ Equal
-    by_order Less e = cc
-    by_order Equal e = refl
-    by_order Greater e = cc
-
-nat_same : (n : ℕ) → nat_cmp n n ≡ Equal
-nat_same n = grind (arith, nat_tests)
-
 same_front : (z : ℤ) (n : ℕ) (ps qs : List ℕ) → key_cmp (z, n ∷ ps) (z, n ∷ qs) ≡ slice_cmp nat_cmp ps qs
-same_front z n ps qs = ap (λ (o : Ordering). ordering_then o (slice_cmp nat_cmp (n ∷ ps) (n ∷ qs))) (int_same z) ∙ ap (λ (o : Ordering). ordering_then o (slice_cmp nat_cmp ps qs)) (nat_same n)
+same_front z n ps qs = ap (λ (o : Ordering). ordering_then o (slice_cmp nat_cmp (n ∷ ps) (n ∷ qs))) (tied_itself int_cmp_total z) ∙ ap (λ (o : Ordering). ordering_then o (slice_cmp nat_cmp ps qs)) (tied_itself nat_cmp_total n)
 
 -- two rows of the tree stand as they stood
 stand_same : (id : ℕ) (z : ℤ) (n : ℕ) (r q : Row) → IsPath r.path → IsPath q.path → Shares r q → stands_before (moved_row id z n r) (moved_row id z n q) ≡ stands_before r q

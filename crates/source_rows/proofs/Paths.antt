@@ -1,5 +1,5 @@
 -- The paths of rows that stand in trees.
-use Rattle.std.proofs.Common.{◌≡◌, ℕ, ◌<◌, ◌≤◌, ◌+◌, ◌==◌, zero, suc, Bool, true, false, ◌&&◌, List, [], ◌∷◌, ◌++◌, ◌⊎◌, inl, inr, length, refl, ap, sym, ◌∙◌, arith, subst}
+use Rattle.std.proofs.Common.{◌≡◌, ℕ, ◌<◌, ◌≤◌, ◌+◌, ◌==◌, zero, suc, true, List, [], ◌∷◌, ◌++◌, ◌⊎◌, inl, inr, length, refl, ap, sym, ◌∙◌, arith, subst}
 use Rattle.std.specs.Prelude.{slice_index}
 use Rattle.std.proofs.lemmas.Bool.{cases_order}
 use Rattle.std.specs.List.{AllByRecursion}
@@ -7,7 +7,8 @@ use Rattle.source_rows.specs.declared.row.Row.{Row}
 use Rattle.source_rows.specs.Row.{no_number}
 use Rattle.source_rows.specs.Rows.{is_under}
 use Rattle.source_rows.specs.Tree.{IsRoot, IsChildOf, starts}
-use Rattle.source_rows.proofs.Forest.{InForest, Shaped, each, shaped, path_is, same_self, are_same, same_id, same_order, under_up, under_down, under_root, under_self}
+use Rattle.source_rows.proofs.Compared.{same_self, are_same, and_both}
+use Rattle.source_rows.proofs.Forest.{InForest, Shaped, each, shaped, path_is, same_id, same_order, under_up, under_down, under_root, under_self}
 
 -- ---- beginnings
 
@@ -15,10 +16,6 @@ pub starts_with : (l : ℕ) (p xs ys : List ℕ) → l ≤ length p → starts l
 starts_with zero p xs ys h = refl
 starts_with (suc l) [] xs ys h = absurd (omega (arith, h))
 starts_with (suc l) (a ∷ p) xs ys h = rw (same_self a) (starts_with l p xs ys (omega (arith, h)))
-
-and_both : (a b : Bool) → (a && b) ≡ true → (a ≡ true) × (b ≡ true)
-and_both true b h = (refl, h)
-and_both false b h = cc
 
 pub starts_trans : (l : ℕ) (p x y : List ℕ) → starts l p x ≡ true → starts l x y ≡ true → starts l p y ≡ true
 starts_trans zero p x y h k = refl

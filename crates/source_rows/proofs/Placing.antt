@@ -1,11 +1,10 @@
 -- Many rows put into an order and taken out again.
-use Rattle.std.proofs.Common.{◌≡◌, ℕ, ◌<◌, ◌≤◌, ◌+◌, ◌-◌, pos, None, length, get_or, arith, Bool, true, false, not, zero, suc, cond, List, [], ◌∷◌, ◌++◌, inl, inr, map, filter, take, map-id, refl, ap, sym, ◌∙◌, subst}
+use Rattle.std.proofs.Common.{◌≡◌, ℕ, ◌<◌, ◌≤◌, ◌+◌, ◌-◌, pos, None, length, get_or, arith, Bool, true, false, not, zero, suc, cond, List, [], ◌∷◌, ◌++◌, map, filter, take, map-id, refl, ap, sym, ◌∙◌, subst}
 use Rattle.std.proofs.lemmas.List.{take_more}
 use Rattle.std.specs.List.{AllByRecursion}
 use Rattle.loop_script.specs.declared.Kind.TheVariants.{Idle}
-use Rattle.std.specs.declared.cmp.Ordering.{Ordering}
-use Rattle.std.specs.declared.cmp.Ordering.TheVariants.{Less, Equal, Greater}
-use Rattle.std.specs.Ordering.{is_lt, is_eq, ordering_reverse}
+use Rattle.std.specs.Ordering.{is_eq}
+use Rattle.std.proofs.lemmas.Cmp.{tied_itself}
 use Rattle.source_rows.specs.declared.row.Row.{Row}
 use Rattle.source_rows.specs.Rows.{Key, key_cmp, key_of, stands_before, placed, in_order}
 use Rattle.source_rows.specs.Order.{Apart}
@@ -14,7 +13,7 @@ use Rattle.source_rows.specs.Kept.{entry_of, AllApart}
 use Rattle.source_rows.specs.Moves.{with_row, without_row, with_rows, without_rows, HavePlaces}
 use Rattle.source_rows.proofs.Lists.{all_of, all_both, all_map, all_passed, all_filter, pairs_map, pairs_filter}
 use Rattle.source_rows.proofs.Order.{key_total, flip, comm, all_placed, pairs_in_order, all_in_order, in_order-filter}
-use Rattle.source_rows.proofs.Kept.{entries-placed}
+use Rattle.source_rows.proofs.Kept.{not_equal, entries-placed}
 
 -- ---- putting in and taking out, one by one
 
@@ -77,30 +76,13 @@ pub with_rows-entries : (ms qs : List Row) → AllApart ms → AreApart ms qs �
 with_rows-entries [] qs h k = refl
 with_rows-entries (m ∷ ms) qs h k = ap (with_rows ms) (entries-placed m qs k.0) ∙ with_rows-entries ms (placed m qs) h.1 (apart_placed m qs ms h.0 k.1)
 
-equal_self : (k : Key) → is_eq (key_cmp k k) ≡ true
-equal_self k = by_order (key_cmp k k) (key_total.antisymm k k)
-  where
-    by_order : (o : Ordering) → o ≡ ordering_reverse o → is_eq o ≡ true
-    by_order Less e = cc
-    by_order Equal e = refl
-    by_order Greater e = cc
-
-not_equal : (r q : Row) → Apart r q → is_eq (key_cmp (key_of r) (key_of q)) ≡ false
-not_equal r q h = by_order (key_cmp (key_of r) (key_of q)) refl h
-  where
-    by_order : (o : Ordering) → key_cmp (key_of r) (key_of q) ≡ o → Apart r q → is_eq o ≡ false
-    by_order Less e h = refl
-    by_order Greater e h = refl
-    by_order Equal e (inl h) = let never = sym h ∙ ap is_lt e in cc
-    by_order Equal e (inr h) = let never = sym h ∙ ap is_lt (key_total.antisymm (key_of q) (key_of r) ∙ ap ordering_reverse e) in cc
-
 -- taking a placed row out leaves the others
 taken_by : (m q : Row) (qs : List Row) (b : Bool) → is_eq (key_cmp (key_of m) (key_of q)) ≡ false → without_row (map entry_of (placed m qs)) m ≡ map entry_of qs → without_row (map entry_of (cond b (m ∷ q ∷ qs) (q ∷ placed m qs))) m ≡ map entry_of (q ∷ qs)
-taken_by m q qs true e ih = rw (equal_self (key_of m)) refl
+taken_by m q qs true e ih = rw (tied_itself key_total (key_of m)) refl
 taken_by m q qs false e ih = rw e (ap (λ (xs : List (Key × ℕ)). entry_of q ∷ xs) ih)
 
 taken : (m : Row) (qs : List Row) → AllByRecursion (Apart m) qs → without_row (map entry_of (placed m qs)) m ≡ map entry_of qs
-taken m [] h = rw (equal_self (key_of m)) refl
+taken m [] h = rw (tied_itself key_total (key_of m)) refl
 taken m (q ∷ qs) h = taken_by m q qs (stands_before m q) (not_equal m q h.0) (taken m qs h.1)
 
 pub have_places : (ms qs : List Row) → AllApart ms → AreApart ms qs → HavePlaces ms (map entry_of qs)

@@ -5,12 +5,14 @@ use Rattle.std.specs.List.{AllByRecursion}
 use Rattle.std.specs.declared.cmp.Ordering.{Ordering}
 use Rattle.std.specs.declared.cmp.Ordering.TheVariants.{Less, Equal, Greater}
 use Rattle.std.specs.Ordering.{is_lt, is_gt, ordering_then, ordering_reverse, int_cmp, nat_cmp}
-use Rattle.std.specs.Cmp.{int_cmp_total}
+use Rattle.std.specs.Cmp.{int_cmp_total, nat_cmp_total}
 use Rattle.std.specs.Cmp.Lexicographic.{slice_cmp, nat_list_cmp_total}
+use Rattle.std.proofs.lemmas.Cmp.{tied_itself}
 use Rattle.source_rows.specs.declared.row.Row.{Row}
 use Rattle.source_rows.specs.Row.{no_number, root_path}
 use Rattle.source_rows.specs.Rows.{row_of, is_under, stands_before, key_cmp}
 use Rattle.source_rows.specs.Tree.{IsForest, IsOneTree, IsPostOrder, HasPlace, IsChildOf, NotBehind, Fills, order_or, parent_of, side_of, two_level_key}
+use Rattle.source_rows.proofs.Compared.{some_same}
 use Rattle.source_rows.proofs.Lists.{all_of, all_and, all_with}
 use Rattle.source_rows.proofs.Forest.{InForest, Shaped, members, shaped, found, path_is}
 use Rattle.source_rows.proofs.Paths.{under, under_path}
@@ -25,17 +27,6 @@ one_tree rows f =
     pairs rows (λ r q. is_under r.id q ≡ true → q.priority ≡ r.priority) all (λ r q g h u. (under rows all r g q h u).priority)
 
 -- ---- orderings
-
-pub self_by : (c : Ordering) → c ≡ ordering_reverse c → c ≡ Equal
-self_by Less h = cc
-self_by Equal h = refl
-self_by Greater h = cc
-
-int_self : (p : ℤ) → int_cmp p p ≡ Equal
-int_self p = self_by (int_cmp p p) (int_cmp_total.antisymm p p)
-
-nat_self : (n : ℕ) → nat_cmp n n ≡ Equal
-nat_self n = grind (arith, nat_tests)
 
 pub flip_by : (c : Ordering) → is_lt (ordering_reverse c) ≡ is_gt c
 flip_by Less = refl
@@ -54,7 +45,7 @@ not_behind : (p q : List ℕ) → is_lt (slice_cmp nat_cmp p q) ≡ false → No
 not_behind p q h = ap is_gt (nat_list_cmp_total.antisymm q p) ∙ (back_by (slice_cmp nat_cmp p q) ∙ h)
 
 same_priority : (a b : ℤ) (o : Ordering) → a ≡ b → ordering_then (int_cmp a b) o ≡ o
-same_priority a b o e = rw (sym e, int_self a) refl
+same_priority a b o e = rw (sym e, tied_itself int_cmp_total a) refl
 
 -- ---- a row stands behind those under it
 
@@ -122,15 +113,15 @@ children_less : (w r q : Row) → IsChildOf w r → IsChildOf w q → r.level �
 children_less w r q c d most (inl s) h =
     paths_less r.path q.path (w.order ∷ r.order ∷ no_number ∷ no_number ∷ []) (w.order ∷ q.order ∷ no_number ∷ no_number ∷ [])
     (c.path ∙ path_is w.level 1 w.path (w.order ∷ no_number ∷ no_number ∷ no_number ∷ []) r.order s.0 s.2) (d.path ∙ path_is w.level 1 w.path (w.order ∷ no_number ∷ no_number ∷ no_number ∷ []) q.order s.0 s.2)
-    (rw (nat_self w.order) (less_here r.order q.order Equal h))
+    (rw (tied_itself nat_cmp_total w.order) (less_here r.order q.order Equal h))
 children_less w r q c d most (inr (inl s)) h =
     paths_less r.path q.path (s.1 ∷ w.order ∷ r.order ∷ no_number ∷ []) (s.1 ∷ w.order ∷ q.order ∷ no_number ∷ [])
     (c.path ∙ path_is w.level 2 w.path (s.1 ∷ w.order ∷ no_number ∷ no_number ∷ []) r.order s.2 s.4) (d.path ∙ path_is w.level 2 w.path (s.1 ∷ w.order ∷ no_number ∷ no_number ∷ []) q.order s.2 s.4)
-    (rw (nat_self s.1, nat_self w.order) (less_here r.order q.order Equal h))
+    (rw (tied_itself nat_cmp_total s.1, tied_itself nat_cmp_total w.order) (less_here r.order q.order Equal h))
 children_less w r q c d most (inr (inr (inl s))) h =
     paths_less r.path q.path (s.2 ∷ s.3 ∷ w.order ∷ r.order ∷ []) (s.2 ∷ s.3 ∷ w.order ∷ q.order ∷ [])
     (c.path ∙ path_is w.level 3 w.path (s.2 ∷ s.3 ∷ w.order ∷ no_number ∷ []) r.order s.4 s.6) (d.path ∙ path_is w.level 3 w.path (s.2 ∷ s.3 ∷ w.order ∷ no_number ∷ []) q.order s.4 s.6)
-    (rw (nat_self s.2, nat_self s.3, nat_self w.order) (less_here r.order q.order Equal h))
+    (rw (tied_itself nat_cmp_total s.2, tied_itself nat_cmp_total s.3, tied_itself nat_cmp_total w.order) (less_here r.order q.order Equal h))
 children_less w r q c d most (inr (inr (inr s))) h = let up = c.level in let at = s.6 in absurd (omega (arith, up, at, most))
 
 sibling_paths : (rows : List Row) → AllByRecursion (InForest rows) rows → (r q : Row) (o : Option ℕ) → HasPlace rows o r → HasPlace rows o q → r.level ≤ 4 → r.order < q.order → is_lt (slice_cmp nat_cmp r.path q.path) ≡ true
@@ -139,9 +130,6 @@ sibling_paths rows all r q None p s most h =
 sibling_paths rows all r q (Some id) p s most h =
     let one : s.0 ≡ p.0 = some_same s.0 p.0 (sym s.1 ∙ p.1) in
     children_less p.0 r q p.2 (subst (λ (w : Row). IsChildOf w q) one s.2) most (shaped rows all p.0 (found (InForest rows) id p.0 rows all p.1)) h
-  where
-    some_same : (a b : Row) → Some a ≡ Some b → a ≡ b
-    some_same a b e = cc
 
 siblings : (rows : List Row) → AllByRecursion (InForest rows) rows → (r q : Row) → InForest rows r → InForest rows q → r.parent ≡ q.parent → r.priority ≡ q.priority → r.order < q.order → stands_before r q ≡ true
 siblings rows all r q f g e same less =

@@ -7,13 +7,10 @@ use Rattle.source_rows.specs.Row.{no_number, root_path, path_under}
 use Rattle.source_rows.specs.Rows.{row_of, is_under, moved}
 use Rattle.source_rows.specs.Moves.{moved_row}
 use Rattle.source_rows.specs.Tree.{IdsRise, OrdersDiffer, IsRoot, IsChildOf, HasPlace, IsForest}
+use Rattle.source_rows.proofs.Compared.{same_self, are_same, not_same, keeps}
 use Rattle.source_rows.proofs.Lists.{all_both, all_and, all_map}
-use Rattle.source_rows.proofs.Forest.{InForest, Shaped, members, shaped, found, are_same, not_same, same_self, same_id, under_child, under_root}
+use Rattle.source_rows.proofs.Forest.{InForest, Shaped, members, shaped, found, same_id, under_child, under_root}
 use Rattle.source_rows.proofs.Edits.{rise_map, found_map}
-
-keeps : {B : Type 0} (h : Row → B) (b : Bool) (x y : Row) → h x ≡ h y → h (cond b x y) ≡ h y
-keeps h true x y e = e
-keeps h false x y e = refl
 
 pub moved_id : (id : ℕ) (z : ℤ) (n : ℕ) (r : Row) → (moved id z n r).id ≡ r.id
 moved_id id z n r = keeps (λ q. q.id) (is_under id r) (moved_row id z n r) r refl

@@ -2,22 +2,21 @@
 use Rattle.std.proofs.Common.{◌≡◌, ℕ, ◌<◌, ◌≤◌, ◌==◌, cond, Bool, true, false, not, Some, None, List, [], ◌∷◌, ◌++◌, ◌⊎◌, inl, inr, length, map, filter, refl, ap, sym, ◌∙◌, arith, subst}
 use Rattle.std.specs.List.{AllByRecursion}
 use Rattle.std.specs.Option.{IsSome}
-use Rattle.std.specs.declared.cmp.Ordering.{Ordering}
-use Rattle.std.specs.declared.cmp.Ordering.TheVariants.{Less, Equal, Greater}
 use Rattle.std.specs.Ordering.{is_lt, is_gt, is_eq}
 use Rattle.std.specs.BTreeMap.{is_at}
 use Rattle.std.specs.Map.{remove_entry, lookup}
+use Rattle.std.proofs.lemmas.Cmp.{tied_itself}
 use Rattle.source_rows.specs.declared.row.Row.{Row}
 use Rattle.source_rows.specs.Rows.{Key, key_cmp, key_of, row_of, has_id, is_under, in_order, placed, stands_before}
 use Rattle.source_rows.specs.Tree.{IdsRise}
 use Rattle.source_rows.specs.Order.{Apart}
 use Rattle.source_rows.specs.Kept.{entry_of, AllApart}
 use Rattle.source_rows.specs.Removal.{IsIndexed, StandNear}
+use Rattle.source_rows.proofs.Compared.{same_self, are_same, not_same}
 use Rattle.source_rows.proofs.Lists.{all_of, all_and, all_back, all_filter, pairs_filter, pairs_and, each_with_each}
 use Rattle.source_rows.proofs.Order.{key_total, flip, all_in_order, pairs_in_order, in_order-filter}
-use Rattle.source_rows.proofs.Forest.{all_found, found, same_self, are_same, not_same}
-use Rattle.source_rows.proofs.Kept.{equal_not, found_id}
-use Rattle.source_rows.proofs.Post.{self_by}
+use Rattle.source_rows.proofs.Forest.{all_found, found}
+use Rattle.source_rows.proofs.Kept.{equal_not, not_equal, found_id}
 
 -- ---- rows that stand apart
 
@@ -37,22 +36,14 @@ others rows r h k e =
 
 -- ---- the entry of a row
 
-key_self : (k : Key) → key_cmp k k ≡ Equal
-key_self k = self_by (key_cmp k k) (key_total.antisymm k k)
-
-not_at_by : (r q : Row) (o : Ordering) → key_cmp (key_of r) (key_of q) ≡ o → Apart r q → is_eq o ≡ false
-not_at_by r q Less e h = refl
-not_at_by r q Equal e h = absurd (equal_not r q e h)
-not_at_by r q Greater e h = refl
-
 not_at : (r q : Row) → Apart r q → is_at (key_cmp (key_of r)) (key_of q) ≡ false
-not_at r q h = not_at_by r q (key_cmp (key_of r) (key_of q)) refl h
+not_at r q h = not_equal r q h
 
 at_self : (r : Row) → is_at (key_cmp (key_of r)) (key_of r) ≡ true
-at_self r = ap is_eq (key_self (key_of r))
+at_self r = ap is_eq (tied_itself key_total (key_of r))
 
 self_apart : (r : Row) → Apart r r → ⊥
-self_apart r h = equal_not r r (key_self (key_of r)) h
+self_apart r h = equal_not r r (tied_itself key_total (key_of r)) h
 
 -- the rows behind it have other ids
 all_kept : (r : Row) (qs : List Row) → AllByRecursion (Other r) qs → AllByRecursion (Apart r) qs → filter (λ q. not (has_id r.id q)) qs ≡ qs
