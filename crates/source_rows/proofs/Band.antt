@@ -24,7 +24,7 @@ use Rattle.source_rows.specs.InOrder.{rows_of}
 use Rattle.source_rows.specs.Moves.{with_each, moved_row}
 use Rattle.source_rows.specs.Band.{first_key, last_key}
 use Rattle.source_rows.proofs.Compared.{same_self, are_same, are_not, or_true, nat_equal}
-use Rattle.source_rows.proofs.Lists.{all_of, all_both, all_true, all_passed, all_filter, each_with_each}
+use Rattle.source_rows.proofs.Lists.{all_of, all_both, all_true, all_passed, all_filter, filter_mapped, each_with_each}
 use Rattle.source_rows.proofs.Order.{all_in_order, in_order-filter}
 use Rattle.source_rows.proofs.Forest.{all_found}
 use Rattle.source_rows.proofs.Kept.{values_of-entries}
@@ -112,18 +112,10 @@ contains_by x r n k false true e f = let never = sym (inside x r k.path (k.share
 
 -- ---- the rows that stand there
 
-between_by : (x r : Row) (xs : List (Key × ℕ)) (ys : List Row) → contains x (key_of r) ≡ is_under x.id r → xs ≡ map entry_of ys → cond (contains x (key_of r)) (entry_of r ∷ xs) xs ≡ map entry_of (cond (is_under x.id r) (r ∷ ys) ys)
-between_by x r xs ys e f = ap (λ (b : Bool). cond b (entry_of r ∷ xs) xs) e ∙ by_test (is_under x.id r)
-  where
-    by_test : (b : Bool) → cond b (entry_of r ∷ xs) xs ≡ map entry_of (cond b (r ∷ ys) ys)
-    by_test true = ap (λ (es : List (Key × ℕ)). entry_of r ∷ es) f
-    by_test false = f
-
 between : (x : Row) (n : ℕ) (rows : List Row) → AllByRecursion (Kin x n) rows → entries_between key_cmp (Included (first_key x)) (Included (last_key x)) (map entry_of rows) ≡ map entry_of (filter (is_under x.id) rows)
-between x n [] h = refl
-between x n (r ∷ rows) h =
-    between_by x r (entries_between key_cmp (Included (first_key x)) (Included (last_key x)) (map entry_of rows)) (filter (is_under x.id) rows)
-    (contains_by x r n h.0 (contains x (key_of r)) (is_under x.id r) refl refl) (between x n rows h.1)
+between x n rows h =
+    filter_mapped (λ e. contains x e.0) (is_under x.id) entry_of rows
+    (all_of (Kin x n) (λ r. contains x (key_of r) ≡ is_under x.id r) (λ r k. contains_by x r n k (contains x (key_of r)) (is_under x.id r) refl refl) rows h)
 
 among : (P : Row → Type 0) (p : Row → Bool) (rows : List Row) → AllByRecursion P rows → AllByRecursion P (filter p (in_order rows))
 among P p rows h = all_filter P p (in_order rows) (all_in_order P rows h)

@@ -2,11 +2,11 @@
 use Rattle.std.proofs.Common.{◌≡◌, ◌≢◌, ℕ, ◌<◌, ◌≤◌, ◌+◌, ◌^◌, ◌==◌, cond, Bool, true, false, not, Option, Some, None, List, [], ◌∷◌, ◌++◌, inl, inr, map, filter, refl, ap, sym, ◌∙◌, arith, subst}
 use Rattle.std.specs.List.{AllByRecursion}
 use Rattle.source_rows.specs.declared.row.Row.{Row}
-use Rattle.source_rows.specs.Row.{line_under, path_under, root_line, root_path}
+use Rattle.source_rows.specs.Row.{root_line, root_path}
 use Rattle.source_rows.specs.Rows.{Key, key_of, row_of, is_under}
 use Rattle.source_rows.specs.Tree.{IdsRise, OrdersDiffer, IsRoot, IsChildOf, HasPlace, IsForest}
 use Rattle.source_rows.proofs.Lists.{all_of, all_push, all_map, all_passed, all_filter, pairs_push, pairs_map, pairs_filter}
-use Rattle.source_rows.proofs.Forest.{InForest, members, shaped, found, under_up, under_down, under_root, each}
+use Rattle.source_rows.proofs.Forest.{InForest, members, shaped, found, line_same, path_same, under_up, under_down, under_root, each}
 
 -- ---- a new row
 
@@ -69,12 +69,6 @@ root_map g s r p = record {
   line = s.line r ∙ (p.line ∙ ap root_line (sym (s.id r)));
   path = ap (λ (k : Key). k.1) (s.key r) ∙ (p.path ∙ ap root_path (sym (s.order r)));
 }
-
-line_same : (k l : ℕ) (x y : List ℕ) (i j : ℕ) → k ≡ l → x ≡ y → i ≡ j → line_under k x i ≡ line_under l y j
-line_same k l x y i j a b c = rw (a, b, c) refl
-
-path_same : (k l : ℕ) (x y : List ℕ) (i j : ℕ) → k ≡ l → x ≡ y → i ≡ j → path_under k x i ≡ path_under l y j
-path_same k l x y i j a b c = rw (a, b, c) refl
 
 child_map : (g : Row → Row) → Stays g → (q r : Row) → IsChildOf q r → IsChildOf (g q) (g r)
 child_map g s q r c = record {

@@ -7,7 +7,7 @@ use Rattle.source_rows.specs.Rows.{row_of, is_under}
 use Rattle.source_rows.specs.Tree.{IdsRise, OrdersDiffer, IsRoot, IsChildOf, HasPlace, IsForest}
 use Rattle.source_rows.proofs.Compared.{or_true, some_same}
 pub use Rattle.source_rows.proofs.Compared.{same_self, are_same, not_same}
-use Rattle.source_rows.proofs.Lists.{each_with_each}
+use Rattle.source_rows.proofs.Lists.{all_both, each_with_each}
 
 -- ---- a row that is found
 
@@ -28,8 +28,7 @@ later_found q rows r h e =
     rw apart e
 
 later_all : (q : Row) (rows xs : List Row) → AllByRecursion (λ r. q.id < r.id) xs → AllByRecursion (λ r. row_of r.id rows ≡ Some r) xs → AllByRecursion (λ r. row_of r.id (q ∷ rows) ≡ Some r) xs
-later_all q rows [] h k = tt
-later_all q rows (r ∷ xs) h k = (later_found q rows r h.0 k.0, later_all q rows xs h.1 k.1)
+later_all q rows xs h k = all_both (λ r. q.id < r.id) (λ r. row_of r.id rows ≡ Some r) (λ r. row_of r.id (q ∷ rows) ≡ Some r) (λ r less e. later_found q rows r less e) xs h k
 
 pub all_found : (rows : List Row) → IdsRise rows → AllByRecursion (λ r. row_of r.id rows ≡ Some r) rows
 all_found [] h = tt
@@ -101,11 +100,17 @@ Shaped r = One r ⊎ (Two r ⊎ (Three r ⊎ Four r))
 root_shape : (rows : List Row) (r : Row) → InForest rows r → IsRoot r → Shaped r
 root_shape rows r f p = inl (p.level, p.line, p.path)
 
+pub line_same : (k l : ℕ) (x y : List ℕ) (i j : ℕ) → k ≡ l → x ≡ y → i ≡ j → line_under k x i ≡ line_under l y j
+line_same k l x y i j a b c = rw (a, b, c) refl
+
+pub path_same : (k l : ℕ) (x y : List ℕ) (i j : ℕ) → k ≡ l → x ≡ y → i ≡ j → path_under k x i ≡ path_under l y j
+path_same k l x y i j a b c = rw (a, b, c) refl
+
 line_is : (l k : ℕ) (xs ys : List ℕ) (id : ℕ) → l ≡ k → xs ≡ ys → line_under l xs id ≡ line_under k ys id
-line_is l k xs ys id e f = rw (e, f) refl
+line_is l k xs ys id e f = line_same l k xs ys id id e f refl
 
 pub path_is : (l k : ℕ) (xs ys : List ℕ) (id : ℕ) → l ≡ k → xs ≡ ys → path_under l xs id ≡ path_under k ys id
-path_is l k xs ys id e f = rw (e, f) refl
+path_is l k xs ys id e f = path_same l k xs ys id id e f refl
 
 child_shape : (rows : List Row) (q r : Row) → InForest rows q → InForest rows r → IsChildOf q r → Shaped q → Shaped r
 child_shape rows q r g f c (inl s) =

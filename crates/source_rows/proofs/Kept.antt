@@ -51,8 +51,7 @@ apart_paths r q n h k = apart_by r q (key_cmp (key_of r) (key_of q)) refl
     let never = sym h ∙ (ap (list_any (λ i. i == n)) f ∙ k) in cc)
 
 pub all_apart : (r : Row) (n : ℕ) (rows : List Row) → n < no_number → list_any (λ i. i == n) r.path ≡ true → AllByRecursion (λ q. IsBelow n q.path) rows → AllByRecursion (Apart r) rows
-all_apart r n [] f h k = tt
-all_apart r n (q ∷ rows) f h k = (apart_paths r q n h (k.0 n (omega arith) f), all_apart r n rows f h k.1)
+all_apart r n rows f h k = all_of (λ q. IsBelow n q.path) (Apart r) (λ q b. apart_paths r q n h (b n (omega arith) f)) rows k
 
 -- ---- the map's entries are the rows in order
 

@@ -33,7 +33,7 @@ pub record Kin (x : Row) (n : ℕ) (r : Row) : Type 0 where
   pub path : IsPath r.path
   pub below : IsBelow n r.path
 
-path_of : (r : Row) → r.order < 2 ^ 63 → Shaped r → IsPath r.path
+pub path_of : (r : Row) → r.order < 2 ^ 63 → Shaped r → IsPath r.path
 path_of r h (inl s) = record { a = r.order; b = no_number; c = no_number; d = no_number; is = s.2; b_fits = omega arith; c_fits = omega arith; d_fits = omega arith }
 path_of r h (inr (inl s)) = record { a = s.1; b = r.order; c = no_number; d = no_number; is = s.4; b_fits = omega (arith, h); c_fits = omega arith; d_fits = omega arith }
 path_of r h (inr (inr (inl s))) = let m = s.8 in record { a = s.2; b = s.3; c = r.order; d = no_number; is = s.6; b_fits = omega (arith, m); c_fits = omega (arith, h); d_fits = omega arith }

@@ -1,5 +1,5 @@
 -- What holds of all values of a list, and of any two of them.
-use Rattle.std.proofs.Common.{◌≡◌, Bool, true, false, cond, Option, Some, None, List, [], ◌∷◌, ◌++◌, map, filter, refl}
+use Rattle.std.proofs.Common.{◌≡◌, Bool, true, false, cond, Option, Some, None, List, [], ◌∷◌, ◌++◌, map, filter, refl, ap, ◌∙◌}
 use Rattle.std.specs.List.{AllByRecursion, cons_option}
 use Rattle.source_rows.specs.Lists.{Pairs}
 
@@ -57,6 +57,15 @@ all_filter P p xs h = all_passed P P p (λ x k e. k) xs h
 pub cons_join : {A : Type 0} (o : Option A) (xs ys : List A) → cons_option o (xs ++ ys) ≡ cons_option o xs ++ ys
 cons_join None xs ys = refl
 cons_join (Some x) xs ys = refl
+
+filter_cons : {A B : Type 0} (g : A → B) (x : A) (ys : List B) (zs : List A) → ys ≡ map g zs → (b : Bool) → cond b (g x ∷ ys) ys ≡ map g (cond b (x ∷ zs) zs)
+filter_cons {A} {B} g x ys zs e true = ap (λ (us : List B). g x ∷ us) e
+filter_cons {A} {B} g x ys zs e false = e
+
+pub filter_mapped : {A B : Type 0} (p : B → Bool) (q : A → Bool) (g : A → B) (xs : List A) → AllByRecursion (λ x. p (g x) ≡ q x) xs → filter p (map g xs) ≡ map g (filter q xs)
+filter_mapped p q g [] h = refl
+filter_mapped p q g (x ∷ xs) h =
+    ap (λ (b : Bool). cond b (g x ∷ filter p (map g xs)) (filter p (map g xs))) h.0 ∙ filter_cons g x (filter p (map g xs)) (filter q xs) (filter_mapped p q g xs h.1) (q x)
 
 -- ---- any two
 

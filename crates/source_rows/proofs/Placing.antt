@@ -11,7 +11,7 @@ use Rattle.source_rows.specs.Order.{Apart}
 use Rattle.source_rows.specs.Lists.{Pairs}
 use Rattle.source_rows.specs.Kept.{entry_of, AllApart}
 use Rattle.source_rows.specs.Moves.{with_row, without_row, with_rows, without_rows, HavePlaces}
-use Rattle.source_rows.proofs.Lists.{all_of, all_both, all_map, all_passed, all_filter, pairs_map, pairs_filter}
+use Rattle.source_rows.proofs.Lists.{all_of, all_both, all_true, all_map, all_passed, all_filter, filter_mapped, pairs_map, pairs_filter}
 use Rattle.source_rows.proofs.Order.{key_total, flip, comm, all_placed, pairs_in_order, all_in_order, in_order-filter}
 use Rattle.source_rows.proofs.Kept.{not_equal, entries-placed}
 
@@ -65,8 +65,7 @@ abbrev pub AreApart : List Row → List Row → Type 0
 AreApart rs qs = AllByRecursion (λ r. AllByRecursion (Apart r) qs) rs
 
 apart_placed : (m : Row) (qs ms : List Row) → AllByRecursion (Apart m) ms → AreApart ms qs → AreApart ms (placed m qs)
-apart_placed m qs [] h k = tt
-apart_placed m qs (r ∷ ms) h k = (all_placed (Apart r) m qs (flip m r h.0) k.0, apart_placed m qs ms h.1 k.1)
+apart_placed m qs ms h k = all_both (Apart m) (λ r. AllByRecursion (Apart r) qs) (λ r. AllByRecursion (Apart r) (placed m qs)) (λ r a b. all_placed (Apart r) m qs (flip m r a) b) ms h k
 
 pub all_put-all : (P : Row → Type 0) (rs qs : List Row) → AllByRecursion P rs → AllByRecursion P qs → AllByRecursion P (all_put rs qs)
 all_put-all P [] qs h k = k
@@ -142,17 +141,6 @@ pub record Changes (p : Row → Bool) (g : Row → Row) (rows : List Row) : Type
   pub changed : Pairs (λ r q. Apart (g r) (g q)) rows
   pub new : AllByRecursion (λ r. AllByRecursion (λ q. p r ≡ true → Apart (g r) q) rows) rows
 
-passing_by : (p : Row → Bool) (g : Row → Row) (r : Row) (xs ys : List Row) → p (g r) ≡ p r → xs ≡ map g ys → cond (p (g r)) (g r ∷ xs) xs ≡ map g (cond (p r) (r ∷ ys) ys)
-passing_by p g r xs ys e ih = ap (λ (b : Bool). cond b (g r ∷ xs) xs) e ∙ by_test (p r)
-  where
-    by_test : (b : Bool) → cond b (g r ∷ xs) xs ≡ map g (cond b (r ∷ ys) ys)
-    by_test true = ap (λ (zs : List Row). g r ∷ zs) ih
-    by_test false = ih
-
-passing : (p : Row → Bool) (g : Row → Row) → ((r : Row) → p (g r) ≡ p r) → (rows : List Row) → filter p (map g rows) ≡ map g (filter p rows)
-passing p g e [] = refl
-passing p g e (r ∷ rows) = passing_by p g r (filter p (map g rows)) (filter p rows) (e r) (passing p g e rows)
-
 staying_by : (p : Row → Bool) (g : Row → Row) (r : Row) (xs ys : List Row) → p (g r) ≡ p r → (p r ≡ false → g r ≡ r) → xs ≡ ys → (b : Bool) → p r ≡ b → cond (not (p (g r))) (g r ∷ xs) xs ≡ cond (not (p r)) (r ∷ ys) ys
 staying_by p g r xs ys e s ih true t = rw (e, t) ih
 staying_by p g r xs ys e s ih false t = let same : p (g r) ≡ false = e ∙ t in rw (same, t) (ap (λ (q : Row). q ∷ xs) (s t) ∙ ap (λ (zs : List Row). r ∷ zs) ih)
@@ -162,8 +150,7 @@ staying p g e s [] = refl
 staying p g e s (r ∷ rows) = staying_by p g r (filter (λ q. not (p q)) (map g rows)) (filter (λ q. not (p q)) rows) (e r) (s r) (staying p g e s rows) (p r) refl
 
 all_in : (P : Row → Row → Type 0) (p : Row → Bool) (rs qs : List Row) → AllByRecursion (λ r. AllByRecursion (λ q. p r ≡ true → P r q) qs) rs → AllByRecursion (λ r. p r ≡ true → AllByRecursion (P r) qs) rs
-all_in P p [] qs h = tt
-all_in P p (r ∷ rs) qs h = ((λ e. all_of (λ q. p r ≡ true → P r q) (P r) (λ q k. k e) qs h.0), all_in P p rs qs h.1)
+all_in P p rs qs h = all_of (λ r. AllByRecursion (λ q. p r ≡ true → P r q) qs) (λ r. p r ≡ true → AllByRecursion (P r) qs) (λ r a e. all_of (λ q. p r ≡ true → P r q) (P r) (λ q k. k e) qs a) rs h
 
 -- the changed rows stand apart from all rows as they were
 pub changed_apart : (p : Row → Bool) (g : Row → Row) (rows : List Row) → Changes p g rows → (qs : List Row) → ((P : Row → Type 0) → AllByRecursion P rows → AllByRecursion P qs) → AreApart (map g (filter p (in_order rows))) qs
@@ -197,8 +184,7 @@ apart_turned rs (q ∷ qs) h = (heads rs h, apart_turned rs qs (tails rs h))
 
 -- those that pass stand apart from those that don't
 further : (r : Row) (xs ys : List Row) → AllByRecursion (Apart r) xs → AreApart xs ys → AreApart xs (r ∷ ys)
-further r [] ys k m = tt
-further r (x ∷ xs) ys k m = ((flip r x k.0, m.0), further r xs ys k.1 m.1)
+further r xs ys k m = all_both (Apart r) (λ x. AllByRecursion (Apart x) ys) (λ x. AllByRecursion (Apart x) (r ∷ ys)) (λ x a b. (flip r x a, b)) xs k m
 
 others_by : (r : Row) (xs ys : List Row) → AllByRecursion (Apart r) xs → AllByRecursion (Apart r) ys → AreApart xs ys → (b : Bool) → AreApart (cond b (r ∷ xs) xs) (cond (not b) (r ∷ ys) ys)
 others_by r xs ys h k m true = (k, m)
@@ -236,7 +222,7 @@ changed_entries p g rows h =
     ap (without_rows tree) put ∙ undone tree (map entry_of (all_put moved others)) (have_places tree (all_put moved others) old_each old_apart) in
     let whole : in_order (map g rows) ≡ all_put moved others =
     split p (map g rows) (pairs_map (λ r q. Apart (g r) (g q)) Apart g (λ r q k. k) rows h.changed)
-    ∙ (ap (λ (xs : List Row). all_put xs (in_order (filter (λ q. not (p q)) (map g rows)))) (passing p g h.passes rows)
+    ∙ (ap (λ (xs : List Row). all_put xs (in_order (filter (λ q. not (p q)) (map g rows)))) (filter_mapped p p g rows (all_true (λ r. p (g r) ≡ p r) h.passes rows))
     ∙ (ap (λ (xs : List Row). all_put (map g (filter p rows)) (in_order xs)) (staying p g h.passes h.stays rows)
     ∙ (sym (put_in_order g (filter p rows) (pairs_filter (λ r q. Apart (g r) (g q)) p rows h.changed) others)
     ∙ ap (λ (xs : List Row). all_put (map g xs) others) (sym stands)))) in

@@ -16,6 +16,7 @@ use Rattle.source_rows.proofs.Compared.{some_same}
 use Rattle.source_rows.proofs.Lists.{all_of, all_and, all_with}
 use Rattle.source_rows.proofs.Forest.{InForest, Shaped, members, shaped, found, path_is}
 use Rattle.source_rows.proofs.Paths.{under, under_path}
+use Rattle.source_rows.proofs.Kin.{IsPath, path_of}
 use Rattle.source_rows.proofs.Tree.{between, post}
 
 pairs : (rows : List Row) (T : Row → Row → Type 0) → AllByRecursion (InForest rows) rows → ((r q : Row) → InForest rows r → InForest rows q → T r q) → AllByRecursion (λ r. AllByRecursion (λ q. T r q) rows) rows
@@ -49,28 +50,19 @@ same_priority a b o e = rw (sym e, tied_itself int_cmp_total a) refl
 
 -- ---- a row stands behind those under it
 
-abbrev FourNumbers : List ℕ → Type 0
-FourNumbers p = (a : ℕ) × (b : ℕ) × (c : ℕ) × (d : ℕ) × (p ≡ a ∷ b ∷ c ∷ d ∷ []) × (b ≤ no_number) × (c ≤ no_number) × (d ≤ no_number)
-
-four_numbers : (r : Row) → r.order < 2 ^ 63 → Shaped r → FourNumbers r.path
-four_numbers r h (inl s) = (r.order, no_number, no_number, no_number, s.2, omega arith, omega arith, omega arith)
-four_numbers r h (inr (inl s)) = (s.1, r.order, no_number, no_number, s.4, omega arith, omega arith, omega arith)
-four_numbers r h (inr (inr (inl s))) = let m = s.8 in (s.2, s.3, r.order, no_number, s.6, omega (arith, m), omega arith, omega arith)
-four_numbers r h (inr (inr (inr s))) = let m = s.10 in let k = s.11 in (s.3, s.4, s.5, r.order, s.8, omega (arith, m), omega (arith, k), omega arith)
-
 fills_at : (l k : ℕ) (p q x y : List ℕ) → l ≡ k → p ≡ q → x ≡ y → Fills k q y → Fills l p x
 fills_at l k p q x y e f g h = rw (e, f, g) h
 
-fills : (r : Row) (x : List ℕ) → Shaped r → FourNumbers x → Fills r.level r.path x
-fills r x (inl s) n = fills_at r.level 1 r.path (r.order ∷ no_number ∷ no_number ∷ no_number ∷ []) x (n.0 ∷ n.1 ∷ n.2 ∷ n.3 ∷ []) s.0 s.2 n.4 (refl, n.5, (refl, n.6, (refl, n.7, tt)))
-fills r x (inr (inl s)) n = fills_at r.level 2 r.path (s.1 ∷ r.order ∷ no_number ∷ no_number ∷ []) x (n.0 ∷ n.1 ∷ n.2 ∷ n.3 ∷ []) s.2 s.4 n.4 (refl, n.6, (refl, n.7, tt))
-fills r x (inr (inr (inl s))) n = fills_at r.level 3 r.path (s.2 ∷ s.3 ∷ r.order ∷ no_number ∷ []) x (n.0 ∷ n.1 ∷ n.2 ∷ n.3 ∷ []) s.4 s.6 n.4 (refl, n.7, tt)
-fills r x (inr (inr (inr s))) n = fills_at r.level 4 r.path (s.3 ∷ s.4 ∷ s.5 ∷ r.order ∷ []) x (n.0 ∷ n.1 ∷ n.2 ∷ n.3 ∷ []) s.6 s.8 n.4 tt
+fills : (r : Row) (x : List ℕ) → Shaped r → IsPath x → Fills r.level r.path x
+fills r x (inl s) n = fills_at r.level 1 r.path (r.order ∷ no_number ∷ no_number ∷ no_number ∷ []) x (n.a ∷ n.b ∷ n.c ∷ n.d ∷ []) s.0 s.2 n.is (refl, n.b_fits, (refl, n.c_fits, (refl, n.d_fits, tt)))
+fills r x (inr (inl s)) n = fills_at r.level 2 r.path (s.1 ∷ r.order ∷ no_number ∷ no_number ∷ []) x (n.a ∷ n.b ∷ n.c ∷ n.d ∷ []) s.2 s.4 n.is (refl, n.c_fits, (refl, n.d_fits, tt))
+fills r x (inr (inr (inl s))) n = fills_at r.level 3 r.path (s.2 ∷ s.3 ∷ r.order ∷ no_number ∷ []) x (n.a ∷ n.b ∷ n.c ∷ n.d ∷ []) s.4 s.6 n.is (refl, n.d_fits, tt)
+fills r x (inr (inr (inr s))) n = fills_at r.level 4 r.path (s.3 ∷ s.4 ∷ s.5 ∷ r.order ∷ []) x (n.a ∷ n.b ∷ n.c ∷ n.d ∷ []) s.6 s.8 n.is tt
 
 pub children_first : (rows : List Row) → AllByRecursion (InForest rows) rows → (r q : Row) → InForest rows r → InForest rows q → is_under r.id q ≡ true → stands_before r q ≡ false
 children_first rows all r q f g h =
     let u = under rows all r f q g h in
-    let behind = post r.level r.path q.path u.path (fills r q.path (shaped rows all r f) (four_numbers q g.number (shaped rows all q g))) in
+    let behind = post r.level r.path q.path u.path (fills r q.path (shaped rows all r f) (path_of q g.number (shaped rows all q g))) in
     ap is_lt (same_priority r.priority q.priority (slice_cmp nat_cmp r.path q.path) (sym u.priority)) ∙ not_before q.path r.path behind
 
 -- ---- what stands between

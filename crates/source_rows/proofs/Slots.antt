@@ -12,7 +12,7 @@ use Rattle.source_rows.specs.declared.row.Row.{Row}
 use Rattle.source_rows.specs.Rows.{row_of, has_id, changed}
 use Rattle.source_rows.specs.Slots.{rows_at, Names, Rising, IsTable}
 use Rattle.source_rows.proofs.Compared.{are_same, not_same, are_not, some_same}
-use Rattle.source_rows.proofs.Lists.{all_push, pairs_push, cons_join}
+use Rattle.source_rows.proofs.Lists.{all_of, all_push, pairs_push, cons_join}
 
 abbrev pub id_of : Row → ℕ
 id_of r = r.id
@@ -154,12 +154,10 @@ looked s id key [] n h = let never : None ≡ Some key = h in cc
 looked s id key (e ∷ es) n h = looked_by s id key e (lookup (at_id id) es) (at_id id e.0) refl n.0 (looked s id key es n.1) h
 
 none_of : (id n : ℕ) (es : List (ℕ × ℕ)) → n ≡ id → AllByRecursion (λ q. n < q.0) es → AllByRecursion (λ q. q.0 ≢ id) es
-none_of id n [] e h = tt
-none_of id n (q ∷ es) e h = let less = h.0 in (λ same. absurd (omega (arith, same, less, e)), none_of id n es e h.1)
+none_of id n es e h = all_of (λ q. n < q.0) (λ q. q.0 ≢ id) (λ q less same. absurd (omega (arith, same, less, e))) es h
 
 none_named : (id key : ℕ) (es : List (ℕ × ℕ)) → AllByRecursion (λ q. q.0 ≢ id) es → AllByRecursion (λ q. q.0 ≡ id → q.1 ≡ key) es
-none_named id key [] h = tt
-none_named id key (q ∷ es) h = (λ same. absurd (h.0 same), none_named id key es h.1)
+none_named id key es h = all_of (λ q. q.0 ≢ id) (λ q. q.0 ≡ id → q.1 ≡ key) (λ q apart same. absurd (apart same)) es h
 
 unique_by : (id key : ℕ) (e : ℕ × ℕ) (es : List (ℕ × ℕ)) (o : Option ℕ) (b : Bool) → at_id id e.0 ≡ b → AllByRecursion (λ q. e.0 < q.0) es → (o ≡ Some key → AllByRecursion (λ q. q.0 ≡ id → q.1 ≡ key) es) → cond b (Some e.1) o ≡ Some key
     → (e.0 ≡ id → e.1 ≡ key) × AllByRecursion (λ q. q.0 ≡ id → q.1 ≡ key) es
