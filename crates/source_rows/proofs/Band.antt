@@ -1,18 +1,19 @@
 -- The part of an order where a tree stands has the tree's rows and no others.
-use Rattle.std.proofs.Common.{◌≡◌, ℕ, ℤ, ◌<◌, ◌≤◌, ◌==◌, Bool, true, false, not, cond, ◌||◌, ◌&&◌, Option, Some, List, [], ◌∷◌, inl, inr, map, filter, refl, ap, sym, ◌∙◌, arith, subst}
-use Rattle.std.proofs.lemmas.Bool.Decides.{eqb_tells, nat_tests}
+use Rattle.std.proofs.Common.{◌≡◌, ℕ, ℤ, ◌<◌, ◌≤◌, ◌==◌, Bool, true, false, not, cond, ◌||◌, ◌&&◌, Option, Some, List, [], ◌∷◌, map, map-id, filter, refl, ap, sym, ◌∙◌, arith, subst}
+use Rattle.std.proofs.lemmas.Bool.Decides.{nat_tests}
 use Rattle.std.specs.Prelude.{slice_index}
-use Rattle.std.specs.List.{AllByRecursion, list_any, cons_option}
+use Rattle.std.specs.List.{AllByRecursion, list_any}
 use Rattle.std.specs.Option.{IsSome}
 use Rattle.std.specs.Map.{values_of}
 use Rattle.std.specs.declared.cmp.Ordering.{Ordering}
 use Rattle.std.specs.declared.cmp.Ordering.TheVariants.{Less, Equal, Greater}
 use Rattle.std.specs.declared.ops.Bound.TheVariants.{Included}
-use Rattle.std.specs.Ordering.{is_lt, is_le, is_gt, ordering_then, ordering_reverse, int_cmp, nat_cmp}
-use Rattle.std.specs.Cmp.{int_cmp_total}
+use Rattle.std.specs.Ordering.{is_lt, is_le, is_gt, ordering_then, int_cmp, nat_cmp}
+use Rattle.std.specs.Cmp.{int_cmp_total, nat_cmp_total}
 use Rattle.std.proofs.lemmas.Map.Lookups.{exact_signed}
 use Rattle.std.specs.Cmp.Lexicographic.{slice_cmp}
 use Rattle.std.specs.BTreeMap.Range.{range_contains, entries_between}
+use Rattle.std.proofs.lemmas.Cmp.{tied_itself}
 use Rattle.source_rows.specs.declared.row.Row.{Row}
 use Rattle.source_rows.specs.Rows.{Key, key_cmp, key_of, row_of, has_id, is_under, in_order, placed, stands_before, changed, moved}
 use Rattle.source_rows.specs.Row.{no_number}
@@ -22,25 +23,18 @@ use Rattle.source_rows.proofs.Kin.{Shares, IsPath, Kin}
 use Rattle.source_rows.specs.InOrder.{rows_of}
 use Rattle.source_rows.specs.Moves.{with_each, moved_row}
 use Rattle.source_rows.specs.Band.{first_key, last_key}
-use Rattle.source_rows.proofs.Order.{all_in_order, all_filter, in_order-filter}
-use Rattle.source_rows.proofs.Placing.{all_of, all_both, passed_all}
+use Rattle.source_rows.proofs.Compared.{same_self, are_same, are_not, or_true, nat_equal}
+use Rattle.source_rows.proofs.Lists.{all_of, all_both, all_true, all_passed, all_filter, filter_mapped, each_with_each}
+use Rattle.source_rows.proofs.Order.{all_in_order, in_order-filter}
+use Rattle.source_rows.proofs.Forest.{all_found}
+use Rattle.source_rows.proofs.Kept.{values_of-entries}
+use Rattle.source_rows.proofs.Listed.{same_rows}
 use Rattle.source_rows.proofs.Moved.{is_moved}
 
 -- ---- keys between two
 
 int_equal : (y z : ℤ) → y ≡ z → int_cmp y z ≡ Equal
-int_equal y z e = ap (int_cmp y) (sym e) ∙ by_order (int_cmp y y) (int_cmp_total.antisymm y y)
-  where
-    by_order : (o : Ordering) → o ≡ ordering_reverse o → o ≡ Equal
-    by_order Less e = cc
-    by_order Equal e = refl
-    by_order Greater e = cc
-
-nat_equal : (m n : ℕ) → nat_cmp m n ≡ Equal → m ≡ n
-nat_equal m n h = grind (arith, nat_tests)
-
-nat_same : (n : ℕ) → nat_cmp n n ≡ Equal
-nat_same n = grind (arith, nat_tests)
+int_equal y z e = ap (int_cmp y) (sym e) ∙ tied_itself int_cmp_total y
 
 nat_flip : (m n : ℕ) → nat_cmp m n ≡ Less → nat_cmp n m ≡ Less → ⊥
 nat_flip m n h k = grind (arith, nat_tests)
@@ -102,7 +96,7 @@ inside x r p s =
     let front : slice_index x.path 0 ≡ p.a = s.1 ∙ ap (λ (q : List ℕ). slice_index q 0) p.is in
     ap (λ (q : List ℕ). contains x (r.priority, q)) p.is
     ∙ inside_by (int_cmp x.priority r.priority) (nat_cmp (slice_index x.path 0) p.a) (slice_cmp nat_cmp (0 ∷ 0 ∷ 0 ∷ []) (p.b ∷ p.c ∷ p.d ∷ [])) (slice_cmp nat_cmp (no_number ∷ no_number ∷ no_number ∷ []) (p.b ∷ p.c ∷ p.d ∷ []))
-    (int_equal x.priority r.priority s.0) (ap (λ (n : ℕ). nat_cmp n p.a) front ∙ nat_same p.a) (zeros_first p.b p.c p.d) (lasts_not p.b p.c p.d p.b_fits p.c_fits p.d_fits)
+    (int_equal x.priority r.priority s.0) (ap (λ (n : ℕ). nat_cmp n p.a) front ∙ tied_itself nat_cmp_total p.a) (zeros_first p.b p.c p.d) (lasts_not p.b p.c p.d p.b_fits p.c_fits p.d_fits)
 
 outside : (x r : Row) → IsPath r.path → contains x (key_of r) ≡ true → Shares x r
 outside x r p h =
@@ -118,41 +112,10 @@ contains_by x r n k false true e f = let never = sym (inside x r k.path (k.share
 
 -- ---- the rows that stand there
 
-between_by : (x r : Row) (xs : List (Key × ℕ)) (ys : List Row) → contains x (key_of r) ≡ is_under x.id r → xs ≡ map entry_of ys → cond (contains x (key_of r)) (entry_of r ∷ xs) xs ≡ map entry_of (cond (is_under x.id r) (r ∷ ys) ys)
-between_by x r xs ys e f = ap (λ (b : Bool). cond b (entry_of r ∷ xs) xs) e ∙ by_test (is_under x.id r)
-  where
-    by_test : (b : Bool) → cond b (entry_of r ∷ xs) xs ≡ map entry_of (cond b (r ∷ ys) ys)
-    by_test true = ap (λ (es : List (Key × ℕ)). entry_of r ∷ es) f
-    by_test false = f
-
 between : (x : Row) (n : ℕ) (rows : List Row) → AllByRecursion (Kin x n) rows → entries_between key_cmp (Included (first_key x)) (Included (last_key x)) (map entry_of rows) ≡ map entry_of (filter (is_under x.id) rows)
-between x n [] h = refl
-between x n (r ∷ rows) h =
-    between_by x r (entries_between key_cmp (Included (first_key x)) (Included (last_key x)) (map entry_of rows)) (filter (is_under x.id) rows)
-    (contains_by x r n h.0 (contains x (key_of r)) (is_under x.id r) refl refl) (between x n rows h.1)
-
-ids_of : (rows : List Row) → values_of (map entry_of rows) ≡ map (λ (r : Row). r.id) rows
-ids_of [] = refl
-ids_of (r ∷ rows) = ap (λ (xs : List ℕ). r.id ∷ xs) (ids_of rows)
-
-same_test : (n : ℕ) → (n == n) ≡ true
-same_test n = elim (eqb_tells n n) [ inl t ↦ t.0 | inr f ↦ absurd (f.1 refl) ]
-
--- each row is the one of its id
-later : (r : Row) (rows qs : List Row) → AllByRecursion (λ q. r.id < q.id) qs → AllByRecursion (λ q. row_of q.id rows ≡ Some q) qs → AllByRecursion (λ q. row_of q.id (r ∷ rows) ≡ Some q) qs
-later r rows [] h k = tt
-later r rows (q ∷ qs) h k =
-    let less = h.0 in
-    let apart : (r.id == q.id) ≡ false = elim (eqb_tells r.id q.id) [ inl t ↦ absurd (omega (arith, t.1, less)) | inr f ↦ f.0 ] in
-    (ap (λ (b : Bool). cond b (Some r) (row_of q.id rows)) apart ∙ k.0, later r rows qs h.1 k.1)
-
-pub found_each : (rows : List Row) → IdsRise rows → AllByRecursion (λ q. row_of q.id rows ≡ Some q) rows
-found_each [] h = tt
-found_each (r ∷ rows) h = (ap (λ (b : Bool). cond b (Some r) (row_of r.id rows)) (same_test r.id), later r rows rows h.0 (found_each rows h.1))
-
-named_each : (rows qs : List Row) → AllByRecursion (λ q. row_of q.id rows ≡ Some q) qs → rows_of rows (map (λ (r : Row). r.id) qs) ≡ qs
-named_each rows [] h = refl
-named_each rows (q ∷ qs) h = ap (λ (o : Option Row). cons_option o (rows_of rows (map (λ (r : Row). r.id) qs))) h.0 ∙ ap (λ (xs : List Row). q ∷ xs) (named_each rows qs h.1)
+between x n rows h =
+    filter_mapped (λ e. contains x e.0) (is_under x.id) entry_of rows
+    (all_of (Kin x n) (λ r. contains x (key_of r) ≡ is_under x.id r) (λ r k. contains_by x r n k (contains x (key_of r)) (is_under x.id r) refl refl) rows h)
 
 among : (P : Row → Type 0) (p : Row → Bool) (rows : List Row) → AllByRecursion P rows → AllByRecursion P (filter p (in_order rows))
 among P p rows h = all_filter P p (in_order rows) (all_in_order P rows h)
@@ -163,20 +126,16 @@ pub picked : (x : Row) (n : ℕ) (rows : List Row) → IdsRise rows → AllByRec
 picked x n rows r k =
     let tree : List Row = filter (is_under x.id) (in_order rows) in
     ap (λ (es : List (Key × ℕ)). rows_of rows (values_of es)) (between x n (in_order rows) (all_in_order (Kin x n) rows k))
-    ∙ (ap (rows_of rows) (ids_of tree) ∙ named_each rows tree (among (λ q. row_of q.id rows ≡ Some q) (is_under x.id) rows (found_each rows r)))
+    ∙ (ap (rows_of rows) (values_of-entries tree) ∙ same_rows rows tree (among (λ q. row_of q.id rows ≡ Some q) (is_under x.id) rows (all_found rows r)))
 
 -- the tree, row by row
 moved_each : (id : ℕ) (z : ℤ) (n : ℕ) (rows : List Row) → AllByRecursion (λ r. is_under id r ≡ true) rows → map (moved_row id z n) rows ≡ map (moved id z n) rows
 moved_each id z n [] h = refl
 moved_each id z n (r ∷ rows) h = ap (λ (q : Row). q ∷ map (moved_row id z n) rows) (sym (is_moved id z n r h.0)) ∙ ap (λ (xs : List Row). moved id z n r ∷ xs) (moved_each id z n rows h.1)
 
-all_true : (rows : List Row) (P : Row → Type 0) → ((r : Row) → P r) → AllByRecursion P rows
-all_true [] P f = tt
-all_true (r ∷ rows) P f = (f r, all_true rows P f)
-
 pub moved_tree : (id : ℕ) (z : ℤ) (n : ℕ) (rows : List Row) → map (moved_row id z n) (filter (is_under id) (in_order rows)) ≡ map (moved id z n) (filter (is_under id) (in_order rows))
 moved_tree id z n rows =
-    moved_each id z n (filter (is_under id) (in_order rows)) (passed_all (is_under id) (λ r. is_under id r ≡ true) (in_order rows) (all_true (in_order rows) (λ r. is_under id r ≡ true → is_under id r ≡ true) (λ r e. e)))
+    moved_each id z n (filter (is_under id) (in_order rows)) (all_passed (λ r. is_under id r ≡ is_under id r) (λ r. is_under id r ≡ true) (is_under id) (λ r k e. e) (in_order rows) (all_true (λ r. is_under id r ≡ is_under id r) (λ r. refl) (in_order rows)))
 
 -- ---- the changed rows put into the table
 
@@ -186,7 +145,7 @@ some_each g h rows (q ∷ qs) k =
     (subst (λ (i : ℕ). IsSome (row_of i rows)) (sym (h q)) (subst (λ (o : Option Row). IsSome o) (sym k.0) refl), some_each g h rows qs k.1)
 
 pub tree_there : (p : Row → Bool) (g : Row → Row) → ((r : Row) → (g r).id ≡ r.id) → (rows : List Row) → IdsRise rows → AllByRecursion (λ r. IsSome (row_of r.id rows)) (map g (filter p (in_order rows)))
-tree_there p g h rows r = some_each g h rows (filter p (in_order rows)) (among (λ q. row_of q.id rows ≡ Some q) p rows (found_each rows r))
+tree_there p g h rows r = some_each g h rows (filter p (in_order rows)) (among (λ q. row_of q.id rows ≡ Some q) p rows (all_found rows r))
 
 abbrev last_of : List Row → Row → Row
 last_of [] q = q
@@ -196,12 +155,8 @@ map_twice : (f h : Row → Row) (rows : List Row) → map f (map h rows) ≡ map
 map_twice f h [] = refl
 map_twice f h (r ∷ rows) = ap (λ (xs : List Row). f (h r) ∷ xs) (map_twice f h rows)
 
-map_same : (rows : List Row) → rows ≡ map (λ (r : Row). r) rows
-map_same [] = refl
-map_same (r ∷ rows) = ap (λ (xs : List Row). r ∷ xs) (map_same rows)
-
 each_is : (ms rows : List Row) → with_each ms rows ≡ map (last_of ms) rows
-each_is [] rows = map_same rows
+each_is [] rows = sym (map-id rows)
 each_is (m ∷ ms) rows = each_is ms (changed m.id (λ _. m) rows) ∙ map_twice (last_of ms) (λ r. cond (has_id m.id r) m r) rows
 
 -- the rows have no other row of the id
@@ -216,7 +171,7 @@ stays_last g h q (t ∷ ts) o =
     by_test : (b : Bool) → ((g q).id == (g t).id) ≡ b → cond b (g t) (g q) ≡ g q
     by_test false e = refl
     by_test true e =
-        let same : (g q).id ≡ (g t).id = elim (eqb_tells (g q).id (g t).id) [ inl v ↦ v.1 | inr v ↦ let never = sym e ∙ v.0 in cc ] in
+        let same : (g q).id ≡ (g t).id = are_same (g q).id (g t).id e in
         ap g (o.0 (sym (h t) ∙ (sym same ∙ h q)))
 
 gets_last : (g : Row → Row) → ((r : Row) → (g r).id ≡ r.id) → (q : Row) (ts : List Row) → AllByRecursion (IsOnly q) ts → list_any (λ t. t.id == q.id) ts ≡ true → last_of (map g ts) q ≡ g q
@@ -227,24 +182,15 @@ gets_last g h q (t ∷ ts) o e =
     by_test : (b c : Bool) → (q.id == (g t).id) ≡ b → (t.id == q.id) ≡ c → last_of (map g ts) (g q) ≡ g q → (list_any (λ s. s.id == q.id) ts ≡ true → last_of (map g ts) q ≡ g q) → (c || list_any (λ s. s.id == q.id) ts) ≡ true
         → last_of (map g ts) (cond b (g t) q) ≡ g q
     by_test true c f k stays ih u =
-        let same : q.id ≡ (g t).id = elim (eqb_tells q.id (g t).id) [ inl v ↦ v.1 | inr v ↦ let never = sym f ∙ v.0 in cc ] in
+        let same : q.id ≡ (g t).id = are_same q.id (g t).id f in
         ap (last_of (map g ts)) (ap g (o.0 (sym (h t) ∙ sym same))) ∙ stays
     by_test false false f k stays ih u = ih u
     by_test false true f k stays ih u =
-        let same : t.id ≡ q.id = elim (eqb_tells t.id q.id) [ inl v ↦ v.1 | inr v ↦ let never = sym k ∙ v.0 in cc ] in
-        elim (eqb_tells q.id (g t).id) [ inl v ↦ let never = sym f ∙ v.0 in cc | inr v ↦ absurd (v.1 (sym same ∙ sym (h t))) ]
-
-only_first : (r : Row) (rows : List Row) → AllByRecursion (λ q. r.id < q.id) rows → AllByRecursion (IsOnly r) rows
-only_first r [] h = tt
-only_first r (q ∷ rows) h = let less = h.0 in ((λ e. absurd (omega (arith, e, less))), only_first r rows h.1)
-
-only_later : (r : Row) (rows qs : List Row) → AllByRecursion (λ q. r.id < q.id) qs → AllByRecursion (λ q. AllByRecursion (IsOnly q) rows) qs → AllByRecursion (λ q. AllByRecursion (IsOnly q) (r ∷ rows)) qs
-only_later r rows [] h k = tt
-only_later r rows (q ∷ qs) h k = let less = h.0 in (((λ e. absurd (omega (arith, e, less))), k.0), only_later r rows qs h.1 k.1)
+        let same : t.id ≡ q.id = are_same t.id q.id k in
+        absurd (are_not q.id (g t).id f (sym same ∙ sym (h t)))
 
 only_each : (rows : List Row) → IdsRise rows → AllByRecursion (λ q. AllByRecursion (IsOnly q) rows) rows
-only_each [] h = tt
-only_each (r ∷ rows) h = (((λ e. refl), only_first r rows h.0), only_later r rows rows h.0 (only_each rows h.1))
+only_each rows h = each_with_each (λ r q. r.id < q.id) IsOnly (λ r e. refl) (λ r q less e. absurd (omega (arith, e, less))) (λ r q less e. absurd (omega (arith, e, less))) rows h
 
 -- a row that passes is in the tree
 any_placed_by : (f : Row → Bool) (r q : Row) (qs : List Row) → list_any f (placed r qs) ≡ (f r || list_any f qs) → (b : Bool) → list_any f (cond b (r ∷ q ∷ qs) (q ∷ placed r qs)) ≡ (f r || (f q || list_any f qs))
@@ -265,10 +211,6 @@ any_in_order : (f : Row → Bool) (rows : List Row) → list_any f (in_order row
 any_in_order f [] = refl
 any_in_order f (r ∷ rows) = any_placed f r (in_order rows) ∙ ap (λ (b : Bool). f r || b) (any_in_order f rows)
 
-or_true : (a : Bool) → (a || true) ≡ true
-or_true true = refl
-or_true false = refl
-
 more_by : (q r : Row) (xs : List Row) (b : Bool) → list_any (λ t. t.id == q.id) xs ≡ true → list_any (λ t. t.id == q.id) (cond b (r ∷ xs) xs) ≡ true
 more_by q r xs true e = ap (λ (b : Bool). (r.id == q.id) || b) e ∙ or_true (r.id == q.id)
 more_by q r xs false e = e
@@ -276,7 +218,7 @@ more_by q r xs false e = e
 passing_in : (p : Row → Bool) (rows : List Row) → AllByRecursion (λ q. p q ≡ true → list_any (λ t. t.id == q.id) (filter p rows) ≡ true) rows
 passing_in p [] = tt
 passing_in p (r ∷ rows) = (
-  (λ e. ap (λ (b : Bool). list_any (λ t. t.id == r.id) (cond b (r ∷ filter p rows) (filter p rows))) e ∙ ap (λ (b : Bool). b || list_any (λ t. t.id == r.id) (filter p rows)) (same_test r.id)),
+  (λ e. ap (λ (b : Bool). list_any (λ t. t.id == r.id) (cond b (r ∷ filter p rows) (filter p rows))) e ∙ ap (λ (b : Bool). b || list_any (λ t. t.id == r.id) (filter p rows)) (same_self r.id)),
   all_of (λ q. p q ≡ true → list_any (λ t. t.id == q.id) (filter p rows) ≡ true) (λ q. p q ≡ true → list_any (λ t. t.id == q.id) (filter p (r ∷ rows)) ≡ true) (λ q k e. more_by q r (filter p rows) (p r) (k e)) rows (passing_in p rows),
 )
 

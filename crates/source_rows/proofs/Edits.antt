@@ -2,21 +2,16 @@
 use Rattle.std.proofs.Common.{◌≡◌, ◌≢◌, ℕ, ◌<◌, ◌≤◌, ◌+◌, ◌^◌, ◌==◌, cond, Bool, true, false, not, Option, Some, None, List, [], ◌∷◌, ◌++◌, inl, inr, map, filter, refl, ap, sym, ◌∙◌, arith, subst}
 use Rattle.std.specs.List.{AllByRecursion}
 use Rattle.source_rows.specs.declared.row.Row.{Row}
-use Rattle.source_rows.specs.Row.{line_under, path_under, root_line, root_path}
+use Rattle.source_rows.specs.Row.{root_line, root_path}
 use Rattle.source_rows.specs.Rows.{Key, key_of, row_of, is_under}
 use Rattle.source_rows.specs.Tree.{IdsRise, OrdersDiffer, IsRoot, IsChildOf, HasPlace, IsForest}
-use Rattle.source_rows.proofs.Order.{all_filter}
-use Rattle.source_rows.proofs.Forest.{InForest, members, shaped, all_push, all_of, found, under_up, under_down, under_root, each}
+use Rattle.source_rows.proofs.Lists.{all_of, all_push, all_map, all_passed, all_filter, pairs_push, pairs_map, pairs_filter}
+use Rattle.source_rows.proofs.Forest.{InForest, members, shaped, found, line_same, path_same, under_up, under_down, under_root, each}
 
 -- ---- a new row
 
-pub rise_push : (rows : List Row) (r : Row) → IdsRise rows → AllByRecursion (λ q. q.id < r.id) rows → IdsRise (rows ++ r ∷ [])
-rise_push [] r h k = (tt, tt)
-rise_push (q ∷ rows) r h k = (all_push (λ x. q.id < x.id) rows r h.0 k.0, rise_push rows r h.1 k.1)
-
 differ_push : (rows : List Row) (n : ℕ) (r : Row) → OrdersDiffer rows → AllByRecursion (λ q. q.order < n) rows → r.order ≡ n → OrdersDiffer (rows ++ r ∷ [])
-differ_push [] n r h k e = (tt, tt)
-differ_push (q ∷ rows) n r h k e = let less = k.0 in (all_push (λ x. q.order ≢ x.order) rows r h.0 (λ same. absurd (omega (arith, same, e, less))), differ_push rows n r h.1 k.1 e)
+differ_push rows n r h k e = pairs_push (λ q x. q.order ≢ x.order) rows r h (all_of (λ q. q.order < n) (λ q. q.order ≢ r.order) (λ q less same. absurd (omega (arith, same, e, less))) rows k)
 
 pub numbers_more : (n : ℕ) (rows : List Row) → AllByRecursion (λ q. q.order < n) rows → AllByRecursion (λ q. q.order < n + 1) rows
 numbers_more n rows h = all_of (λ q. q.order < n) (λ q. q.order < n + 1) (λ q less. omega (arith, less)) rows h
@@ -35,7 +30,7 @@ place_push rows r (Some id) q h = (h.0, found_push id h.0 r rows h.1, h.2)
 
 pub forest_push : (rows : List Row) (n : ℕ) (r : Row) → IsForest rows → AllByRecursion (λ q. q.id < r.id) rows → AllByRecursion (λ q. q.order < n) rows → r.order ≡ n → n < 2 ^ 63 → r.level ≤ 4 → HasPlace rows r.parent r → IsForest (rows ++ r ∷ [])
 forest_push rows n r f ids orders e small level place = record {
-  rising = rise_push rows r f.rising ids;
+  rising = pairs_push (λ q x. q.id < x.id) rows r f.rising ids;
   placed = all_push (λ q. HasPlace (rows ++ r ∷ []) q.parent q) rows r
       (all_of (λ q. HasPlace rows q.parent q) (λ q. HasPlace (rows ++ r ∷ []) q.parent q) (λ q h. place_push rows r q.parent q h) rows f.placed)
       (place_push rows r r.parent r place);
@@ -54,17 +49,11 @@ pub record Stays (g : Row → Row) : Type 0 where
   pub parent : (r : Row) → (g r).parent ≡ r.parent
   pub line : (r : Row) → (g r).line ≡ r.line
 
-pub all_map : (P Q : Row → Type 0) (g : Row → Row) → ((r : Row) → P r → Q (g r)) → (rows : List Row) → AllByRecursion P rows → AllByRecursion Q (map g rows)
-all_map P Q g f [] h = tt
-all_map P Q g f (r ∷ rows) h = (f r h.0, all_map P Q g f rows h.1)
-
-pub rise_map : (g : Row → Row) → Stays g → (rows : List Row) → IdsRise rows → IdsRise (map g rows)
-rise_map g h [] a = tt
-rise_map g h (r ∷ rows) a = (all_map (λ q. r.id < q.id) (λ q. (g r).id < q.id) g (λ q less. let i = h.id r in let j = h.id q in omega arith) rows a.0, rise_map g h rows a.1)
+pub rise_map : (g : Row → Row) → ((r : Row) → (g r).id ≡ r.id) → (rows : List Row) → IdsRise rows → IdsRise (map g rows)
+rise_map g h rows a = pairs_map (λ r q. r.id < q.id) (λ r q. r.id < q.id) g (λ r q less. let i = h r in let j = h q in omega arith) rows a
 
 differ_map : (g : Row → Row) → Stays g → (rows : List Row) → OrdersDiffer rows → OrdersDiffer (map g rows)
-differ_map g h [] a = tt
-differ_map g h (r ∷ rows) a = (all_map (λ q. r.order ≢ q.order) (λ q. (g r).order ≢ q.order) g (λ q other same. other (sym (h.order r) ∙ (same ∙ h.order q))) rows a.0, differ_map g h rows a.1)
+differ_map g h rows a = pairs_map (λ r q. r.order ≢ q.order) (λ r q. r.order ≢ q.order) g (λ r q other same. other (sym (h.order r) ∙ (same ∙ h.order q))) rows a
 
 found_map_by : (g : Row → Row) (id : ℕ) (q x : Row) (rows : List Row) (b : Bool) → (row_of id rows ≡ Some x → row_of id (map g rows) ≡ Some (g x)) → cond b (Some q) (row_of id rows) ≡ Some x → cond b (Some (g q)) (row_of id (map g rows)) ≡ Some (g x)
 found_map_by g id q x rows true ih h = let same : q ≡ x = cc in ap (λ (r : Row). Some (g r)) same
@@ -81,12 +70,6 @@ root_map g s r p = record {
   path = ap (λ (k : Key). k.1) (s.key r) ∙ (p.path ∙ ap root_path (sym (s.order r)));
 }
 
-line_same : (k l : ℕ) (x y : List ℕ) (i j : ℕ) → k ≡ l → x ≡ y → i ≡ j → line_under k x i ≡ line_under l y j
-line_same k l x y i j a b c = rw (a, b, c) refl
-
-path_same : (k l : ℕ) (x y : List ℕ) (i j : ℕ) → k ≡ l → x ≡ y → i ≡ j → path_under k x i ≡ path_under l y j
-path_same k l x y i j a b c = rw (a, b, c) refl
-
 child_map : (g : Row → Row) → Stays g → (q r : Row) → IsChildOf q r → IsChildOf (g q) (g r)
 child_map g s q r c = record {
   level = s.level r ∙ (c.level ∙ ap (λ (n : ℕ). n + 1) (sym (s.level q)));
@@ -101,7 +84,7 @@ place_map g s rows (Some id) r h = (g h.0, found_map g s.id id h.0 rows h.1, chi
 
 pub forest_map : (g : Row → Row) → Stays g → (rows : List Row) → IsForest rows → IsForest (map g rows)
 forest_map g s rows f = record {
-  rising = rise_map g s rows f.rising;
+  rising = rise_map g s.id rows f.rising;
   placed = all_map (λ r. HasPlace rows r.parent r) (λ r. HasPlace (map g rows) r.parent r) g
       (λ r h. subst (λ (o : Option ℕ). HasPlace (map g rows) o (g r)) (sym (s.parent r)) (place_map g s rows r.parent r h)) rows f.placed;
   differ = differ_map g s rows f.differ;
@@ -110,22 +93,6 @@ forest_map g s rows f = record {
 }
 
 -- ---- a row and all under it gone
-
-pub rise_filter : (p : Row → Bool) (rows : List Row) → IdsRise rows → IdsRise (filter p rows)
-rise_filter p [] h = tt
-rise_filter p (r ∷ rows) h = rise_by (p r) (all_filter (λ q. r.id < q.id) p rows h.0) (rise_filter p rows h.1)
-  where
-    rise_by : (b : Bool) → AllByRecursion (λ q. r.id < q.id) (filter p rows) → IdsRise (filter p rows) → IdsRise (cond b (r ∷ filter p rows) (filter p rows))
-    rise_by true a k = (a, k)
-    rise_by false a k = k
-
-differ_filter : (p : Row → Bool) (rows : List Row) → OrdersDiffer rows → OrdersDiffer (filter p rows)
-differ_filter p [] h = tt
-differ_filter p (r ∷ rows) h = differ_by (p r) (all_filter (λ q. r.order ≢ q.order) p rows h.0) (differ_filter p rows h.1)
-  where
-    differ_by : (b : Bool) → AllByRecursion (λ q. r.order ≢ q.order) (filter p rows) → OrdersDiffer (filter p rows) → OrdersDiffer (cond b (r ∷ filter p rows) (filter p rows))
-    differ_by true a k = (a, k)
-    differ_by false a k = k
 
 found_filter_by : (p : Row → Bool) (id : ℕ) (q x : Row) (rows : List Row) → p x ≡ true → (row_of id rows ≡ Some x → row_of id (filter p rows) ≡ Some x) → (b u : Bool) → (q.id == id) ≡ b → p q ≡ u → cond b (Some q) (row_of id rows) ≡ Some x → row_of id (cond u (q ∷ filter p rows) (filter p rows)) ≡ Some x
 found_filter_by p id q x rows k ih true true e f h = rw e h
@@ -136,15 +103,6 @@ found_filter_by p id q x rows k ih false false e f h = ih h
 pub found_filter : (p : Row → Bool) (id : ℕ) (x : Row) (rows : List Row) → p x ≡ true → row_of id rows ≡ Some x → row_of id (filter p rows) ≡ Some x
 found_filter p id x [] k h = cc
 found_filter p id x (q ∷ rows) k h = found_filter_by p id q x rows k (found_filter p id x rows k) (q.id == id) (p q) refl refl h
-
--- what is left of all that hold of P and pass the test
-pub all_left : (P Q : Row → Type 0) (p : Row → Bool) → ((r : Row) → P r → p r ≡ true → Q r) → (rows : List Row) → AllByRecursion P rows → AllByRecursion Q (filter p rows)
-all_left P Q p f [] h = tt
-all_left P Q p f (r ∷ rows) h = left_by (p r) refl (all_left P Q p f rows h.1)
-  where
-    left_by : (b : Bool) → p r ≡ b → AllByRecursion Q (filter p rows) → AllByRecursion Q (cond b (r ∷ filter p rows) (filter p rows))
-    left_by true e k = (f r h.0 e, k)
-    left_by false e k = k
 
 not_false : (b : Bool) → not b ≡ true → b ≡ false
 not_false true h = cc
@@ -168,9 +126,9 @@ forest_filter id rows f =
     let p = λ (x : Row). not (is_under id x) in
     let all = members rows f in
     record {
-      rising = rise_filter p rows f.rising;
-      placed = all_left (InForest rows) (λ r. HasPlace (filter p rows) r.parent r) p (λ r g k. place_filter rows all id r r.parent g g.place k) rows all;
-      differ = differ_filter p rows f.differ;
+      rising = pairs_filter (λ r q. r.id < q.id) p rows f.rising;
+      placed = all_passed (InForest rows) (λ r. HasPlace (filter p rows) r.parent r) p (λ r g k. place_filter rows all id r r.parent g g.place k) rows all;
+      differ = pairs_filter (λ r q. r.order ≢ q.order) p rows f.differ;
       numbers = all_filter (λ r. r.order < 2 ^ 63) p rows f.numbers;
       levels = all_filter (λ r. r.level ≤ 4) p rows f.levels;
     }

@@ -1,34 +1,15 @@
 -- What follows for rows that stand in trees.
-use Rattle.std.proofs.Common.{◌≡◌, ◌≢◌, ℕ, ◌<◌, ◌≤◌, ◌^◌, ◌==◌, zero, suc, cond, Bool, true, false, ◌||◌, Option, Some, None, List, [], ◌∷◌, ◌++◌, ◌⊎◌, inl, inr, refl, ap, sym, ◌∙◌, arith, subst}
-use Rattle.std.proofs.lemmas.Bool.Decides.{eqb_tells}
+use Rattle.std.proofs.Common.{◌≡◌, ◌≢◌, ℕ, ◌<◌, ◌≤◌, ◌^◌, ◌==◌, zero, suc, cond, Bool, true, false, ◌||◌, Option, Some, None, List, [], ◌∷◌, ◌⊎◌, inl, inr, refl, ap, sym, ◌∙◌, arith, subst}
 use Rattle.std.specs.List.{AllByRecursion, list_any}
 use Rattle.source_rows.specs.declared.row.Row.{Row}
 use Rattle.source_rows.specs.Row.{no_number, root_line, line_under, path_under}
 use Rattle.source_rows.specs.Rows.{row_of, is_under}
 use Rattle.source_rows.specs.Tree.{IdsRise, OrdersDiffer, IsRoot, IsChildOf, HasPlace, IsForest}
+use Rattle.source_rows.proofs.Compared.{or_true, some_same}
+use Rattle.source_rows.proofs.Compared.{same_self, are_same, not_same}
+use Rattle.source_rows.proofs.Lists.{all_both, each_with_each}
 
--- ---- lists of rows
-
-pub all_push : (P : Row → Type 0) (rows : List Row) (r : Row) → AllByRecursion P rows → P r → AllByRecursion P (rows ++ r ∷ [])
-all_push P [] r h k = (k, tt)
-all_push P (q ∷ rows) r h k = (h.0, all_push P rows r h.1 k)
-
-pub all_of : (P Q : Row → Type 0) → ((r : Row) → P r → Q r) → (rows : List Row) → AllByRecursion P rows → AllByRecursion Q rows
-all_of P Q f [] h = tt
-all_of P Q f (r ∷ rows) h = (f r h.0, all_of P Q f rows h.1)
-
-pub all_both : (P Q : Row → Type 0) (rows : List Row) → AllByRecursion P rows → AllByRecursion Q rows → AllByRecursion (λ r. P r × Q r) rows
-all_both P Q [] h k = tt
-all_both P Q (r ∷ rows) h k = ((h.0, k.0), all_both P Q rows h.1 k.1)
-
-pub same_self : (n : ℕ) → (n == n) ≡ true
-same_self n = elim (eqb_tells n n) [ inl t ↦ t.0 | inr f ↦ absurd (f.1 refl) ]
-
-pub are_same : (a b : ℕ) → (a == b) ≡ true → a ≡ b
-are_same a b h = elim (eqb_tells a b) [ inl t ↦ t.1 | inr f ↦ let never = sym h ∙ f.0 in cc ]
-
-pub not_same : (a b : ℕ) → (a ≡ b → ⊥) → (a == b) ≡ false
-not_same a b h = elim (eqb_tells a b) [ inl t ↦ absurd (h t.1) | inr f ↦ f.0 ]
+-- ---- a row that is found
 
 -- what holds of all rows holds of the one that is found
 found_by : (P : Row → Type 0) (r x : Row) (b : Bool) (o : Option Row) → P r → (o ≡ Some x → P x) → cond b (Some r) o ≡ Some x → P x
@@ -47,8 +28,7 @@ later_found q rows r h e =
     rw apart e
 
 later_all : (q : Row) (rows xs : List Row) → AllByRecursion (λ r. q.id < r.id) xs → AllByRecursion (λ r. row_of r.id rows ≡ Some r) xs → AllByRecursion (λ r. row_of r.id (q ∷ rows) ≡ Some r) xs
-later_all q rows [] h k = tt
-later_all q rows (r ∷ xs) h k = (later_found q rows r h.0 k.0, later_all q rows xs h.1 k.1)
+later_all q rows xs h k = all_both (λ r. q.id < r.id) (λ r. row_of r.id rows ≡ Some r) (λ r. row_of r.id (q ∷ rows) ≡ Some r) (λ r less e. later_found q rows r less e) xs h k
 
 pub all_found : (rows : List Row) → IdsRise rows → AllByRecursion (λ r. row_of r.id rows ≡ Some r) rows
 all_found [] h = tt
@@ -56,17 +36,8 @@ all_found (r ∷ rows) h = (rw (same_self r.id) refl, later_all r rows rows h.0 
 
 -- ---- an order number is one row's
 
-first_apart : (q : Row) (rows : List Row) → AllByRecursion (λ r. q.order ≢ r.order) rows → AllByRecursion (λ r. q.order ≡ r.order → q ≡ r) rows
-first_apart q [] h = tt
-first_apart q (r ∷ rows) h = (λ e. absurd (h.0 e), first_apart q rows h.1)
-
-rest_apart : (q : Row) (rows xs : List Row) → AllByRecursion (λ r. q.order ≢ r.order) xs → AllByRecursion (λ r. AllByRecursion (λ x. r.order ≡ x.order → r ≡ x) rows) xs → AllByRecursion (λ r. AllByRecursion (λ x. r.order ≡ x.order → r ≡ x) (q ∷ rows)) xs
-rest_apart q rows [] h k = tt
-rest_apart q rows (r ∷ xs) h k = ((λ e. absurd (h.0 (sym e)), k.0), rest_apart q rows xs h.1 k.1)
-
 pub one_order : (rows : List Row) → OrdersDiffer rows → AllByRecursion (λ r. AllByRecursion (λ x. r.order ≡ x.order → r ≡ x) rows) rows
-one_order [] h = tt
-one_order (r ∷ rows) h = ((λ e. refl, first_apart r rows h.0), rest_apart r rows rows h.0 (one_order rows h.1))
+one_order rows h = each_with_each (λ r x. r.order ≢ x.order) (λ r x. r.order ≡ x.order → r ≡ x) (λ r e. refl) (λ r x apart e. absurd (apart e)) (λ r x apart e. absurd (apart (sym e))) rows h
 
 -- ---- a row of a forest
 
@@ -86,9 +57,6 @@ members rows f = members_by rows rows f.placed (all_found rows f.rising) f.numbe
 
 pub same_id : (rows : List Row) (r q : Row) → InForest rows r → InForest rows q → r.id ≡ q.id → r ≡ q
 same_id rows r q f g e = let s = sym f.is ∙ (ap (λ (n : ℕ). row_of n rows) e ∙ g.is) in some_same r q s
-  where
-    some_same : (a b : Row) → Some a ≡ Some b → a ≡ b
-    some_same a b h = cc
 
 pub same_order : (rows : List Row) (r q : Row) → InForest rows r → InForest rows q → r.order ≡ q.order → r ≡ q
 same_order rows r q f g e = found (λ x. r.order ≡ x.order → r ≡ x) q.id q rows f.one g.is e
@@ -132,11 +100,17 @@ Shaped r = One r ⊎ (Two r ⊎ (Three r ⊎ Four r))
 root_shape : (rows : List Row) (r : Row) → InForest rows r → IsRoot r → Shaped r
 root_shape rows r f p = inl (p.level, p.line, p.path)
 
+pub line_same : (k l : ℕ) (x y : List ℕ) (i j : ℕ) → k ≡ l → x ≡ y → i ≡ j → line_under k x i ≡ line_under l y j
+line_same k l x y i j a b c = rw (a, b, c) refl
+
+pub path_same : (k l : ℕ) (x y : List ℕ) (i j : ℕ) → k ≡ l → x ≡ y → i ≡ j → path_under k x i ≡ path_under l y j
+path_same k l x y i j a b c = rw (a, b, c) refl
+
 line_is : (l k : ℕ) (xs ys : List ℕ) (id : ℕ) → l ≡ k → xs ≡ ys → line_under l xs id ≡ line_under k ys id
-line_is l k xs ys id e f = rw (e, f) refl
+line_is l k xs ys id e f = line_same l k xs ys id id e f refl
 
 pub path_is : (l k : ℕ) (xs ys : List ℕ) (id : ℕ) → l ≡ k → xs ≡ ys → path_under l xs id ≡ path_under k ys id
-path_is l k xs ys id e f = rw (e, f) refl
+path_is l k xs ys id e f = path_same l k xs ys id id e f refl
 
 child_shape : (rows : List Row) (q r : Row) → InForest rows q → InForest rows r → IsChildOf q r → Shaped q → Shaped r
 child_shape rows q r g f c (inl s) =
@@ -210,12 +184,8 @@ or_four false h = cc
 pub under_root : (id : ℕ) (r : Row) → IsRoot r → is_under id r ≡ true → r.id ≡ id
 under_root id r p h = are_same r.id id (or_four (r.id == id) (sym (any_of id r.line (root_line r.id) p.line) ∙ h))
 
-or_last : (a : Bool) → (a || true) ≡ true
-or_last true = refl
-or_last false = refl
-
 pub under_self : (r : Row) → Shaped r → is_under r.id r ≡ true
 under_self r (inl s) = any_of r.id r.line (r.id ∷ r.id ∷ r.id ∷ r.id ∷ []) s.1 ∙ rw (same_self r.id) refl
-under_self r (inr (inl s)) = any_of r.id r.line (s.0 ∷ r.id ∷ r.id ∷ r.id ∷ []) s.3 ∙ rw (same_self r.id) (or_last (s.0 == r.id))
-under_self r (inr (inr (inl s))) = any_of r.id r.line (s.0 ∷ s.1 ∷ r.id ∷ r.id ∷ []) s.5 ∙ rw (same_self r.id, or_last (s.1 == r.id)) (or_last (s.0 == r.id))
-under_self r (inr (inr (inr s))) = any_of r.id r.line (s.0 ∷ s.1 ∷ s.2 ∷ r.id ∷ []) s.7 ∙ rw (same_self r.id, or_last (s.2 == r.id), or_last (s.1 == r.id)) (or_last (s.0 == r.id))
+under_self r (inr (inl s)) = any_of r.id r.line (s.0 ∷ r.id ∷ r.id ∷ r.id ∷ []) s.3 ∙ rw (same_self r.id) (or_true (s.0 == r.id))
+under_self r (inr (inr (inl s))) = any_of r.id r.line (s.0 ∷ s.1 ∷ r.id ∷ r.id ∷ []) s.5 ∙ rw (same_self r.id, or_true (s.1 == r.id)) (or_true (s.0 == r.id))
+under_self r (inr (inr (inr s))) = any_of r.id r.line (s.0 ∷ s.1 ∷ s.2 ∷ r.id ∷ []) s.7 ∙ rw (same_self r.id, or_true (s.2 == r.id), or_true (s.1 == r.id)) (or_true (s.0 == r.id))

@@ -5,14 +5,16 @@ use Rattle.std.specs.Ordering.{is_lt, is_gt}
 use Rattle.source_rows.specs.declared.row.Row.{Row}
 use Rattle.source_rows.specs.Rows.{Key, key_cmp, key_of, row_of, is_under, stands_before, in_order}
 use Rattle.source_rows.specs.Tree.{IsForest}
+use Rattle.source_rows.specs.Order.{Apart}
 use Rattle.source_rows.specs.Kept.{entry_of, IsBelow, IsSound, IsKept}
 use Rattle.source_rows.specs.Removal.{StandNear}
-use Rattle.source_rows.proofs.Order.{key_total, all_filter}
-use Rattle.source_rows.proofs.Forest.{InForest, members, all_of, found}
-use Rattle.source_rows.proofs.Edits.{rise_filter, forest_filter, under_some}
+use Rattle.source_rows.proofs.Lists.{all_of, all_filter, pairs_filter}
+use Rattle.source_rows.proofs.Order.{key_total}
+use Rattle.source_rows.proofs.Forest.{InForest, members, found}
+use Rattle.source_rows.proofs.Edits.{forest_filter, under_some}
 use Rattle.source_rows.proofs.Post.{back_by, flip_by, children_first, together}
 use Rattle.source_rows.proofs.Kept.{found_id}
-use Rattle.source_rows.proofs.Taken.{all_stay, apart_filter}
+use Rattle.source_rows.proofs.Taken.{all_stay}
 
 turned : (a b : Row) → stands_before a b ≡ false → is_gt (key_cmp (key_of b) (key_of a)) ≡ false
 turned a b h = ap is_gt (key_total.antisymm (key_of b) (key_of a)) ∙ (back_by (key_cmp (key_of a) (key_of b)) ∙ h)
@@ -45,8 +47,8 @@ sound_filter id rows i n l s =
     record {
       below = all_filter (λ r. IsBelow n r.path) p rows s.below;
       fresh = all_filter (λ r. r.id < i) p rows s.fresh;
-      rising = rise_filter p rows s.rising;
-      apart = apart_filter p rows s.apart;
+      rising = pairs_filter (λ r q. r.id < q.id) p rows s.rising;
+      apart = pairs_filter Apart p rows s.apart;
       within = all_filter (λ r. r.level ≤ l) p rows s.within;
       some = s.some;
       few = s.few;

@@ -13,10 +13,11 @@ use Rattle.source_rows.specs.Tree.{IdsRise}
 use Rattle.source_rows.specs.Inserted.{inserted, Rises}
 use Rattle.source_rows.specs.Times.{Time, time_cmp, is_sooner, without, first_above, time_of, in_time}
 use Rattle.source_rows.proofs.Inserted.{comm, all_behind, all_inserted, rises_inserted, filter_inserted_kept, filter_inserted_left}
-use Rattle.source_rows.proofs.Forest.{same_self, are_same, not_same, all_found}
+use Rattle.source_rows.proofs.Compared.{same_self, are_same, not_same, some_same, or_true}
+use Rattle.source_rows.proofs.Forest.{all_found}
 use Rattle.source_rows.proofs.Kept.{found_id}
 use Rattle.source_rows.proofs.Slots.{named_by}
-use Rattle.source_rows.proofs.Sooner.{apart_ids, is_same, same_time, sooner_order, or_true}
+use Rattle.source_rows.proofs.Sooner.{apart_ids, is_same, same_time, sooner_order}
 
 -- ---- the times of rows
 
@@ -59,9 +60,6 @@ in_time-filter p f (r ∷ rows) h same = filter_by p f r rows (rises_in_time row
 one_row : (id : ℕ) (r : Row) (rows xs : List Row) → row_of id rows ≡ Some r → AllByRecursion (λ q. row_of q.id rows ≡ Some q) xs → AllByRecursion (λ q. q.id ≡ id → q ≡ r) xs
 one_row id r rows [] e h = tt
 one_row id r rows (q ∷ xs) e h = (λ same. some_same q r (sym h.0 ∙ (ap (λ (n : ℕ). row_of n rows) same ∙ e)), one_row id r rows xs e h.1)
-  where
-    some_same : (a b : Row) → Some a ≡ Some b → a ≡ b
-    some_same a b e = cc
 
 pub all_one : (id : ℕ) (r : Row) (rows : List Row) → IdsRise rows → row_of id rows ≡ Some r → AllByRecursion (λ q. q.id ≡ id → q ≡ r) rows
 all_one id r rows h e = one_row id r rows rows e (all_found rows h)

@@ -2,29 +2,9 @@
 use Rattle.std.proofs.Common.{◌≡◌, ◌⊎◌, Bool, true, false, cond, List, [], ◌∷◌, ◌++◌, inl, inr, filter, refl, ap, sym, ◌∙◌}
 use Rattle.std.specs.List.{AllByRecursion}
 use Rattle.std.specs.Cmp.{IsStrictWeakOrder}
-use Rattle.source_rows.specs.Inserted.{inserted, Rises}
-
--- ---- what holds of all
-
-pub all_of : {A : Type 0} (P Q : A → Type 0) → ((x : A) → P x → Q x) → (xs : List A) → AllByRecursion P xs → AllByRecursion Q xs
-all_of P Q f [] h = tt
-all_of P Q f (x ∷ xs) h = (f x h.0, all_of P Q f xs h.1)
-
-pub all_front : {A : Type 0} (P : A → Type 0) (xs ys : List A) → AllByRecursion P (xs ++ ys) → AllByRecursion P xs
-all_front P [] ys h = tt
-all_front P (x ∷ xs) ys h = (h.0, all_front P xs ys h.1)
-
-pub all_back : {A : Type 0} (P : A → Type 0) (xs ys : List A) → AllByRecursion P (xs ++ ys) → AllByRecursion P ys
-all_back P [] ys h = h
-all_back P (x ∷ xs) ys h = all_back P xs ys h.1
-
-all_filter_by : {A : Type 0} (P : A → Type 0) (x : A) (xs : List A) → P x → AllByRecursion P xs → (b : Bool) → AllByRecursion P (cond b (x ∷ xs) xs)
-all_filter_by P x xs h k true = (h, k)
-all_filter_by P x xs h k false = k
-
-pub all_filter : {A : Type 0} (P : A → Type 0) (p : A → Bool) (xs : List A) → AllByRecursion P xs → AllByRecursion P (filter p xs)
-all_filter P p [] h = tt
-all_filter P p (x ∷ xs) h = all_filter_by P x (filter p xs) h.0 (all_filter P p xs h.1) (p x)
+use Rattle.source_rows.specs.Lists.{Pairs}
+use Rattle.source_rows.specs.Inserted.{inserted, Rises, NeverFalls}
+use Rattle.source_rows.proofs.Lists.{all_of, all_front, all_back, all_filter, pairs_filter}
 
 module _ {A : Type 0} (before : A → A → Bool) where
   -- where a value is put before a list's first, and where behind it
@@ -86,13 +66,19 @@ module _ {A : Type 0} (before : A → A → Bool) where
   filter_inserted_left p a [] h = rw h refl
   filter_inserted_left p a (x ∷ xs) h = drop_by p a x xs h (filter_inserted_left p a xs h) (before a x)
 
-  rises_filter_by : (p : A → Bool) (x : A) (xs : List A) → AllByRecursion (λ y. before x y ≡ true) xs → Rises before xs → (b : Bool) → Rises before (cond b (x ∷ xs) xs)
-  rises_filter_by p x xs h k true = (h, k)
-  rises_filter_by p x xs h k false = k
-
   pub rises_filter : (p : A → Bool) (xs : List A) → Rises before xs → Rises before (filter p xs)
-  rises_filter p [] h = tt
-  rises_filter p (x ∷ xs) h = rises_filter_by p x (filter p xs) (all_filter (λ y. before x y ≡ true) p xs h.0) (rises_filter p xs h.1) (p x)
+  rises_filter p xs h = pairs_filter (λ x y. before x y ≡ true) p xs h
+
+  -- ---- any two with one more
+
+  pairs_inserted_by : (R : A → A → Type 0) (a x : A) (xs : List A) → AllByRecursion (R a) (x ∷ xs) → Pairs R (x ∷ xs) → AllByRecursion (R x) (inserted before a xs) → Pairs R (inserted before a xs) → (b : Bool)
+      → Pairs R (cond b (a ∷ x ∷ xs) (x ∷ inserted before a xs))
+  pairs_inserted_by R a x xs h k new ih true = (h, k)
+  pairs_inserted_by R a x xs h k new ih false = (new, ih)
+
+  pub pairs_inserted : (R : A → A → Type 0) → ((x y : A) → R x y → R y x) → (a : A) (xs : List A) → AllByRecursion (R a) xs → Pairs R xs → Pairs R (inserted before a xs)
+  pairs_inserted R s a [] h k = (tt, tt)
+  pairs_inserted R s a (x ∷ xs) h k = pairs_inserted_by R a x xs h k (all_inserted (R x) a xs (s a x h.0) k.0) (pairs_inserted R s a xs h.1 k.1) (before a x)
 
 module _ {A : Type 0} (before : A → A → Bool) (o : IsStrictWeakOrder before) where
   pub asym : (a b : A) → before a b ≡ true → before b a ≡ false
@@ -138,6 +124,10 @@ module _ {A : Type 0} (before : A → A → Bool) (o : IsStrictWeakOrder before)
   pub all_behind : (a x : A) (xs : List A) → before a x ≡ true → AllByRecursion (λ y. before x y ≡ true) xs → AllByRecursion (λ y. before a y ≡ true) xs
   all_behind a x xs h k = all_of (λ y. before x y ≡ true) (λ y. before a y ≡ true) (λ y e. trans a x y h e) xs k
 
+  -- as does what comes before one that none of them comes before
+  pub all_after : (a x : A) (xs : List A) → before a x ≡ true → AllByRecursion (λ y. before y x ≡ false) xs → AllByRecursion (λ y. before a y ≡ true) xs
+  all_after a x xs h k = all_of (λ y. before y x ≡ false) (λ y. before a y ≡ true) (λ y e. before_rest a x y h e) xs k
+
   behind : (a x : A) → before a x ≡ false → (before a x ≡ true) ⊎ (before x a ≡ true) → before x a ≡ true
   behind a x h (inl k) = cc
   behind a x h (inr k) = k
@@ -150,6 +140,24 @@ module _ {A : Type 0} (before : A → A → Bool) (o : IsStrictWeakOrder before)
   pub rises_inserted : (a : A) (xs : List A) → Rises before xs → AllByRecursion (λ x. (before a x ≡ true) ⊎ (before x a ≡ true)) xs → Rises before (inserted before a xs)
   rises_inserted a [] s h = (tt, tt)
   rises_inserted a (x ∷ xs) s h = rises_by a x xs s.0 s.1 (rises_inserted a xs s.1 h.1) h.0 (before a x) refl
+
+  -- ---- what never falls does so with one more
+
+  all_asym : (a : A) (xs : List A) → AllByRecursion (λ y. before a y ≡ true) xs → AllByRecursion (λ y. before y a ≡ false) xs
+  all_asym a xs h = all_of (λ y. before a y ≡ true) (λ y. before y a ≡ false) (λ y e. asym a y e) xs h
+
+  pub rises_never_falls : (xs : List A) → Rises before xs → NeverFalls before xs
+  rises_never_falls [] s = tt
+  rises_never_falls (x ∷ xs) s = (all_asym x xs s.0, rises_never_falls xs s.1)
+
+  never_falls_by : (a x : A) (xs : List A) → AllByRecursion (λ y. before y x ≡ false) xs → NeverFalls before xs → NeverFalls before (inserted before a xs) → (b : Bool) → before a x ≡ b
+      → NeverFalls before (cond b (a ∷ x ∷ xs) (x ∷ inserted before a xs))
+  never_falls_by a x xs k s ih true e = ((asym a x e, all_asym a xs (all_after a x xs e k)), (k, s))
+  never_falls_by a x xs k s ih false e = (all_inserted before (λ y. before y x ≡ false) a xs e k, ih)
+
+  pub never_falls_inserted : (a : A) (xs : List A) → NeverFalls before xs → NeverFalls before (inserted before a xs)
+  never_falls_inserted a [] s = (tt, tt)
+  never_falls_inserted a (x ∷ xs) s = never_falls_by a x xs s.0 s.1 (never_falls_inserted a xs s.1) (before a x) refl
 
   -- ---- on the right of a value
 
@@ -170,13 +178,16 @@ module _ {A : Type 0} (before : A → A → Bool) (o : IsStrictWeakOrder before)
 
   -- ---- a filter that keeps the value
 
-  keep_by : (p : A → Bool) (a x : A) (xs : List A) → p a ≡ true → AllByRecursion (λ y. before x y ≡ true) xs → filter p (inserted before a xs) ≡ inserted before a (filter p xs) → (b u : Bool) → before a x ≡ b → p x ≡ u
+  keep_by : (p : A → Bool) (a x : A) (xs : List A) → p a ≡ true → AllByRecursion (λ y. before y x ≡ false) xs → filter p (inserted before a xs) ≡ inserted before a (filter p xs) → (b u : Bool) → before a x ≡ b → p x ≡ u
       → filter p (cond b (a ∷ x ∷ xs) (x ∷ inserted before a xs)) ≡ inserted before a (cond u (x ∷ filter p xs) (filter p xs))
   keep_by p a x xs h k ih true true e f = rw (h, f) (sym (put_front before a x (filter p xs) e))
-  keep_by p a x xs h k ih true false e f = rw (h, f) (sym (front before a (filter p xs) (all_filter (λ y. before a y ≡ true) p xs (all_behind a x xs e k))))
+  keep_by p a x xs h k ih true false e f = rw (h, f) (sym (front before a (filter p xs) (all_filter (λ y. before a y ≡ true) p xs (all_after a x xs e k))))
   keep_by p a x xs h k ih false true e f = rw f (ap (λ (ys : List A). x ∷ ys) ih ∙ sym (put_behind before a x (filter p xs) e))
   keep_by p a x xs h k ih false false e f = rw f ih
 
+  pub filter_inserted : (p : A → Bool) (a : A) (xs : List A) → NeverFalls before xs → p a ≡ true → filter p (inserted before a xs) ≡ inserted before a (filter p xs)
+  filter_inserted p a [] s h = rw h refl
+  filter_inserted p a (x ∷ xs) s h = keep_by p a x xs h s.0 (filter_inserted p a xs s.1 h) (before a x) (p x) refl refl
+
   pub filter_inserted_kept : (p : A → Bool) (a : A) (xs : List A) → Rises before xs → p a ≡ true → filter p (inserted before a xs) ≡ inserted before a (filter p xs)
-  filter_inserted_kept p a [] s h = rw h refl
-  filter_inserted_kept p a (x ∷ xs) s h = keep_by p a x xs h s.0 (filter_inserted_kept p a xs s.1 h) (before a x) (p x) refl refl
+  filter_inserted_kept p a xs s h = filter_inserted p a xs (rises_never_falls xs s) h

@@ -1,9 +1,8 @@
-use Rattle.std.proofs.Common.{◌≡◌, ℕ, ◌<◌, ◌≤◌, ◌+◌, ◌^◌, ◌==◌, Bool, true, false, not, zero, suc, cond, ◌||◌, Option, Some, None, List, [], ◌∷◌, ◌++◌, inl, inr, map, filter, refl, ap, sym, ◌∙◌, arith, subst}
-use Rattle.std.proofs.lemmas.Bool.Decides.{eqb_tells, nat_tests}
+use Rattle.std.proofs.Common.{◌≡◌, ℕ, ◌<◌, ◌≤◌, ◌+◌, ◌^◌, ◌==◌, Bool, true, false, not, zero, suc, cond, Option, Some, None, List, [], ◌∷◌, ◌++◌, inl, inr, map, filter, refl, ap, sym, ◌∙◌, arith, subst}
 use Rattle.std.specs.List.{AllByRecursion, list_any}
 use Rattle.std.specs.declared.cmp.Ordering.{Ordering}
 use Rattle.std.specs.declared.cmp.Ordering.TheVariants.{Less, Equal, Greater}
-use Rattle.std.specs.Ordering.{is_lt, match_ordering, ordering_then, ordering_reverse, int_cmp, nat_cmp}
+use Rattle.std.specs.Ordering.{is_lt, is_eq, match_ordering, ordering_then, ordering_reverse, int_cmp, nat_cmp}
 use Rattle.std.specs.Cmp.Lexicographic.{slice_cmp}
 use Rattle.std.specs.BTreeMap.{insert_entry}
 use Rattle.std.specs.Map.{values_of}
@@ -15,16 +14,14 @@ use Rattle.source_rows.specs.Rows.{Key, key_cmp, key_of, stands_before, placed, 
 use Rattle.source_rows.specs.Row.{no_number, path_under, child_row}
 use Rattle.source_rows.specs.Order.{Apart}
 use Rattle.source_rows.specs.New.{IsNew}
-use Rattle.source_rows.specs.Kept.{entry_of, AllApart, IsBelow, IsSound, IsKept}
+use Rattle.source_rows.specs.Kept.{entry_of, IsBelow, IsSound, IsKept}
 use Rattle.source_rows.specs.Tree.{IdsRise, HasPlace}
-use Rattle.source_rows.proofs.Order.{key_total, all_in_order, in_order-push}
-use Rattle.source_rows.proofs.Forest.{all_push, same_self}
-use Rattle.source_rows.proofs.Edits.{Stays, all_map, rise_push, rise_map, forest_push, forest_map, numbers_more}
+use Rattle.source_rows.proofs.Compared.{same_self, are_same, not_same, apart_above, or_true, or_parts, keeps, nat_equal}
+use Rattle.source_rows.proofs.Lists.{all_of, all_push, all_map, pairs_push, pairs_map}
+use Rattle.source_rows.proofs.Order.{key_total, flip, all_in_order, in_order-push}
+use Rattle.source_rows.proofs.Edits.{Stays, rise_map, forest_push, forest_map, numbers_more}
 
 -- ---- paths with different numbers
-
-same_number : (x y : ℕ) → nat_cmp x y ≡ Equal → x ≡ y
-same_number x y h = grind (arith, nat_tests)
 
 then_equal : (a b : Ordering) → ordering_then a b ≡ Equal → (a ≡ Equal) × (b ≡ Equal)
 then_equal Less b h = cc
@@ -37,7 +34,7 @@ same_path [] (y ∷ q) h = cc
 same_path (x ∷ p) [] h = cc
 same_path (x ∷ p) (y ∷ q) h =
     let t = then_equal (nat_cmp x y) (slice_cmp nat_cmp p q) h in
-    let e = same_number x y t.0 in
+    let e = nat_equal x y t.0 in
     let f = same_path p q t.1 in
     cc
 
@@ -54,14 +51,21 @@ apart_paths r q n h k = apart_by r q (key_cmp (key_of r) (key_of q)) refl
     let never = sym h ∙ (ap (list_any (λ i. i == n)) f ∙ k) in cc)
 
 pub all_apart : (r : Row) (n : ℕ) (rows : List Row) → n < no_number → list_any (λ i. i == n) r.path ≡ true → AllByRecursion (λ q. IsBelow n q.path) rows → AllByRecursion (Apart r) rows
-all_apart r n [] f h k = tt
-all_apart r n (q ∷ rows) f h k = (apart_paths r q n h (k.0 n (omega arith) f), all_apart r n rows f h k.1)
+all_apart r n rows f h k = all_of (λ q. IsBelow n q.path) (Apart r) (λ q b. apart_paths r q n h (b n (omega arith) f)) rows k
 
 -- ---- the map's entries are the rows in order
 
 pub equal_not : (r q : Row) → key_cmp (key_of r) (key_of q) ≡ Equal → Apart r q → ⊥
 equal_not r q e (inl h) = let never = sym h ∙ ap is_lt e in cc
 equal_not r q e (inr h) = let never = sym h ∙ ap is_lt (key_total.antisymm (key_of q) (key_of r) ∙ ap ordering_reverse e) in cc
+
+not_equal_by : (r q : Row) (o : Ordering) → key_cmp (key_of r) (key_of q) ≡ o → Apart r q → is_eq o ≡ false
+not_equal_by r q Less e h = refl
+not_equal_by r q Equal e h = absurd (equal_not r q e h)
+not_equal_by r q Greater e h = refl
+
+pub not_equal : (r q : Row) → Apart r q → is_eq (key_cmp (key_of r) (key_of q)) ≡ false
+not_equal r q h = not_equal_by r q (key_cmp (key_of r) (key_of q)) refl h
 
 insert_by : (r q : Row) (qs : List Row) (o : Ordering) → key_cmp (key_of r) (key_of q) ≡ o → Apart r q → insert_entry key_cmp (map entry_of qs) (key_of r) r.id ≡ map entry_of (placed r qs)
     → match_ordering o ((key_of r, r.id) ∷ entry_of q ∷ map entry_of qs) ((key_of q, r.id) ∷ map entry_of qs) (entry_of q ∷ insert_entry key_cmp (map entry_of qs) (key_of r) r.id) ≡ map entry_of (cond (is_lt o) (r ∷ q ∷ qs) (q ∷ placed r qs))
@@ -75,30 +79,11 @@ entries-placed r (q ∷ qs) h = insert_by r q qs (key_cmp (key_of r) (key_of q))
 
 -- ---- a new row
 
-pub apart_flip : (a b : Row) → Apart a b → Apart b a
-apart_flip a b (inl h) = inr h
-apart_flip a b (inr h) = inl h
-
-apart_push : (rows : List Row) (r : Row) → AllApart rows → AllByRecursion (Apart r) rows → AllApart (rows ++ r ∷ [])
-apart_push [] r h k = (tt, tt)
-apart_push (q ∷ rows) r h k = (all_push (Apart q) rows r h.0 (apart_flip r q k.0), apart_push rows r h.1 k.1)
-
-below_more : (n : ℕ) (rows : List Row) → AllByRecursion (λ q. IsBelow n q.path) rows → AllByRecursion (λ q. IsBelow (n + 1) q.path) rows
-below_more n [] h = tt
-below_more n (q ∷ rows) h = (λ k a b. h.0 k (omega arith) b, below_more n rows h.1)
-
-ids_more : (n : ℕ) (rows : List Row) → AllByRecursion (λ q. q.id < n) rows → AllByRecursion (λ q. q.id < n + 1) rows
-ids_more n [] h = tt
-ids_more n (q ∷ rows) h = let less = h.0 in (omega (arith, less), ids_more n rows h.1)
-
 pub taken_back : (rows : List Row) (r : Row) → AllByRecursion (λ q. q.id < r.id) rows → filter (λ q. not (has_id r.id q)) (rows ++ r ∷ []) ≡ rows
-taken_back [] r h = rw (same_id r.id) refl
-  where
-    same_id : (n : ℕ) → (n == n) ≡ true
-    same_id n = elim (eqb_tells n n) [ inl t ↦ t.0 | inr f ↦ absurd (f.1 refl) ]
+taken_back [] r h = rw (same_self r.id) refl
 taken_back (q ∷ rows) r h =
     let less = h.0 in
-    let apart : (q.id == r.id) ≡ false = elim (eqb_tells q.id r.id) [ inl t ↦ absurd (omega (arith, t.1, less)) | inr f ↦ f.0 ] in
+    let apart : (q.id == r.id) ≡ false = apart_above q.id r.id less in
     rw apart (ap (λ (xs : List Row). q ∷ xs) (taken_back rows r h.1))
 
 pub sound-push : (rows : List Row) (i n : ℕ) (r : Row) (levels : ℕ) → n < 2 ^ 63 → IsSound rows i n levels → IsNew r n → r.id ≡ i → r.level ≤ levels → r.order ≡ n → HasPlace rows r.parent r → IsSound (rows ++ r ∷ []) (i + 1) (n + 1) levels
@@ -106,11 +91,11 @@ sound-push rows i n r levels f s new is h order place =
     let few = s.few in
     let ids = subst (λ (m : ℕ). AllByRecursion (λ q. q.id < m) rows) (sym is) s.fresh in
     record {
-      below = all_push (λ q. IsBelow (n + 1) q.path) rows r (below_more n rows s.below) new.below;
-      rising = rise_push rows r s.rising ids;
-      apart = apart_push rows r s.apart (all_apart r n rows (omega (arith, f)) new.has s.below);
+      below = all_push (λ q. IsBelow (n + 1) q.path) rows r (all_of (λ q. IsBelow n q.path) (λ q. IsBelow (n + 1) q.path) (λ q h k a b. h k (omega arith) b) rows s.below) new.below;
+      rising = pairs_push (λ q x. q.id < x.id) rows r s.rising ids;
+      apart = pairs_push Apart rows r s.apart (all_of (Apart r) (λ q. Apart q r) (λ q a. flip r q a) rows (all_apart r n rows (omega (arith, f)) new.has s.below));
       within = all_push (λ q. q.level ≤ levels) rows r s.within h;
-      fresh = all_push (λ q. q.id < i + 1) rows r (ids_more i rows s.fresh) (omega (arith, is));
+      fresh = all_push (λ q. q.id < i + 1) rows r (all_of (λ q. q.id < i) (λ q. q.id < i + 1) (λ q less. omega (arith, less)) rows s.fresh) (omega (arith, is));
       some = s.some;
       few = s.few;
       numbered = all_push (λ q. q.order < n + 1) rows r (numbers_more n rows s.numbered) (omega (arith, order));
@@ -125,24 +110,13 @@ entries-push rows i n r levels f s new =
 
 -- ---- a child's path
 
-or_left : (a b : Bool) → (a || b) ≡ false → (a ≡ false) × (b ≡ false)
-or_left true b e = cc
-or_left false b e = (refl, e)
-
 no_index : (path : List ℕ) (i k : ℕ) → 0 < k → list_any (λ j. j == k) path ≡ false → (slice_index path i == k) ≡ false
-no_index [] i k h e = elim (eqb_tells 0 k) [ inl t ↦ absurd (omega (arith, t.1)) | inr f ↦ f.0 ]
-no_index (x ∷ path) zero k h e = (or_left (x == k) (list_any (λ j. j == k) path) e).0
-no_index (x ∷ path) (suc i) k h e = no_index path i k h (or_left (x == k) (list_any (λ j. j == k) path) e).1
-
-apart_above : (n k : ℕ) → n < k → (n == k) ≡ false
-apart_above n k h = elim (eqb_tells n k) [ inl t ↦ absurd (omega (arith, t.1)) | inr f ↦ f.0 ]
+no_index [] i k h e = apart_above 0 k h
+no_index (x ∷ path) zero k h e = (or_parts (x == k) (list_any (λ j. j == k) path) e).0
+no_index (x ∷ path) (suc i) k h e = no_index path i k h (or_parts (x == k) (list_any (λ j. j == k) path) e).1
 
 apart_fill : (k : ℕ) → k < no_number → (no_number == k) ≡ false
-apart_fill k h = elim (eqb_tells no_number k) [ inl t ↦ absurd (omega (arith, t.1)) | inr f ↦ f.0 ]
-
-or_true : (a : Bool) → (a || true) ≡ true
-or_true true = refl
-or_true false = refl
+apart_fill k h = not_same no_number k (λ e. omega (arith, e, h))
 
 path_has : (level : ℕ) (path : List ℕ) (n : ℕ) → list_any (λ j. j == n) (path_under level path n) ≡ true
 path_has level path n = has_by (level == 1) (level == 2) (slice_index path 0) (slice_index path 1) (slice_index path 2) n
@@ -174,7 +148,7 @@ some_by r true o h = refl
 some_by r false o h = h
 
 pub has_last : (rows : List Row) (r : Row) → IsSome (row_of r.id (rows ++ r ∷ []))
-has_last [] r = elim (eqb_tells r.id r.id) [ inl t ↦ rw t.0 refl | inr f ↦ absurd (f.1 refl) ]
+has_last [] r = rw (same_self r.id) refl
 has_last (q ∷ rows) r = some_by q (q.id == r.id) (row_of r.id (rows ++ r ∷ [])) (has_last rows r)
 
 -- ---- a change that leaves a row in its place
@@ -202,17 +176,13 @@ apart_map : (g : Row → Row) → Stays g → (r q : Row) → Apart r q → Apar
 apart_map g h r q (inl e) = inl (same_before g h r q ∙ e)
 apart_map g h r q (inr e) = inr (same_before g h q r ∙ e)
 
-apart_all : (g : Row → Row) → Stays g → (rows : List Row) → AllApart rows → AllApart (map g rows)
-apart_all g h [] a = tt
-apart_all g h (r ∷ rows) a = (all_map (Apart r) (Apart (g r)) g (λ q e. apart_map g h r q e) rows a.0, apart_all g h rows a.1)
-
 pub kept_map : (g : Row → Row) → Stays g → (rows : List Row) (es : List (Key × ℕ)) (i n l : ℕ) → IsKept rows es i n l → IsKept (map g rows) es i n l
 kept_map g h rows es i n l k = record {
   sound = record {
     below = all_map (λ r. IsBelow n r.path) (λ r. IsBelow n r.path) g (λ r b. subst (λ (key : Key). IsBelow n key.1) (sym (h.key r)) b) rows k.sound.below;
     fresh = all_map (λ r. r.id < i) (λ r. r.id < i) g (λ r less. let j = h.id r in omega arith) rows k.sound.fresh;
-    rising = rise_map g h rows k.sound.rising;
-    apart = apart_all g h rows k.sound.apart;
+    rising = rise_map g h.id rows k.sound.rising;
+    apart = pairs_map Apart Apart g (apart_map g h) rows k.sound.apart;
     within = all_map (λ r. r.level ≤ l) (λ r. r.level ≤ l) g (λ r less. let j = h.level r in omega arith) rows k.sound.within;
     numbered = all_map (λ r. r.order < n) (λ r. r.order < n) g (λ r less. let j = h.order r in omega arith) rows k.sound.numbered;
     numbers = k.sound.numbers;
@@ -229,14 +199,14 @@ above_not : (id : ℕ) (r : Row) (f g : Row → Row) (rows : List Row) → r.id 
 above_not id r f g [] e h = refl
 above_not id r f g (q ∷ rows) e h =
     let less = h.0 in
-    let apart : (q.id == id) ≡ false = elim (eqb_tells q.id id) [ inl t ↦ absurd (omega (arith, t.1, less, e)) | inr v ↦ v.0 ] in
+    let apart : (q.id == id) ≡ false = not_same q.id id (λ t. omega (arith, t, less, e)) in
     rw apart (ap (λ (xs : List Row). q ∷ xs) (above_not id r f g rows e h.1))
 
 change_by : (id : ℕ) (x q : Row) (f : Row → Row) (rows : List Row) (b : Bool) → (q.id == id) ≡ b → AllByRecursion (λ z. q.id < z.id) rows → (row_of id rows ≡ Some x → changed id (λ _. f x) rows ≡ changed id f rows) → cond b (Some q) (row_of id rows) ≡ Some x
     → cond b (f x) q ∷ changed id (λ _. f x) rows ≡ cond b (f q) q ∷ changed id f rows
 change_by id x q f rows true e less ih h =
     let same : q ≡ x = cc in
-    let is : q.id ≡ id = elim (eqb_tells q.id id) [ inl t ↦ t.1 | inr v ↦ let never = sym e ∙ v.0 in cc ] in
+    let is : q.id ≡ id = are_same q.id id e in
     ap (λ (r : Row). f r ∷ changed id (λ _. f x) rows) (sym same) ∙ ap (λ (xs : List Row). f q ∷ xs) (above_not id q (λ _. f x) f rows is less)
 change_by id x q f rows false e less ih h = ap (λ (xs : List Row). q ∷ xs) (ih h)
 
@@ -247,7 +217,7 @@ one_changed id x f (q ∷ rows) r h = change_by id x q f rows (q.id == id) refl 
 found_id_by : (id : ℕ) (x q : Row) (b : Bool) (o : Option Row) → (q.id == id) ≡ b → (o ≡ Some x → x.id ≡ id) → cond b (Some q) o ≡ Some x → x.id ≡ id
 found_id_by id x q true o e ih h =
     let same : q ≡ x = cc in
-    let is : q.id ≡ id = elim (eqb_tells q.id id) [ inl t ↦ t.1 | inr v ↦ let never = sym e ∙ v.0 in cc ] in
+    let is : q.id ≡ id = are_same q.id id e in
     subst (λ (r : Row). r.id ≡ id) same is
 found_id_by id x q false o e ih h = ih h
 
@@ -267,18 +237,14 @@ none_changed id f (q ∷ rows) h = none_by id q f rows (q.id == id) (none_change
 abbrev pub at_id : ℕ → (Row → Row) → Row → Row
 at_id id f r = cond (has_id id r) (f r) r
 
-cond_same : {B : Type 0} (h : Row → B) (b : Bool) (x y : Row) → h x ≡ h y → h (cond b x y) ≡ h y
-cond_same h true x y e = e
-cond_same h false x y e = refl
-
 pub stays_at : (id : ℕ) (f : Row → Row) → Stays f → Stays (at_id id f)
 stays_at id f h = record {
-  key = λ r. cond_same key_of (has_id id r) (f r) r (h.key r);
-  id = λ r. cond_same (λ q. q.id) (has_id id r) (f r) r (h.id r);
-  level = λ r. cond_same (λ q. q.level) (has_id id r) (f r) r (h.level r);
-  order = λ r. cond_same (λ q. q.order) (has_id id r) (f r) r (h.order r);
-  parent = λ r. cond_same (λ q. q.parent) (has_id id r) (f r) r (h.parent r);
-  line = λ r. cond_same (λ q. q.line) (has_id id r) (f r) r (h.line r);
+  key = λ r. keeps key_of (has_id id r) (f r) r (h.key r);
+  id = λ r. keeps (λ q. q.id) (has_id id r) (f r) r (h.id r);
+  level = λ r. keeps (λ q. q.level) (has_id id r) (f r) r (h.level r);
+  order = λ r. keeps (λ q. q.order) (has_id id r) (f r) r (h.order r);
+  parent = λ r. keeps (λ q. q.parent) (has_id id r) (f r) r (h.parent r);
+  line = λ r. keeps (λ q. q.line) (has_id id r) (f r) r (h.line r);
 }
 
 -- what a put of the found row, changed, does
@@ -287,7 +253,7 @@ put_one id x f h rows new r k e =
     let same : (f x).id ≡ id = h.id x ∙ found_id id x rows k in
     e ∙ (ap (λ (i : ℕ). changed i (λ _. f x) rows) same ∙ one_changed id x f rows r k)
 
-values_of-entries : (rows : List Row) → values_of (map entry_of rows) ≡ map (λ (r : Row). r.id) rows
+pub values_of-entries : (rows : List Row) → values_of (map entry_of rows) ≡ map (λ (r : Row). r.id) rows
 values_of-entries [] = refl
 values_of-entries (r ∷ rows) = ap (λ (xs : List ℕ). r.id ∷ xs) (values_of-entries rows)
 

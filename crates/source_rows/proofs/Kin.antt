@@ -7,7 +7,9 @@ use Rattle.source_rows.specs.Row.{no_number}
 use Rattle.source_rows.specs.Rows.{row_of, is_under}
 use Rattle.source_rows.specs.Tree.{IsForest, starts}
 use Rattle.source_rows.specs.Kept.{IsBelow}
-use Rattle.source_rows.proofs.Forest.{InForest, Shaped, members, shaped, found, all_of, all_both, same_self}
+use Rattle.source_rows.proofs.Compared.{same_self}
+use Rattle.source_rows.proofs.Lists.{all_of, all_and}
+use Rattle.source_rows.proofs.Forest.{InForest, Shaped, members, shaped, found}
 use Rattle.source_rows.proofs.Paths.{under, under_path, starts_last}
 
 abbrev pub Shares : Row → Row → Type 0
@@ -31,7 +33,7 @@ pub record Kin (x : Row) (n : ℕ) (r : Row) : Type 0 where
   pub path : IsPath r.path
   pub below : IsBelow n r.path
 
-path_of : (r : Row) → r.order < 2 ^ 63 → Shaped r → IsPath r.path
+pub path_of : (r : Row) → r.order < 2 ^ 63 → Shaped r → IsPath r.path
 path_of r h (inl s) = record { a = r.order; b = no_number; c = no_number; d = no_number; is = s.2; b_fits = omega arith; c_fits = omega arith; d_fits = omega arith }
 path_of r h (inr (inl s)) = record { a = s.1; b = r.order; c = no_number; d = no_number; is = s.4; b_fits = omega (arith, h); c_fits = omega arith; d_fits = omega arith }
 path_of r h (inr (inr (inl s))) = let m = s.8 in record { a = s.2; b = s.3; c = r.order; d = no_number; is = s.6; b_fits = omega (arith, m); c_fits = omega (arith, h); d_fits = omega arith }
@@ -58,4 +60,4 @@ pub kins : (x : Row) (n : ℕ) (rows : List Row) → IsForest rows → row_of x.
 kins x n rows f is level below =
     let all = members rows f in
     let g = found (InForest rows) x.id x rows all is in
-    all_of (λ r. InForest rows r × IsBelow n r.path) (Kin x n) (λ r h. kin rows all x n g level r h.0 h.1) rows (all_both (InForest rows) (λ r. IsBelow n r.path) rows all below)
+    all_of (λ r. InForest rows r × IsBelow n r.path) (Kin x n) (λ r h. kin rows all x n g level r h.0 h.1) rows (all_and (InForest rows) (λ r. IsBelow n r.path) rows all below)

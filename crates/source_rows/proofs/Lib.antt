@@ -1,3 +1,5 @@
+pub mod Compared
+pub mod Lists
 pub mod Order
 pub mod Forest
 pub mod Edits

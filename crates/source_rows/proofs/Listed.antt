@@ -16,7 +16,7 @@ each_there : (rows qs : List Row) → AllByRecursion (λ r. row_of r.id rows ≡
 each_there rows [] h = tt
 each_there rows (q ∷ qs) h = (is_there (row_of q.id rows) q h.0, each_there rows qs h.1)
 
-same_rows : (rows qs : List Row) → AllByRecursion (λ r. row_of r.id rows ≡ Some r) qs → rows_of rows (map (λ (r : Row). r.id) qs) ≡ qs
+pub same_rows : (rows qs : List Row) → AllByRecursion (λ r. row_of r.id rows ≡ Some r) qs → rows_of rows (map (λ (r : Row). r.id) qs) ≡ qs
 same_rows rows [] h = refl
 same_rows rows (q ∷ qs) h = ap (λ (o : Option Row). cons_option o (rows_of rows (map (λ (r : Row). r.id) qs))) h.0 ∙ ap (λ (xs : List Row). q ∷ xs) (same_rows rows qs h.1)
 

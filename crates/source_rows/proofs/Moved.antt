@@ -1,31 +1,26 @@
 -- The rows of a tree whose root gets a priority and an order number.
 use Rattle.std.proofs.Common.{◌≡◌, ℕ, ℤ, ◌<◌, ◌≤◌, ◌+◌, ◌^◌, ◌==◌, Some, Bool, true, false, cond, ◌||◌, List, [], ◌∷◌, inl, inr, map, refl, ap, sym, ◌∙◌, arith, subst}
-use Rattle.std.proofs.lemmas.Bool.Decides.{eqb_tells, nat_tests}
 use Rattle.std.specs.Prelude.{slice_index, slice_set}
 use Rattle.std.specs.List.{AllByRecursion, list_any}
 use Rattle.std.specs.declared.cmp.Ordering.{Ordering}
-use Rattle.std.specs.declared.cmp.Ordering.TheVariants.{Less, Equal, Greater}
-use Rattle.std.specs.Ordering.{is_lt, ordering_then, ordering_reverse, int_cmp, nat_cmp}
-use Rattle.std.specs.Cmp.{int_cmp_total}
+use Rattle.std.specs.Ordering.{is_lt, ordering_then, nat_cmp}
+use Rattle.std.specs.Cmp.{int_cmp_total, nat_cmp_total}
 use Rattle.std.specs.Cmp.Lexicographic.{slice_cmp}
+use Rattle.std.proofs.lemmas.Cmp.{tied_itself}
 use Rattle.source_rows.specs.declared.row.Row.{Row}
 use Rattle.source_rows.specs.Rows.{key_cmp, key_of, row_of, stands_before, is_under, moved}
 use Rattle.source_rows.specs.Row.{no_number}
 use Rattle.source_rows.specs.Order.{Apart}
 use Rattle.source_rows.specs.Kept.{AllApart, IsBelow, IsSound}
-use Rattle.source_rows.specs.Tree.{IdsRise}
 use Rattle.source_rows.specs.Moves.{moved_row}
 use Rattle.source_rows.proofs.Kept.{apart_paths}
 use Rattle.source_rows.proofs.Kin.{Shares, IsPath, Kin}
-use Rattle.source_rows.proofs.Replanted.{forest_moved}
-use Rattle.source_rows.proofs.Placing.{Pairs, Changes, all_of, all_both, all_mapped, pairs_mapped, pairs_apart, flip}
-
-same_test : (n : ℕ) → (n == n) ≡ true
-same_test n = elim (eqb_tells n n) [ inl t ↦ t.0 | inr f ↦ absurd (f.1 refl) ]
-
-or_true : (a : Bool) → (a || true) ≡ true
-or_true true = refl
-or_true false = refl
+use Rattle.source_rows.proofs.Compared.{same_self, or_parts, apart_above, keeps}
+use Rattle.source_rows.proofs.Lists.{all_map, all_with, pairs_map, pairs_with}
+use Rattle.source_rows.proofs.Order.{flip}
+use Rattle.source_rows.proofs.Edits.{rise_map}
+use Rattle.source_rows.proofs.Replanted.{moved_id, moved_level, forest_moved}
+use Rattle.source_rows.proofs.Placing.{Changes}
 
 -- ---- one row, moved
 
@@ -35,18 +30,8 @@ is_moved id z n r e = ap (λ (b : Bool). cond b (moved_row id z n r) r) e
 pub not_moved : (id : ℕ) (z : ℤ) (n : ℕ) (r : Row) → is_under id r ≡ false → moved id z n r ≡ r
 not_moved id z n r e = ap (λ (b : Bool). cond b (moved_row id z n r) r) e
 
-keeps : {B : Type 0} (h : Row → B) (b : Bool) (x y : Row) → h x ≡ h y → h (cond b x y) ≡ h y
-keeps h true x y e = e
-keeps h false x y e = refl
-
-pub moved_id : (id : ℕ) (z : ℤ) (n : ℕ) (r : Row) → (moved id z n r).id ≡ r.id
-moved_id id z n r = keeps (λ q. q.id) (is_under id r) (moved_row id z n r) r refl
-
 pub moved_line : (id : ℕ) (z : ℤ) (n : ℕ) (r : Row) → (moved id z n r).line ≡ r.line
 moved_line id z n r = keeps (λ q. q.line) (is_under id r) (moved_row id z n r) r refl
-
-pub moved_level : (id : ℕ) (z : ℤ) (n : ℕ) (r : Row) → (moved id z n r).level ≡ r.level
-moved_level id z n r = keeps (λ q. q.level) (is_under id r) (moved_row id z n r) r refl
 
 pub moved_under : (id : ℕ) (z : ℤ) (n : ℕ) (r : Row) (k : ℕ) → is_under k (moved id z n r) ≡ is_under k r
 moved_under id z n r k = ap (list_any (λ i. i == k)) (moved_line id z n r)
@@ -63,14 +48,7 @@ path_front : (n : ℕ) (path : List ℕ) → IsPath path → slice_index (slice_
 path_front n path p = ap (λ (q : List ℕ). slice_index q 0) (set_four n path p)
 
 path_has : (n : ℕ) (path : List ℕ) → IsPath path → list_any (λ i. i == n) (slice_set path 0 n) ≡ true
-path_has n path p = ap (list_any (λ i. i == n)) (set_four n path p) ∙ rw (same_test n) refl
-
-or_parts : (a b : Bool) → (a || b) ≡ false → (a ≡ false) × (b ≡ false)
-or_parts true b e = cc
-or_parts false b e = (refl, e)
-
-apart_above : (n k : ℕ) → n < k → (n == k) ≡ false
-apart_above n k h = elim (eqb_tells n k) [ inl t ↦ absurd (omega (arith, t.1)) | inr f ↦ f.0 ]
+path_has n path p = ap (list_any (λ i. i == n)) (set_four n path p) ∙ rw (same_self n) refl
 
 path_below : (n : ℕ) (path : List ℕ) → IsPath path → IsBelow n path → IsBelow (n + 1) (slice_set path 0 n)
 path_below n path p h = λ k le f.
@@ -84,19 +62,8 @@ below_more n path h = λ k le f. h k (omega arith) f
 
 -- ---- pairs of rows
 
-int_same : (z : ℤ) → int_cmp z z ≡ Equal
-int_same z = by_order (int_cmp z z) (int_cmp_total.antisymm z z)
-  where
-    by_order : (o : Ordering) → o ≡ ordering_reverse o → o ≡ Equal
-    by_order Less e = cc
-    by_order Equal e = refl
-    by_order Greater e = cc
-
-nat_same : (n : ℕ) → nat_cmp n n ≡ Equal
-nat_same n = grind (arith, nat_tests)
-
 same_front : (z : ℤ) (n : ℕ) (ps qs : List ℕ) → key_cmp (z, n ∷ ps) (z, n ∷ qs) ≡ slice_cmp nat_cmp ps qs
-same_front z n ps qs = ap (λ (o : Ordering). ordering_then o (slice_cmp nat_cmp (n ∷ ps) (n ∷ qs))) (int_same z) ∙ ap (λ (o : Ordering). ordering_then o (slice_cmp nat_cmp ps qs)) (nat_same n)
+same_front z n ps qs = ap (λ (o : Ordering). ordering_then o (slice_cmp nat_cmp (n ∷ ps) (n ∷ qs))) (tied_itself int_cmp_total z) ∙ ap (λ (o : Ordering). ordering_then o (slice_cmp nat_cmp ps qs)) (tied_itself nat_cmp_total n)
 
 -- two rows of the tree stand as they stood
 stand_same : (id : ℕ) (z : ℤ) (n : ℕ) (r q : Row) → IsPath r.path → IsPath q.path → Shares r q → stands_before (moved_row id z n r) (moved_row id z n q) ≡ stands_before r q
@@ -139,30 +106,16 @@ moved_apart_by x z n f r q k m h false false e g = h
 moved_apart : (x : Row) (z : ℤ) (n : ℕ) → n < no_number → (r q : Row) → Kin x n r → Kin x n q → Apart r q → Apart (moved x.id z n r) (moved x.id z n q)
 moved_apart x z n f r q k m h = moved_apart_by x z n f r q k m h (is_under x.id r) (is_under x.id q) refl refl
 
--- what two rows have from what each has
-pairs_with : (R S : Row → Row → Type 0) (K : Row → Type 0) → ((r q : Row) → K r → K q → R r q → S r q) → (rows : List Row) → AllByRecursion K rows → Pairs R rows → Pairs S rows
-pairs_with R S K f [] k h = tt
-pairs_with R S K f (r ∷ rows) k h = (all_both K (R r) (S r) (λ q a b. f r q k.0 a b) rows k.1 h.0, pairs_with R S K f rows k.1 h.1)
-
-all_with : (S : Row → Row → Type 0) (K : Row → Type 0) → ((r q : Row) → K r → K q → S r q) → (qs rows : List Row) → AllByRecursion K qs → AllByRecursion K rows → AllByRecursion (λ r. AllByRecursion (S r) qs) rows
-all_with S K f qs [] k h = tt
-all_with S K f qs (r ∷ rows) k h = (all_of K (S r) (λ q m. f r q h.0 m) qs k, all_with S K f qs rows k h.1)
-
 pub changes : (x : Row) (z : ℤ) (n : ℕ) (rows : List Row) → n < no_number → AllByRecursion (Kin x n) rows → AllApart rows → Changes (is_under x.id) (moved x.id z n) rows
 changes x z n rows f k h = record {
   passes = λ r. moved_under x.id z n r x.id;
   stays = λ r e. not_moved x.id z n r e;
-  apart = pairs_apart rows h;
-  changed = pairs_with Apart (λ r q. Apart (moved x.id z n r) (moved x.id z n q)) (Kin x n) (moved_apart x z n f) rows k (pairs_apart rows h);
+  apart = h;
+  changed = pairs_with Apart (λ r q. Apart (moved x.id z n r) (moved x.id z n q)) (Kin x n) (moved_apart x z n f) rows k h;
   new = all_with (λ r q. is_under x.id r ≡ true → Apart (moved x.id z n r) q) (Kin x n) (λ r q a b e. module_new x z n f r q a b e) rows rows k k;
 }
 
 -- ---- what holds of the rows still holds
-
-rise_same : (g : Row → Row) → ((r : Row) → (g r).id ≡ r.id) → (rows : List Row) → IdsRise rows → IdsRise (map g rows)
-rise_same g h [] a = tt
-rise_same g h (r ∷ rows) a =
-    (all_mapped (λ q. (g r).id < q.id) g rows (all_of (λ q. r.id < q.id) (λ q. (g r).id < (g q).id) (λ q less. let i = h r in let j = h q in omega arith) rows a.0), rise_same g h rows a.1)
 
 below_moved_by : (x : Row) (z : ℤ) (n : ℕ) (r : Row) → Kin x n r → (b : Bool) → IsBelow (n + 1) (cond b (moved_row x.id z n r) r).path
 below_moved_by x z n r k true = path_below n r.path k.path k.below
@@ -180,14 +133,14 @@ pub sound_moved : (x : Row) (z : ℤ) (rows : List Row) (i n levels : ℕ) → n
 sound_moved x z rows i n levels f k is root s =
     let g = moved x.id z n in
     record {
-      below = all_mapped (λ r. IsBelow (n + 1) r.path) g rows (all_of (Kin x n) (λ r. IsBelow (n + 1) (g r).path) (λ r m. below_moved_by x z n r m (is_under x.id r)) rows k);
-      fresh = all_mapped (λ r. r.id < i) g rows (all_of (λ r. r.id < i) (λ r. (g r).id < i) (λ r less. let e = moved_id x.id z n r in omega arith) rows s.fresh);
-      rising = rise_same g (moved_id x.id z n) rows s.rising;
-      apart = pairs_mapped g rows (changes x z n rows (omega (arith, f)) k s.apart).changed;
-      within = all_mapped (λ r. r.level ≤ levels) g rows (all_of (λ r. r.level ≤ levels) (λ r. (g r).level ≤ levels) (λ r le. let e = moved_level x.id z n r in omega arith) rows s.within);
+      below = all_map (Kin x n) (λ r. IsBelow (n + 1) r.path) g (λ r m. below_moved_by x z n r m (is_under x.id r)) rows k;
+      fresh = all_map (λ r. r.id < i) (λ r. r.id < i) g (λ r less. let e = moved_id x.id z n r in omega arith) rows s.fresh;
+      rising = rise_map g (moved_id x.id z n) rows s.rising;
+      apart = pairs_map (λ r q. Apart (g r) (g q)) Apart g (λ r q a. a) rows (changes x z n rows (omega (arith, f)) k s.apart).changed;
+      within = all_map (λ r. r.level ≤ levels) (λ r. r.level ≤ levels) g (λ r le. let e = moved_level x.id z n r in omega arith) rows s.within;
       some = s.some;
       few = s.few;
-      numbered = all_mapped (λ r. r.order < n + 1) g rows (all_of (λ r. r.order < n) (λ r. (g r).order < n + 1) (λ r less. order_below x.id z n r less) rows s.numbered);
+      numbered = all_map (λ r. r.order < n) (λ r. r.order < n + 1) g (λ r less. order_below x.id z n r less) rows s.numbered;
       numbers = omega (arith, f);
       forest = forest_moved x z n rows f is root s.numbered s.forest;
     }

@@ -1,6 +1,5 @@
 -- The rows of ids, and rows put in others' places.
-use Rattle.std.proofs.Common.{◌≡◌, ℕ, ◌<◌, ◌+◌, ◌==◌, Bool, true, false, cond, Option, Some, None, List, [], ◌∷◌, ◌++◌, inl, inr, map, drop, length, get_or, refl, ap, sym, ◌∙◌, subst}
-use Rattle.std.proofs.lemmas.Bool.Decides.{eqb_tells}
+use Rattle.std.proofs.Common.{◌≡◌, ℕ, ◌<◌, ◌+◌, ◌==◌, Bool, true, false, cond, Option, Some, None, List, [], ◌∷◌, ◌++◌, map, drop, length, get_or, refl, ap, ◌∙◌, subst}
 use Rattle.std.proofs.lemmas.List.{drop_more}
 use Rattle.std.specs.List.{AllByRecursion, cons_option}
 use Rattle.std.specs.Option.{IsSome}
@@ -8,11 +7,9 @@ use Rattle.source_rows.specs.declared.row.Row.{Row}
 use Rattle.source_rows.specs.Rows.{row_of, changed}
 use Rattle.source_rows.specs.InOrder.{rows_of}
 use Rattle.source_rows.specs.Moves.{with_each}
-use Rattle.source_rows.proofs.Placing.{no_row, all_of}
-
-cons_join : (o : Option Row) (xs ys : List Row) → cons_option o (xs ++ ys) ≡ cons_option o xs ++ ys
-cons_join None xs ys = refl
-cons_join (Some r) xs ys = refl
+use Rattle.source_rows.proofs.Compared.{are_same}
+use Rattle.source_rows.proofs.Lists.{all_of, cons_join}
+use Rattle.source_rows.proofs.Placing.{no_row}
 
 -- one more id
 pub named_push : {A : Type 0} (f : A → ℕ) (table : List Row) (xs : List A) (x : A) → rows_of table (map f (xs ++ x ∷ [])) ≡ rows_of table (map f xs) ++ cons_option (row_of (f x) table) []
@@ -25,9 +22,6 @@ named_none f table (y ∷ xs) x h = ap (cons_option (row_of (f y) table)) (named
 
 -- ---- rows put in others' places
 
-same_id : (n : ℕ) → (n == n) ≡ true
-same_id n = elim (eqb_tells n n) [ inl t ↦ t.0 | inr f ↦ absurd (f.1 refl) ]
-
 -- a row put in another's place leaves a row of each id
 there_by : (id : ℕ) (row q : Row) (s t : Option Row) (b : Bool) → (q.id == row.id) ≡ b → (IsSome s → IsSome t) → IsSome (cond (q.id == id) (Some q) s) → IsSome (cond ((cond b row q).id == id) (Some (cond b row q)) t)
 there_by id row q s t false e ih h = by_test (q.id == id) h
@@ -36,7 +30,7 @@ there_by id row q s t false e ih h = by_test (q.id == id) h
     by_test true k = refl
     by_test false k = ih k
 there_by id row q s t true e ih h =
-    let same : q.id ≡ row.id = elim (eqb_tells q.id row.id) [ inl v ↦ v.1 | inr v ↦ let never = sym e ∙ v.0 in cc ] in
+    let same : q.id ≡ row.id = are_same q.id row.id e in
     subst (λ (n : ℕ). IsSome (cond (n == id) (Some row) t)) same (by_test (q.id == id) h)
   where
     by_test : (v : Bool) → IsSome (cond v (Some q) s) → IsSome (cond v (Some row) t)

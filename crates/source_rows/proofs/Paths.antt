@@ -1,5 +1,5 @@
 -- The paths of rows that stand in trees.
-use Rattle.std.proofs.Common.{◌≡◌, ℕ, ◌<◌, ◌≤◌, ◌+◌, ◌==◌, zero, suc, Bool, true, false, ◌&&◌, List, [], ◌∷◌, ◌++◌, ◌⊎◌, inl, inr, length, refl, ap, sym, ◌∙◌, arith, subst}
+use Rattle.std.proofs.Common.{◌≡◌, ℕ, ◌<◌, ◌≤◌, ◌+◌, ◌==◌, zero, suc, true, List, [], ◌∷◌, ◌++◌, ◌⊎◌, inl, inr, length, refl, ap, sym, ◌∙◌, arith, subst}
 use Rattle.std.specs.Prelude.{slice_index}
 use Rattle.std.proofs.lemmas.Bool.{cases_order}
 use Rattle.std.specs.List.{AllByRecursion}
@@ -7,7 +7,8 @@ use Rattle.source_rows.specs.declared.row.Row.{Row}
 use Rattle.source_rows.specs.Row.{no_number}
 use Rattle.source_rows.specs.Rows.{is_under}
 use Rattle.source_rows.specs.Tree.{IsRoot, IsChildOf, starts}
-use Rattle.source_rows.proofs.Forest.{InForest, Shaped, each, shaped, path_is, same_self, are_same, same_id, same_order, under_up, under_down, under_root, under_self}
+use Rattle.source_rows.proofs.Compared.{same_self, are_same, and_both}
+use Rattle.source_rows.proofs.Forest.{InForest, Shaped, each, shaped, path_is, same_id, same_order, under_up, under_down, under_root, under_self}
 
 -- ---- beginnings
 
@@ -15,10 +16,6 @@ pub starts_with : (l : ℕ) (p xs ys : List ℕ) → l ≤ length p → starts l
 starts_with zero p xs ys h = refl
 starts_with (suc l) [] xs ys h = absurd (omega (arith, h))
 starts_with (suc l) (a ∷ p) xs ys h = rw (same_self a) (starts_with l p xs ys (omega (arith, h)))
-
-and_both : (a b : Bool) → (a && b) ≡ true → (a ≡ true) × (b ≡ true)
-and_both true b h = (refl, h)
-and_both false b h = cc
 
 pub starts_trans : (l : ℕ) (p x y : List ℕ) → starts l p x ≡ true → starts l x y ≡ true → starts l p y ≡ true
 starts_trans zero p x y h k = refl
@@ -92,23 +89,14 @@ under rows all a g = each rows (λ r. is_under a.id r ≡ true → Under a r) al
 
 -- ---- and no other row has such a path
 
+from_shape : (l k : ℕ) (p q x : List ℕ) → l ≡ k → p ≡ q → starts l p x ≡ true → starts k q x ≡ true
+from_shape l k p q x e f h = rw (sym e, sym f) h
+
 own_number : (a : Row) (x : List ℕ) → Shaped a → starts a.level a.path x ≡ true → (k : ℕ) × (a.level ≡ suc k) × (a.order ≡ slice_index x k)
 own_number a x (inl s) h = (0, s.0, starts_last 0 (a.order ∷ no_number ∷ no_number ∷ no_number ∷ []) x (from_shape a.level 1 a.path (a.order ∷ no_number ∷ no_number ∷ no_number ∷ []) x s.0 s.2 h))
-  where
-    from_shape : (l k : ℕ) (p q x : List ℕ) → l ≡ k → p ≡ q → starts l p x ≡ true → starts k q x ≡ true
-    from_shape l k p q x e f h = rw (sym e, sym f) h
 own_number a x (inr (inl s)) h = (1, s.2, starts_last 1 (s.1 ∷ a.order ∷ no_number ∷ no_number ∷ []) x (from_shape a.level 2 a.path (s.1 ∷ a.order ∷ no_number ∷ no_number ∷ []) x s.2 s.4 h))
-  where
-    from_shape : (l k : ℕ) (p q x : List ℕ) → l ≡ k → p ≡ q → starts l p x ≡ true → starts k q x ≡ true
-    from_shape l k p q x e f h = rw (sym e, sym f) h
 own_number a x (inr (inr (inl s))) h = (2, s.4, starts_last 2 (s.2 ∷ s.3 ∷ a.order ∷ no_number ∷ []) x (from_shape a.level 3 a.path (s.2 ∷ s.3 ∷ a.order ∷ no_number ∷ []) x s.4 s.6 h))
-  where
-    from_shape : (l k : ℕ) (p q x : List ℕ) → l ≡ k → p ≡ q → starts l p x ≡ true → starts k q x ≡ true
-    from_shape l k p q x e f h = rw (sym e, sym f) h
 own_number a x (inr (inr (inr s))) h = (3, s.6, starts_last 3 (s.3 ∷ s.4 ∷ s.5 ∷ a.order ∷ []) x (from_shape a.level 4 a.path (s.3 ∷ s.4 ∷ s.5 ∷ a.order ∷ []) x s.6 s.8 h))
-  where
-    from_shape : (l k : ℕ) (p q x : List ℕ) → l ≡ k → p ≡ q → starts l p x ≡ true → starts k q x ≡ true
-    from_shape l k p q x e f h = rw (sym e, sym f) h
 
 -- the own number stands at the own level, and behind it the path is filled up
 own_at : (r : Row) (k : ℕ) → Shaped r → r.level ≡ suc k → slice_index r.path k ≡ r.order

@@ -1,18 +1,19 @@
 -- Many rows put into an order and taken out again.
-use Rattle.std.proofs.Common.{◌≡◌, ℕ, ◌<◌, ◌≤◌, ◌+◌, ◌-◌, pos, None, length, get_or, arith, Bool, true, false, not, zero, suc, cond, List, [], ◌∷◌, ◌++◌, inl, inr, map, filter, take, refl, ap, sym, ◌∙◌, subst}
+use Rattle.std.proofs.Common.{◌≡◌, ℕ, ◌<◌, ◌≤◌, ◌+◌, ◌-◌, pos, None, length, get_or, arith, Bool, true, false, not, zero, suc, cond, List, [], ◌∷◌, ◌++◌, map, filter, take, map-id, refl, ap, sym, ◌∙◌, subst}
 use Rattle.std.proofs.lemmas.List.{take_more}
 use Rattle.std.specs.List.{AllByRecursion}
 use Rattle.loop_script.specs.declared.Kind.TheVariants.{Idle}
-use Rattle.std.specs.declared.cmp.Ordering.{Ordering}
-use Rattle.std.specs.declared.cmp.Ordering.TheVariants.{Less, Equal, Greater}
-use Rattle.std.specs.Ordering.{is_lt, is_eq, ordering_reverse}
+use Rattle.std.specs.Ordering.{is_eq}
+use Rattle.std.proofs.lemmas.Cmp.{tied_itself}
 use Rattle.source_rows.specs.declared.row.Row.{Row}
 use Rattle.source_rows.specs.Rows.{Key, key_cmp, key_of, stands_before, placed, in_order}
 use Rattle.source_rows.specs.Order.{Apart}
+use Rattle.source_rows.specs.Lists.{Pairs}
 use Rattle.source_rows.specs.Kept.{entry_of, AllApart}
 use Rattle.source_rows.specs.Moves.{with_row, without_row, with_rows, without_rows, HavePlaces}
-use Rattle.source_rows.proofs.Order.{key_total, comm, all_placed, all_in_order, all_filter, in_order-filter}
-use Rattle.source_rows.proofs.Kept.{entries-placed}
+use Rattle.source_rows.proofs.Lists.{all_of, all_both, all_true, all_map, all_passed, all_filter, filter_mapped, pairs_map, pairs_filter}
+use Rattle.source_rows.proofs.Order.{key_total, flip, comm, all_placed, pairs_in_order, all_in_order, in_order-filter}
+use Rattle.source_rows.proofs.Kept.{not_equal, entries-placed}
 
 -- ---- putting in and taking out, one by one
 
@@ -63,13 +64,8 @@ all_put (r ∷ rs) qs = all_put rs (placed r qs)
 abbrev pub AreApart : List Row → List Row → Type 0
 AreApart rs qs = AllByRecursion (λ r. AllByRecursion (Apart r) qs) rs
 
-pub flip : (a b : Row) → Apart a b → Apart b a
-flip a b (inl h) = inr h
-flip a b (inr h) = inl h
-
 apart_placed : (m : Row) (qs ms : List Row) → AllByRecursion (Apart m) ms → AreApart ms qs → AreApart ms (placed m qs)
-apart_placed m qs [] h k = tt
-apart_placed m qs (r ∷ ms) h k = (all_placed (Apart r) m qs (flip m r h.0) k.0, apart_placed m qs ms h.1 k.1)
+apart_placed m qs ms h k = all_both (Apart m) (λ r. AllByRecursion (Apart r) qs) (λ r. AllByRecursion (Apart r) (placed m qs)) (λ r a b. all_placed (Apart r) m qs (flip m r a) b) ms h k
 
 pub all_put-all : (P : Row → Type 0) (rs qs : List Row) → AllByRecursion P rs → AllByRecursion P qs → AllByRecursion P (all_put rs qs)
 all_put-all P [] qs h k = k
@@ -79,30 +75,13 @@ pub with_rows-entries : (ms qs : List Row) → AllApart ms → AreApart ms qs �
 with_rows-entries [] qs h k = refl
 with_rows-entries (m ∷ ms) qs h k = ap (with_rows ms) (entries-placed m qs k.0) ∙ with_rows-entries ms (placed m qs) h.1 (apart_placed m qs ms h.0 k.1)
 
-equal_self : (k : Key) → is_eq (key_cmp k k) ≡ true
-equal_self k = by_order (key_cmp k k) (key_total.antisymm k k)
-  where
-    by_order : (o : Ordering) → o ≡ ordering_reverse o → is_eq o ≡ true
-    by_order Less e = cc
-    by_order Equal e = refl
-    by_order Greater e = cc
-
-not_equal : (r q : Row) → Apart r q → is_eq (key_cmp (key_of r) (key_of q)) ≡ false
-not_equal r q h = by_order (key_cmp (key_of r) (key_of q)) refl h
-  where
-    by_order : (o : Ordering) → key_cmp (key_of r) (key_of q) ≡ o → Apart r q → is_eq o ≡ false
-    by_order Less e h = refl
-    by_order Greater e h = refl
-    by_order Equal e (inl h) = let never = sym h ∙ ap is_lt e in cc
-    by_order Equal e (inr h) = let never = sym h ∙ ap is_lt (key_total.antisymm (key_of q) (key_of r) ∙ ap ordering_reverse e) in cc
-
 -- taking a placed row out leaves the others
 taken_by : (m q : Row) (qs : List Row) (b : Bool) → is_eq (key_cmp (key_of m) (key_of q)) ≡ false → without_row (map entry_of (placed m qs)) m ≡ map entry_of qs → without_row (map entry_of (cond b (m ∷ q ∷ qs) (q ∷ placed m qs))) m ≡ map entry_of (q ∷ qs)
-taken_by m q qs true e ih = rw (equal_self (key_of m)) refl
+taken_by m q qs true e ih = rw (tied_itself key_total (key_of m)) refl
 taken_by m q qs false e ih = rw e (ap (λ (xs : List (Key × ℕ)). entry_of q ∷ xs) ih)
 
 taken : (m : Row) (qs : List Row) → AllByRecursion (Apart m) qs → without_row (map entry_of (placed m qs)) m ≡ map entry_of qs
-taken m [] h = rw (equal_self (key_of m)) refl
+taken m [] h = rw (tied_itself key_total (key_of m)) refl
 taken m (q ∷ qs) h = taken_by m q qs (stands_before m q) (not_equal m q h.0) (taken m qs h.1)
 
 pub have_places : (ms qs : List Row) → AllApart ms → AreApart ms qs → HavePlaces ms (map entry_of qs)
@@ -133,56 +112,6 @@ pub split : (p : Row → Bool) (rows : List Row) → AllApart rows → in_order 
 split p [] h = refl
 split p (r ∷ rows) h = split_by p r rows (all_filter (Apart r) p rows h.0) (split p rows h.1) (p r)
 
--- ---- pairs of rows
-
-abbrev pub Pairs : (Row → Row → Type 0) → List Row → Type 0
-Pairs R [] = Unit {0}
-Pairs R (r ∷ rs) = AllByRecursion (R r) rs × Pairs R rs
-
-pub all_of : (P Q : Row → Type 0) → ((r : Row) → P r → Q r) → (rows : List Row) → AllByRecursion P rows → AllByRecursion Q rows
-all_of P Q f [] h = tt
-all_of P Q f (r ∷ rows) h = (f r h.0, all_of P Q f rows h.1)
-
-pub all_both : (P Q S : Row → Type 0) → ((r : Row) → P r → Q r → S r) → (rows : List Row) → AllByRecursion P rows → AllByRecursion Q rows → AllByRecursion S rows
-all_both P Q S f [] h k = tt
-all_both P Q S f (r ∷ rows) h k = (f r h.0 k.0, all_both P Q S f rows h.1 k.1)
-
-pairs_placed_by : (R : Row → Row → Type 0) → ((a b : Row) → R a b → R b a) → (y z : Row) (zs : List Row) → AllByRecursion (R y) (z ∷ zs) → Pairs R (z ∷ zs) → Pairs R (placed y zs) → (b : Bool) → Pairs R (cond b (y ∷ z ∷ zs) (z ∷ placed y zs))
-pairs_placed_by R s y z zs h k ih true = (h, k)
-pairs_placed_by R s y z zs h k ih false = (all_placed (R z) y zs (s y z h.0) k.0, ih)
-
-pub pairs_placed : (R : Row → Row → Type 0) → ((a b : Row) → R a b → R b a) → (y : Row) (zs : List Row) → AllByRecursion (R y) zs → Pairs R zs → Pairs R (placed y zs)
-pairs_placed R s y [] h k = (tt, tt)
-pairs_placed R s y (z ∷ zs) h k = pairs_placed_by R s y z zs h k (pairs_placed R s y zs h.1 k.1) (stands_before y z)
-
-pub pairs_in_order : (R : Row → Row → Type 0) → ((a b : Row) → R a b → R b a) → (rows : List Row) → Pairs R rows → Pairs R (in_order rows)
-pairs_in_order R s [] k = tt
-pairs_in_order R s (r ∷ rows) k = pairs_placed R s r (in_order rows) (all_in_order (R r) rows k.0) (pairs_in_order R s rows k.1)
-
-pairs_filter_by : (R : Row → Row → Type 0) (r : Row) (qs : List Row) → AllByRecursion (R r) qs → Pairs R qs → (b : Bool) → Pairs R (cond b (r ∷ qs) qs)
-pairs_filter_by R r qs h k true = (h, k)
-pairs_filter_by R r qs h k false = k
-
-pub pairs_filter : (R : Row → Row → Type 0) (p : Row → Bool) (rows : List Row) → Pairs R rows → Pairs R (filter p rows)
-pairs_filter R p [] k = tt
-pairs_filter R p (r ∷ rows) k = pairs_filter_by R r (filter p rows) (all_filter (R r) p rows k.0) (pairs_filter R p rows k.1) (p r)
-
-pub all_mapped : (P : Row → Type 0) (g : Row → Row) (rows : List Row) → AllByRecursion (λ r. P (g r)) rows → AllByRecursion P (map g rows)
-all_mapped P g [] h = tt
-all_mapped P g (r ∷ rows) h = (h.0, all_mapped P g rows h.1)
-
-pub pairs_mapped : (g : Row → Row) (rows : List Row) → Pairs (λ r q. Apart (g r) (g q)) rows → AllApart (map g rows)
-pairs_mapped g [] h = tt
-pairs_mapped g (r ∷ rows) h = (all_mapped (Apart (g r)) g rows h.0, pairs_mapped g rows h.1)
-
-pub pairs_apart : (rows : List Row) → AllApart rows → Pairs Apart rows
-pairs_apart [] h = tt
-pairs_apart (r ∷ rows) h = (h.0, pairs_apart rows h.1)
-
-pub apart_pairs : (rows : List Row) → Pairs Apart rows → AllApart rows
-apart_pairs [] h = tt
-apart_pairs (r ∷ rows) h = (h.0, apart_pairs rows h.1)
-
 -- ---- rows put in their order, or as they come
 
 put_placed_by : (g : Row → Row) (y z : Row) (zs qs : List Row) → Apart (g y) (g z) → ((xs : List Row) → all_put (map g (placed y zs)) xs ≡ all_put (map g zs) (placed (g y) xs))
@@ -199,13 +128,9 @@ put_in_order g [] h qs = refl
 put_in_order g (y ∷ ys) h qs =
     put_placed g y (in_order ys) (all_in_order (λ z. Apart (g y) (g z)) ys h.0) qs ∙ put_in_order g ys h.1 (placed (g y) qs)
 
-map_same : (rows : List Row) → map (λ (r : Row). r) rows ≡ rows
-map_same [] = refl
-map_same (r ∷ rows) = ap (λ (xs : List Row). r ∷ xs) (map_same rows)
-
 pub put_as_they_stand : (ys qs : List Row) → Pairs Apart ys → all_put (in_order ys) qs ≡ all_put ys qs
 put_as_they_stand ys qs h =
-    sym (ap (λ (xs : List Row). all_put xs qs) (map_same (in_order ys))) ∙ (put_in_order (λ r. r) ys h qs ∙ ap (λ (xs : List Row). all_put xs qs) (map_same ys))
+    sym (ap (λ (xs : List Row). all_put xs qs) (map-id (in_order ys))) ∙ (put_in_order (λ r. r) ys h qs ∙ ap (λ (xs : List Row). all_put xs qs) (map-id ys))
 
 -- ---- the rows that pass a test, changed
 
@@ -216,17 +141,6 @@ pub record Changes (p : Row → Bool) (g : Row → Row) (rows : List Row) : Type
   pub changed : Pairs (λ r q. Apart (g r) (g q)) rows
   pub new : AllByRecursion (λ r. AllByRecursion (λ q. p r ≡ true → Apart (g r) q) rows) rows
 
-passing_by : (p : Row → Bool) (g : Row → Row) (r : Row) (xs ys : List Row) → p (g r) ≡ p r → xs ≡ map g ys → cond (p (g r)) (g r ∷ xs) xs ≡ map g (cond (p r) (r ∷ ys) ys)
-passing_by p g r xs ys e ih = ap (λ (b : Bool). cond b (g r ∷ xs) xs) e ∙ by_test (p r)
-  where
-    by_test : (b : Bool) → cond b (g r ∷ xs) xs ≡ map g (cond b (r ∷ ys) ys)
-    by_test true = ap (λ (zs : List Row). g r ∷ zs) ih
-    by_test false = ih
-
-passing : (p : Row → Bool) (g : Row → Row) → ((r : Row) → p (g r) ≡ p r) → (rows : List Row) → filter p (map g rows) ≡ map g (filter p rows)
-passing p g e [] = refl
-passing p g e (r ∷ rows) = passing_by p g r (filter p (map g rows)) (filter p rows) (e r) (passing p g e rows)
-
 staying_by : (p : Row → Bool) (g : Row → Row) (r : Row) (xs ys : List Row) → p (g r) ≡ p r → (p r ≡ false → g r ≡ r) → xs ≡ ys → (b : Bool) → p r ≡ b → cond (not (p (g r))) (g r ∷ xs) xs ≡ cond (not (p r)) (r ∷ ys) ys
 staying_by p g r xs ys e s ih true t = rw (e, t) ih
 staying_by p g r xs ys e s ih false t = let same : p (g r) ≡ false = e ∙ t in rw (same, t) (ap (λ (q : Row). q ∷ xs) (s t) ∙ ap (λ (zs : List Row). r ∷ zs) ih)
@@ -235,31 +149,22 @@ staying : (p : Row → Bool) (g : Row → Row) → ((r : Row) → p (g r) ≡ p 
 staying p g e s [] = refl
 staying p g e s (r ∷ rows) = staying_by p g r (filter (λ q. not (p q)) (map g rows)) (filter (λ q. not (p q)) rows) (e r) (s r) (staying p g e s rows) (p r) refl
 
-passed_by : (P : Row → Type 0) (r : Row) (qs : List Row) (v b : Bool) → v ≡ b → (v ≡ true → P r) → AllByRecursion P qs → AllByRecursion P (cond b (r ∷ qs) qs)
-passed_by P r qs v true e h k = (h e, k)
-passed_by P r qs v false e h k = k
-
-pub passed_all : (p : Row → Bool) (P : Row → Type 0) (rows : List Row) → AllByRecursion (λ r. p r ≡ true → P r) rows → AllByRecursion P (filter p rows)
-passed_all p P [] h = tt
-passed_all p P (r ∷ rows) h = passed_by P r (filter p rows) (p r) (p r) refl h.0 (passed_all p P rows h.1)
-
 all_in : (P : Row → Row → Type 0) (p : Row → Bool) (rs qs : List Row) → AllByRecursion (λ r. AllByRecursion (λ q. p r ≡ true → P r q) qs) rs → AllByRecursion (λ r. p r ≡ true → AllByRecursion (P r) qs) rs
-all_in P p [] qs h = tt
-all_in P p (r ∷ rs) qs h = ((λ e. all_of (λ q. p r ≡ true → P r q) (P r) (λ q k. k e) qs h.0), all_in P p rs qs h.1)
+all_in P p rs qs h = all_of (λ r. AllByRecursion (λ q. p r ≡ true → P r q) qs) (λ r. p r ≡ true → AllByRecursion (P r) qs) (λ r a e. all_of (λ q. p r ≡ true → P r q) (P r) (λ q k. k e) qs a) rs h
 
 -- the changed rows stand apart from all rows as they were
 pub changed_apart : (p : Row → Bool) (g : Row → Row) (rows : List Row) → Changes p g rows → (qs : List Row) → ((P : Row → Type 0) → AllByRecursion P rows → AllByRecursion P qs) → AreApart (map g (filter p (in_order rows))) qs
 changed_apart p g rows h qs among =
     let far = all_in (λ r q. Apart (g r) q) p rows rows h.new in
     let moved = all_of (λ r. p r ≡ true → AllByRecursion (Apart (g r)) rows) (λ r. p r ≡ true → AllByRecursion (Apart (g r)) qs) (λ r k e. among (Apart (g r)) (k e)) rows far in
-    all_mapped (λ r. AllByRecursion (Apart r) qs) g (filter p (in_order rows)) (passed_all p (λ r. AllByRecursion (Apart (g r)) qs) (in_order rows) (all_in_order (λ r. p r ≡ true → AllByRecursion (Apart (g r)) qs) rows moved))
+    all_map (λ r. AllByRecursion (Apart (g r)) qs) (λ r. AllByRecursion (Apart r) qs) g (λ r k. k) (filter p (in_order rows)) (all_passed (λ r. p r ≡ true → AllByRecursion (Apart (g r)) qs) (λ r. AllByRecursion (Apart (g r)) qs) p (λ r k e. k e) (in_order rows) (all_in_order (λ r. p r ≡ true → AllByRecursion (Apart (g r)) qs) rows moved))
 
 changed_pairs : (g : Row → Row) (a b : Row) → Apart (g a) (g b) → Apart (g b) (g a)
 changed_pairs g a b h = flip (g a) (g b) h
 
 pub changed_each : (p : Row → Bool) (g : Row → Row) (rows : List Row) → Changes p g rows → AllApart (map g (filter p (in_order rows)))
 changed_each p g rows h =
-    pairs_mapped g (filter p (in_order rows)) (pairs_filter (λ r q. Apart (g r) (g q)) p (in_order rows) (pairs_in_order (λ r q. Apart (g r) (g q)) (changed_pairs g) rows h.changed))
+    pairs_map (λ r q. Apart (g r) (g q)) Apart g (λ r q k. k) (filter p (in_order rows)) (pairs_filter (λ r q. Apart (g r) (g q)) p (in_order rows) (pairs_in_order (λ r q. Apart (g r) (g q)) (changed_pairs g) rows h.changed))
 
 -- the changed rows have places in the order
 pub changed_places : (p : Row → Bool) (g : Row → Row) (rows : List Row) → Changes p g rows → HavePlaces (map g (filter p (in_order rows))) (map entry_of (in_order rows))
@@ -279,8 +184,7 @@ apart_turned rs (q ∷ qs) h = (heads rs h, apart_turned rs qs (tails rs h))
 
 -- those that pass stand apart from those that don't
 further : (r : Row) (xs ys : List Row) → AllByRecursion (Apart r) xs → AreApart xs ys → AreApart xs (r ∷ ys)
-further r [] ys k m = tt
-further r (x ∷ xs) ys k m = ((flip r x k.0, m.0), further r xs ys k.1 m.1)
+further r xs ys k m = all_both (Apart r) (λ x. AllByRecursion (Apart x) ys) (λ x. AllByRecursion (Apart x) (r ∷ ys)) (λ x a b. (flip r x a, b)) xs k m
 
 others_by : (r : Row) (xs ys : List Row) → AllByRecursion (Apart r) xs → AllByRecursion (Apart r) ys → AreApart xs ys → (b : Bool) → AreApart (cond b (r ∷ xs) xs) (cond (not b) (r ∷ ys) ys)
 others_by r xs ys h k m true = (k, m)
@@ -301,13 +205,13 @@ changed_entries p g rows h =
     let stands : tree ≡ in_order (filter p rows) = in_order-filter p rows in
     let apart = h.apart in
     let is : in_order rows ≡ all_put tree others =
-    split p rows (apart_pairs rows apart) ∙ (sym (put_as_they_stand (filter p rows) others (pairs_filter Apart p rows apart)) ∙ ap (λ (xs : List Row). all_put xs others) (sym stands)) in
+    split p rows apart ∙ (sym (put_as_they_stand (filter p rows) others (pairs_filter Apart p rows apart)) ∙ ap (λ (xs : List Row). all_put xs others) (sym stands)) in
     let new_old : AreApart moved tree = changed_apart p g rows h tree (λ P k. all_filter P p (in_order rows) (all_in_order P rows k)) in
     let new_all : AreApart moved (in_order rows) = changed_apart p g rows h (in_order rows) (λ P k. all_in_order P rows k) in
     let old_others : AreApart tree others =
     subst (λ (xs : List Row). AreApart xs others) (sym stands) (all_in_order (λ r. AllByRecursion (Apart r) others) (filter p rows)
     (all_of (λ r. AllByRecursion (Apart r) (filter (λ q. not (p q)) rows)) (λ r. AllByRecursion (Apart r) others) (λ r k. all_in_order (Apart r) (filter (λ q. not (p q)) rows) k) (filter p rows) (others_apart p rows apart))) in
-    let old_each : AllApart tree = apart_pairs tree (pairs_filter Apart p (in_order rows) (pairs_in_order Apart flip rows apart)) in
+    let old_each : AllApart tree = pairs_filter Apart p (in_order rows) (pairs_in_order Apart flip rows apart) in
     let old_new = apart_turned moved tree new_old in
     let old_apart : AreApart tree (all_put moved others) = all_both (λ r. AllByRecursion (Apart r) moved) (λ r. AllByRecursion (Apart r) others) (λ r. AllByRecursion (Apart r) (all_put moved others)) (λ r k m. all_put-all (Apart r) moved others k m) tree old_new old_others in
     let put : with_rows moved (map entry_of (in_order rows)) ≡ with_rows tree (map entry_of (all_put moved others)) =
@@ -317,8 +221,8 @@ changed_entries p g rows h =
     let left : without_rows tree (with_rows moved (map entry_of (in_order rows))) ≡ map entry_of (all_put moved others) =
     ap (without_rows tree) put ∙ undone tree (map entry_of (all_put moved others)) (have_places tree (all_put moved others) old_each old_apart) in
     let whole : in_order (map g rows) ≡ all_put moved others =
-    split p (map g rows) (pairs_mapped g rows h.changed)
-    ∙ (ap (λ (xs : List Row). all_put xs (in_order (filter (λ q. not (p q)) (map g rows)))) (passing p g h.passes rows)
+    split p (map g rows) (pairs_map (λ r q. Apart (g r) (g q)) Apart g (λ r q k. k) rows h.changed)
+    ∙ (ap (λ (xs : List Row). all_put xs (in_order (filter (λ q. not (p q)) (map g rows)))) (filter_mapped p p g rows (all_true (λ r. p (g r) ≡ p r) h.passes rows))
     ∙ (ap (λ (xs : List Row). all_put (map g (filter p rows)) (in_order xs)) (staying p g h.passes h.stays rows)
     ∙ (sym (put_in_order g (filter p rows) (pairs_filter (λ r q. Apart (g r) (g q)) p rows h.changed) others)
     ∙ ap (λ (xs : List Row). all_put (map g xs) others) (sym stands)))) in

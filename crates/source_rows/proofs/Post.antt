@@ -5,18 +5,22 @@ use Rattle.std.specs.List.{AllByRecursion}
 use Rattle.std.specs.declared.cmp.Ordering.{Ordering}
 use Rattle.std.specs.declared.cmp.Ordering.TheVariants.{Less, Equal, Greater}
 use Rattle.std.specs.Ordering.{is_lt, is_gt, ordering_then, ordering_reverse, int_cmp, nat_cmp}
-use Rattle.std.specs.Cmp.{int_cmp_total}
+use Rattle.std.specs.Cmp.{int_cmp_total, nat_cmp_total}
 use Rattle.std.specs.Cmp.Lexicographic.{slice_cmp, nat_list_cmp_total}
+use Rattle.std.proofs.lemmas.Cmp.{tied_itself}
 use Rattle.source_rows.specs.declared.row.Row.{Row}
 use Rattle.source_rows.specs.Row.{no_number, root_path}
 use Rattle.source_rows.specs.Rows.{row_of, is_under, stands_before, key_cmp}
 use Rattle.source_rows.specs.Tree.{IsForest, IsOneTree, IsPostOrder, HasPlace, IsChildOf, NotBehind, Fills, order_or, parent_of, side_of, two_level_key}
-use Rattle.source_rows.proofs.Forest.{InForest, Shaped, members, shaped, found, all_of, all_both, path_is}
+use Rattle.source_rows.proofs.Compared.{some_same}
+use Rattle.source_rows.proofs.Lists.{all_of, all_and, all_with}
+use Rattle.source_rows.proofs.Forest.{InForest, Shaped, members, shaped, found, path_is}
 use Rattle.source_rows.proofs.Paths.{under, under_path}
+use Rattle.source_rows.proofs.Kin.{IsPath, path_of}
 use Rattle.source_rows.proofs.Tree.{between, post}
 
 pairs : (rows : List Row) (T : Row → Row → Type 0) → AllByRecursion (InForest rows) rows → ((r q : Row) → InForest rows r → InForest rows q → T r q) → AllByRecursion (λ r. AllByRecursion (λ q. T r q) rows) rows
-pairs rows T all h = all_of (InForest rows) (λ r. AllByRecursion (λ q. T r q) rows) (λ r f. all_of (InForest rows) (T r) (λ q g. h r q f g) rows all) rows all
+pairs rows T all h = all_with T (InForest rows) h rows rows all all
 
 pub one_tree : (rows : List Row) → IsForest rows → IsOneTree rows
 one_tree rows f =
@@ -24,17 +28,6 @@ one_tree rows f =
     pairs rows (λ r q. is_under r.id q ≡ true → q.priority ≡ r.priority) all (λ r q g h u. (under rows all r g q h u).priority)
 
 -- ---- orderings
-
-pub self_by : (c : Ordering) → c ≡ ordering_reverse c → c ≡ Equal
-self_by Less h = cc
-self_by Equal h = refl
-self_by Greater h = cc
-
-int_self : (p : ℤ) → int_cmp p p ≡ Equal
-int_self p = self_by (int_cmp p p) (int_cmp_total.antisymm p p)
-
-nat_self : (n : ℕ) → nat_cmp n n ≡ Equal
-nat_self n = grind (arith, nat_tests)
 
 pub flip_by : (c : Ordering) → is_lt (ordering_reverse c) ≡ is_gt c
 flip_by Less = refl
@@ -53,32 +46,23 @@ not_behind : (p q : List ℕ) → is_lt (slice_cmp nat_cmp p q) ≡ false → No
 not_behind p q h = ap is_gt (nat_list_cmp_total.antisymm q p) ∙ (back_by (slice_cmp nat_cmp p q) ∙ h)
 
 same_priority : (a b : ℤ) (o : Ordering) → a ≡ b → ordering_then (int_cmp a b) o ≡ o
-same_priority a b o e = rw (sym e, int_self a) refl
+same_priority a b o e = rw (sym e, tied_itself int_cmp_total a) refl
 
 -- ---- a row stands behind those under it
-
-abbrev FourNumbers : List ℕ → Type 0
-FourNumbers p = (a : ℕ) × (b : ℕ) × (c : ℕ) × (d : ℕ) × (p ≡ a ∷ b ∷ c ∷ d ∷ []) × (b ≤ no_number) × (c ≤ no_number) × (d ≤ no_number)
-
-four_numbers : (r : Row) → r.order < 2 ^ 63 → Shaped r → FourNumbers r.path
-four_numbers r h (inl s) = (r.order, no_number, no_number, no_number, s.2, omega arith, omega arith, omega arith)
-four_numbers r h (inr (inl s)) = (s.1, r.order, no_number, no_number, s.4, omega arith, omega arith, omega arith)
-four_numbers r h (inr (inr (inl s))) = let m = s.8 in (s.2, s.3, r.order, no_number, s.6, omega (arith, m), omega arith, omega arith)
-four_numbers r h (inr (inr (inr s))) = let m = s.10 in let k = s.11 in (s.3, s.4, s.5, r.order, s.8, omega (arith, m), omega (arith, k), omega arith)
 
 fills_at : (l k : ℕ) (p q x y : List ℕ) → l ≡ k → p ≡ q → x ≡ y → Fills k q y → Fills l p x
 fills_at l k p q x y e f g h = rw (e, f, g) h
 
-fills : (r : Row) (x : List ℕ) → Shaped r → FourNumbers x → Fills r.level r.path x
-fills r x (inl s) n = fills_at r.level 1 r.path (r.order ∷ no_number ∷ no_number ∷ no_number ∷ []) x (n.0 ∷ n.1 ∷ n.2 ∷ n.3 ∷ []) s.0 s.2 n.4 (refl, n.5, (refl, n.6, (refl, n.7, tt)))
-fills r x (inr (inl s)) n = fills_at r.level 2 r.path (s.1 ∷ r.order ∷ no_number ∷ no_number ∷ []) x (n.0 ∷ n.1 ∷ n.2 ∷ n.3 ∷ []) s.2 s.4 n.4 (refl, n.6, (refl, n.7, tt))
-fills r x (inr (inr (inl s))) n = fills_at r.level 3 r.path (s.2 ∷ s.3 ∷ r.order ∷ no_number ∷ []) x (n.0 ∷ n.1 ∷ n.2 ∷ n.3 ∷ []) s.4 s.6 n.4 (refl, n.7, tt)
-fills r x (inr (inr (inr s))) n = fills_at r.level 4 r.path (s.3 ∷ s.4 ∷ s.5 ∷ r.order ∷ []) x (n.0 ∷ n.1 ∷ n.2 ∷ n.3 ∷ []) s.6 s.8 n.4 tt
+fills : (r : Row) (x : List ℕ) → Shaped r → IsPath x → Fills r.level r.path x
+fills r x (inl s) n = fills_at r.level 1 r.path (r.order ∷ no_number ∷ no_number ∷ no_number ∷ []) x (n.a ∷ n.b ∷ n.c ∷ n.d ∷ []) s.0 s.2 n.is (refl, n.b_fits, (refl, n.c_fits, (refl, n.d_fits, tt)))
+fills r x (inr (inl s)) n = fills_at r.level 2 r.path (s.1 ∷ r.order ∷ no_number ∷ no_number ∷ []) x (n.a ∷ n.b ∷ n.c ∷ n.d ∷ []) s.2 s.4 n.is (refl, n.c_fits, (refl, n.d_fits, tt))
+fills r x (inr (inr (inl s))) n = fills_at r.level 3 r.path (s.2 ∷ s.3 ∷ r.order ∷ no_number ∷ []) x (n.a ∷ n.b ∷ n.c ∷ n.d ∷ []) s.4 s.6 n.is (refl, n.d_fits, tt)
+fills r x (inr (inr (inr s))) n = fills_at r.level 4 r.path (s.3 ∷ s.4 ∷ s.5 ∷ r.order ∷ []) x (n.a ∷ n.b ∷ n.c ∷ n.d ∷ []) s.6 s.8 n.is tt
 
 pub children_first : (rows : List Row) → AllByRecursion (InForest rows) rows → (r q : Row) → InForest rows r → InForest rows q → is_under r.id q ≡ true → stands_before r q ≡ false
 children_first rows all r q f g h =
     let u = under rows all r f q g h in
-    let behind = post r.level r.path q.path u.path (fills r q.path (shaped rows all r f) (four_numbers q g.number (shaped rows all q g))) in
+    let behind = post r.level r.path q.path u.path (fills r q.path (shaped rows all r f) (path_of q g.number (shaped rows all q g))) in
     ap is_lt (same_priority r.priority q.priority (slice_cmp nat_cmp r.path q.path) (sym u.priority)) ∙ not_before q.path r.path behind
 
 -- ---- what stands between
@@ -121,15 +105,15 @@ children_less : (w r q : Row) → IsChildOf w r → IsChildOf w q → r.level �
 children_less w r q c d most (inl s) h =
     paths_less r.path q.path (w.order ∷ r.order ∷ no_number ∷ no_number ∷ []) (w.order ∷ q.order ∷ no_number ∷ no_number ∷ [])
     (c.path ∙ path_is w.level 1 w.path (w.order ∷ no_number ∷ no_number ∷ no_number ∷ []) r.order s.0 s.2) (d.path ∙ path_is w.level 1 w.path (w.order ∷ no_number ∷ no_number ∷ no_number ∷ []) q.order s.0 s.2)
-    (rw (nat_self w.order) (less_here r.order q.order Equal h))
+    (rw (tied_itself nat_cmp_total w.order) (less_here r.order q.order Equal h))
 children_less w r q c d most (inr (inl s)) h =
     paths_less r.path q.path (s.1 ∷ w.order ∷ r.order ∷ no_number ∷ []) (s.1 ∷ w.order ∷ q.order ∷ no_number ∷ [])
     (c.path ∙ path_is w.level 2 w.path (s.1 ∷ w.order ∷ no_number ∷ no_number ∷ []) r.order s.2 s.4) (d.path ∙ path_is w.level 2 w.path (s.1 ∷ w.order ∷ no_number ∷ no_number ∷ []) q.order s.2 s.4)
-    (rw (nat_self s.1, nat_self w.order) (less_here r.order q.order Equal h))
+    (rw (tied_itself nat_cmp_total s.1, tied_itself nat_cmp_total w.order) (less_here r.order q.order Equal h))
 children_less w r q c d most (inr (inr (inl s))) h =
     paths_less r.path q.path (s.2 ∷ s.3 ∷ w.order ∷ r.order ∷ []) (s.2 ∷ s.3 ∷ w.order ∷ q.order ∷ [])
     (c.path ∙ path_is w.level 3 w.path (s.2 ∷ s.3 ∷ w.order ∷ no_number ∷ []) r.order s.4 s.6) (d.path ∙ path_is w.level 3 w.path (s.2 ∷ s.3 ∷ w.order ∷ no_number ∷ []) q.order s.4 s.6)
-    (rw (nat_self s.2, nat_self s.3, nat_self w.order) (less_here r.order q.order Equal h))
+    (rw (tied_itself nat_cmp_total s.2, tied_itself nat_cmp_total s.3, tied_itself nat_cmp_total w.order) (less_here r.order q.order Equal h))
 children_less w r q c d most (inr (inr (inr s))) h = let up = c.level in let at = s.6 in absurd (omega (arith, up, at, most))
 
 sibling_paths : (rows : List Row) → AllByRecursion (InForest rows) rows → (r q : Row) (o : Option ℕ) → HasPlace rows o r → HasPlace rows o q → r.level ≤ 4 → r.order < q.order → is_lt (slice_cmp nat_cmp r.path q.path) ≡ true
@@ -138,9 +122,6 @@ sibling_paths rows all r q None p s most h =
 sibling_paths rows all r q (Some id) p s most h =
     let one : s.0 ≡ p.0 = some_same s.0 p.0 (sym s.1 ∙ p.1) in
     children_less p.0 r q p.2 (subst (λ (w : Row). IsChildOf w q) one s.2) most (shaped rows all p.0 (found (InForest rows) id p.0 rows all p.1)) h
-  where
-    some_same : (a b : Row) → Some a ≡ Some b → a ≡ b
-    some_same a b e = cc
 
 siblings : (rows : List Row) → AllByRecursion (InForest rows) rows → (r q : Row) → InForest rows r → InForest rows q → r.parent ≡ q.parent → r.priority ≡ q.priority → r.order < q.order → stands_before r q ≡ true
 siblings rows all r q f g e same less =
@@ -206,7 +187,7 @@ pub two_levels : (rows : List Row) → IsForest rows → AllByRecursion (λ r. r
     → AllByRecursion (λ r. AllByRecursion (λ q. stands_before r q ≡ is_lt (key_cmp (two_level_key rows r) (two_level_key rows q))) rows) rows
 two_levels rows f low =
     let all = members rows f in
-    let both = all_both (InForest rows) (λ r. r.level ≤ 2) rows all low in
+    let both = all_and (InForest rows) (λ r. r.level ≤ 2) rows all low in
     all_of (λ r. InForest rows r × (r.level ≤ 2)) (λ r. AllByRecursion (λ q. stands_before r q ≡ is_lt (key_cmp (two_level_key rows r) (two_level_key rows q))) rows)
     (λ r g. all_of (λ q. InForest rows q × (q.level ≤ 2)) (λ q. stands_before r q ≡ is_lt (key_cmp (two_level_key rows r) (two_level_key rows q)))
     (λ q h. ap (λ (o : Ordering). is_lt (ordering_then (int_cmp r.priority q.priority) o))

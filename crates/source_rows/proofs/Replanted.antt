@@ -7,25 +7,19 @@ use Rattle.source_rows.specs.Row.{no_number, root_path, path_under}
 use Rattle.source_rows.specs.Rows.{row_of, is_under, moved}
 use Rattle.source_rows.specs.Moves.{moved_row}
 use Rattle.source_rows.specs.Tree.{IdsRise, OrdersDiffer, IsRoot, IsChildOf, HasPlace, IsForest}
-use Rattle.source_rows.proofs.Forest.{InForest, Shaped, members, shaped, found, are_same, not_same, same_self, same_id, under_child, under_root}
-use Rattle.source_rows.proofs.Edits.{all_map, found_map}
+use Rattle.source_rows.proofs.Compared.{same_self, are_same, not_same, keeps}
+use Rattle.source_rows.proofs.Lists.{all_both, all_and, all_map}
+use Rattle.source_rows.proofs.Forest.{InForest, Shaped, members, shaped, found, same_id, under_child, under_root}
+use Rattle.source_rows.proofs.Edits.{rise_map, found_map}
 
-keeps : {B : Type 0} (h : Row → B) (b : Bool) (x y : Row) → h x ≡ h y → h (cond b x y) ≡ h y
-keeps h true x y e = e
-keeps h false x y e = refl
-
-moved_id : (id : ℕ) (z : ℤ) (n : ℕ) (r : Row) → (moved id z n r).id ≡ r.id
+pub moved_id : (id : ℕ) (z : ℤ) (n : ℕ) (r : Row) → (moved id z n r).id ≡ r.id
 moved_id id z n r = keeps (λ q. q.id) (is_under id r) (moved_row id z n r) r refl
 
-moved_level : (id : ℕ) (z : ℤ) (n : ℕ) (r : Row) → (moved id z n r).level ≡ r.level
+pub moved_level : (id : ℕ) (z : ℤ) (n : ℕ) (r : Row) → (moved id z n r).level ≡ r.level
 moved_level id z n r = keeps (λ q. q.level) (is_under id r) (moved_row id z n r) r refl
 
 moved_parent : (id : ℕ) (z : ℤ) (n : ℕ) (r : Row) → (moved id z n r).parent ≡ r.parent
 moved_parent id z n r = keeps (λ q. q.parent) (is_under id r) (moved_row id z n r) r refl
-
-rise_same : (g : Row → Row) → ((r : Row) → (g r).id ≡ r.id) → (rows : List Row) → IdsRise rows → IdsRise (map g rows)
-rise_same g h [] a = tt
-rise_same g h (r ∷ rows) a = (all_map (λ q. r.id < q.id) (λ q. (g r).id < q.id) g (λ q less. let i = h r in let j = h q in omega arith) rows a.0, rise_same g h rows a.1)
 
 -- the order number is the new one for the root alone
 order_is : (id : ℕ) (z : ℤ) (n : ℕ) (r : Row) → ((r.id ≡ id) × ((moved id z n r).order ≡ n)) ⊎ ((moved id z n r).order ≡ r.order)
@@ -45,15 +39,11 @@ differ_at id z n r q less a b h = differ_by (order_is id z n r) (order_is id z n
     differ_by (inr s) (inl t) = λ e. let v = t.1 in absurd (omega (arith, a, s, v, e))
     differ_by (inr s) (inr t) = λ e. h (sym s ∙ (e ∙ t))
 
-all_three : (r : Row) (P Q S T : Row → Type 0) → ((q : Row) → P q → Q q → S q → T q) → (rows : List Row) → AllByRecursion P rows → AllByRecursion Q rows → AllByRecursion S rows → AllByRecursion T rows
-all_three r P Q S T f [] a b c = tt
-all_three r P Q S T f (q ∷ rows) a b c = (f q a.0 b.0 c.0, all_three r P Q S T f rows a.1 b.1 c.1)
-
 differ_moved : (id : ℕ) (z : ℤ) (n : ℕ) (rows : List Row) → IdsRise rows → AllByRecursion (λ r. r.order < n) rows → OrdersDiffer rows → OrdersDiffer (map (moved id z n) rows)
 differ_moved id z n [] a b h = tt
 differ_moved id z n (r ∷ rows) a b h = (
   all_map (λ q. (moved id z n r).order ≢ (moved id z n q).order) (λ q. (moved id z n r).order ≢ q.order) (moved id z n) (λ q d. d) rows
-      (all_three r (λ q. r.id < q.id) (λ q. q.order < n) (λ q. r.order ≢ q.order) (λ q. (moved id z n r).order ≢ (moved id z n q).order) (λ q less k d. differ_at id z n r q less b.0 k d) rows a.0 b.1 h.0),
+      (all_both (λ q. (r.id < q.id) × (q.order < n)) (λ q. r.order ≢ q.order) (λ q. (moved id z n r).order ≢ (moved id z n q).order) (λ q k d. differ_at id z n r q k.0 b.0 k.1 d) rows (all_and (λ q. r.id < q.id) (λ q. q.order < n) rows a.0 b.1) h.0),
   differ_moved id z n rows a.1 b.1 h.1,
 )
 
@@ -120,7 +110,7 @@ forest_moved x z n rows small is root numbered f =
     let all = members rows f in
     let g = found (InForest rows) x.id x rows all is in
     record {
-      rising = rise_same (moved x.id z n) (moved_id x.id z n) rows f.rising;
+      rising = rise_map (moved x.id z n) (moved_id x.id z n) rows f.rising;
       placed = all_map (InForest rows) (λ r. HasPlace (map (moved x.id z n) rows) r.parent r) (moved x.id z n)
           (λ r h. subst (λ (o : Option ℕ). HasPlace (map (moved x.id z n) rows) o (moved x.id z n r)) (sym (moved_parent x.id z n r)) (place_moved rows all x z n g root r r.parent h h.place)) rows all;
       differ = differ_moved x.id z n rows f.rising numbered f.differ;

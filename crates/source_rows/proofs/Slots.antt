@@ -1,5 +1,5 @@
-use Rattle.std.proofs.Common.{◌≡◌, ◌≢◌, ℕ, ◌<◌, ◌==◌, zero, suc, Bool, true, false, not, cond, Option, Some, None, List, [], ◌∷◌, ◌++◌, inl, inr, filter, refl, ap, sym, ◌∙◌, arith, subst}
-use Rattle.std.proofs.lemmas.Bool.Decides.{eqb_tells, nat_tests}
+use Rattle.std.proofs.Common.{◌≡◌, ◌≢◌, ℕ, ◌<◌, ◌==◌, zero, suc, Bool, true, false, not, cond, Option, Some, None, List, [], ◌∷◌, ◌++◌, filter, refl, ap, sym, ◌∙◌, arith, subst}
+use Rattle.std.proofs.lemmas.Bool.Decides.{nat_tests}
 use Rattle.std.specs.Prelude.{slice_index_or, slice_set}
 use Rattle.std.specs.List.{AllByRecursion, cons_option}
 use Rattle.std.specs.Option.{option_map}
@@ -11,6 +11,8 @@ use Rattle.slab.specs.Slab.{Slab, get, Updates, with_value}
 use Rattle.source_rows.specs.declared.row.Row.{Row}
 use Rattle.source_rows.specs.Rows.{row_of, has_id, changed}
 use Rattle.source_rows.specs.Slots.{rows_at, Names, Rising, IsTable}
+use Rattle.source_rows.proofs.Compared.{are_same, not_same, are_not, some_same}
+use Rattle.source_rows.proofs.Lists.{all_of, all_push, pairs_push, cons_join}
 
 abbrev pub id_of : Row → ℕ
 id_of r = r.id
@@ -29,9 +31,6 @@ tests id n = by_test (at_id id n) refl
 pub named_by : (o : Option Row) (n : ℕ) → option_map id_of o ≡ Some n → (r : Row) × (o ≡ Some r) × (r.id ≡ n)
 named_by None n e = let never : None ≡ Some n = e in cc
 named_by (Some r) n e = (r, refl, some_same r.id n e)
-  where
-    some_same : (a b : ℕ) → Some a ≡ Some b → a ≡ b
-    some_same a b e = cc
 
 -- ---- the row of an id
 
@@ -87,21 +86,9 @@ pub insert-end : (id key : ℕ) (es : List (ℕ × ℕ)) → AllByRecursion (λ 
 insert-end id key [] h = refl
 insert-end id key (e ∷ es) h = rw (after id e.0 h.0) (ap (λ (xs : List (ℕ × ℕ)). e ∷ xs) (insert-end id key es h.1))
 
-cons_join : (o : Option Row) (xs ys : List Row) → cons_option o (xs ++ ys) ≡ cons_option o xs ++ ys
-cons_join None xs ys = refl
-cons_join (Some r) xs ys = refl
-
 rows_at-end : (t : Slab Row) (id key : ℕ) (r : Row) (es : List (ℕ × ℕ)) → get t key ≡ Some r → rows_at t (es ++ (id, key) ∷ []) ≡ rows_at t es ++ r ∷ []
 rows_at-end t id key r [] g = ap (λ (o : Option Row). cons_option o []) g
 rows_at-end t id key r (e ∷ es) g = ap (cons_option (get t e.1)) (rows_at-end t id key r es g) ∙ cons_join (get t e.1) (rows_at t es) (r ∷ [])
-
-all_push : (P : ℕ × ℕ → Type 0) (es : List (ℕ × ℕ)) (e : ℕ × ℕ) → AllByRecursion P es → P e → AllByRecursion P (es ++ e ∷ [])
-all_push P [] e h k = (k, tt)
-all_push P (q ∷ es) e h k = (h.0, all_push P es e h.1 k)
-
-rising_push : (es : List (ℕ × ℕ)) (id key : ℕ) → Rising es → AllByRecursion (λ e. e.0 < id) es → Rising (es ++ (id, key) ∷ [])
-rising_push [] id key h k = (tt, tt)
-rising_push (e ∷ es) id key h k = (all_push (λ q. e.0 < q.0) es (id, key) h.0 k.0, rising_push es id key h.1 k.1)
 
 pub record Pushed (t : Slab Row) (es fs : List (ℕ × ℕ)) (rows : List Row) : Type 0 where
   pub table : IsTable t fs
@@ -116,7 +103,7 @@ pushed s t key r es fs h free u above e =
     rw is (record {
       table = record {
         named = all_push (Names t) es (r.id, key) same.1 (ap (option_map id_of) u.changed);
-        rising = rising_push es r.id key h.rising ids;
+        rising = pairs_push (λ e q. e.0 < q.0) es (r.id, key) h.rising ids;
       };
       rows_are = rows_at-end t r.id key r es u.changed ∙ ap (λ (xs : List Row). xs ++ r ∷ []) same.0;
     })
@@ -157,12 +144,9 @@ put_updates s key id r h =
 -- the slot that an id was found to name
 looked_by : (s : Slab Row) (id key : ℕ) (e : ℕ × ℕ) (o : Option ℕ) (b : Bool) → at_id id e.0 ≡ b → Names s e → (o ≡ Some key → option_map id_of (get s key) ≡ Some id) → cond b (Some e.1) o ≡ Some key → option_map id_of (get s key) ≡ Some id
 looked_by s id key e o true t n ih h =
-    let same : e.1 ≡ key = some_nat e.1 key h in
-    let is : e.0 ≡ id = elim (eqb_tells e.0 id) [ inl u ↦ u.1 | inr u ↦ let never = sym t ∙ (tests id e.0 ∙ u.0) in cc ] in
+    let same : e.1 ≡ key = some_same e.1 key h in
+    let is : e.0 ≡ id = are_same e.0 id (sym (tests id e.0) ∙ t) in
     subst (λ (k : ℕ). option_map id_of (get s k) ≡ Some id) same (n ∙ ap (λ (m : ℕ). Some m) is)
-  where
-    some_nat : (a b : ℕ) → Some a ≡ Some b → a ≡ b
-    some_nat a b e = cc
 looked_by s id key e o false t n ih h = ih h
 
 pub looked : (s : Slab Row) (id key : ℕ) (es : List (ℕ × ℕ)) → AllByRecursion (Names s) es → lookup (at_id id) es ≡ Some key → option_map id_of (get s key) ≡ Some id
@@ -170,23 +154,18 @@ looked s id key [] n h = let never : None ≡ Some key = h in cc
 looked s id key (e ∷ es) n h = looked_by s id key e (lookup (at_id id) es) (at_id id e.0) refl n.0 (looked s id key es n.1) h
 
 none_of : (id n : ℕ) (es : List (ℕ × ℕ)) → n ≡ id → AllByRecursion (λ q. n < q.0) es → AllByRecursion (λ q. q.0 ≢ id) es
-none_of id n [] e h = tt
-none_of id n (q ∷ es) e h = let less = h.0 in (λ same. absurd (omega (arith, same, less, e)), none_of id n es e h.1)
+none_of id n es e h = all_of (λ q. n < q.0) (λ q. q.0 ≢ id) (λ q less same. absurd (omega (arith, same, less, e))) es h
 
 none_named : (id key : ℕ) (es : List (ℕ × ℕ)) → AllByRecursion (λ q. q.0 ≢ id) es → AllByRecursion (λ q. q.0 ≡ id → q.1 ≡ key) es
-none_named id key [] h = tt
-none_named id key (q ∷ es) h = (λ same. absurd (h.0 same), none_named id key es h.1)
+none_named id key es h = all_of (λ q. q.0 ≢ id) (λ q. q.0 ≡ id → q.1 ≡ key) (λ q apart same. absurd (apart same)) es h
 
 unique_by : (id key : ℕ) (e : ℕ × ℕ) (es : List (ℕ × ℕ)) (o : Option ℕ) (b : Bool) → at_id id e.0 ≡ b → AllByRecursion (λ q. e.0 < q.0) es → (o ≡ Some key → AllByRecursion (λ q. q.0 ≡ id → q.1 ≡ key) es) → cond b (Some e.1) o ≡ Some key
     → (e.0 ≡ id → e.1 ≡ key) × AllByRecursion (λ q. q.0 ≡ id → q.1 ≡ key) es
 unique_by id key e es o true t less ih h =
-    let is : e.0 ≡ id = elim (eqb_tells e.0 id) [ inl u ↦ u.1 | inr u ↦ let never = sym t ∙ (tests id e.0 ∙ u.0) in cc ] in
-    (λ same. some_nat e.1 key h, none_named id key es (none_of id e.0 es is less))
-  where
-    some_nat : (a b : ℕ) → Some a ≡ Some b → a ≡ b
-    some_nat a b e = cc
+    let is : e.0 ≡ id = are_same e.0 id (sym (tests id e.0) ∙ t) in
+    (λ same. some_same e.1 key h, none_named id key es (none_of id e.0 es is less))
 unique_by id key e es o false t less ih h =
-    (λ same. elim (eqb_tells e.0 id) [ inl u ↦ let never = sym t ∙ (tests id e.0 ∙ u.0) in cc | inr u ↦ absurd (u.1 same) ], ih h)
+    (λ same. absurd (are_not e.0 id (sym (tests id e.0) ∙ t) same), ih h)
 
 unique : (id key : ℕ) (es : List (ℕ × ℕ)) → Rising es → lookup (at_id id) es ≡ Some key → AllByRecursion (λ q. q.0 ≡ id → q.1 ≡ key) es
 unique id key [] r h = tt
@@ -196,19 +175,16 @@ unique id key (e ∷ es) r h = unique_by id key e es (lookup (at_id id) es) (at_
 far : (s : Slab Row) (id key : ℕ) (e : ℕ × ℕ) → option_map id_of (get s key) ≡ Some id → Names s e → e.0 ≢ id → e.1 ≢ key
 far s id key e h n apart same =
     let x = sym n ∙ (ap (λ (k : ℕ). option_map id_of (get s k)) same ∙ h) in
-    apart (some_nat e.0 id x)
-  where
-    some_nat : (a b : ℕ) → Some a ≡ Some b → a ≡ b
-    some_nat a b e = cc
+    apart (some_same e.0 id x)
 
 put_by : (s t : Slab Row) (key : ℕ) (row r : Row) (e : ℕ × ℕ) (xs ys : List Row) → option_map id_of (get s key) ≡ Some row.id → Updates s t key (Some row) → Names s e → (e.0 ≡ row.id → e.1 ≡ key) → get s e.1 ≡ Some r → r.id ≡ e.0 → xs ≡ ys
     → (b : Bool) → (r.id == row.id) ≡ b → (cons_option (get t e.1) xs ≡ cond b row r ∷ ys) × Names t e
 put_by s t key row r e xs ys k u n one g is same true f =
-    let id : r.id ≡ row.id = elim (eqb_tells r.id row.id) [ inl v ↦ v.1 | inr v ↦ let never = sym f ∙ v.0 in cc ] in
+    let id : r.id ≡ row.id = are_same r.id row.id f in
     let at : get t e.1 ≡ Some row = ap (get t) (one (sym is ∙ id)) ∙ u.changed in
     (rw at (ap (λ (zs : List Row). row ∷ zs) same), rw at (ap (λ (m : ℕ). Some m) (sym id ∙ is)))
 put_by s t key row r e xs ys k u n one g is same false f =
-    let apart : e.0 ≢ row.id = λ h. elim (eqb_tells r.id row.id) [ inl v ↦ let never = sym f ∙ v.0 in cc | inr v ↦ v.1 (is ∙ h) ] in
+    let apart : e.0 ≢ row.id = λ h. are_not r.id row.id f (is ∙ h) in
     let kept : get t e.1 ≡ Some r = u.others e.1 (far s row.id key e k n apart) ∙ g in
     (rw kept (ap (λ (zs : List Row). r ∷ zs) same), rw kept (ap (λ (m : ℕ). Some m) is))
 
@@ -239,7 +215,7 @@ all_above s t id key (e ∷ es) k u n h =
     let w = named_by (get s e.1) e.0 n.0 in
     let rest = all_above s t id key es k u n.1 h.1 in
     let kept : get t e.1 ≡ Some w.0 = u.others e.1 (far s id key e k n.0 h.0) ∙ w.1 in
-    let apart : (w.0.id == id) ≡ false = elim (eqb_tells w.0.id id) [ inl v ↦ absurd (h.0 (sym w.2 ∙ v.1)) | inr v ↦ v.0 ] in
+    let apart : (w.0.id == id) ≡ false = not_same w.0.id id (λ v. h.0 (sym w.2 ∙ v)) in
     let keeps : filter (λ r. not (has_id id r)) (w.0 ∷ rows_at s es) ≡ w.0 ∷ filter (λ r. not (has_id id r)) (rows_at s es) = rw apart refl in (
       ap (λ (o : Option Row). cons_option o (rows_at t es)) kept ∙ (ap (λ (xs : List Row). w.0 ∷ xs) rest.0 ∙ sym (ap (λ (o : Option Row). filter (λ r. not (has_id id r)) (cons_option o (rows_at s es))) w.1 ∙ keeps)),
       (rw kept (ap (λ (m : ℕ). Some m) w.2), rest.1),
@@ -254,7 +230,7 @@ pub record Left (s t : Slab Row) (id : ℕ) (es fs : List (ℕ × ℕ)) : Type 0
 left_by : (s t : Slab Row) (id key : ℕ) (e : ℕ × ℕ) (es : List (ℕ × ℕ)) → option_map id_of (get s key) ≡ Some id → Updates s t key None → AllByRecursion (Names s) (e ∷ es) → Rising (e ∷ es) → Left s t id es (remove_entry (at_id id) es)
     → (b : Bool) → at_id id e.0 ≡ b → Left s t id (e ∷ es) (cond b es (e ∷ remove_entry (at_id id) es))
 left_by s t id key e es k u n r ih true f =
-    let is : e.0 ≡ id = elim (eqb_tells e.0 id) [ inl v ↦ v.1 | inr v ↦ let never = sym f ∙ (tests id e.0 ∙ v.0) in cc ] in
+    let is : e.0 ≡ id = are_same e.0 id (sym (tests id e.0) ∙ f) in
     let w = named_by (get s e.1) e.0 n.0 in
     let rest = all_above s t id key es k u n.1 (none_of id e.0 es is r.0) in
     let same : (w.0.id == id) ≡ true = ap (λ (m : ℕ). m == id) w.2 ∙ (sym (tests id e.0) ∙ f) in
@@ -266,7 +242,7 @@ left_by s t id key e es k u n r ih true f =
       lower = λ m h. h.1;
     }
 left_by s t id key e es k u n r ih false f =
-    let apart : e.0 ≢ id = λ h. elim (eqb_tells e.0 id) [ inl v ↦ let never = sym f ∙ (tests id e.0 ∙ v.0) in cc | inr v ↦ v.1 h ] in
+    let apart : e.0 ≢ id = are_not e.0 id (sym (tests id e.0) ∙ f) in
     let w = named_by (get s e.1) e.0 n.0 in
     let kept : get t e.1 ≡ Some w.0 = u.others e.1 (far s id key e k n.0 apart) ∙ w.1 in
     let other : (w.0.id == id) ≡ false = ap (λ (m : ℕ). m == id) w.2 ∙ (sym (tests id e.0) ∙ f) in

@@ -10,7 +10,9 @@ use Rattle.std.specs.declared.cmp.Ordering.{Ordering}
 use Rattle.std.specs.declared.cmp.Ordering.TheVariants.{Less, Equal, Greater}
 use Rattle.source_rows.specs.Inserted.{Rises}
 use Rattle.source_rows.specs.Times.{Time, time_cmp, is_sooner, without, first_above}
-use Rattle.source_rows.proofs.Inserted.{all_of, all_left, all_right, trans}
+use Rattle.source_rows.proofs.Compared.{or_true}
+use Rattle.source_rows.proofs.Lists.{all_of}
+use Rattle.source_rows.proofs.Inserted.{all_left, all_right, trans}
 
 -- ---- the order
 
@@ -178,10 +180,6 @@ any_none p (u ∷ xs) h = ap (λ (b : Bool). b || list_any p xs) h.0 ∙ any_non
 or_false : (b : Bool) → (b || false) ≡ b
 or_false true = refl
 or_false false = refl
-
-pub or_true : (b : Bool) → (b || true) ≡ true
-or_true true = refl
-or_true false = refl
 
 pub there_left : (t : Time) (l : List Time) (k : Time) (r : List Time) → Rises is_sooner (l ++ k ∷ r) → is_sooner t k ≡ true → list_any (λ u. is_eq (time_cmp t u)) (l ++ k ∷ r) ≡ list_any (λ u. is_eq (time_cmp t u)) l
 there_left t l k r s h =

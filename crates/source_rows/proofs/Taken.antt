@@ -2,81 +2,48 @@
 use Rattle.std.proofs.Common.{◌≡◌, ℕ, ◌<◌, ◌≤◌, ◌==◌, cond, Bool, true, false, not, Some, None, List, [], ◌∷◌, ◌++◌, ◌⊎◌, inl, inr, length, map, filter, refl, ap, sym, ◌∙◌, arith, subst}
 use Rattle.std.specs.List.{AllByRecursion}
 use Rattle.std.specs.Option.{IsSome}
-use Rattle.std.specs.declared.cmp.Ordering.{Ordering}
-use Rattle.std.specs.declared.cmp.Ordering.TheVariants.{Less, Equal, Greater}
 use Rattle.std.specs.Ordering.{is_lt, is_gt, is_eq}
 use Rattle.std.specs.BTreeMap.{is_at}
 use Rattle.std.specs.Map.{remove_entry, lookup}
+use Rattle.std.proofs.lemmas.Cmp.{tied_itself}
 use Rattle.source_rows.specs.declared.row.Row.{Row}
 use Rattle.source_rows.specs.Rows.{Key, key_cmp, key_of, row_of, has_id, is_under, in_order, placed, stands_before}
 use Rattle.source_rows.specs.Tree.{IdsRise}
 use Rattle.source_rows.specs.Order.{Apart}
 use Rattle.source_rows.specs.Kept.{entry_of, AllApart}
 use Rattle.source_rows.specs.Removal.{IsIndexed, StandNear}
-use Rattle.source_rows.proofs.Order.{key_total, all_placed, all_in_order, all_filter, in_order-filter}
-use Rattle.source_rows.proofs.Forest.{all_of, all_found, all_both, found, same_self, are_same, not_same}
-use Rattle.source_rows.proofs.Edits.{rise_filter}
-use Rattle.source_rows.proofs.Kept.{apart_flip, equal_not, found_id}
-use Rattle.source_rows.proofs.Post.{self_by}
+use Rattle.source_rows.proofs.Compared.{same_self, are_same, not_same}
+use Rattle.source_rows.proofs.Lists.{all_of, all_and, all_back, all_filter, pairs_filter, pairs_and, each_with_each}
+use Rattle.source_rows.proofs.Order.{key_total, flip, all_in_order, pairs_in_order, in_order-filter}
+use Rattle.source_rows.proofs.Forest.{all_found, found}
+use Rattle.source_rows.proofs.Kept.{equal_not, not_equal, found_id}
 
 -- ---- rows that stand apart
 
 abbrev pub Other : Row → Row → Type 0
 Other r q = (r ≡ q) ⊎ (Apart r q × (q.id ≡ r.id → ⊥))
 
-first_other : (r : Row) (rows : List Row) → AllByRecursion (λ q. r.id < q.id) rows → AllByRecursion (Apart r) rows → AllByRecursion (Other r) rows
-first_other r [] h k = tt
-first_other r (q ∷ rows) h k = let less = h.0 in (inr (k.0, λ e. absurd (omega (arith, e, less))), first_other r rows h.1 k.1)
+first_other : (r q : Row) → (r.id < q.id) × Apart r q → Other r q
+first_other r q h = let less = h.0 in inr (h.1, λ e. absurd (omega (arith, e, less)))
 
-rest_other : (q : Row) (rows xs : List Row) → AllByRecursion (λ r. q.id < r.id) xs → AllByRecursion (Apart q) xs → AllByRecursion (λ r. AllByRecursion (Other r) rows) xs → AllByRecursion (λ r. AllByRecursion (Other r) (q ∷ rows)) xs
-rest_other q rows [] h k a = tt
-rest_other q rows (r ∷ xs) h k a = let less = h.0 in ((inr (apart_flip q r k.0, λ e. absurd (omega (arith, e, less))), a.0), rest_other q rows xs h.1 k.1 a.1)
-
-each_other : (rows : List Row) → IdsRise rows → AllApart rows → AllByRecursion (λ r. AllByRecursion (Other r) rows) rows
-each_other [] h k = tt
-each_other (r ∷ rows) h k = ((inl refl, first_other r rows h.0 k.0), rest_other r rows rows h.0 k.0 (each_other rows h.1 k.1))
+last_other : (r q : Row) → (r.id < q.id) × Apart r q → Other q r
+last_other r q h = let less = h.0 in inr (flip r q h.1, λ e. absurd (omega (arith, e, less)))
 
 pub others : (rows : List Row) (r : Row) → IdsRise rows → AllApart rows → row_of r.id rows ≡ Some r → AllByRecursion (Other r) rows
-others rows r h k e = found (λ x. AllByRecursion (Other x) rows) r.id r rows (each_other rows h k) e
-
-apart_placed_by : (r q : Row) (qs : List Row) → AllByRecursion (Apart r) (q ∷ qs) → AllApart (q ∷ qs) → AllByRecursion (Apart q) (placed r qs) → AllApart (placed r qs) → (b : Bool) → AllApart (cond b (r ∷ q ∷ qs) (q ∷ placed r qs))
-apart_placed_by r q qs h k a ih true = (h, k)
-apart_placed_by r q qs h k a ih false = (a, ih)
-
-apart_placed : (r : Row) (qs : List Row) → AllByRecursion (Apart r) qs → AllApart qs → AllApart (placed r qs)
-apart_placed r [] h k = (tt, tt)
-apart_placed r (q ∷ qs) h k = apart_placed_by r q qs h k (all_placed (Apart q) r qs (apart_flip r q h.0) k.0) (apart_placed r qs h.1 k.1) (stands_before r q)
-
-apart_in_order : (rows : List Row) → AllApart rows → AllApart (in_order rows)
-apart_in_order [] h = tt
-apart_in_order (r ∷ rows) h = apart_placed r (in_order rows) (all_in_order (Apart r) rows h.0) (apart_in_order rows h.1)
-
-pub apart_filter : (p : Row → Bool) (rows : List Row) → AllApart rows → AllApart (filter p rows)
-apart_filter p [] h = tt
-apart_filter p (r ∷ rows) h = apart_by (p r) (all_filter (Apart r) p rows h.0) (apart_filter p rows h.1)
-  where
-    apart_by : (b : Bool) → AllByRecursion (Apart r) (filter p rows) → AllApart (filter p rows) → AllApart (cond b (r ∷ filter p rows) (filter p rows))
-    apart_by true a k = (a, k)
-    apart_by false a k = k
+others rows r h k e =
+    let both = pairs_and (λ x q. x.id < q.id) Apart rows h k in
+    found (λ x. AllByRecursion (Other x) rows) r.id r rows (each_with_each (λ x q. (x.id < q.id) × Apart x q) Other (λ x. inl refl) first_other last_other rows both) e
 
 -- ---- the entry of a row
 
-key_self : (k : Key) → key_cmp k k ≡ Equal
-key_self k = self_by (key_cmp k k) (key_total.antisymm k k)
-
-not_at_by : (r q : Row) (o : Ordering) → key_cmp (key_of r) (key_of q) ≡ o → Apart r q → is_eq o ≡ false
-not_at_by r q Less e h = refl
-not_at_by r q Equal e h = absurd (equal_not r q e h)
-not_at_by r q Greater e h = refl
-
 not_at : (r q : Row) → Apart r q → is_at (key_cmp (key_of r)) (key_of q) ≡ false
-not_at r q h = not_at_by r q (key_cmp (key_of r) (key_of q)) refl h
+not_at r q h = not_equal r q h
 
 at_self : (r : Row) → is_at (key_cmp (key_of r)) (key_of r) ≡ true
-at_self r = ap is_eq (key_self (key_of r))
+at_self r = ap is_eq (tied_itself key_total (key_of r))
 
 self_apart : (r : Row) → Apart r r → ⊥
-self_apart r h = equal_not r r (key_self (key_of r)) h
+self_apart r h = equal_not r r (tied_itself key_total (key_of r)) h
 
 -- the rows behind it have other ids
 all_kept : (r : Row) (qs : List Row) → AllByRecursion (Other r) qs → AllByRecursion (Apart r) qs → filter (λ q. not (has_id r.id q)) qs ≡ qs
@@ -141,9 +108,9 @@ next id key rows entries all r m e u =
     let far = others rows r m.indexed.rising m.indexed.apart e in
     record {
       indexed = record {
-        ordered = ap (remove_entry (is_at (key_cmp (key_of r)))) m.indexed.ordered ∙ (removed r (in_order rows) (all_in_order (Other r) rows far) (apart_in_order rows m.indexed.apart) ∙ ap (map entry_of) (in_order-filter p rows));
-        rising = rise_filter p rows m.indexed.rising;
-        apart = apart_filter p rows m.indexed.apart;
+        ordered = ap (remove_entry (is_at (key_cmp (key_of r)))) m.indexed.ordered ∙ (removed r (in_order rows) (all_in_order (Other r) rows far) (pairs_in_order Apart flip rows m.indexed.apart) ∙ ap (map entry_of) (in_order-filter p rows));
+        rising = pairs_filter (λ x q. x.id < q.id) p rows m.indexed.rising;
+        apart = pairs_filter Apart p rows m.indexed.apart;
       };
       near = near_filter id key p rows m.near;
       left = absorb (λ q. not (is_under id q)) p rows (all_of (Other r) (λ q. p q ≡ false → not (is_under id q) ≡ false) (λ q o. goes_too id r u q o) rows far) ∙ m.left;
@@ -208,23 +175,11 @@ entries_are : (rows qs : List Row) → AllByRecursion (λ r. row_of r.id rows �
 entries_are rows [] h = tt
 entries_are rows (q ∷ qs) h = ((q, refl, h.0), entries_are rows qs h.1)
 
-kept_entries : (P : Key × ℕ → Type 0) (f : Key × ℕ → Bool) (es : List (Key × ℕ)) → AllByRecursion P es → AllByRecursion P (filter f es)
-kept_entries P f [] h = tt
-kept_entries P f (e ∷ es) h = kept_by (f e) (kept_entries P f es h.1)
-  where
-    kept_by : (b : Bool) → AllByRecursion P (filter f es) → AllByRecursion P (cond b (e ∷ filter f es) (filter f es))
-    kept_by true k = (h.0, k)
-    kept_by false k = k
-
-of_last : (P : Key × ℕ → Type 0) (es : List (Key × ℕ)) (e : Key × ℕ) → AllByRecursion P (es ++ e ∷ []) → P e
-of_last P [] e h = h.0
-of_last P (x ∷ es) e h = of_last P es e h.1
-
 -- the last of the entries in a range is a row's
 pub last_row : (rows : List Row) (es rg ts : List (Key × ℕ)) (f : Key × ℕ → Bool) (e : Key × ℕ) → IsIndexed rows es → rg ≡ filter f es → rg ≡ ts ++ e ∷ [] → IsEntry rows e
 last_row rows es rg ts f e i h k =
     let all = entries_are rows (in_order rows) (all_in_order (λ r. row_of r.id rows ≡ Some r) rows (all_found rows i.rising)) in
-    of_last (IsEntry rows) ts e (subst (AllByRecursion (IsEntry rows)) (sym (ap (filter f) i.ordered) ∙ (sym h ∙ k)) (kept_entries (IsEntry rows) f (map entry_of (in_order rows)) all))
+    (all_back (IsEntry rows) ts (e ∷ []) (subst (AllByRecursion (IsEntry rows)) (sym (ap (filter f) i.ordered) ∙ (sym h ∙ k)) (all_filter (IsEntry rows) f (map entry_of (in_order rows)) all))).0
 
 none_by : (id : ℕ) (P : Row → Type 0) (rows : List Row) → ((x : Row) → P x → is_under id x ≡ true → ⊥) → AllByRecursion P rows → AllByRecursion (λ x. is_under id x ≡ false) rows
 none_by id P rows f h = all_of P (λ x. is_under id x ≡ false) (λ x k. no_by x k (is_under id x) refl) rows h
@@ -240,18 +195,18 @@ none_up_to id key rows es i n h =
     let has = subst (λ (fs : List (Key × ℕ)). AllByRecursion (HasEntry fs) rows) (sym i.ordered) (have_entries rows) in
     none_by id (λ x. (is_under id x ≡ true → is_gt (key_cmp (key_of x) key) ≡ false) × HasEntry es x) rows
     (λ x k u. let never = subst IsSome (h (key_of x) (k.0 u)) k.1 in cc)
-    (all_both (λ x. is_under id x ≡ true → is_gt (key_cmp (key_of x) key) ≡ false) (HasEntry es) rows n.behind has)
+    (all_and (λ x. is_under id x ≡ true → is_gt (key_cmp (key_of x) key) ≡ false) (HasEntry es) rows n.behind has)
 
 -- where the last row up to the key is not under the id, none is
 pub none_under : (id : ℕ) (key : Key) (rows : List Row) (es : List (Key × ℕ)) (y : Row) → IsIndexed rows es → StandNear id key rows → row_of y.id rows ≡ Some y → is_under id y ≡ false → is_gt (key_cmp (key_of y) key) ≡ false
     → ((q : Key) → is_gt (key_cmp q key) ≡ false → IsSome (lookup (is_at (key_cmp q)) es) → is_lt (key_cmp (key_of y) q) ≡ false) → AllByRecursion (λ x. is_under id x ≡ false) rows
 none_under id key rows es y i n e u g h =
     let has = subst (λ (fs : List (Key × ℕ)). AllByRecursion (HasEntry fs) rows) (sym i.ordered) (have_entries rows) in
-    let both = all_both (λ x. is_under id x ≡ true → is_gt (key_cmp (key_of x) key) ≡ false) (HasEntry es) rows n.behind has in
+    let both = all_and (λ x. is_under id x ≡ true → is_gt (key_cmp (key_of x) key) ≡ false) (HasEntry es) rows n.behind has in
     none_by id (λ x. ((is_under id x ≡ true → is_gt (key_cmp (key_of x) key) ≡ false) × HasEntry es x) × Between x) rows
     (λ x k v. let t = found (λ z. is_under id x ≡ true → is_lt (key_cmp (key_of z) (key_of x)) ≡ false → is_gt (key_cmp (key_of z) key) ≡ false → is_under id z ≡ true) y.id y rows k.1 e in
     let up = t v (h (key_of x) (k.0.0 v) k.0.1) g in let never = sym up ∙ u in cc)
-    (all_both (λ x. (is_under id x ≡ true → is_gt (key_cmp (key_of x) key) ≡ false) × HasEntry es x) Between rows both n.between)
+    (all_and (λ x. (is_under id x ≡ true → is_gt (key_cmp (key_of x) key) ≡ false) × HasEntry es x) Between rows both n.between)
   where
     Between : Row → Type 0
     Between x = AllByRecursion (λ z. is_under id x ≡ true → is_lt (key_cmp (key_of z) (key_of x)) ≡ false → is_gt (key_cmp (key_of z) key) ≡ false → is_under id z ≡ true) rows

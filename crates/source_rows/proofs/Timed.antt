@@ -10,6 +10,7 @@ use Rattle.source_rows.specs.Inserted.{inserted, Rises}
 use Rattle.source_rows.specs.Rows.{row_of}
 use Rattle.source_rows.specs.Slots.{rows_at, IsTable, IsTimed}
 use Rattle.source_rows.specs.Times.{Time, time_cmp, is_sooner, without, time_of, in_time}
+use Rattle.source_rows.proofs.Compared.{some_same}
 use Rattle.source_rows.proofs.InTime.{rises_in_time, rises_rows_at, in_time-push, in_time-removed, in_time-changed, in_time-same, timed}
 use Rattle.source_rows.proofs.Slots.{at_id, at_key, row_is, looked, put_done, Left, Pushed, id_of}
 
@@ -19,10 +20,7 @@ rises_times s es ts h = rw h.times_are (rises_in_time (rows_at s es) (rises_rows
 -- the row in the slot that an id names
 pub in_slot : (s : Slab Row) (id key : ℕ) (r : Row) (es : List (ℕ × ℕ)) → IsTable s es → lookup (at_id id) es ≡ Some key → get s key ≡ Some r → (row_of id (rows_at s es) ≡ Some r) × (r.id ≡ id)
 in_slot s id key r es h l g =
-    (row_is s id es h.named ∙ (ap (at_key s) l ∙ g), some_nat r.id id (sym (ap (option_map id_of) g) ∙ looked s id key es h.named l))
-  where
-    some_nat : (a b : ℕ) → Some a ≡ Some b → a ≡ b
-    some_nat a b e = cc
+    (row_is s id es h.named ∙ (ap (at_key s) l ∙ g), some_same r.id id (sym (ap (option_map id_of) g) ∙ looked s id key es h.named l))
 
 pub pushed_timed : (s t : Slab Row) (r : Row) (es fs : List (ℕ × ℕ)) (ts us : List Time) → IsTimed s es ts → Pushed t es fs (rows_at s es ++ r ∷ []) → AllByRecursion (λ q. q.id < r.id) (rows_at s es)
     → us ≡ inserted is_sooner (r.ready, r.id) ts → IsTimed t fs us

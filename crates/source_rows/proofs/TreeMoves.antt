@@ -13,7 +13,8 @@ use Rattle.source_rows.specs.InOrder.{rows_of}
 use Rattle.source_rows.specs.Moves.{with_rows, without_rows, HavePlaces, with_each, moved_row}
 use Rattle.source_rows.specs.Band.{first_key, last_key}
 use Rattle.source_rows.proofs.Placing.{changed_places, changed_entries}
-use Rattle.source_rows.proofs.Moved.{changes, sound_moved, moved_id, not_moved}
+use Rattle.source_rows.proofs.Replanted.{moved_id}
+use Rattle.source_rows.proofs.Moved.{changes, sound_moved, not_moved}
 use Rattle.source_rows.proofs.Band.{picked, moved_tree, tree_there, all_changed}
 
 kins_of : (x : Row) (rows : List Row) (es : List (Key × ℕ)) (i n l : ℕ) → IsKept rows es i n l → row_of x.id rows ≡ Some x → x.level ≡ 1 → AllByRecursion (Kin x n) rows

@@ -1,5 +1,5 @@
 -- What the rows of a context keep of themselves.
-use Rattle.std.specs.Prelude.{◌≡◌, ℕ, ◌<◌, ◌≤◌, ◌==◌, ◌^◌, false, List, [], ◌∷◌, map}
+use Rattle.std.specs.Prelude.{◌≡◌, ℕ, ◌<◌, ◌≤◌, ◌==◌, ◌^◌, false, List, map}
 use Rattle.std.specs.List.{AllByRecursion, list_any}
 use Rattle.source_rows.specs.declared.row.Row.{Row}
 use Rattle.source_rows.specs.declared.rows.Rows.TheInside.{Inside}
@@ -7,6 +7,7 @@ use Rattle.source_rows.specs.Rows.{RowSet, Key, key_of, in_order, level_count}
 use Rattle.source_rows.specs.Row.{no_number}
 use Rattle.source_rows.specs.Order.{Apart}
 use Rattle.source_rows.specs.Tree.{IdsRise, IsForest}
+use Rattle.source_rows.specs.Lists.{Pairs}
 
 abbrev pub set_of : Inside → RowSet
 set_of a = record { rows = a.table; next_id = a.next_id; next_order = a.next_order; levels = level_count a.levels }
@@ -16,8 +17,7 @@ entry_of r = (key_of r, r.id)
 
 -- any two rows stand apart
 abbrev pub AllApart : List Row → Type 0
-AllApart [] = Unit {0}
-AllApart (r ∷ rs) = AllByRecursion (Apart r) rs × AllApart rs
+AllApart rows = Pairs Apart rows
 
 -- no number from n on stands in a path, but for the one that fills up
 abbrev pub IsBelow : ℕ → List ℕ → Type 0

@@ -11,6 +11,7 @@ pub mod Removal
 pub mod Worked
 pub mod Moves
 pub mod Band
+pub mod Lists
 pub mod Inserted
 pub mod Times
 pub mod TimeTree

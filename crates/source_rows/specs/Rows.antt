@@ -11,6 +11,7 @@ use Rattle.source_rows.specs.declared.levels.Levels.TheVariants.{Two, Four}
 use Rattle.source_rows.specs.declared.fault.RowsFault.{RowsFault}
 use Rattle.source_rows.specs.declared.fault.RowsFault.TheVariants.{NoSource, IsChild, TooDeep}
 use Rattle.source_rows.specs.Row.{root_row, child_row}
+use Rattle.source_rows.specs.Inserted.{inserted}
 
 -- the rows of a context by rising id, and what the next one gets
 pub record RowSet : Type 0 where
@@ -52,8 +53,7 @@ abbrev pub stands_before : Row → Row → Bool
 stands_before r q = is_lt (key_cmp (key_of r) (key_of q))
 
 abbrev pub placed : Row → List Row → List Row
-placed r [] = r ∷ []
-placed r (q ∷ qs) = if stands_before r q then r ∷ q ∷ qs else q ∷ placed r qs
+placed r rows = inserted stands_before r rows
 
 abbrev pub in_order : List Row → List Row
 in_order [] = []

@@ -6,18 +6,17 @@ use Rattle.std.specs.Cmp.Lexicographic.{slice_cmp}
 use Rattle.source_rows.specs.declared.row.Row.{Row}
 use Rattle.source_rows.specs.Row.{no_number, root_line, root_path, line_under, path_under}
 use Rattle.source_rows.specs.Rows.{Key, row_of, is_under, stands_before}
+use Rattle.source_rows.specs.Lists.{Pairs}
 
 -- ---- rows as trees
 
 -- the ids rise
 abbrev pub IdsRise : List Row → Type 0
-IdsRise [] = Unit {0}
-IdsRise (r ∷ rs) = AllByRecursion (λ q. r.id < q.id) rs × IdsRise rs
+IdsRise rows = Pairs (λ r q. r.id < q.id) rows
 
 -- no two rows have one order number
 abbrev pub OrdersDiffer : List Row → Type 0
-OrdersDiffer [] = Unit {0}
-OrdersDiffer (r ∷ rs) = AllByRecursion (λ q. r.order ≢ q.order) rs × OrdersDiffer rs
+OrdersDiffer rows = Pairs (λ r q. r.order ≢ q.order) rows
 
 pub record IsRoot (r : Row) : Type 0 where
   pub level : r.level ≡ 1
