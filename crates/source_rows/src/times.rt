@@ -215,6 +215,13 @@ fn fork(sooner: Box<Times>, time: (i64, u64), later: Box<Times>) -> Node
 fn balance(node: &mut Node)
     ensures { times_in node.new ≡ times_in node.old }
 {
+    if let Node::Fork(sooner, _, height, later) = node {
+        let (low, high) = (sooner.height(), later.height());
+        if low.abs_diff(high) <= 1 {
+            *height = low.max(high).saturating_add(1);
+            return;
+        }
+    }
     *node = match mem::replace(node, Node::Leaf) {
         Node::Leaf => Node::Leaf,
         Node::Fork(sooner, time, _, later) => balanced(sooner, time, later),
