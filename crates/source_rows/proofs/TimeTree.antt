@@ -1,9 +1,11 @@
 -- What is known of a tree's times d once its node is a fork.
-use Rattle.std.proofs.Common.{◌≡◌, ◌<◌, List, ◌∷◌, ◌++◌, length, Box, sym, ap, ◌∙◌, subst, arith, length-append}
+use Rattle.std.proofs.Common.{◌≡◌, ℕ, ◌+◌, ◌≤◌, Bool, true, false, not, cond, ◌||◌, List, [], ◌∷◌, ◌++◌, length, filter, refl, Box, sym, ap, ◌∙◌, subst, arith, length-append}
 use Rattle.std.specs.declared.alloc.Global.{Global}
-use Rattle.source_rows.specs.Inserted.{Rises}
-use Rattle.source_rows.specs.Times.{Time, is_sooner}
-use Rattle.source_rows.specs.TimeTree.{times_in}
+use Rattle.source_rows.specs.Inserted.{inserted, Rises}
+use Rattle.source_rows.specs.Times.{Time, time_cmp, is_sooner, without}
+use Rattle.std.specs.List.{list_any}
+use Rattle.std.specs.Ordering.{is_eq}
+use Rattle.source_rows.specs.TimeTree.{seen_of}
 use Rattle.source_rows.specs.declared.times.Times.{Times}
 use Rattle.source_rows.specs.declared.times.Node.{Node}
 use Rattle.source_rows.specs.declared.times.Node.TheVariants.{Fork}
@@ -14,19 +16,47 @@ pub record AtFork (d l : List Time) (k : Time) (r : List Time) : Type 0 where
   pub rises : Rises is_sooner (l ++ k ∷ r)
   pub sooner : Rises is_sooner l
   pub later : Rises is_sooner r
-  pub shorter : (length l < length d) × (length r < length d)
+  pub parts : length d ≡ length l + length r + 1
 
-sides_shorter : (l : List Time) (k : Time) (r : List Time) → (length l < length (l ++ k ∷ r)) × (length r < length (l ++ k ∷ r))
+sides_shorter : (l : List Time) (k : Time) (r : List Time) → length (l ++ k ∷ r) ≡ length l + length r + 1
 sides_shorter l k r = omega (arith, length-append l (k ∷ r))
 
-pub at_Fork : {n : Node} {d : List Time} {l r : Box Times Global} {k : Time} {h : _} → times_in n ≡ d → Rises is_sooner d → n ≡ Fork l k h r → AtFork d l.value k r.value
+pub at_Fork : {n : Node} {d : List Time × ℕ} {l r : Box Times Global} {k : Time} {h : _} → seen_of n ≡ d → Rises is_sooner d.0 → n ≡ Fork l k h r → AtFork d.0 l.value.0 k r.value.0
 at_Fork {n} {d} {l} {r} {k} {h} view_is rises is =
-    let e = sym view_is ∙ ap times_in is in
+    let e = ap (λ (v : List Time × ℕ). v.0) (sym view_is ∙ ap seen_of is) in
     let s = subst (Rises is_sooner) e rises in
     record {
       is = e;
       rises = s;
-      sooner = rises_left is_sooner l.value k r.value s;
-      later = rises_right is_sooner l.value k r.value s;
-      shorter = rw e (sides_shorter l.value k r.value);
+      sooner = rises_left is_sooner l.value.0 k r.value.0 s;
+      later = rises_right is_sooner l.value.0 k r.value.0 s;
+      parts = rw e (sides_shorter l.value.0 k r.value.0);
     }
+
+-- ---- lengths
+
+length_inserted_by : {A : Type 0} (a x : A) (xs ys : List A) (b : Bool) → length ys ≡ length xs + 1 → length (cond b (a ∷ x ∷ xs) (x ∷ ys)) ≡ length (x ∷ xs) + 1
+length_inserted_by a x xs ys true ih = omega arith
+length_inserted_by a x xs ys false ih = omega (arith, ih)
+
+pub length_inserted : {A : Type 0} (before : A → A → Bool) (a : A) (xs : List A) → length (inserted before a xs) ≡ length xs + 1
+length_inserted before a [] = refl
+length_inserted before a (x ∷ xs) = length_inserted_by a x xs (inserted before a xs) (before a x) (length_inserted before a xs)
+
+length_filter_by : {A : Type 0} (x : A) (xs ys : List A) (b : Bool) → length ys ≤ length xs → length (cond b (x ∷ ys) ys) ≤ length (x ∷ xs)
+length_filter_by x xs ys true h = omega (arith, h)
+length_filter_by x xs ys false h = omega (arith, h)
+
+pub length_filter : {A : Type 0} (p : A → Bool) (xs : List A) → length (filter p xs) ≤ length xs
+length_filter p [] = omega arith
+length_filter p (x ∷ xs) = length_filter_by x xs (filter p xs) (p x) (length_filter p xs)
+
+length_without_by : (t u : Time) (ts : List Time) (b : Bool) → length (without t ts) ≤ length ts → (list_any (λ v. is_eq (time_cmp t v)) ts ≡ true → length (without t ts) + 1 ≤ length ts)
+    → (b || list_any (λ v. is_eq (time_cmp t v)) ts) ≡ true → length (cond (not b) (u ∷ without t ts) (without t ts)) + 1 ≤ length (u ∷ ts)
+length_without_by t u ts true h ih e = omega (arith, h)
+length_without_by t u ts false h ih e = let k = ih e in omega (arith, k)
+
+-- a time that is there leaves one fewer
+pub length_without : (t : Time) (ts : List Time) → list_any (λ u. is_eq (time_cmp t u)) ts ≡ true → length (without t ts) + 1 ≤ length ts
+length_without t [] e = cc
+length_without t (u ∷ ts) e = length_without_by t u ts (is_eq (time_cmp t u)) (length_filter (λ v. not (is_eq (time_cmp t v))) ts) (length_without t ts) e

@@ -218,7 +218,7 @@ impl Rows {
 
     /// How many ready times stand above each other at most.
     #[cfg(test)]
-    pub(crate) fn height(&self) -> u8 {
+    pub(crate) fn height(&self) -> u64 {
         self.table.height()
     }
 

@@ -64,13 +64,14 @@ impl Table {
 
     /// How many ready times stand above each other at most.
     #[cfg(test)]
-    pub fn height(&self) -> u8 {
+    pub fn height(&self) -> u64 {
         self.times.height()
     }
 
     /// Puts a row behind the others.
     pub fn push(&mut self, row: Row) -> Result<(), AllocError>
-        requires { AllByRecursion (λ r. r.id < row.id) self.old }
+        requires last { AllByRecursion (λ r. r.id < row.id) self.old }
+        requires few { row.id < 2 ^ 63 }
         ensures ok { OnOk result (self.new ≡ self.old ++ row ∷ []) }
         ensures err { OnErr result (self.new ≡ self.old) }
     {

@@ -1,10 +1,11 @@
 //! Ready times in their order, in a search tree whose nodes are taken beforehand: so a time is changed without memory.
-ghost use Rattle.std.specs.Prelude.{◌≡◌, [], ◌∷◌, ◌++◌, true, is_some, IfSome, IfNone};
+ghost use Rattle.std.specs.Prelude.{◌≡◌, ◌+◌, ◌≤◌, ◌<◌, ◌^◌, max, length, [], ◌∷◌, ◌++◌, true, is_some, IfSome, IfNone};
 ghost use Rattle.std.specs.List.{list_any};
 ghost use Rattle.std.specs.Ordering.{is_eq};
 ghost use Rattle.source_rows.specs.Inserted.{inserted, Rises};
 ghost use Rattle.source_rows.specs.Times.{time_cmp, is_sooner, without, first_above};
-ghost use Rattle.source_rows.specs.TimeTree.{times_in, is_fork, LosesRoot};
+ghost use Rattle.source_rows.specs.declared.times.Node.TheVariants.{Fork};
+ghost use Rattle.source_rows.specs.TimeTree.{seen_of, is_fork, LosesRoot, IsEven, IsNearlyEven, AreNearlyEven, IsLow, IsHeight, IsLowered, Balances};
 
 use std::alloc::{AllocError, Global};
 use std::cmp::Ordering;
@@ -23,7 +24,7 @@ pub(crate) struct Times {
 #[derive(Drop)]
 enum Node {
     Leaf,
-    Fork(Box<Times>, (i64, u64), u8, Box<Times>),
+    Fork(Box<Times>, (i64, u64), u64, Box<Times>),
 }
 
 /// Room for one time.
@@ -34,16 +35,18 @@ pub(crate) struct Place {
 }
 
 impl Model for Times {
-    ghost use Rattle.std.specs.Prelude.{List, length};
+    ghost use Rattle.std.specs.Prelude.{ℕ, List, length};
     ghost use Rattle.source_rows.specs.Times.{Time};
 
-    ghost Value = { List Time };
+    ghost Value = { List Time × ℕ };
 
-    ghost use Rattle.source_rows.specs.TimeTree.{times_in};
+    ghost use Rattle.source_rows.specs.TimeTree.{seen_of, IsEven};
 
-    ghost view = { λ a. times_in a.node };
+    ghost view = { λ a. seen_of a.node };
 
-    ghost size = { length };
+    ghost invariant = { λ a. IsEven a.node };
+
+    ghost size = { λ d. length d.0 };
 
     ghost use Rattle.std.proofs.Common.{arith, length-append};
 
@@ -59,7 +62,8 @@ impl Place {
 
     /// A node with a time and nothing else.
     fn fill(mut self, time: (i64, u64)) -> Node
-        ensures { times_in result ≡ time ∷ [] }
+        ensures times { seen_of result ≡ (time ∷ [], 1) }
+        ensures even { IsEven result }
     {
         *self.sooner = Times::new();
         *self.later = Times::new();
@@ -69,13 +73,15 @@ impl Place {
 
 impl Times {
     pub fn new() -> Times
-        ensures { result ≡ [] }
+        ensures { result ≡ ([], 0) }
     {
         Times { node: Node::Leaf }
     }
 
     /// How many times stand above each other at most.
-    pub fn height(&self) -> u8 {
+    pub fn height(&self) -> u64
+        ensures { result ≡ self.now.1 }
+    {
         match self.node {
             Node::Leaf => 0,
             Node::Fork(_, _, height, _) => height,
@@ -84,8 +90,12 @@ impl Times {
 
     /// Puts a time into a place.
     pub fn insert(&mut self, place: Place, time: (i64, u64))
-        requires { Rises is_sooner self.old }
-        ensures { self.new ≡ inserted is_sooner time self.old }
+        requires rises { Rises is_sooner self.old.0 }
+        requires few { length self.old.0 < 2 ^ 63 }
+        requires low { IsLow self.old }
+        ensures times { self.new.0 ≡ inserted is_sooner time self.old.0 }
+        ensures low { IsLow self.new }
+        ensures height { IsLowered self.new.1 self.old.1 }
     {
         match &mut self.node {
             Node::Leaf => {
@@ -105,8 +115,12 @@ impl Times {
 
     /// Takes the first time out, with its place.
     fn remove_first(&mut self) -> Option<((i64, u64), Place)>
-        ensures some { IfSome result (λ f. self.old ≡ f.0 ∷ self.new) }
-        ensures none { IfNone result (self.old ≡ []) }
+        requires few { length self.old.0 ≤ 2 ^ 63 }
+        requires low { IsLow self.old }
+        ensures some { IfSome result (λ f. self.old.0 ≡ f.0 ∷ self.new.0) }
+        ensures none { IfNone result (self.old ≡ ([], 0)) }
+        ensures low { IsLow self.new }
+        ensures height { IsLowered self.old.1 self.new.1 }
     {
         match &mut self.node {
             Node::Leaf => return None,
@@ -128,16 +142,20 @@ impl Times {
 
     /// Takes a time out, with its place; None where it isn't there.
     fn take(&mut self, time: (i64, u64)) -> Option<Place>
-        requires { Rises is_sooner self.old }
-        ensures there { is_some result ≡ list_any (λ u. is_eq (time_cmp time u)) self.old }
-        ensures times { self.new ≡ without time self.old }
+        requires rises { Rises is_sooner self.old.0 }
+        requires few { length self.old.0 ≤ 2 ^ 63 }
+        requires low { IsLow self.old }
+        ensures there { is_some result ≡ list_any (λ u. is_eq (time_cmp time u)) self.old.0 }
+        ensures times { self.new.0 ≡ without time self.old.0 }
+        ensures low { IsLow self.new }
+        ensures height { IsLowered self.old.1 self.new.1 }
     {
         let place = match &mut self.node {
             Node::Leaf => return None,
             Node::Fork(sooner, other, _, later) => match time.cmp(other) {
                 Ordering::Less => sooner.take(time),
                 Ordering::Greater => later.take(time),
-                Ordering::Equal => remove_root(&mut self.node),
+                Ordering::Equal => return remove_root(&mut self.node),
             },
         };
         balance(&mut self.node);
@@ -146,17 +164,23 @@ impl Times {
 
     /// Gives a time up, and its place.
     pub fn remove(&mut self, time: (i64, u64))
-        requires { Rises is_sooner self.old }
-        ensures { self.new ≡ without time self.old }
+        requires rises { Rises is_sooner self.old.0 }
+        requires few { length self.old.0 ≤ 2 ^ 63 }
+        requires low { IsLow self.old }
+        ensures times { self.new.0 ≡ without time self.old.0 }
+        ensures low { IsLow self.new }
     {
         drop(self.take(time));
     }
 
     /// Gives a row another time, in the place of the one that it has.
     pub fn change(&mut self, id: u64, before: i64, after: i64)
-        requires rises { Rises is_sooner self.old }
-        requires there { list_any (λ u. is_eq (time_cmp (before, id) u)) self.old ≡ true }
-        ensures { self.new ≡ inserted is_sooner (after, id) (without (before, id) self.old) }
+        requires rises { Rises is_sooner self.old.0 }
+        requires few { length self.old.0 ≤ 2 ^ 63 }
+        requires low { IsLow self.old }
+        requires there { list_any (λ u. is_eq (time_cmp (before, id) u)) self.old.0 ≡ true }
+        ensures times { self.new.0 ≡ inserted is_sooner (after, id) (without (before, id) self.old.0) }
+        ensures low { IsLow self.new }
     {
         if let Some(place) = self.take((before, id)) {
             self.insert(place, (after, id));
@@ -165,8 +189,8 @@ impl Times {
 
     /// The first time above `now`.
     pub fn first_above(&self, now: i64) -> Option<i64>
-        requires { Rises is_sooner self.now }
-        ensures { result ≡ first_above now self.now }
+        requires { Rises is_sooner self.now.0 }
+        ensures { result ≡ first_above now self.now.0 }
     {
         match &self.node {
             Node::Leaf => None,
@@ -185,14 +209,18 @@ impl Times {
 
 /// Takes the time out that stands at the root, with its place.
 fn remove_root(node: &mut Node) -> Option<Place>
+    requires even { IsEven node.old }
+    requires few { length (seen_of node.old).0 ≤ 2 ^ 63 }
     ensures place { is_some result ≡ is_fork node.old }
     ensures times { LosesRoot node.old node.new }
+    ensures even { IsEven node.new }
+    ensures height { IsLowered (seen_of node.old).1 (seen_of node.new).1 }
 {
     match mem::replace(node, Node::Leaf) {
         Node::Leaf => None,
         Node::Fork(mut sooner, _, _, mut later) => match later.remove_first() {
             Some((next, place)) => {
-                *node = fork(sooner, next, later);
+                *node = balanced(sooner, next, later);
                 Some(place)
             }
             None => {
@@ -203,22 +231,24 @@ fn remove_root(node: &mut Node) -> Option<Place>
     }
 }
 
-/// A node over two sides that differ in height by at most one.
+/// A node over two sides.
 fn fork(sooner: Box<Times>, time: (i64, u64), later: Box<Times>) -> Node
-    ensures { times_in result ≡ sooner.value ++ time ∷ later.value }
+    requires { max sooner.value.1 later.value.1 + 1 < 2 ^ 64 }
+    ensures { result ≡ Fork sooner time (max sooner.value.1 later.value.1 + 1) later }
 {
-    let height = sooner.height().max(later.height()).saturating_add(1);
+    let height = sooner.height().max(later.height()) + 1;
     Node::Fork(sooner, time, height, later)
 }
 
-/// Brings a node back into balance after a change of one side.
+/// Brings a node into balance after a change of one side.
 fn balance(node: &mut Node)
-    ensures { times_in node.new ≡ times_in node.old }
+    requires { IsNearlyEven node.old }
+    ensures { Balances node.old node.new }
 {
     if let Node::Fork(sooner, _, height, later) = node {
         let (low, high) = (sooner.height(), later.height());
         if low.abs_diff(high) <= 1 {
-            *height = low.max(high).saturating_add(1);
+            *height = low.max(high) + 1;
             return;
         }
     }
@@ -230,11 +260,15 @@ fn balance(node: &mut Node)
 
 /// A node over two sides that differ in height by at most two.
 fn balanced(sooner: Box<Times>, time: (i64, u64), later: Box<Times>) -> Node
-    ensures { times_in result ≡ sooner.value ++ time ∷ later.value }
+    requires { AreNearlyEven sooner.value later.value }
+    ensures even { IsEven result }
+    ensures times { (seen_of result).0 ≡ sooner.value.0 ++ time ∷ later.value.0 }
+    ensures height { IsHeight sooner.value.1 later.value.1 (seen_of result).1 }
 {
-    if sooner.height() > later.height().saturating_add(1) {
+    let (low, high) = (sooner.height(), later.height());
+    if low > high + 1 {
         lift_sooner(sooner, time, later)
-    } else if later.height() > sooner.height().saturating_add(1) {
+    } else if high > low + 1 {
         lift_later(sooner, time, later)
     } else {
         fork(sooner, time, later)
@@ -243,52 +277,46 @@ fn balanced(sooner: Box<Times>, time: (i64, u64), later: Box<Times>) -> Node
 
 /// A node over two sides of which the sooner is the higher by two.
 fn lift_sooner(mut sooner: Box<Times>, time: (i64, u64), later: Box<Times>) -> Node
-    ensures { times_in result ≡ sooner.value ++ time ∷ later.value }
+    requires sides { AreNearlyEven sooner.value later.value }
+    requires higher { sooner.value.1 ≡ later.value.1 + 2 }
+    ensures even { IsEven result }
+    ensures times { (seen_of result).0 ≡ sooner.value.0 ++ time ∷ later.value.0 }
+    ensures height { IsHeight sooner.value.1 later.value.1 (seen_of result).1 }
 {
-    match mem::replace(&mut *sooner, Times::new()).node {
-        Node::Leaf => fork(sooner, time, later),
-        Node::Fork(first, low, _, mut inner) => {
-            if first.height() >= inner.height() {
-                sooner.node = fork(inner, time, later);
-                return fork(first, low, sooner);
-            }
-            match mem::replace(&mut *inner, Times::new()).node {
-                Node::Leaf => {
-                    sooner.node = fork(inner, time, later);
-                    fork(first, low, sooner)
-                }
-                Node::Fork(before, middle, _, after) => {
-                    inner.node = fork(first, low, before);
-                    sooner.node = fork(after, time, later);
-                    fork(inner, middle, sooner)
-                }
-            }
-        }
+    let Node::Fork(first, low, _, mut inner) = mem::replace(&mut *sooner, Times::new()).node else {
+        unreachable!()
+    };
+    if first.height() >= inner.height() {
+        sooner.node = fork(inner, time, later);
+        return fork(first, low, sooner);
     }
+    let Node::Fork(before, middle, _, after) = mem::replace(&mut *inner, Times::new()).node else {
+        unreachable!()
+    };
+    inner.node = fork(first, low, before);
+    sooner.node = fork(after, time, later);
+    fork(inner, middle, sooner)
 }
 
 /// A node over two sides of which the later is the higher by two.
 fn lift_later(sooner: Box<Times>, time: (i64, u64), mut later: Box<Times>) -> Node
-    ensures { times_in result ≡ sooner.value ++ time ∷ later.value }
+    requires sides { AreNearlyEven sooner.value later.value }
+    requires higher { later.value.1 ≡ sooner.value.1 + 2 }
+    ensures even { IsEven result }
+    ensures times { (seen_of result).0 ≡ sooner.value.0 ++ time ∷ later.value.0 }
+    ensures height { IsHeight sooner.value.1 later.value.1 (seen_of result).1 }
 {
-    match mem::replace(&mut *later, Times::new()).node {
-        Node::Leaf => fork(sooner, time, later),
-        Node::Fork(mut inner, high, _, last) => {
-            if last.height() >= inner.height() {
-                later.node = fork(sooner, time, inner);
-                return fork(later, high, last);
-            }
-            match mem::replace(&mut *inner, Times::new()).node {
-                Node::Leaf => {
-                    later.node = fork(sooner, time, inner);
-                    fork(later, high, last)
-                }
-                Node::Fork(before, middle, _, after) => {
-                    later.node = fork(sooner, time, before);
-                    inner.node = fork(after, high, last);
-                    fork(later, middle, inner)
-                }
-            }
-        }
+    let Node::Fork(mut inner, high, _, last) = mem::replace(&mut *later, Times::new()).node else {
+        unreachable!()
+    };
+    if last.height() >= inner.height() {
+        later.node = fork(sooner, time, inner);
+        return fork(later, high, last);
     }
+    let Node::Fork(before, middle, _, after) = mem::replace(&mut *inner, Times::new()).node else {
+        unreachable!()
+    };
+    later.node = fork(sooner, time, before);
+    inner.node = fork(after, high, last);
+    fork(later, middle, inner)
 }

@@ -7,8 +7,8 @@ use Rattle.source_rows.specs.declared.row.Row.{Row}
 use Rattle.source_rows.proofs.Kept.{sound-push, entries-push, taken_back, has_last}
 use Rattle.source_rows.proofs.rows.Rows.add.Goals as goal
 
-pub push-requires : goal.push-requires
-push-requires c =
+pub push-requires-clause-last : goal.push-requires-clause-last
+push-requires-clause-last c =
     let id : c.self.inside.next_id ≡ c.args.row.id = ap (λ (s : RowSet). s.next_id) c.self.view_is ∙ sym c.requires.id in
     subst (λ (n : _). AllByRecursion (λ r. r.id < n) c.self.inside.table) id c.self.invariant.sound.fresh
 

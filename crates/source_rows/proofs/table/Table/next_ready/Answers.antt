@@ -11,6 +11,6 @@ first_above-requires c = rw c.self.invariant.times_are (rises_in_time (rows_at c
 pub returns : goal.returns
 returns c =
     let rows = rows_at c.self.inside.slots c.self.inside.keys.entries in
-    let e : c.first_above.result ≡ first_above (pos c.args.now) c.self.inside.times = search rules in
+    let e : c.first_above.result ≡ first_above (pos c.args.now) c.self.inside.times.0 = search rules in
     e ∙ (ap (first_above (pos c.args.now)) c.self.invariant.times_are
     ∙ (sym (next_is c.args.now rows (rises_rows_at c.self.inside.slots c.self.inside.keys.entries c.self.invariant.table)) ∙ ap (next_ready c.args.now) c.self.view_is))

@@ -1,13 +1,23 @@
-use Rattle.std.proofs.Common.{◌≡◌, ◌∙◌, true, false, sym, is_some, rules}
+use Rattle.std.proofs.Common.{◌≡◌, ◌∙◌, true, false, sym, is_some, arith, rules, w64}
+use Rattle.std.proofs.lemmas.Int.{to_z-of_z}
+use mir.Val.{SFits}
 use Rattle.source_rows.specs.Times.{is_sooner}
 use Rattle.source_rows.proofs.Inserted.{rises_filter}
+use Rattle.source_rows.proofs.TimeTree.{length_without}
 use Rattle.source_rows.proofs.times.Times.change.Goals as goal
 
-pub insert-requires : goal.insert-requires
-insert-requires c = rw c.take.ensures.times (rises_filter is_sooner _ c.args.self.now c.requires.rises)
+pub insert-requires-clause-rises : goal.insert-requires-clause-rises
+insert-requires-clause-rises c = rw c.take.ensures.times (rises_filter is_sooner _ c.args.self.now.0 c.requires.rises)
 
-pub returns-in_default : goal.returns-in_default
-returns-in_default c =
+pub insert-requires-clause-few : goal.insert-requires-clause-few
+insert-requires-clause-few c =
+    let fits : SFits w64 c.args.before = search rules in
+    let less = length_without (c.args.before, c.args.id) c.args.self.now.0 c.requires.there in
+    let is = simp to_z-of_z at c.take.ensures.times in
+    rw is (omega (arith, less, c.requires.few))
+
+pub returns-in_default-clause-times : goal.returns-in_default-clause-times
+returns-in_default-clause-times c =
     let none : is_some c.take.result ≡ false = search rules in
     let there : is_some c.take.result ≡ true = search rules in
     let never : true ≡ false = sym there ∙ none in
