@@ -1,17 +1,16 @@
 -- What prepares an iteration: the first source in order that calls has the least priority of all that are ready.
-use Rattle.std.proofs.Common.{◌≡◌, ℕ, ◌==◌, ◌&&◌, ◌||◌, Bool, true, false, cond, ℤ, Option, Some, None, List, [], ◌∷◌, inl, inr, map, filter, option_map, refl, ap, sym, ◌∙◌, arith, subst}
+use Rattle.std.proofs.Common.{◌≡◌, ℕ, ◌==◌, ◌&&◌, ◌||◌, Bool, true, false, cond, ℤ, Option, Some, None, List, [], ◌∷◌, inl, inr, filter, option_map, refl, ap, sym, ◌∙◌, arith, subst}
 use Rattle.std.proofs.lemmas.Int.{ints}
 use Rattle.std.proofs.lemmas.Bool.Decides.{eqb_tells}
 use Rattle.std.specs.Prelude.{int_lt, slice_index}
 use Rattle.std.specs.List.{AllByRecursion, find, list_any}
 use Rattle.source_rows.specs.declared.row.Row.{Row}
-use Rattle.source_rows.specs.Row.{line_under}
-use Rattle.source_rows.specs.Rows.{in_order, placed, stands_before, is_under, row_of}
+use Rattle.source_rows.specs.Rows.{in_order, placed, stands_before, is_under}
 use Rattle.source_rows.specs.Order.{IsInOrder}
 use Rattle.source_rows.specs.Tree.{IsForest, IsOneTree, HasPlace}
 use Rattle.source_rows.proofs.Order.{sorted_in_order}
 use Rattle.context_core.specs.Ready.{Own, is_free, calls, is_ready, ready_rows}
-use Rattle.context_core.specs.Phases.{least_of, less_urgent}
+use Rattle.context_core.specs.Phases.{least_of}
 use Rattle.context_core.proofs.Walk.{not_more, SomeAt}
 use Rattle.context_core.proofs.Cutoff.{all_of_order, HasAt, least_has, least_none, least_above}
 

@@ -316,7 +316,7 @@ and_same : (a b c : Bool) → (a ≡ true → b ≡ c) → (a && b) ≡ (a && c)
 and_same true b c h = h refl
 and_same false b c h = refl
 
-any_same : (p q : Row → Bool) (rows : List Row) → AllByRecursion (λ r. p r ≡ q r) rows → list_any p rows ≡ list_any q rows
+pub any_same : (p q : Row → Bool) (rows : List Row) → AllByRecursion (λ r. p r ≡ q r) rows → list_any p rows ≡ list_any q rows
 any_same p q [] h = refl
 any_same p q (r ∷ rows) h = rw h.0 (ap (λ (b : Bool). q r || b) (any_same p q rows h.1))
 

@@ -2,4 +2,5 @@ pub mod Walk
 pub mod Cutoff
 pub mod Wait
 pub mod Called
+pub mod Lent
 pub mod Phased

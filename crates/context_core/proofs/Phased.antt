@@ -1,15 +1,14 @@
 -- What the loops of the phases have done, one row more at a time.
-use Rattle.std.proofs.Common.{◌≡◌, ℕ, zero, suc, ◌+◌, ◌==◌, ◌&&◌, ◌||◌, Bool, true, false, cond, ℤ, Option, Some, None, List, [], ◌∷◌, ◌++◌, map, filter, drop, length, length-append, refl, ap, sym, ◌∙◌, arith}
+use Rattle.std.proofs.Common.{◌≡◌, ℕ, zero, suc, Bool, true, false, cond, ℤ, Option, Some, None, List, [], ◌∷◌, ◌++◌, map, filter, drop, length, length-append, refl, ap, sym, ◌∙◌, arith}
 use Rattle.std.specs.Prelude.{slice_get}
 use Rattle.std.proofs.lemmas.List.{append_assoc, append-nil}
-use Rattle.std.specs.List.{find, list_any}
+use Rattle.std.specs.List.{find}
 use Rattle.source_rows.specs.Tree.{IsOneTree}
-use Rattle.source_rows.specs.Rows.{is_under}
 use Rattle.context_core.specs.declared.interest.Shown.{Shown}
-use Rattle.context_core.specs.Ready.{own_ready, is_free, calls, is_ready, selected}
+use Rattle.context_core.specs.Ready.{own_ready, is_ready, selected}
 use Rattle.context_core.proofs.Cutoff.{cutoff}
 use Rattle.source_rows.specs.declared.row.Row.{Row}
-use Rattle.source_rows.specs.Rows.{in_order, placed, stands_before}
+use Rattle.source_rows.specs.Rows.{in_order}
 use Rattle.context_core.specs.declared.interest.Interest.{Interest}
 use Rattle.context_core.specs.Phases.{is_asked, asked_rows, interest_of, less_urgent, least_ready, levels_for, shown, handed, walk}
 
@@ -78,32 +77,6 @@ handed_over least busy levels rs it list all g h =
     let both : (xs : List Row) → list ++ handed xs (drop (length list) levels) ≡ list = λ xs. ap (λ (l : List ℕ). list ++ handed xs l) none ∙ (ap (λ (l : List Shown). list ++ l) (handed_none xs) ∙ append-nil list) in
     both (filter (is_asked least busy) rs) ∙ (sym (both (filter (is_asked least busy) it)) ∙ h)
 
--- a row in any order
-any_placed_by : (p : Row → Bool) (r q : Row) (qs : List Row) (b : Bool) → list_any p (placed r qs) ≡ (p r || list_any p qs) → list_any p (cond b (r ∷ q ∷ qs) (q ∷ placed r qs)) ≡ (p r || (p q || list_any p qs))
-any_placed_by p r q qs true ih = refl
-any_placed_by p r q qs false ih = ap (λ (b : Bool). p q || b) ih ∙ swap (p q) (p r) (list_any p qs)
-  where
-    swap : (a b c : Bool) → (a || (b || c)) ≡ (b || (a || c))
-    swap true true c = refl
-    swap true false c = refl
-    swap false b c = refl
-
-any_placed : (p : Row → Bool) (r : Row) (qs : List Row) → list_any p (placed r qs) ≡ (p r || list_any p qs)
-any_placed p r [] = refl
-any_placed p r (q ∷ qs) = any_placed_by p r q qs (stands_before r q) (any_placed p r qs)
-
-pub any_in_order : (p : Row → Bool) (rows : List Row) → list_any p (in_order rows) ≡ list_any p rows
-any_in_order p [] = refl
-any_in_order p (r ∷ rows) = any_placed p r (in_order rows) ∙ ap (λ (b : Bool). p r || b) (any_in_order p rows)
-
--- tests that agree find the same on a walk
-pub walk_agree : (f g : Row → Bool) → ((r : Row) → f r ≡ g r) → (bound : Option ℤ) (rs : List Row) → walk f bound rs ≡ walk g bound rs
-walk_agree f g h bound [] = refl
-walk_agree f g h bound (r ∷ rs) =
-    let here : cond (f r) (r.id ∷ walk f (Some r.priority) rs) (walk f bound rs) ≡ cond (g r) (r.id ∷ walk g (Some r.priority) rs) (walk g bound rs)
-    = rw (h r, walk_agree f g h (Some r.priority) rs, walk_agree f g h bound rs) refl in
-    ap (λ (xs : List ℕ). cond (less_urgent bound r.priority) [] xs) here
-
 -- the first that is found
 pub found_here : (f : Row → Bool) (it rest whole : List Row) (r : Row) → f r ≡ true → it ≡ r ∷ rest → find f it ≡ find f whole → find f whole ≡ Some r
 found_here f it rest whole r t e h = sym h ∙ (ap (find f) e ∙ ap (λ (b : Bool). cond b (Some r) (find f rest)) t)
@@ -111,7 +84,7 @@ found_here f it rest whole r t e h = sym h ∙ (ap (find f) e ∙ ap (λ (b : Bo
 pub none_here : (f : Row → Bool) (it whole : List Row) → it ≡ [] → find f it ≡ find f whole → find f whole ≡ None
 none_here f it whole e h = sym h ∙ ap (find f) e
 
--- a walk that takes one more row, and one that passes over it
+-- a walk that takes one more row
 pub walk_taken : (ready : Row → Bool) (bound : Option ℤ) (r : Row) (rs it : List Row) (ids now all : List ℕ) → less_urgent bound r.priority ≡ false → ready r ≡ true → it ≡ r ∷ rs → now ≡ ids ++ r.id ∷ []
     → ids ++ walk ready bound it ≡ all → now ++ walk ready (Some r.priority) rs ≡ all
 walk_taken ready bound r rs it ids now all u t s n h =
@@ -119,13 +92,18 @@ walk_taken ready bound r rs it ids now all u t s n h =
     ap (λ (l : List ℕ). l ++ walk ready (Some r.priority) rs) n
     ∙ (append_assoc ids (r.id ∷ []) (walk ready (Some r.priority) rs) ∙ (ap (λ (l : List ℕ). ids ++ l) (sym next) ∙ (ap (λ (l : List Row). ids ++ walk ready bound l) (sym s) ∙ h)))
 
--- what a check's parts find is what is selected
-pub checked : (level : ℕ → ℕ) (cancelled : ℕ → Bool) (now : ℕ) (busy : List ℕ) (rows : List Row) (bound : Option ℤ) (levels : List ℕ) (list : List Shown) (lent : ℕ → Bool) → IsOneTree rows
+-- and one that passes over a row
+pub walk_passed : (ready : Row → Bool) (bound : Option ℤ) (r : Row) (rs it : List Row) (ids all : List ℕ) → less_urgent bound r.priority ≡ false → ready r ≡ false → it ≡ r ∷ rs
+    → ids ++ walk ready bound it ≡ all → ids ++ walk ready bound rs ≡ all
+walk_passed ready bound r rs it ids all u t s h =
+    let next : walk ready bound (r ∷ rs) ≡ walk ready bound rs = rw (u, t) refl in
+    ap (λ (l : List ℕ). ids ++ l) (sym next) ∙ (ap (λ (l : List Row). ids ++ walk ready bound l) (sym s) ∙ h)
+
+-- what a check's walk finds is what is selected
+pub checked : (level : ℕ → ℕ) (cancelled : ℕ → Bool) (now : ℕ) (busy : List ℕ) (rows : List Row) (bound : Option ℤ) (levels : List ℕ) (list : List Shown) → IsOneTree rows
     → bound ≡ least_ready cancelled now busy rows → levels ≡ levels_for level (asked_rows bound busy rows) → list ≡ handed (asked_rows bound busy rows) levels
-    → ((id : ℕ) → lent id ≡ list_any (λ q. is_under id q && calls (own_ready (shown list) cancelled now) busy q) rows)
-    → walk (λ r. is_free busy r && lent r.id) bound (in_order rows) ≡ selected (own_ready level cancelled now) busy rows
-checked level cancelled now busy rows bound levels list lent tree b l h k =
+    → walk (is_ready (own_ready (shown list) cancelled now) busy rows) bound (in_order rows) ≡ selected (own_ready level cancelled now) busy rows
+checked level cancelled now busy rows bound levels list tree b l h =
     let asked : List Row = asked_rows (least_ready cancelled now busy rows) busy rows in
     let same : list ≡ handed asked (levels_for level asked) = rw (sym b, sym l) h in
-    walk_agree (λ r. is_free busy r && lent r.id) (is_ready (own_ready (shown list) cancelled now) busy rows) (λ r. ap (λ (x : Bool). is_free busy r && x) (k r.id)) bound (in_order rows)
-    ∙ rw (same, b) (cutoff level cancelled now busy rows tree)
+    rw (same, b) (cutoff level cancelled now busy rows tree)

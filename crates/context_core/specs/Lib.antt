@@ -1,3 +1,4 @@
 pub mod Ready
 pub mod Phases
 pub mod Lending
+pub mod Lent

@@ -7,7 +7,7 @@ use Rattle.source_rows.specs.declared.row.Row.{Row}
 use Rattle.source_rows.specs.Rows.{in_order, next_ready}
 use Rattle.context_core.specs.declared.interest.Interest.{Interest}
 use Rattle.context_core.specs.declared.interest.Shown.{Shown}
-use Rattle.context_core.specs.Ready.{Own, own_ready, ready_rows, is_free}
+use Rattle.context_core.specs.Ready.{own_ready, ready_rows, is_free}
 
 -- ---- prepare
 

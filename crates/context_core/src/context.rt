@@ -2,12 +2,13 @@
 ghost use Rattle.std.specs.Prelude.{◌≡◌, ◌≤◌, ◌^◌, ◌==◌, ◌&&◌, ◌||◌, IfOk, OnOk, ℕ, filter};
 ghost use Rattle.std.specs.Borrow.{sem};
 ghost use Rattle.context_core.specs.Lending.{LendsRows};
-ghost use Rattle.source_rows.specs.Rows.{no_rows, level_count, next_ready, in_order, is_under};
+ghost use Rattle.source_rows.specs.Rows.{no_rows, level_count, next_ready, in_order};
 ghost use Rattle.source_rows.specs.Tree.{IsOneTree};
 ghost use Rattle.std.specs.List.{list_any};
 ghost use Rattle.std.specs.Ordering.{nat_cmp};
 ghost use Rattle.std.specs.BTreeSet.{contains};
-ghost use Rattle.context_core.specs.Ready.{in_view, own_ready, selected, is_free, calls};
+ghost use Rattle.context_core.specs.Ready.{in_view, own_ready, selected, is_free, is_ready, calls};
+ghost use Rattle.context_core.specs.Lent.{lends};
 ghost use Rattle.context_core.specs.Phases.{ms_until, least_ready, wait_of, interests, asked_rows, levels_for, shown, handed, walk};
 
 use crate::interest::{Interest, Prepared, Shown};
@@ -131,46 +132,29 @@ impl Context {
         Ok(list)
     }
 
-    /// The ids of all sources that a calling one is, or is below.
-    fn lent(
-        &self,
-        alloc: Global,
-        polled: &[Shown],
-        now: u64,
-        busy: &[u64],
-        view: &View,
-    ) -> Result<BTreeSet<u64>, AllocError>
-        requires { now ≤ 2 ^ 62 }
-        ensures { IfOk result (λ ids. (id : ℕ) → contains nat_cmp ids id
-            ≡ list_any (λ q. is_under id q && calls (own_ready (shown polled.now) (in_view view.now) now) busy.now q) self.now.rows.rows) }
-    {
-        let mut ids = BTreeSet::new(alloc);
-        'rows: for row in self.rows.in_order() {
-            if calls(&row, polled, now, busy, view) {
-                lend(&mut ids, &row.line)?;
-            }
-        }
-        Ok(ids)
-    }
-
-    /// The ids of the free rows that are lent readiness, up to the least priority of them.
+    /// The ids of the ready rows, up to the least priority of them. In order all rows that lend to one stand before it.
     fn walk(
         &self,
         alloc: Global,
         least: Option<i32>,
-        lent: &BTreeSet<u64>,
+        polled: &[Shown],
+        now: u64,
         busy: &[u64],
+        view: &View,
     ) -> Result<Vec<u64>, AllocError>
+        requires { now ≤ 2 ^ 62 }
         ensures one_tree { IsOneTree self.now.rows.rows }
-        ensures ids { IfOk result (λ ids. ids.items ≡ walk (λ r. is_free busy.now r && contains nat_cmp lent.now r.id) least (in_order self.now.rows.rows)) }
+        ensures ids { IfOk result (λ ids. ids.items
+            ≡ walk (is_ready (own_ready (shown polled.now) (in_view view.now) now) busy.now self.now.rows.rows) least (in_order self.now.rows.rows)) }
     {
         let mut bound = least;
         let mut ids = Vec::new(alloc);
+        let mut lent = BTreeSet::new(alloc);
         'rows: for row in self.rows.in_order() {
             if is_beyond(bound, row.priority) {
                 break;
             }
-            if is_lent(&row, lent, busy) {
+            if take_turn(&mut lent, &row, polled, now, busy, view)? {
                 bound = Some(row.priority);
                 ids.push(row.id)?;
             }
@@ -195,16 +179,33 @@ impl Context {
             → IfOk result (λ ids. ids.items ≡ selected (own_ready level (in_view view.now) now) busy.now self.now.rows.rows) }
     {
         let polled = self.polled(alloc, prepared.priority, busy, levels)?;
-        let lent = self.lent(alloc, &polled, now, busy, view)?;
-        self.walk(alloc, prepared.priority, &lent, busy)
+        self.walk(alloc, prepared.priority, &polled, now, busy, view)
     }
 }
 
-/// Whether a row is free and lent readiness.
-fn is_lent(row: &Row, lent: &BTreeSet<u64>, busy: &[u64]) -> bool
-    ensures { result ≡ (is_free busy.now row.now && contains nat_cmp lent.now row.now.id) }
+/// Whether a row is ready, where `lent` has the ids that the rows before it lend to. A child that calls then lends to
+/// those above it.
+fn take_turn(
+    lent: &mut BTreeSet<u64>,
+    row: &Row,
+    polled: &[Shown],
+    now: u64,
+    busy: &[u64],
+    view: &View,
+) -> Result<bool, AllocError>
+    requires { now ≤ 2 ^ 62 }
+    ensures lent { OnOk result ((id : ℕ) → contains nat_cmp lent.new id
+        ≡ (lends (own_ready (shown polled.now) (in_view view.now) now) busy.now id row.now || contains nat_cmp lent.old id)) }
+    ensures ready { IfOk result (λ ready. ready
+        ≡ (is_free busy.now row.now && (calls (own_ready (shown polled.now) (in_view view.now) now) busy.now row.now || contains nat_cmp lent.old row.now.id))) }
 {
-    is_free(row, busy) && lent.contains(&row.id)
+    if !calls(row, polled, now, busy, view) {
+        return Ok(is_free(row, busy) && lent.contains(&row.id));
+    }
+    if row.parent.is_some() {
+        lend(lent, &row.line)?;
+    }
+    Ok(true)
 }
 
 /// Puts the ids of a line into a set. A line is filled up with its last id, which is put in once.

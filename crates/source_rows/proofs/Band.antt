@@ -207,7 +207,7 @@ any_placed : (f : Row → Bool) (r : Row) (qs : List Row) → list_any f (placed
 any_placed f r [] = refl
 any_placed f r (q ∷ qs) = any_placed_by f r q qs (any_placed f r qs) (stands_before r q)
 
-any_in_order : (f : Row → Bool) (rows : List Row) → list_any f (in_order rows) ≡ list_any f rows
+pub any_in_order : (f : Row → Bool) (rows : List Row) → list_any f (in_order rows) ≡ list_any f rows
 any_in_order f [] = refl
 any_in_order f (r ∷ rows) = any_placed f r (in_order rows) ∙ ap (λ (b : Bool). f r || b) (any_in_order f rows)
 

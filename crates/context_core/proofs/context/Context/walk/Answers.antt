@@ -1,19 +1,41 @@
-use Rattle.std.proofs.Common.{◌≡◌, ◌&&◌, ◌++◌, ℤ, Some, ap, sym, ◌∙◌, rules, w32}
+use Rattle.std.proofs.Common.{◌≡◌, ℕ, ◌++◌, ℤ, Some, ap, sym, ◌∙◌, rules, w32}
 use Rattle.std.proofs.lemmas.Int.{to_z-of_z}
 use mir.Val.{SFits, to_z, of_z}
 use Rattle.std.specs.Ordering.{nat_cmp}
 use Rattle.std.specs.BTreeSet.{contains}
-use Rattle.source_rows.specs.declared.row.Row.{Row}
-use Rattle.context_core.specs.Ready.{is_free}
-use Rattle.context_core.specs.Phases.{walk, less_urgent}
-use Rattle.context_core.proofs.Phased.{walk_taken}
+use Rattle.context_core.specs.Ready.{in_view, own_ready, is_ready}
+use Rattle.context_core.specs.Phases.{shown, walk, less_urgent}
+use Rattle.context_core.proofs.Lent.{stepped}
+use Rattle.context_core.proofs.Phased.{walk_taken, walk_passed}
 use Rattle.context_core.proofs.context.Context.walk.Goals as goal
 
-pub rows-preserved-in-Continue-1 : goal.rows-preserved-in-Continue-1
-rows-preserved-in-Continue-1 c =
-    let ready = λ (r : Row). is_free c.args.busy.now r && contains nat_cmp c.args.lent.now r.id in
-    let fits : SFits w32 c.in-Some.row.priority = search rules in
-    let same : to_z w32 (of_z w32 c.in-Some.row.priority) ≡ c.in-Some.row.priority = simp to_z-of_z in
-    ap (λ (p : ℤ). c.push.new.self.items ++ walk ready (Some p) c.next.new.self) same
-    ∙ walk_taken ready c.rows.bound c.in-Some.row c.next.new.self c.rows.row-iterator c.rows.ids.items _ _
-    (ap (less_urgent c.rows.bound) (sym same) ∙ (sym c.is_beyond.ensures ∙ c.if-is_beyond.false)) (sym c.is_lent.ensures ∙ c.if-is_lent.true) c.in-Some.ensures.steps c.in_ok-push.ensures.items c.rows.invariant
+pub rows-preserved-in-Continue-branch-2 : goal.rows-preserved-in-Continue-branch-2
+rows-preserved-in-Continue-branch-2 c =
+    let own = own_ready (shown c.args.polled.now) (in_view c.args.view.now) c.args.now in
+    let rows = c.args.self.now.rows.rows in
+    let row = c.in-Some.row in
+    let fits : SFits w32 row.priority = search rules in
+    let same : to_z w32 (of_z w32 row.priority) ≡ row.priority = simp to_z-of_z in
+    let step = stepped own c.args.busy.now rows c.rows.row-iterator c.next.new.self row (λ (id : ℕ). contains nat_cmp c.rows.lent id) (λ (id : ℕ). contains nat_cmp c.take_turn.new.lent id) _
+    c.in_order-row-items.ensures.forest c.in-Some.ensures.steps c.in_ok-take_turn.ensures.lent c.in_ok-take_turn.ensures.ready c.rows.invariant.passed in
+    record {
+      passed = step.0;
+      ids = ap (λ (p : ℤ). c.push.new.self.items ++ walk (is_ready own c.args.busy.now rows) (Some p) c.next.new.self) same
+          ∙ walk_taken (is_ready own c.args.busy.now rows) c.rows.bound row c.next.new.self c.rows.row-iterator c.rows.ids.items _ _
+          (ap (less_urgent c.rows.bound) (sym same) ∙ (sym c.is_beyond.ensures ∙ c.if-is_beyond.false)) (step.1 ∙ c.if-branch.true) c.in-Some.ensures.steps c.in_ok-push.ensures.items c.rows.invariant.ids;
+    }
+
+pub rows-preserved : goal.rows-preserved
+rows-preserved c =
+    let own = own_ready (shown c.args.polled.now) (in_view c.args.view.now) c.args.now in
+    let rows = c.args.self.now.rows.rows in
+    let row = c.in-Some.row in
+    let fits : SFits w32 row.priority = search rules in
+    let same : to_z w32 (of_z w32 row.priority) ≡ row.priority = simp to_z-of_z in
+    let step = stepped own c.args.busy.now rows c.rows.row-iterator c.next.new.self row (λ (id : ℕ). contains nat_cmp c.rows.lent id) (λ (id : ℕ). contains nat_cmp c.take_turn.new.lent id) _
+    c.in_order-row-items.ensures.forest c.in-Some.ensures.steps c.in_ok-take_turn.ensures.lent c.in_ok-take_turn.ensures.ready c.rows.invariant.passed in
+    record {
+      passed = step.0;
+      ids = walk_passed (is_ready own c.args.busy.now rows) c.rows.bound row c.next.new.self c.rows.row-iterator c.rows.ids.items _
+          (ap (less_urgent c.rows.bound) (sym same) ∙ (sym c.is_beyond.ensures ∙ c.if-is_beyond.false)) (step.1 ∙ c.if-branch.false) c.in-Some.ensures.steps c.rows.invariant.ids;
+    }
