@@ -1,4 +1,4 @@
-use Rattle.std.proofs.Common.{◌≡◌, ◌≢◌, ℕ, ◌<◌, ◌==◌, zero, suc, Bool, true, false, not, cond, Option, Some, None, List, [], ◌∷◌, ◌++◌, filter, refl, ap, sym, ◌∙◌, arith, subst}
+use Rattle.std.proofs.Common.{◌≡◌, ◌≢◌, ℕ, ◌+◌, ◌<◌, ◌==◌, zero, suc, Bool, true, false, not, cond, Option, Some, None, List, [], ◌∷◌, ◌++◌, length, length-append, filter, refl, ap, sym, ◌∙◌, arith, subst}
 use Rattle.std.proofs.lemmas.Bool.Decides.{nat_tests}
 use Rattle.std.specs.Prelude.{slice_index_or, slice_set}
 use Rattle.std.specs.List.{AllByRecursion, cons_option}
@@ -107,6 +107,9 @@ pushed s t key r es fs h free u above e =
       };
       rows_are = rows_at-end t r.id key r es u.changed ∙ ap (λ (xs : List Row). xs ++ r ∷ []) same.0;
     })
+
+pub longer : (s : Slab Row) (id key : ℕ) (es fs : List (ℕ × ℕ)) → AllByRecursion (Names s) es → AllByRecursion (λ q. q.id < id) (rows_at s es) → fs ≡ insert_entry nat_cmp es id key → length fs ≡ length es + 1
+longer s id key es fs h above e = rw (e ∙ insert-end id key es (all_ids s id es h above)) (length-append es ((id, key) ∷ []))
 
 pub both : (s t u : Slab Row) (key : ℕ) (v w : Option Row) → Updates s t key v → Updates t u key w → Updates s u key w
 both s t u key v w a b = record { changed = b.changed; others = λ o n. b.others o n ∙ a.others o n }
@@ -220,6 +223,14 @@ all_above s t id key (e ∷ es) k u n h =
       ap (λ (o : Option Row). cons_option o (rows_at t es)) kept ∙ (ap (λ (xs : List Row). w.0 ∷ xs) rest.0 ∙ sym (ap (λ (o : Option Row). filter (λ r. not (has_id id r)) (cons_option o (rows_at s es))) w.1 ∙ keeps)),
       (rw kept (ap (λ (m : ℕ). Some m) w.2), rest.1),
     )
+
+shorter_by : (key : ℕ) (e : ℕ × ℕ) (es fs : List (ℕ × ℕ)) (o : Option ℕ) (b : Bool) → (o ≡ Some key → length fs + 1 ≡ length es) → cond b (Some e.1) o ≡ Some key → length (cond b es (e ∷ fs)) + 1 ≡ length es + 1
+shorter_by key e es fs o true ih h = refl
+shorter_by key e es fs o false ih h = omega (arith, ih h)
+
+pub shorter : (id key : ℕ) (es : List (ℕ × ℕ)) → lookup (at_id id) es ≡ Some key → length (remove_entry (at_id id) es) + 1 ≡ length es
+shorter id key [] h = let never : None ≡ Some key = h in cc
+shorter id key (e ∷ es) h = omega (arith, shorter_by key e es (remove_entry (at_id id) es) (lookup (at_id id) es) (at_id id e.0) (shorter id key es) h)
 
 pub record Left (s t : Slab Row) (id : ℕ) (es fs : List (ℕ × ℕ)) : Type 0 where
   pub rows_are : rows_at t fs ≡ filter (λ r. not (has_id id r)) (rows_at s es)

@@ -1,10 +1,10 @@
 -- Rows in slots with their times beside them: what an edit of both leaves.
-use Rattle.std.proofs.Common.{◌≡◌, ℕ, ◌+◌, ◌<◌, ◌≤◌, ◌^◌, true, not, Some, List, [], ◌∷◌, ◌++◌, length, refl, ap, sym, ◌∙◌, subst, arith}
-use Rattle.std.specs.List.{AllByRecursion, list_any}
+use Rattle.std.proofs.Common.{◌≡◌, ℕ, zero, suc, cond, Option, is_some, count_by, slice_set, slice_index_or, None, ◌+◌, ◌<◌, ◌≤◌, ◌^◌, true, not, Some, List, [], ◌∷◌, ◌++◌, length, refl, ap, sym, ◌∙◌, subst, arith}
+use Rattle.std.specs.List.{AllByRecursion, list_any, fold}
 use Rattle.std.specs.Map.{lookup}
 use Rattle.std.specs.Option.{option_map}
 use Rattle.std.specs.Ordering.{is_eq}
-use Rattle.slab.specs.Slab.{Slab, get, with_value}
+use Rattle.slab.specs.Slab.{Slab, get, with_value, slab_len}
 use Rattle.source_rows.specs.declared.row.Row.{Row}
 use Rattle.source_rows.specs.Inserted.{inserted, Rises}
 use Rattle.source_rows.specs.Rows.{row_of}
@@ -55,18 +55,30 @@ few_before s es ts id h below =
     omega (arith, many, most)
 
 pub pushed_timed : (s t : Slab Row) (r : Row) (es fs : List (ℕ × ℕ)) (ts us : List Time × ℕ) → IsTimed s es ts → Pushed t es fs (rows_at s es ++ r ∷ []) → AllByRecursion (λ q. q.id < r.id) (rows_at s es)
-    → r.id < 2 ^ 63 → us.0 ≡ inserted is_sooner (r.ready, r.id) ts.0 → us.1 ≤ length us.0 → IsTimed t fs us
-pushed_timed s t r es fs ts us h p above small e low = record {
+    → r.id < 2 ^ 63 → us.0 ≡ inserted is_sooner (r.ready, r.id) ts.0 → us.1 ≤ length us.0 → slab_len t ≡ slab_len s + 1 → length fs ≡ length es + 1 → IsTimed t fs us
+pushed_timed s t r es fs ts us h p above small e low more longer = record {
   table = p.table;
+  full = omega (arith, h.full, more, longer);
   few = let one = ap (λ (l : List Time). length l) e ∙ length_inserted is_sooner (r.ready, r.id) ts.0 in let before = few_before s es ts r.id h above in omega (arith, one, before, small);
   low = low;
   times_are = e ∙ (ap (inserted is_sooner (time_of r)) h.times_are ∙ (sym (in_time-push (rows_at s es) r above) ∙ ap in_time (sym p.rows_are)));
 }
 
-pub same_timed : (s t : Slab Row) (es fs : List (ℕ × ℕ)) (ts : List Time × ℕ) → IsTimed s es ts → Pushed t es fs (rows_at s es) → IsTimed t fs ts
-same_timed s t es fs ts h p = record { table = p.table; times_are = h.times_are ∙ ap in_time (sym p.rows_are); few = h.few; low = h.low }
+pub same_timed : (s t : Slab Row) (es fs : List (ℕ × ℕ)) (ts : List Time × ℕ) → IsTimed s es ts → Pushed t es fs (rows_at s es) → slab_len t ≡ slab_len s → length fs ≡ length es → IsTimed t fs ts
+same_timed s t es fs ts h p same even = record { table = p.table; full = omega (arith, h.full, same, even); times_are = h.times_are ∙ ap in_time (sym p.rows_are); few = h.few; low = h.low }
 
 -- ---- a row put in the place of another
+
+abbrev counted : ℕ → List (Option Row) → ℕ
+counted n xs = fold (λ a x. a + cond (is_some x) 1 0) n xs
+
+put_from : (n : ℕ) (xs : List (Option Row)) (key : ℕ) (old row : Row) → slice_index_or xs key None ≡ Some old → counted n (slice_set xs key (Some row)) ≡ counted n xs
+put_from n [] key old row g = cc
+put_from n (x ∷ xs) zero old row g = rw g refl
+put_from n (x ∷ xs) (suc key) old row g = put_from (n + cond (is_some x) 1 0) xs key old row g
+
+put_full : (xs : List (Option Row)) (key : ℕ) (old row : Row) → slice_index_or xs key None ≡ Some old → count_by is_some (slice_set xs key (Some row)) ≡ count_by is_some xs
+put_full xs key old row g = put_from 0 xs key old row g
 
 pub there_timed : (s : Slab Row) (key id : ℕ) (old : Row) (es : List (ℕ × ℕ)) (ts : List Time × ℕ) → IsTimed s es ts → lookup (at_id id) es ≡ Some key → get s key ≡ Some old → list_any (λ u. is_eq (time_cmp (old.ready, id) u)) ts.0 ≡ true
 there_timed s key id old es ts h l g =
@@ -86,6 +98,7 @@ put_timed s key row old es ts us h l g e low =
     let rest : without (old.ready, row.id) ts.0 ≡ without (time_of old) (in_time (rows_at s es)) = ap (without (old.ready, row.id)) h.times_are ∙ ap (λ (n : ℕ). without (old.ready, n) (in_time (rows_at s es))) (sym w.1) in
     record {
       table = done.table;
+      full = put_full s.slots key old row g ∙ h.full;
       few = omega (arith, one, less, few);
       low = low;
       times_are = e ∙ (ap (inserted is_sooner (time_of row)) rest ∙ (sym (in_time-changed row old (rows_at s es) rising w.0) ∙ ap in_time (sym done.rows_are)));
@@ -97,6 +110,7 @@ kept_timed s key row old es ts h l g e =
     let done = put_done s key row es h.table l in
     record {
       table = done.table;
+      full = put_full s.slots key old row g ∙ h.full;
       few = h.few;
       low = h.low;
       times_are = h.times_are ∙ (sym (in_time-same row old (rows_at s es) (rises_rows_at s es h.table) w.0 e) ∙ ap in_time (sym done.rows_are));
@@ -104,8 +118,8 @@ kept_timed s key row old es ts h l g e =
 
 -- ---- a row taken away
 
-pub left_timed : (s t : Slab Row) (id key : ℕ) (r : Row) (es fs : List (ℕ × ℕ)) (ts us : List Time × ℕ) → IsTimed s es ts → Left s t id es fs → lookup (at_id id) es ≡ Some key → get s key ≡ Some r → us.0 ≡ without (r.ready, id) ts.0 → us.1 ≤ length us.0 → IsTimed t fs us
-left_timed s t id key r es fs ts us h k l g e low =
+pub left_timed : (s t : Slab Row) (id key : ℕ) (r : Row) (es fs : List (ℕ × ℕ)) (ts us : List Time × ℕ) → IsTimed s es ts → Left s t id es fs → lookup (at_id id) es ≡ Some key → get s key ≡ Some r → us.0 ≡ without (r.ready, id) ts.0 → us.1 ≤ length us.0 → slab_len t + 1 ≡ slab_len s → length fs + 1 ≡ length es → IsTimed t fs us
+left_timed s t id key r es fs ts us h k l g e low gone shorter =
     let w = in_slot s id key r es h.table l g in
     let less = ap (λ (l : List Time). length l) e in
     let fewer = length_filter (λ u. not (is_eq (time_cmp (r.ready, id) u))) ts.0 in
@@ -113,6 +127,7 @@ left_timed s t id key r es fs ts us h k l g e low =
     let rest : without (r.ready, id) ts.0 ≡ without (time_of r) (in_time (rows_at s es)) = ap (without (r.ready, id)) h.times_are ∙ ap (λ (n : ℕ). without (r.ready, n) (in_time (rows_at s es))) (sym w.1) in
     record {
       table = record { named = k.named; rising = k.rising };
+      full = omega (arith, h.full, gone, shorter);
       few = omega (arith, less, fewer, few);
       low = low;
       times_are = e ∙ (rest ∙ (sym (in_time-removed id r (rows_at s es) (rises_rows_at s es h.table) w.0) ∙ ap in_time (sym k.rows_are)));
