@@ -59,7 +59,7 @@ impl Context {
         }
         let mut least = None;
         'rows: for row in self.rows.in_order() {
-            if is_free(&row, busy) {
+            if is_free(row, busy) {
                 least = sooner(least, row.ready, now);
             }
         }
@@ -74,7 +74,7 @@ impl Context {
         ensures timeout { result.timeout_ms ≡ wait_of now busy.now self.now.rows.rows result.priority }
     {
         'rows: for row in self.rows.in_order() {
-            if calls(&row, &[], now, busy, view) {
+            if calls(row, &[], now, busy, view) {
                 return Prepared {
                     priority: Some(row.priority),
                     timeout_ms: 0,
@@ -98,7 +98,7 @@ impl Context {
     {
         let mut list = Vec::new(alloc);
         'rows: for row in self.rows.in_order() {
-            if let Some(interest) = interest(&row, prepared.priority, busy) {
+            if let Some(interest) = interest(row, prepared.priority, busy) {
                 list.push(interest)?;
             }
         }
@@ -120,7 +120,7 @@ impl Context {
             return Ok(list);
         }
         'rows: for row in self.rows.in_order() {
-            if let Some(interest) = interest(&row, least, busy) {
+            if let Some(interest) = interest(row, least, busy) {
                 if let Some(level) = level_at(levels, list.len()) {
                     list.push(Shown {
                         fd: interest.fd,
@@ -154,7 +154,7 @@ impl Context {
             if is_beyond(bound, row.priority) {
                 break;
             }
-            if take_turn(&mut lent, &row, polled, now, busy, view)? {
+            if take_turn(&mut lent, row, polled, now, busy, view)? {
                 bound = Some(row.priority);
                 ids.push(row.id)?;
             }

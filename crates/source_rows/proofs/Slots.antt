@@ -10,8 +10,8 @@ use Rattle.std.specs.Map.{remove_entry, lookup}
 use Rattle.slab.specs.Slab.{Slab, get, Updates, with_value}
 use Rattle.source_rows.specs.declared.row.Row.{Row}
 use Rattle.source_rows.specs.Rows.{row_of, has_id, changed}
-use Rattle.source_rows.specs.Slots.{rows_at, Names, Rising, IsTable}
-use Rattle.source_rows.proofs.Compared.{are_same, not_same, are_not, some_same}
+use Rattle.source_rows.specs.Slots.{rows_at, Names, Rising, IsTable, AllNamed}
+use Rattle.source_rows.proofs.Compared.{are_same, not_same, are_not, some_same, same_self, apart_above}
 use Rattle.source_rows.proofs.Lists.{all_of, all_push, pairs_push, cons_join}
 
 abbrev pub id_of : Row → ℕ
@@ -268,3 +268,73 @@ left_by s t id key e es k u n r ih false f =
 pub left : (s t : Slab Row) (id key : ℕ) (es : List (ℕ × ℕ)) → option_map id_of (get s key) ≡ Some id → Updates s t key None → AllByRecursion (Names s) es → Rising es → Left s t id es (remove_entry (at_id id) es)
 left s t id key [] k u n r = record { rows_are = refl; named = tt; rising = tt; lower = λ m h. tt }
 left s t id key (e ∷ es) k u n r = left_by s t id key e es k u n r (left s t id key es k u n.1 r.1) (at_id id e.0) refl
+
+-- ---- the id of the row in a slot
+
+same_row : (a b : Row) → Some a ≡ Some b → a ≡ b
+same_row a b h = cc
+
+first_by : (id key : ℕ) (e x : ℕ × ℕ) (es : List (ℕ × ℕ)) → (lookup (at_id id) es ≡ Some key → lookup (at_id id) (es ++ e ∷ []) ≡ Some key) → (b : Bool)
+    → cond b (Some x.1) (lookup (at_id id) es) ≡ Some key → cond b (Some x.1) (lookup (at_id id) (es ++ e ∷ [])) ≡ Some key
+first_by id key e x es ih true k = k
+first_by id key e x es ih false k = ih k
+
+first_in : (id key : ℕ) (e : ℕ × ℕ) (es : List (ℕ × ℕ)) → lookup (at_id id) es ≡ Some key → lookup (at_id id) (es ++ e ∷ []) ≡ Some key
+first_in id key e [] h = let never : None ≡ Some key = h in cc
+first_in id key e (x ∷ es) h = first_by id key e x es (first_in id key e es) (at_id id x.0) h
+
+last_in : (id key : ℕ) (es : List (ℕ × ℕ)) → AllByRecursion (λ e. e.0 < id) es → lookup (at_id id) (es ++ (id, key) ∷ []) ≡ Some key
+last_in id key [] h = rw (tests id id ∙ same_self id) refl
+last_in id key (x ∷ es) h = rw (tests id x.0 ∙ apart_above x.0 id h.0) (last_in id key es h.1)
+
+pub back-same : (s t : Slab Row) (es fs : List (ℕ × ℕ)) → AllNamed s es → ((k : ℕ) → get t k ≡ get s k) → fs ≡ es → AllNamed t fs
+back-same s t es fs b same e k r g = rw e (b k r (sym (same k) ∙ g))
+
+pub back-pushed : (s t : Slab Row) (key : ℕ) (row : Row) (es fs : List (ℕ × ℕ)) → IsTable s es → AllNamed s es → Updates s t key (Some row) → AllByRecursion (λ q. q.id < row.id) (rows_at s es) → fs ≡ insert_entry nat_cmp es row.id key → AllNamed t fs
+back-pushed s t key row es fs h b u above e k r g = rw is (by_test (k == key) refl)
+  where
+    ids : AllByRecursion (λ e. e.0 < row.id) es
+    ids = all_ids s row.id es h.named above
+    is : fs ≡ es ++ (row.id, key) ∷ []
+    is = e ∙ insert-end row.id key es ids
+    by_test : (v : Bool) → (k == key) ≡ v → lookup (at_id r.id) (es ++ (row.id, key) ∷ []) ≡ Some k
+    by_test true f =
+        let same : k ≡ key = are_same k key f in
+        let one : row ≡ r = same_row row r (sym u.changed ∙ (ap (get t) (sym same) ∙ g)) in
+        subst (λ (x : Row). lookup (at_id x.id) (es ++ (row.id, key) ∷ []) ≡ Some k) one (last_in row.id key es ids ∙ ap (λ (n : ℕ). Some n) (sym same))
+    by_test false f = first_in r.id k (row.id, key) es (b k r (sym (u.others k (are_not k key f)) ∙ g))
+
+pub back-undone : (s t u : Slab Row) (key : ℕ) (v : Option Row) (es fs : List (ℕ × ℕ)) → AllNamed s es → get s key ≡ None → Updates s t key v → Updates t u key None → fs ≡ es → AllNamed u fs
+back-undone s t u key v es fs b free x y e = back-same s u es fs b (λ k. by_test k (k == key) refl) e
+  where
+    by_test : (k : ℕ) (w : Bool) → (k == key) ≡ w → get u k ≡ get s k
+    by_test k true f = let same : k ≡ key = are_same k key f in rw same (y.changed ∙ sym free)
+    by_test k false f = (both s t u key v None x y).others k (are_not k key f)
+
+pub back-put : (s : Slab Row) (key : ℕ) (row : Row) (es : List (ℕ × ℕ)) → IsTable s es → AllNamed s es → lookup (at_id row.id) es ≡ Some key → AllNamed (with_value s key row) es
+back-put s key row es h b l k r g = by_test (k == key) refl
+  where
+    u : Updates s (with_value s key row) key (Some row)
+    u = put_updates s key row.id row (looked s row.id key es h.named l)
+    by_test : (v : Bool) → (k == key) ≡ v → lookup (at_id r.id) es ≡ Some k
+    by_test true f =
+        let same : k ≡ key = are_same k key f in
+        let one : row ≡ r = same_row row r (sym u.changed ∙ (ap (get (with_value s key row)) (sym same) ∙ g)) in
+        subst (λ (x : Row). lookup (at_id x.id) es ≡ Some k) one (l ∙ ap (λ (n : ℕ). Some n) (sym same))
+    by_test false f = b k r (sym (u.others k (are_not k key f)) ∙ g)
+
+pub back-left : (s t : Slab Row) (id key : ℕ) (es fs : List (ℕ × ℕ)) → AllNamed s es → Updates s t key None → lookup (at_id id) es ≡ Some key → ((q : ℕ) → lookup (at_id q) fs ≡ cond (at_id id q) None (lookup (at_id q) es)) → AllNamed t fs
+back-left s t id key es fs b u l gone k r g = by_test (k == key) refl
+  where
+    by_id : lookup (at_id r.id) es ≡ Some k → (k ≡ key → ⊥) → (v : Bool) → at_id id r.id ≡ v → cond v None (lookup (at_id r.id) es) ≡ Some k
+    by_id e apart true f =
+        let same : r.id ≡ id = are_same r.id id (sym (tests id r.id) ∙ f) in
+        absurd (apart (some_same k key (sym (ap (λ (n : ℕ). lookup (at_id n) es) (sym same) ∙ e) ∙ l)))
+    by_id e apart false f = e
+    by_test : (v : Bool) → (k == key) ≡ v → lookup (at_id r.id) fs ≡ Some k
+    by_test true f =
+        let same : k ≡ key = are_same k key f in
+        let never : None ≡ Some r = sym u.changed ∙ (ap (get t) (sym same) ∙ g) in cc
+    by_test false f =
+        let apart = are_not k key f in
+        gone r.id ∙ by_id (b k r (sym (u.others k apart) ∙ g)) apart (at_id id r.id) refl

@@ -8,14 +8,14 @@ use Rattle.slab.specs.Slab.{Slab, get, with_value, slab_len}
 use Rattle.source_rows.specs.declared.row.Row.{Row}
 use Rattle.source_rows.specs.Inserted.{inserted, Rises}
 use Rattle.source_rows.specs.Rows.{row_of}
-use Rattle.source_rows.specs.Slots.{rows_at, IsTable, IsTimed}
+use Rattle.source_rows.specs.Slots.{rows_at, IsTable, IsTimed, AllNamed}
 use Rattle.source_rows.specs.Times.{Time, time_cmp, is_sooner, without, time_of, in_time}
 use Rattle.source_rows.specs.Tree.{IdsRise}
 use Rattle.source_rows.proofs.Compared.{some_same}
 use Rattle.source_rows.proofs.Lists.{all_of}
 use Rattle.source_rows.proofs.TimeTree.{length_inserted, length_filter, length_without}
 use Rattle.source_rows.proofs.InTime.{rises_in_time, rises_rows_at, in_time-push, in_time-removed, in_time-changed, in_time-same, timed}
-use Rattle.source_rows.proofs.Slots.{at_id, at_key, row_is, looked, put_done, Left, Pushed, id_of}
+use Rattle.source_rows.proofs.Slots.{at_id, at_key, row_is, looked, put_done, Left, Pushed, id_of, back-put}
 
 pub rises_times : (s : Slab Row) (es : List (ℕ × ℕ)) (ts : List Time × ℕ) → IsTimed s es ts → Rises is_sooner ts.0
 rises_times s es ts h = rw h.times_are (rises_in_time (rows_at s es) (rises_rows_at s es h.table))
@@ -54,18 +54,19 @@ few_before s es ts id h below =
     let most = rising_length 0 id rows (rises_rows_at s es h.table) (all_from rows) below (omega arith) in
     omega (arith, many, most)
 
-pub pushed_timed : (s t : Slab Row) (r : Row) (es fs : List (ℕ × ℕ)) (ts us : List Time × ℕ) → IsTimed s es ts → Pushed t es fs (rows_at s es ++ r ∷ []) → AllByRecursion (λ q. q.id < r.id) (rows_at s es)
+pub pushed_timed : (s t : Slab Row) (r : Row) (es fs : List (ℕ × ℕ)) (ts us : List Time × ℕ) → IsTimed s es ts → AllNamed t fs → Pushed t es fs (rows_at s es ++ r ∷ []) → AllByRecursion (λ q. q.id < r.id) (rows_at s es)
     → r.id < 2 ^ 63 → us.0 ≡ inserted is_sooner (r.ready, r.id) ts.0 → us.1 ≤ length us.0 → slab_len t ≡ slab_len s + 1 → length fs ≡ length es + 1 → IsTimed t fs us
-pushed_timed s t r es fs ts us h p above small e low more longer = record {
+pushed_timed s t r es fs ts us h b p above small e low more longer = record {
   table = p.table;
+  back = b;
   full = omega (arith, h.full, more, longer);
   few = let one = ap (λ (l : List Time). length l) e ∙ length_inserted is_sooner (r.ready, r.id) ts.0 in let before = few_before s es ts r.id h above in omega (arith, one, before, small);
   low = low;
   times_are = e ∙ (ap (inserted is_sooner (time_of r)) h.times_are ∙ (sym (in_time-push (rows_at s es) r above) ∙ ap in_time (sym p.rows_are)));
 }
 
-pub same_timed : (s t : Slab Row) (es fs : List (ℕ × ℕ)) (ts : List Time × ℕ) → IsTimed s es ts → Pushed t es fs (rows_at s es) → slab_len t ≡ slab_len s → length fs ≡ length es → IsTimed t fs ts
-same_timed s t es fs ts h p same even = record { table = p.table; full = omega (arith, h.full, same, even); times_are = h.times_are ∙ ap in_time (sym p.rows_are); few = h.few; low = h.low }
+pub same_timed : (s t : Slab Row) (es fs : List (ℕ × ℕ)) (ts : List Time × ℕ) → IsTimed s es ts → AllNamed t fs → Pushed t es fs (rows_at s es) → slab_len t ≡ slab_len s → length fs ≡ length es → IsTimed t fs ts
+same_timed s t es fs ts h b p same even = record { table = p.table; back = b; full = omega (arith, h.full, same, even); times_are = h.times_are ∙ ap in_time (sym p.rows_are); few = h.few; low = h.low }
 
 -- ---- a row put in the place of another
 
@@ -98,6 +99,7 @@ put_timed s key row old es ts us h l g e low =
     let rest : without (old.ready, row.id) ts.0 ≡ without (time_of old) (in_time (rows_at s es)) = ap (without (old.ready, row.id)) h.times_are ∙ ap (λ (n : ℕ). without (old.ready, n) (in_time (rows_at s es))) (sym w.1) in
     record {
       table = done.table;
+      back = back-put s key row es h.table h.back l;
       full = put_full s.slots key old row g ∙ h.full;
       few = omega (arith, one, less, few);
       low = low;
@@ -110,6 +112,7 @@ kept_timed s key row old es ts h l g e =
     let done = put_done s key row es h.table l in
     record {
       table = done.table;
+      back = back-put s key row es h.table h.back l;
       full = put_full s.slots key old row g ∙ h.full;
       few = h.few;
       low = h.low;
@@ -118,8 +121,8 @@ kept_timed s key row old es ts h l g e =
 
 -- ---- a row taken away
 
-pub left_timed : (s t : Slab Row) (id key : ℕ) (r : Row) (es fs : List (ℕ × ℕ)) (ts us : List Time × ℕ) → IsTimed s es ts → Left s t id es fs → lookup (at_id id) es ≡ Some key → get s key ≡ Some r → us.0 ≡ without (r.ready, id) ts.0 → us.1 ≤ length us.0 → slab_len t + 1 ≡ slab_len s → length fs + 1 ≡ length es → IsTimed t fs us
-left_timed s t id key r es fs ts us h k l g e low gone shorter =
+pub left_timed : (s t : Slab Row) (id key : ℕ) (r : Row) (es fs : List (ℕ × ℕ)) (ts us : List Time × ℕ) → IsTimed s es ts → AllNamed t fs → Left s t id es fs → lookup (at_id id) es ≡ Some key → get s key ≡ Some r → us.0 ≡ without (r.ready, id) ts.0 → us.1 ≤ length us.0 → slab_len t + 1 ≡ slab_len s → length fs + 1 ≡ length es → IsTimed t fs us
+left_timed s t id key r es fs ts us h b k l g e low gone shorter =
     let w = in_slot s id key r es h.table l g in
     let less = ap (λ (l : List Time). length l) e in
     let fewer = length_filter (λ u. not (is_eq (time_cmp (r.ready, id) u))) ts.0 in
@@ -127,6 +130,7 @@ left_timed s t id key r es fs ts us h k l g e low gone shorter =
     let rest : without (r.ready, id) ts.0 ≡ without (time_of r) (in_time (rows_at s es)) = ap (without (r.ready, id)) h.times_are ∙ ap (λ (n : ℕ). without (r.ready, n) (in_time (rows_at s es))) (sym w.1) in
     record {
       table = record { named = k.named; rising = k.rising };
+      back = b;
       full = omega (arith, h.full, gone, shorter);
       few = omega (arith, less, fewer, few);
       low = low;

@@ -40,14 +40,14 @@ impl<'a> InOrder<'a> {
 }
 
 impl<'a> Iterator for InOrder<'a> {
-    type Item = Row;
+    type Item = &'a Row;
 
-    ghost next_gives = { TakesFirst (λ r. r) };
+    ghost next_gives = { TakesFirst (λ r. r.now) };
 
     ghost remaining = { λ s. at_most (length s) };
 
-    fn next(&mut self) -> Option<Row> {
+    fn next(&mut self) -> Option<&'a Row> {
         let id = self.ids.next()?;
-        self.table.row(*id)
+        self.table.found(*id)
     }
 }

@@ -5,6 +5,7 @@
 #![tactic(auto)]
 
 mod fault;
+mod guesses;
 mod in_order;
 mod laws;
 mod levels;

@@ -1,6 +1,7 @@
 //! The rows of a context, and the calls that edit them.
 ghost use Rattle.std.specs.Prelude.{[], map, ◌≡◌, ◌≤◌, ◌<◌, ◌^◌, ◌+◌, ◌⊎◌, IfOk, OnOk, IfErr, OnErr, IfSome, Some, None, is_some, option_map};
 ghost use Rattle.std.specs.List.{AllByRecursion};
+ghost use Rattle.std.specs.Borrow.{Bor};
 ghost use Rattle.std.specs.Map.Iter.{ShowsInOrder};
 ghost use Rattle.source_rows.specs.New.{IsNew};
 ghost use Rattle.source_rows.specs.declared.row.Row.{Row};
@@ -262,7 +263,7 @@ impl Rows {
         ensures one_tree { IsOneTree self.now.rows }
         ensures levels { AllByRecursion (λ r. r.level ≤ self.now.levels) self.now.rows }
         ensures ids { AllByRecursion (λ r. r.id < self.now.next_id) self.now.rows }
-        ensures runs { ShowsInOrder {A = Row} {X = Row} (λ r. r) }
+        ensures runs { ShowsInOrder (λ (r : Bor Row). r.now) }
     {
         InOrder::new(self.order.values(), &self.table)
     }

@@ -1,8 +1,14 @@
 //! Rows by their ids.
 ghost use Rattle.std.specs.Prelude.{◌≡◌, ◌<◌, ◌≤◌, ◌^◌, ◌++◌, ◌∷◌, [], OnOk, OnErr, is_some, IsSome, filter, not};
 ghost use Rattle.std.specs.List.{AllByRecursion};
+ghost use Rattle.std.specs.Map.{lookup};
+ghost use Rattle.std.specs.Option.{option_copied};
+ghost use Rattle.std.specs.Ordering.{nat_cmp};
+ghost use Rattle.std.specs.BTreeMap.{is_at};
 ghost use Rattle.source_rows.specs.Rows.{row_of, has_id, changed, next_ready};
+ghost use Rattle.source_rows.specs.Slots.{AllNamed};
 
+use crate::guesses::Guesses;
 use crate::row::Row;
 use crate::times::{Place, Times};
 use slab::Slab;
@@ -15,6 +21,7 @@ use std::marker::Model;
 pub(crate) struct Table {
     slots: Slab<Row>,
     keys: BTreeMap<u64, usize>,
+    guesses: Guesses,
     times: Times,
     alloc: Global,
 }
@@ -32,6 +39,26 @@ impl Model for Table {
     ghost invariant = { λ t. IsTimed t.slots t.keys.entries t.times };
 }
 
+/// The slot of an id, from a guess where that is right.
+fn slot_of(
+    slots: &Slab<Row>,
+    keys: &BTreeMap<u64, usize>,
+    guesses: &Guesses,
+    id: u64,
+) -> Option<usize>
+    requires { AllNamed slots.now keys.now.entries }
+    ensures { result ≡ lookup (is_at (nat_cmp id)) keys.now.entries }
+{
+    if let Some(slot) = guesses.slot(id) {
+        if let Some(row) = slots.get(slot) {
+            if row.id == id {
+                return Some(slot);
+            }
+        }
+    }
+    keys.get(&id).copied()
+}
+
 impl Table {
     pub fn new(alloc: Global) -> Self
         ensures { result ≡ [] }
@@ -39,8 +66,19 @@ impl Table {
         Table {
             slots: Slab::new(alloc),
             keys: BTreeMap::new(alloc),
+            guesses: Guesses::new(alloc),
             times: Times::new(),
             alloc,
+        }
+    }
+
+    /// The row of an id, lent.
+    pub fn found(&self, id: u64) -> Option<&Row>
+        ensures { option_copied result ≡ row_of id self.now }
+    {
+        match slot_of(&self.slots, &self.keys, &self.guesses, id) {
+            None => None,
+            Some(key) => self.slots.get(key),
         }
     }
 
@@ -48,10 +86,7 @@ impl Table {
     pub fn row(&self, id: u64) -> Option<Row>
         ensures { result ≡ row_of id self.now }
     {
-        match self.keys.get(&id) {
-            None => None,
-            Some(key) => self.slots.get(*key).copied(),
-        }
+        self.found(id).copied()
     }
 
     /// The least ready time above `now`.
@@ -77,9 +112,11 @@ impl Table {
     {
         let place = Place::new(self.alloc)?;
         self.slots.reserve(1)?;
+        self.guesses.make_room(self.alloc, &self.slots)?;
         let key = self.slots.insert_reserved(row);
         match self.keys.insert(row.id, key) {
             Ok(_) => {
+                self.guesses.note(&self.slots, row.id, key);
                 self.times.insert(place, (row.ready, row.id));
                 Ok(())
             }
@@ -95,8 +132,7 @@ impl Table {
         requires { IsSome (row_of row.id self.old) }
         ensures { self.new ≡ changed row.id (λ _. row) self.old }
     {
-        if let Some(key) = self.keys.get(&row.id) {
-            let key = *key;
+        if let Some(key) = slot_of(&self.slots, &self.keys, &self.guesses, row.id) {
             if let Some(slot) = self.slots.get_mut(key) {
                 let before = slot.ready;
                 *slot = row;

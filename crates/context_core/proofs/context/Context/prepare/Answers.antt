@@ -17,8 +17,8 @@ returns-clause-priority c =
 pub returns-then-calls-clause-priority : goal.returns-then-calls-clause-priority
 returns-then-calls-clause-priority c =
     let own = own_ready (shown []) (in_view c.args.view.now) c.args.now in
-    let fits : SFits w32 c.in-Some.row.priority = search rules in
-    let same : to_z w32 (of_z w32 c.in-Some.row.priority) ≡ c.in-Some.row.priority = simp to_z-of_z in
+    let fits : SFits w32 c.in-Some.row.now.priority = search rules in
+    let same : to_z w32 (of_z w32 c.in-Some.row.now.priority) ≡ c.in-Some.row.now.priority = simp to_z-of_z in
     ap (λ (z : ℤ). Some z) same
     ∙ first_called own c.args.busy.now c.args.self.now.rows.rows c.in_order-row-items.ensures.forest c.in_order-row-items.ensures.one_tree _
-    (found_here (calls own c.args.busy.now) c.rows.row-iterator c.next.new.self (in_order c.args.self.now.rows.rows) c.in-Some.row (sym c.calls.ensures ∙ c.if-calls.true) c.in-Some.ensures.steps c.rows.invariant)
+    (found_here (calls own c.args.busy.now) c.rows.row-iterator c.next.new.self (in_order c.args.self.now.rows.rows) c.in-Some.row.now (sym c.calls.ensures ∙ c.if-calls.true) c.in-Some.ensures.steps c.rows.invariant)

@@ -13,7 +13,7 @@ pub rows-preserved-in-Continue-branch-2 : goal.rows-preserved-in-Continue-branch
 rows-preserved-in-Continue-branch-2 c =
     let own = own_ready (shown c.args.polled.now) (in_view c.args.view.now) c.args.now in
     let rows = c.args.self.now.rows.rows in
-    let row = c.in-Some.row in
+    let row = c.in-Some.row.now in
     let fits : SFits w32 row.priority = search rules in
     let same : to_z w32 (of_z w32 row.priority) ≡ row.priority = simp to_z-of_z in
     let step = stepped own c.args.busy.now rows c.rows.row-iterator c.next.new.self row (λ (id : ℕ). contains nat_cmp c.rows.lent id) (λ (id : ℕ). contains nat_cmp c.take_turn.new.lent id) _
@@ -29,7 +29,7 @@ pub rows-preserved : goal.rows-preserved
 rows-preserved c =
     let own = own_ready (shown c.args.polled.now) (in_view c.args.view.now) c.args.now in
     let rows = c.args.self.now.rows.rows in
-    let row = c.in-Some.row in
+    let row = c.in-Some.row.now in
     let fits : SFits w32 row.priority = search rules in
     let same : to_z w32 (of_z w32 row.priority) ≡ row.priority = simp to_z-of_z in
     let step = stepped own c.args.busy.now rows c.rows.row-iterator c.next.new.self row (λ (id : ℕ). contains nat_cmp c.rows.lent id) (λ (id : ℕ). contains nat_cmp c.take_turn.new.lent id) _

@@ -1,4 +1,5 @@
 use Rattle.std.proofs.Common.{ap, sym, ◌∙◌, subst}
+use Rattle.std.specs.Borrow.{Bor}
 use Rattle.std_collections.proofs.IterRuns.{shows_in_order}
 use Rattle.source_rows.specs.declared.row.Row.{Row}
 use Rattle.source_rows.specs.Rows.{RowSet, in_order}
@@ -23,4 +24,4 @@ pub returns-clause-one_tree : goal.returns-clause-one_tree
 returns-clause-one_tree c = subst (λ (s : RowSet). IsOneTree s.rows) c.self.view_is (one_tree c.self.inside.table c.self.invariant.sound.forest)
 
 pub returns-clause-runs : goal.returns-clause-runs
-returns-clause-runs c = shows_in_order (λ (r : Row). r)
+returns-clause-runs c = shows_in_order (λ (r : Bor Row). r.now)
