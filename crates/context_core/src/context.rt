@@ -97,6 +97,9 @@ impl Context {
         ensures { IfOk result (λ list. list.items ≡ interests prepared.now.priority busy.now self.now.rows.rows) }
     {
         let mut list = Vec::new(alloc);
+        if !self.rows.may_ask() {
+            return Ok(list);
+        }
         'rows: for row in self.rows.in_order() {
             if let Some(interest) = interest(row, prepared.priority, busy) {
                 list.push(interest)?;

@@ -1,11 +1,11 @@
 //! A lane's part of the text.
-ghost use Rattle.std.specs.Prelude.{◌≡◌, ◌++◌, string_bytes, OnOk, OnErr, IfOk};
+ghost use Rattle.std.specs.Prelude.{◌≡◌, ◌++◌, string_bytes, OnOk, OnErr};
 ghost use Rattle.mainctx.specs.Text.{line_text, lane_text};
 ghost use Rattle.mainctx.specs.Writing.{AddsFront};
 
 use crate::words::EventText;
 use lane_turn::Line;
-use std::alloc::{AllocError, Global};
+use std::alloc::AllocError;
 use thiserror::Error;
 
 /// A request for memory was refused.
@@ -19,13 +19,14 @@ impl From<AllocError> for OutOfMemory {
     }
 }
 
-/// A line and its newline.
-fn written_line(alloc: Global, line: Line) -> Result<String, AllocError>
-    ensures { IfOk result (λ text. string_bytes text ≡ line_text line) }
+/// Writes a line and its newline over a text.
+fn write_line(text: &mut String, line: Line) -> Result<(), AllocError>
+    ensures { OnOk result (string_bytes text.new ≡ line_text line) }
 {
+    text.clear();
     let tick = line.tick;
     let event = EventText(line.event);
-    format!(in alloc; "{tick} {event}\n")
+    write!(text, "{tick} {event}\n")
 }
 
 /// Adds a lane's part of the text to a list: the line `thread N`, and the lines of its trace. After `OutOfMemory` a
@@ -38,8 +39,9 @@ pub fn add_text(out: &mut Vec<u8>, lane: u32, lines: &[Line]) -> Result<(), OutO
     let alloc = *out.allocator();
     let heading = format!(in alloc; "thread {lane}\n")?;
     out.extend_from_slice(heading.as_bytes())?;
+    let mut text = String::new(alloc);
     for line in lines {
-        let text = written_line(alloc, *line)?;
+        write_line(&mut text, *line)?;
         out.extend_from_slice(text.as_bytes())?;
     }
     Ok(())

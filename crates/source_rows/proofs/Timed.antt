@@ -1,5 +1,6 @@
 -- Rows in slots with their times beside them: what an edit of both leaves.
-use Rattle.std.proofs.Common.{◌≡◌, ℕ, zero, suc, cond, Option, is_some, count_by, slice_set, slice_index_or, None, ◌+◌, ◌<◌, ◌≤◌, ◌^◌, true, not, Some, List, [], ◌∷◌, ◌++◌, length, refl, ap, sym, ◌∙◌, subst, arith}
+use Rattle.std.specs.Prelude.{filter_map}
+use Rattle.std.proofs.Common.{◌≡◌, Bool, ℕ, zero, suc, cond, Option, is_some, count_by, slice_set, slice_index_or, None, ◌+◌, ◌<◌, ◌≤◌, ◌^◌, true, not, Some, List, [], ◌∷◌, ◌++◌, length, refl, ap, sym, ◌∙◌, subst, arith}
 use Rattle.std.specs.List.{AllByRecursion, list_any, fold}
 use Rattle.std.specs.Map.{lookup}
 use Rattle.std.specs.Option.{option_map}
@@ -8,14 +9,14 @@ use Rattle.slab.specs.Slab.{Slab, get, with_value, slab_len}
 use Rattle.source_rows.specs.declared.row.Row.{Row}
 use Rattle.source_rows.specs.Inserted.{inserted, Rises}
 use Rattle.source_rows.specs.Rows.{row_of}
-use Rattle.source_rows.specs.Slots.{rows_at, IsTable, IsTimed, AllNamed}
+use Rattle.source_rows.specs.Slots.{rows_at, IsTable, IsTimed, AllNamed, IsHeld, Names}
 use Rattle.source_rows.specs.Times.{Time, time_cmp, is_sooner, without, time_of, in_time}
 use Rattle.source_rows.specs.Tree.{IdsRise}
 use Rattle.source_rows.proofs.Compared.{some_same}
 use Rattle.source_rows.proofs.Lists.{all_of}
 use Rattle.source_rows.proofs.TimeTree.{length_inserted, length_filter, length_without}
 use Rattle.source_rows.proofs.InTime.{rises_in_time, rises_rows_at, in_time-push, in_time-removed, in_time-changed, in_time-same, timed}
-use Rattle.source_rows.proofs.Slots.{at_id, at_key, row_is, looked, put_done, Left, Pushed, id_of, back-put}
+use Rattle.source_rows.proofs.Slots.{at_id, at_key, row_is, looked, put_done, Left, Pushed, id_of, back-put, back-same, same_get, may-same}
 
 pub rises_times : (s : Slab Row) (es : List (ℕ × ℕ)) (ts : List Time × ℕ) → IsTimed s es ts → Rises is_sooner ts.0
 rises_times s es ts h = rw h.times_are (rises_in_time (rows_at s es) (rises_rows_at s es h.table))
@@ -136,3 +137,21 @@ left_timed s t id key r es fs ts us h b k l g e low gone shorter =
       low = low;
       times_are = e ∙ (rest ∙ (sym (in_time-removed id r (rows_at s es) (rises_rows_at s es h.table) w.0) ∙ ap in_time (sym k.rows_are)));
     }
+
+-- ---- more room
+
+rows_same : (s t : Slab Row) (es : List (ℕ × ℕ)) → t.slots ≡ s.slots → rows_at t es ≡ rows_at s es
+rows_same s t es e = ap (λ (xs : List (Option Row)). filter_map (λ (p : ℕ × ℕ). slice_index_or xs p.1 None) es) e
+
+pub held_same : (s t : Slab Row) (es : List (ℕ × ℕ)) (ts : List Time × ℕ) (may : Bool) → t.slots ≡ s.slots → IsHeld s es ts may → IsHeld t es ts may
+held_same s t es ts may e h = record {
+  timed = record {
+    table = record { named = all_of (Names s) (Names t) (λ p n. ap (option_map id_of) (same_get s t e p.1) ∙ n) es h.timed.table.named; rising = h.timed.table.rising };
+    back = back-same s t es es h.timed.back (same_get s t e) refl;
+    full = ap (λ (xs : List (Option Row)). count_by is_some xs) e ∙ h.timed.full;
+    times_are = h.timed.times_are ∙ ap in_time (sym (rows_same s t es e));
+    few = h.timed.few;
+    low = h.timed.low;
+  };
+  quiet = may-same may (rows_at s es) (rows_at t es) h.quiet (rows_same s t es e);
+}

@@ -3,6 +3,7 @@ ghost use Rattle.std.specs.Prelude.{◌≡◌, ◌<◌, ◌≤◌, ◌^◌, leng
 ghost use Rattle.source_rows.specs.Rows.{key_of};
 ghost use Rattle.source_rows.specs.Band.{first_key, last_key};
 ghost use Rattle.source_rows.specs.Moves.{moved_row};
+ghost use Rattle.source_rows.specs.Slots.{asks};
 ghost use Rattle.source_rows.specs.Row.{ready_at, root_row, child_row, line_under, path_under};
 
 use loop_script::{Kind, SourceSpec};
@@ -37,6 +38,16 @@ pub struct Row {
 }
 
 impl Row {
+    /// Whether it is a source of a descriptor.
+    pub(crate) fn asks(&self) -> bool
+        ensures { result ≡ asks self.now.kind }
+    {
+        match self.kind {
+            Kind::Fd(_, _) => true,
+            _ => false,
+        }
+    }
+
     /// Where the row stands: by priority, and then by its path.
     pub(crate) fn key(&self) -> (i32, [u64; 4])
         ensures { result ≡ key_of self.now }

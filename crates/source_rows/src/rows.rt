@@ -4,6 +4,7 @@ ghost use Rattle.std.specs.List.{AllByRecursion};
 ghost use Rattle.std.specs.Borrow.{Bor};
 ghost use Rattle.std.specs.Map.Iter.{ShowsInOrder};
 ghost use Rattle.source_rows.specs.New.{IsNew};
+ghost use Rattle.source_rows.specs.Slots.{MayAsk};
 ghost use Rattle.source_rows.specs.declared.row.Row.{Row};
 ghost use Rattle.source_rows.specs.Tree.{IsForest, IsOneTree, HasPlace};
 ghost use Rattle.source_rows.specs.Rows.{no_rows, level_count, added, attached, child_added, child_fault, reprioritised, priority_fault, row_of, ready_set, counted, destroyed, in_order, next_ready};
@@ -207,6 +208,13 @@ impl Rows {
         move_rows(&mut self.table, &mut self.order, tree, moved)?;
         self.next_order += 1;
         Ok(())
+    }
+
+    /// Whether a row may be one of a descriptor; false only where none is.
+    pub fn may_ask(&self) -> bool
+        ensures { MayAsk result self.now.rows }
+    {
+        self.table.may_ask()
     }
 
     /// The least ready time above `now`, in microseconds; None where no row has one.

@@ -1,12 +1,12 @@
 //! Rows by their ids.
-ghost use Rattle.std.specs.Prelude.{◌≡◌, ◌<◌, ◌≤◌, ◌^◌, ◌++◌, ◌∷◌, [], OnOk, OnErr, is_some, IsSome, filter, not};
+ghost use Rattle.std.specs.Prelude.{◌≡◌, ◌<◌, ◌≤◌, ◌^◌, ◌++◌, ◌∷◌, [], OnOk, OnErr, is_some, IsSome, filter, not, ◌||◌};
 ghost use Rattle.std.specs.List.{AllByRecursion};
 ghost use Rattle.std.specs.Map.{lookup};
 ghost use Rattle.std.specs.Option.{option_copied};
 ghost use Rattle.std.specs.Ordering.{nat_cmp};
 ghost use Rattle.std.specs.BTreeMap.{is_at};
 ghost use Rattle.source_rows.specs.Rows.{row_of, has_id, changed, next_ready};
-ghost use Rattle.source_rows.specs.Slots.{AllNamed};
+ghost use Rattle.source_rows.specs.Slots.{AllNamed, MayAsk, asks};
 
 use crate::guesses::Guesses;
 use crate::row::Row;
@@ -23,6 +23,8 @@ pub(crate) struct Table {
     keys: BTreeMap<u64, usize>,
     guesses: Guesses,
     times: Times,
+    /// Whether a row may be one of a descriptor.
+    may_ask: bool,
     alloc: Global,
 }
 
@@ -32,11 +34,11 @@ impl Model for Table {
 
     ghost Value = { List Row };
 
-    ghost use Rattle.source_rows.specs.Slots.{rows_at, IsTimed};
+    ghost use Rattle.source_rows.specs.Slots.{rows_at, IsHeld};
 
     ghost view = { λ t. rows_at t.slots t.keys.entries };
 
-    ghost invariant = { λ t. IsTimed t.slots t.keys.entries t.times };
+    ghost invariant = { λ t. IsHeld t.slots t.keys.entries t.times t.may_ask };
 }
 
 /// The slot of an id, from a guess where that is right.
@@ -59,6 +61,13 @@ fn slot_of(
     keys.get(&id).copied()
 }
 
+/// Whether a row may be one of a descriptor, once there is this row too.
+fn may_ask_with(may: bool, row: &Row) -> bool
+    ensures { result ≡ (may || asks row.now.kind) }
+{
+    may || row.asks()
+}
+
 impl Table {
     pub fn new(alloc: Global) -> Self
         ensures { result ≡ [] }
@@ -68,6 +77,7 @@ impl Table {
             keys: BTreeMap::new(alloc),
             guesses: Guesses::new(alloc),
             times: Times::new(),
+            may_ask: false,
             alloc,
         }
     }
@@ -87,6 +97,13 @@ impl Table {
         ensures { result ≡ row_of id self.now }
     {
         self.found(id).copied()
+    }
+
+    /// Whether a row may be one of a descriptor; false only where none is.
+    pub fn may_ask(&self) -> bool
+        ensures { MayAsk result self.now }
+    {
+        self.may_ask
     }
 
     /// The least ready time above `now`.
@@ -117,6 +134,8 @@ impl Table {
         match self.keys.insert(row.id, key) {
             Ok(_) => {
                 self.guesses.note(&self.slots, row.id, key);
+                let may_ask = may_ask_with(self.may_ask, &row);
+                self.may_ask = may_ask;
                 self.times.insert(place, (row.ready, row.id));
                 Ok(())
             }
@@ -134,8 +153,10 @@ impl Table {
     {
         if let Some(key) = slot_of(&self.slots, &self.keys, &self.guesses, row.id) {
             if let Some(slot) = self.slots.get_mut(key) {
+                let may_ask = may_ask_with(self.may_ask, &row);
                 let before = slot.ready;
                 *slot = row;
+                self.may_ask = may_ask;
                 if before != row.ready {
                     self.times.change(row.id, before, row.ready);
                 }
