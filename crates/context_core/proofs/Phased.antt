@@ -6,16 +6,14 @@ use Rattle.std.specs.List.{find}
 use Rattle.source_rows.specs.Tree.{IsOneTree}
 use Rattle.context_core.specs.declared.interest.Shown.{Shown}
 use Rattle.context_core.specs.Ready.{own_ready, is_ready, selected}
-use Rattle.context_core.proofs.Cutoff.{cutoff}
+use Rattle.context_core.proofs.Cutoff.{cutoff, not_asked}
 use Rattle.source_rows.specs.declared.row.Row.{Row}
 use Rattle.source_rows.specs.Rows.{in_order}
 use Rattle.source_rows.specs.Slots.{asks}
 use Rattle.source_rows.proofs.Order.{all_in_order}
 use Rattle.std.specs.List.{AllByRecursion}
-use Rattle.loop_script.specs.declared.source.Kind.{Kind}
-use Rattle.loop_script.specs.declared.source.Kind.TheVariants.{Idle, Timeout, ReadyTime, Fd, Cancel}
 use Rattle.context_core.specs.declared.interest.Interest.{Interest}
-use Rattle.context_core.specs.Phases.{is_fd, is_asked, asked_rows, interest_of, interests, less_urgent, least_ready, levels_for, shown, handed, walk}
+use Rattle.context_core.specs.Phases.{is_asked, asked_rows, interest_of, interests, less_urgent, least_ready, levels_for, shown, handed, walk}
 
 some_number : (a b : ℕ) → Some a ≡ Some b → a ≡ b
 some_number a b e = cc
@@ -115,16 +113,9 @@ checked level cancelled now busy rows bound levels list tree b l h =
 
 -- ---- rows of which none is one of a descriptor
 
-not_fd : (k : Kind) → asks k ≡ false → is_fd k ≡ false
-not_fd Idle h = refl
-not_fd (Timeout ms) h = refl
-not_fd (ReadyTime us) h = refl
-not_fd (Fd fd bits) h = h
-not_fd (Cancel c) h = refl
-
 none_of : (least : Option ℤ) (busy : List ℕ) (rows : List Row) → AllByRecursion (λ r. asks r.kind ≡ false) rows → filter (is_asked least busy) rows ≡ []
 none_of least busy [] h = refl
-none_of least busy (r ∷ rows) h = rw (not_fd r.kind h.0) (none_of least busy rows h.1)
+none_of least busy (r ∷ rows) h = rw (not_asked least busy r h.0) (none_of least busy rows h.1)
 
 pub none_asked : (least : Option ℤ) (busy : List ℕ) (rows : List Row) → AllByRecursion (λ r. asks r.kind ≡ false) rows → interests least busy rows ≡ []
 none_asked least busy rows h = ap (map interest_of) (none_of least busy (in_order rows) (all_in_order (λ r. asks r.kind ≡ false) rows h))

@@ -4,7 +4,7 @@ use Rattle.std.proofs.lemmas.Int.{ints}
 use Rattle.std.proofs.lemmas.Bool.Decides.{nat_tests}
 use Rattle.std.specs.Prelude.{int_lt, IfSome, IsTrue}
 use Rattle.std.specs.List.{list_any}
-use Rattle.context_core.specs.Ready.{is_free}
+use Rattle.context_core.specs.Ready.{is_blocked, is_free}
 use Rattle.source_rows.specs.declared.row.Row.{Row}
 use Rattle.source_rows.specs.Rows.{in_order, placed, stands_before, sooner, next_ready}
 
@@ -118,3 +118,7 @@ all_free (r ∷ rows) = ap (λ (b : Bool). cond (not b) (r ∷ filter (is_free [
 pub none_if : (xs : List ℕ) → (length xs == 0) ≡ true → xs ≡ []
 none_if [] e = refl
 none_if (x ∷ xs) e = grind (arith, nat_tests, e)
+
+-- nothing is blocked where no call is in progress
+pub none_blocked : (busy : List ℕ) (r : Row) → (length busy == 0) ≡ true → is_blocked busy r ≡ false
+none_blocked busy r e = ap (λ (l : List ℕ). is_blocked l r) (none_if busy e) ∙ not_blocked r.line

@@ -66,6 +66,9 @@ fn is_listed(id: u64, busy: &[u64]) -> bool
 fn is_blocked(row: &Row, busy: &[u64]) -> bool
     ensures { result ≡ is_blocked busy.now row.now }
 {
+    if busy.is_empty() {
+        return false;
+    }
     row.line.iter().any(|id| is_listed(*id, busy))
 }
 

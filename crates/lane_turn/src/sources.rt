@@ -118,7 +118,7 @@ pub(crate) fn restart_in(context: &mut Option<Context>, id: u64, now: u64)
     ensures { context.new ≡ option_map (with_rows (restarted now id)) context.old }
 {
     if let Some(context) = context {
-        if let Some(row) = context.rows().row(id) {
+        if let Some(row) = context.rows().found(id) {
             if let Kind::Timeout(interval) = row.kind {
                 context.rows_mut().set_ready(id, due_after(interval, now));
             }

@@ -1,6 +1,7 @@
 //! The rows of a context, and the calls that edit them.
 ghost use Rattle.std.specs.Prelude.{[], map, ◌≡◌, ◌≤◌, ◌<◌, ◌^◌, ◌+◌, ◌⊎◌, IfOk, OnOk, IfErr, OnErr, IfSome, Some, None, is_some, option_map};
 ghost use Rattle.std.specs.List.{AllByRecursion};
+ghost use Rattle.std.specs.Option.{option_copied};
 ghost use Rattle.std.specs.Borrow.{Bor};
 ghost use Rattle.std.specs.Map.Iter.{ShowsInOrder};
 ghost use Rattle.source_rows.specs.New.{IsNew};
@@ -69,6 +70,13 @@ impl Rows {
         ensures { result ≡ row_of id self.now.rows }
     {
         self.table.row(id)
+    }
+
+    /// The row of an id, lent.
+    pub fn found(&self, id: u64) -> Option<&Row>
+        ensures { option_copied result ≡ row_of id self.now.rows }
+    {
+        self.table.found(id)
     }
 
     /// Puts a row behind the others, and into the order.
@@ -156,10 +164,10 @@ impl Rows {
         ensures row { result ≡ is_some (row_of id self.old.rows) }
         ensures rows { self.new ≡ ready_set id ready self.old }
     {
-        match self.table.row(id) {
+        match self.table.found(id) {
             None => false,
             Some(found) => {
-                let row = Row { ready, ..found };
+                let row = Row { ready, ..*found };
                 self.table.put(row);
                 true
             }
@@ -252,11 +260,11 @@ impl Rows {
         ensures count { result ≡ option_map (λ r. r.count + 1) (row_of id self.old.rows) }
         ensures rows { self.new ≡ counted id self.old }
     {
-        match self.table.row(id) {
+        match self.table.found(id) {
             None => None,
             Some(found) => {
                 let count = found.count + 1;
-                let row = Row { count, ..found };
+                let row = Row { count, ..*found };
                 self.table.put(row);
                 Some(count)
             }

@@ -1,6 +1,7 @@
 use Rattle.std.proofs.Common.{rules, ◌≡◌, ◌+◌, ap, sym, ◌∙◌, refl, Some, None, List, w32, w64}
 use Rattle.std.proofs.lemmas.Int.{to_z-of_z}
 use mir.Val.{SFits}
+use Rattle.std.specs.Option.{option_copied}
 use Rattle.source_rows.specs.declared.row.Row.{Row}
 use Rattle.source_rows.specs.Rows.{RowSet, row_of, changed, counted, level_count}
 use Rattle.source_rows.proofs.Edits.{Stays}
@@ -12,17 +13,17 @@ stays = record { key = λ r. refl; id = λ r. refl; level = λ r. refl; order = 
 
 pub put-requires : goal.put-requires
 put-requires c =
-    let is : row_of c.args.id c.self.inside.table ≡ Some c.in-Some.found = sym c.row.ensures ∙ c.in-Some.is in
-    let id = found_id c.args.id c.in-Some.found c.self.inside.table is in
+    let is : row_of c.args.id c.self.inside.table ≡ Some c.in-Some.found.now = sym c.found.ensures ∙ ap option_copied c.in-Some.is in
+    let id = found_id c.args.id c.in-Some.found.now c.self.inside.table is in
     rw (id, is) refl
 
 done : (c : goal.After-put) → c.put.new.self ≡ changed c.args.id (λ r. record r { count = r.count + 1 }) c.self.inside.table
 done c =
-    let is : row_of c.args.id c.self.inside.table ≡ Some c.in-Some.found = sym c.row.ensures ∙ c.in-Some.is in
-    let ready : SFits w64 c.in-Some.found.ready = search rules in
-    let priority : SFits w32 c.in-Some.found.priority = search rules in
+    let is : row_of c.args.id c.self.inside.table ≡ Some c.in-Some.found.now = sym c.found.ensures ∙ ap option_copied c.in-Some.is in
+    let ready : SFits w64 c.in-Some.found.now.ready = search rules in
+    let priority : SFits w32 c.in-Some.found.now.priority = search rules in
     let put = simp to_z-of_z at c.put.ensures in
-    put_one c.args.id c.in-Some.found (λ r. record r { count = r.count + 1 }) stays c.self.inside.table c.put.new.self c.self.invariant.sound.rising is put
+    put_one c.args.id c.in-Some.found.now (λ r. record r { count = r.count + 1 }) stays c.self.inside.table c.put.new.self c.self.invariant.sound.rising is put
 
 pub invariant_of-self : goal.invariant_of-self
 invariant_of-self c =
@@ -31,7 +32,7 @@ invariant_of-self c =
 
 pub returns-in-None-clause-rows : goal.returns-in-None-clause-rows
 returns-in-None-clause-rows c =
-    let gone : row_of c.args.id c.args.self.now.rows ≡ None = sym (ap (λ (s : RowSet). row_of c.args.id s.rows) c.self.view_is) ∙ (sym c.row.ensures ∙ c.in-None.is) in
+    let gone : row_of c.args.id c.args.self.now.rows ≡ None = sym (ap (λ (s : RowSet). row_of c.args.id s.rows) c.self.view_is) ∙ (sym c.found.ensures ∙ ap option_copied c.in-None.is) in
     ap (λ (rows : List Row). record c.args.self.now { rows = rows }) (sym (none_changed c.args.id (λ r. record r { count = r.count + 1 }) c.args.self.now.rows gone))
 
 pub returns-in-Some-clause-rows : goal.returns-in-Some-clause-rows
