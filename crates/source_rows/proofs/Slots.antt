@@ -295,8 +295,10 @@ back-pushed s t key row es fs h b u above e k r g = rw is (by_test (k == key) re
   where
     ids : AllByRecursion (λ e. e.0 < row.id) es
     ids = all_ids s row.id es h.named above
+
     is : fs ≡ es ++ (row.id, key) ∷ []
     is = e ∙ insert-end row.id key es ids
+
     by_test : (v : Bool) → (k == key) ≡ v → lookup (at_id r.id) (es ++ (row.id, key) ∷ []) ≡ Some k
     by_test true f =
         let same : k ≡ key = are_same k key f in
@@ -316,6 +318,7 @@ back-put s key row es h b l k r g = by_test (k == key) refl
   where
     u : Updates s (with_value s key row) key (Some row)
     u = put_updates s key row.id row (looked s row.id key es h.named l)
+
     by_test : (v : Bool) → (k == key) ≡ v → lookup (at_id r.id) es ≡ Some k
     by_test true f =
         let same : k ≡ key = are_same k key f in
@@ -331,6 +334,7 @@ back-left s t id key es fs b u l gone k r g = by_test (k == key) refl
         let same : r.id ≡ id = are_same r.id id (sym (tests id r.id) ∙ f) in
         absurd (apart (some_same k key (sym (ap (λ (n : ℕ). lookup (at_id n) es) (sym same) ∙ e) ∙ l)))
     by_id e apart false f = e
+
     by_test : (v : Bool) → (k == key) ≡ v → lookup (at_id r.id) fs ≡ Some k
     by_test true f =
         let same : k ≡ key = are_same k key f in
