@@ -1,6 +1,7 @@
 -- What the flat list of frames says of the boxes.
-use Rattle.std.proofs.Common.{◌≡◌, ◌≢◌, ℕ, zero, suc, ◌+◌, ◌-◌, ◌<◌, ◌≤◌, Bool, true, false, cond, Option, Some, None, List, [], ◌∷◌, ◌++◌, length, drop, reverse, slice_set, refl, sym, ap, ◌∙◌, subst, arith, ◌==◌, inl, inr, count_by, append-nil, ltb-false, OnOk, Result, Ok, Err}
+use Rattle.std.proofs.Common.{◌≡◌, ◌≢◌, ℕ, zero, suc, ◌+◌, ◌-◌, ◌<◌, ◌≤◌, Bool, true, false, cond, Option, Some, None, List, [], ◌∷◌, ◌++◌, length, drop, take, reverse, slice_set, refl, sym, ap, ◌∙◌, subst, arith, ◌==◌, inl, inr, count_by, append-nil, ltb-false, OnOk, IfOk, Vec, Global, Result, Ok, Err}
 use Rattle.std.specs.Prelude.{slice_get, filter_map, nat_lt}
+use Rattle.std.proofs.lemmas.Bool.{lt-ltb}
 use Rattle.std.proofs.lemmas.Bool.Decides.{eqb_tells}
 use Rattle.std.proofs.lemmas.List.{reverse-append, drop-drop}
 use Rattle.std.proofs.lemmas.List.{drop_all}
@@ -8,15 +9,20 @@ use Rattle.std.specs.List.{cons_option}
 use Rattle.std.proofs.lemmas.List.Sums.{sum_by-cons}
 use Rattle.std.proofs.lemmas.List.Elements.{filter_map-append}
 use Rattle.lane_turn.specs.declared.layer.Iteration.{Iteration}
+use Rattle.lane_turn.specs.declared.layer.Top.{Top}
 use Rattle.lane_turn.specs.declared.layer.Top.TheVariants as tops
 use Rattle.lane_turn.specs.declared.layer.Layer.{Layer}
 use Rattle.lane_turn.specs.declared.layer.Layer.TheVariants as layers
-use Rattle.lane_turn.specs.Frames.{Frame, CallOf, IterOf, LoopOf, emptied, emptied_one, is_dispatch, depth, is_call, calls, blocked_in, busy, advanced, advanced_one, top_of}
-use Rattle.lane_turn.specs.Nest.{level_at, is_level, is_live, ids_left, frame_of, frames_of, is_dispatch_layer, is_call_layer, blocked_by_layer, busy_layers, advanced_layer, advanced_layers}
+use Rattle.lane_turn.specs.Frames.{Frame, CallOf, IterOf, LoopOf, emptied, emptied_one, is_dispatch, depth, is_call, calls, blocked_in, busy, advanced, advanced_one, top_of, IsTaken}
+use Rattle.lane_turn.specs.Nest.{level_at, is_level, is_live, ids_left, frame_of, frames_of, is_dispatch_layer, is_call_layer, blocked_by_layer, busy_layers, advanced_layer, advanced_layers, taken_layer, taken_layers, top_of_layers, HasRoomLayers}
 
 pub first_within : (xs : List Layer) (x : Layer) → xs ≢ [] → slice_get (xs ++ x ∷ []) 0 ≡ slice_get xs 0
 first_within [] x h = absurd (h refl)
 first_within (y ∷ xs) x h = refl
+
+pub first_alone : (xs : List Layer) (x : Layer) → xs ≢ [] → take 1 (xs ++ x ∷ []) ≡ take 1 xs
+first_alone [] x h = absurd (h refl)
+first_alone (y ∷ xs) x h = refl
 
 abbrev list_of : Option ℕ → List ℕ
 list_of None = []
@@ -177,3 +183,33 @@ frames_begun live new level i ls now p at e h =
 pub on_ok : {T E P Q : Type 0} (r : Result T E) → (P → Q) → OnOk r P → OnOk r Q
 on_ok (Ok x) f p = f p
 on_ok (Err e) f p = tt
+
+pub if_ok_same : {E : Type 0} (r : Result (Vec ℕ Global) E) (xs ys : List ℕ) → xs ≡ ys → IfOk r (λ v. v.items ≡ xs) → IfOk r (λ v. v.items ≡ ys)
+if_ok_same (Ok v) xs ys e h = h ∙ e
+if_ok_same (Err x) xs ys e h = tt
+
+-- what the innermost takes next is that of its frame
+pub top_layers : (live : List (Option ℕ)) (ls : List Layer) → top_of_layers live (length ls - 1) ls ≡ top_of (frames_of live ls)
+top_layers live [] = refl
+top_layers live (l ∷ ls) =
+    let level : suc (length ls) - 1 ≡ length ls = omega arith in
+    rw level (top_below (frame_of live (length ls) l) (frames_of live ls))
+
+-- what is counted as taken where there is room is the same as what is advanced
+taken_room : (ls : List Layer) → HasRoomLayers ls → taken_layers ls ≡ advanced_layers ls
+taken_room [] h = refl
+taken_room (layers.Call call ∷ ls) h = rw (lt-ltb _ _ h) refl
+taken_room (layers.Iteration i ∷ ls) h = refl
+taken_room (layers.Loop number context ∷ ls) h = refl
+
+taken_frames : (live : List (Option ℕ)) (ls : List Layer) → HasRoomLayers ls → frames_of live (taken_layers ls) ≡ advanced (frames_of live ls)
+taken_frames live ls h = ap (frames_of live) (taken_room ls h) ∙ advance_frames live ls
+
+is_taken_frames : (live : List (Option ℕ)) (ls : List Layer) → IsTaken (top_of (frames_of live ls)) (frames_of live ls) (frames_of live (taken_layers ls))
+is_taken_frames live [] = refl
+is_taken_frames live (layers.Call call ∷ ls) = (λ h. taken_frames live (layers.Call call ∷ ls) h, refl)
+is_taken_frames live (layers.Iteration i ∷ ls) = (taken_frames live (layers.Iteration i ∷ ls) tt, refl)
+is_taken_frames live (layers.Loop number context ∷ ls) = refl
+
+pub is_taken : (live : List (Option ℕ)) (ls new : List Layer) (top : Top) (old : List Frame) → top ≡ top_of old → frames_of live ls ≡ old → new ≡ taken_layers ls → IsTaken top old (frames_of live new)
+is_taken live ls new top old t v n = rw (t, sym v, n) (is_taken_frames live ls)

@@ -1,4 +1,6 @@
 pub mod Layers
+pub mod Tallies
+pub mod Freely
 pub mod Lists
 pub mod Polled
 pub mod Measure

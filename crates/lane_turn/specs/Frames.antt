@@ -1,5 +1,5 @@
 -- What a lane is in the middle of.
-use Rattle.std.specs.Prelude.{ℕ, reverse, filter_map, ◌+◌, ◌<◌, ◌^◌, Bool, false, Option, Some, None, List, [], ◌∷◌, map, drop, slice_get, count_by, ◌==◌, if◌then◌else◌, true}
+use Rattle.std.specs.Prelude.{◌≡◌, ℕ, reverse, filter_map, ◌+◌, ◌<◌, ◌^◌, Bool, false, Option, Some, None, List, [], ◌∷◌, map, drop, slice_get, count_by, ◌==◌, if◌then◌else◌, true}
 use Rattle.lane_turn.specs.declared.layer.Call.{Call}
 use Rattle.lane_turn.specs.declared.layer.Caller.{Caller}
 use Rattle.lane_turn.specs.declared.layer.Origin.{Origin}
@@ -89,3 +89,10 @@ HasRoom [] = Unit {0}
 HasRoom (CallOf call ∷ below) = call.place < 2 ^ 63
 HasRoom (IterOf context ids answer ∷ below) = Unit {0}
 HasRoom (LoopOf number context ∷ below) = Unit {0}
+
+-- the frames before and after what the innermost took next, where it is told at once
+abbrev pub IsTaken : Top → List Frame → List Frame → Type 0
+IsTaken tops.Nothing old new = new ≡ old
+IsTaken (tops.Call call) old new = (call.place < 2 ^ 63 → new ≡ advanced old) × (drop 1 new ≡ drop 1 old)
+IsTaken (tops.Iteration context next answer) old new = (new ≡ advanced old) × (drop 1 new ≡ drop 1 old)
+IsTaken (tops.Loop number context) old new = new ≡ old

@@ -1,5 +1,6 @@
 pub mod Frames
 pub mod Nest
+pub mod Tally
 pub mod Sources
 pub mod Lane
 pub mod Acted

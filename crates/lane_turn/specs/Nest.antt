@@ -1,10 +1,14 @@
 -- Frames in boxes: the same frames as they are met on the way inwards.
-use Rattle.std.specs.Prelude.{ℕ, length, nat_lt, filter_map, ◌<◌, ◌^◌, ◌+◌, Bool, false, Option, Some, None, List, [], ◌∷◌, ◌++◌, drop, slice_get, ◌==◌, if◌then◌else◌}
+use Rattle.std.specs.Prelude.{ℕ, length, nat_lt, filter_map, ◌<◌, ◌^◌, ◌+◌, Bool, true, false, Option, Some, None, List, [], ◌∷◌, ◌++◌, drop, slice_get, ◌==◌, if◌then◌else◌}
 use Rattle.lane_turn.specs.declared.layer.Iteration.{Iteration}
 use Rattle.lane_turn.specs.declared.layer.Layer.{Layer}
 use Rattle.lane_turn.specs.declared.layer.Layer.TheVariants as layers
 use Rattle.lane_turn.specs.declared.nest.Nest.{Nest, Nothing, Begun'}
-use Rattle.lane_turn.specs.Frames.{Frame, CallOf, IterOf, LoopOf, blocked_by, is_source, is_other}
+use Rattle.lane_turn.specs.declared.layer.Origin.{Origin}
+use Rattle.lane_turn.specs.declared.layer.Origin.TheVariants.{Start, Source, Invoke}
+use Rattle.lane_turn.specs.declared.layer.Top.{Top}
+use Rattle.lane_turn.specs.declared.layer.Top.TheVariants as tops
+use Rattle.lane_turn.specs.Frames.{Frame, CallOf, IterOf, LoopOf, blocked_by, is_source, is_other, top_of}
 
 -- the level of the live iteration of a context
 abbrev pub known_level : Option (Option ℕ) → Option ℕ
@@ -41,6 +45,11 @@ abbrev pub frames_of : List (Option ℕ) → List Layer → List Frame
 frames_of live [] = []
 frames_of live (layer ∷ outer) = frame_of live (length outer) layer ∷ frames_of live outer
 
+-- what the innermost takes next, at its level
+abbrev pub top_of_layers : List (Option ℕ) → ℕ → List Layer → Top
+top_of_layers live level [] = tops.Nothing
+top_of_layers live level (layer ∷ outer) = top_of (frame_of live level layer ∷ [])
+
 abbrev pub is_dispatch_layer : Layer → Bool
 is_dispatch_layer (layers.Call call) = is_source call.origin
 is_dispatch_layer (layers.Iteration i) = false
@@ -50,6 +59,17 @@ abbrev pub is_call_layer : Layer → Bool
 is_call_layer (layers.Call call) = is_other call.origin
 is_call_layer (layers.Iteration i) = false
 is_call_layer (layers.Loop number context) = false
+
+-- the calls that block their source
+abbrev pub is_blocking : Origin → Bool
+is_blocking Start = false
+is_blocking (Source caller) = if caller.recurse then false else true
+is_blocking (Invoke acquired) = false
+
+abbrev pub is_blocking_layer : Layer → Bool
+is_blocking_layer (layers.Call call) = is_blocking call.origin
+is_blocking_layer (layers.Iteration i) = false
+is_blocking_layer (layers.Loop number context) = false
 
 abbrev pub blocked_by_layer : ℕ → Layer → Option ℕ
 blocked_by_layer context (layers.Call call) = blocked_by context call.origin
@@ -69,6 +89,16 @@ advanced_layer (layers.Loop number context) = layers.Loop number context
 abbrev pub advanced_layers : List Layer → List Layer
 advanced_layers [] = []
 advanced_layers (layer ∷ outer) = advanced_layer layer ∷ outer
+
+-- the same where a place beyond all actions stays
+abbrev pub taken_layer : Layer → Layer
+taken_layer (layers.Call call) = layers.Call (record call { place = if nat_lt call.place (2 ^ 63) then call.place + 1 else call.place })
+taken_layer (layers.Iteration i) = advanced_layer (layers.Iteration i)
+taken_layer (layers.Loop number context) = layers.Loop number context
+
+abbrev pub taken_layers : List Layer → List Layer
+taken_layers [] = []
+taken_layers (layer ∷ outer) = taken_layer layer ∷ outer
 
 abbrev pub HasRoomLayer : Layer → Type 0
 HasRoomLayer (layers.Call call) = call.place < 2 ^ 63

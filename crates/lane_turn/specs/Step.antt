@@ -38,6 +38,10 @@ abbrev pub dispatched : ℕ → ℕ → Row → Lane → Lane
 dispatched tick context row lane =
     called context row (written tick (events.Dispatch context row.id row.priority (depth lane.frames + 1)) (edited context (counted_once row.id) (taken lane)))
 
+-- the same of a lane that took the id already, at a depth
+abbrev pub dispatched_at : ℕ → ℕ → Row → ℕ → Lane → Lane
+dispatched_at tick context row n lane = called context row (written tick (events.Dispatch context row.id row.priority (n + 1)) (edited context (counted_once row.id) lane))
+
 abbrev pub dispatching : ℕ → ℕ → Row → Lane → Lane
 dispatching tick context row lane =
     if nat_lt (calls lane.frames) 32 then dispatched tick context row lane else stopped Halted (written tick events.HaltDepth lane)

@@ -1,10 +1,10 @@
 //! What a lane is in the middle of. Contracts see a flat list of frames, the innermost first.
 ghost use Rattle.std.specs.Prelude.{◌≡◌, ℕ, ◌∷◌, ◌<◌, ◌≤◌, ◌^◌, ◌==◌, [], Some, drop, length, OnOk, IfOk, if◌then◌else◌};
-ghost use Rattle.lane_turn.specs.Frames.{CallOf, IterOf, LoopOf, top_of, advanced, emptied, depth, calls, busy, HasRoom};
+ghost use Rattle.lane_turn.specs.Frames.{CallOf, IterOf, LoopOf, top_of, advanced, emptied, depth, calls, busy, HasRoom, IsTaken};
 ghost use Rattle.lane_turn.specs.Nest.{level_at};
 
+use crate::chain::Chain;
 use crate::layer::{Call, Iteration, Layer, Top};
-use crate::nest::Nest;
 use std::alloc::{AllocError, Global};
 use std::marker::Model;
 
@@ -22,19 +22,18 @@ fn mark(live: &mut Vec<Option<usize>>, context: u32, level: usize) -> Result<(),
 /// What a lane is in the middle of. Callers see a flat list, the innermost first.
 #[derive(Drop)]
 pub struct Frames {
-    alloc: Global,
-    nest: Nest,
+    chain: Chain,
     live: Vec<Option<usize>>,
 }
 
 impl Model for Frames {
     ghost use Rattle.std.specs.Prelude.{List};
     ghost use Rattle.lane_turn.specs.Frames.{Frame};
-    ghost use Rattle.lane_turn.specs.Nest.{frames_of, layers_of};
+    ghost use Rattle.lane_turn.specs.Nest.{frames_of};
 
     ghost Value = { List Frame };
 
-    ghost view = { λ s. frames_of s.live.items (layers_of s.nest) };
+    ghost view = { λ s. frames_of s.live.items s.chain };
 }
 
 impl Frames {
@@ -43,8 +42,7 @@ impl Frames {
         ensures { result ≡ [] }
     {
         Frames {
-            alloc,
-            nest: Nest::Nothing,
+            chain: Chain::new(alloc),
             live: Vec::new(alloc),
         }
     }
@@ -55,9 +53,9 @@ impl Frames {
         requires { length self.now < 2 ^ 63 }
         ensures { result ≡ top_of self.now }
     {
-        match self.nest.innermost() {
+        match self.chain.innermost() {
             None => Top::Nothing,
-            Some(layer) => layer.next(&self.live, self.nest.count() - 1),
+            Some(layer) => layer.next(&self.live, self.chain.count() - 1),
         }
     }
 
@@ -68,7 +66,7 @@ impl Frames {
         ensures value { result ≡ depth self.now }
         ensures small { result ≤ length self.now }
     {
-        self.nest.dispatches()
+        self.chain.dispatches()
     }
 
     /// How many calls are in progress but the one of `start`.
@@ -77,31 +75,28 @@ impl Frames {
         requires { length self.now < 2 ^ 63 }
         ensures { result ≡ calls self.now }
     {
-        self.nest.calls()
+        self.chain.calls()
     }
 
     /// The sources of a context that calls in progress block.
-    #[tactic(auto, using(crate::proofs::Layers::busy_frames))]
     pub fn busy(&self, context: u32) -> Result<Vec<u64>, AllocError>
         ensures { IfOk result (λ ids. ids.items ≡ busy context self.now) }
     {
-        let mut ids = Vec::new(self.alloc);
-        self.nest.add_busy(context, &mut ids)?;
-        Ok(ids)
+        self.chain.busy(context)
     }
 
     /// Begins a call in what is innermost.
     pub fn begin_call(&mut self, call: Call) -> Result<(), AllocError>
         ensures { OnOk result (self.new ≡ CallOf call ∷ self.old) }
     {
-        self.nest.begin(self.alloc, Layer::Call(call))
+        self.chain.begin(Layer::Call(call))
     }
 
     /// Begins a run of a loop in what is innermost.
     pub fn begin_loop(&mut self, number: u32, context: u32) -> Result<(), AllocError>
         ensures { OnOk result (self.new ≡ LoopOf number context ∷ self.old) }
     {
-        self.nest.begin(self.alloc, Layer::Loop(number, context))
+        self.chain.begin(Layer::Loop(number, context))
     }
 
     /// Begins an iteration in what is innermost; the older ones of its context have no id left.
@@ -115,14 +110,14 @@ impl Frames {
         requires { length self.old < 2 ^ 63 }
         ensures { OnOk result (self.new ≡ IterOf context ids.items answer ∷ emptied context self.old) }
     {
-        let level = self.nest.count();
+        let level = self.chain.count();
         let iteration = Iteration {
             context,
             ids,
             place: 0,
             answer,
         };
-        self.nest.begin(self.alloc, Layer::Iteration(iteration))?;
+        self.chain.begin(Layer::Iteration(iteration))?;
         mark(&mut self.live, context, level)
     }
 
@@ -131,7 +126,16 @@ impl Frames {
     pub fn end(&mut self)
         ensures { self.new ≡ drop 1 self.old }
     {
-        self.nest.end();
+        self.chain.end();
+    }
+
+    /// What the innermost takes next, which is counted as taken.
+    #[tactic(auto, using(crate::proofs::Layers::top_layers))]
+    pub fn take(&mut self) -> Top
+        ensures top { result ≡ top_of self.old }
+        ensures taken { IsTaken result self.old self.new }
+    {
+        self.chain.take(&self.live)
     }
 
     /// Counts an action or an id of the innermost as taken.
@@ -140,6 +144,6 @@ impl Frames {
         requires { HasRoom self.old }
         ensures { self.new ≡ advanced self.old }
     {
-        self.nest.advance();
+        self.chain.advance();
     }
 }

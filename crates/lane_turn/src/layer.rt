@@ -1,9 +1,12 @@
 //! The things that a lane can be in the middle of: a call, an iteration, a run of a loop.
 ghost use Rattle.std.specs.Prelude.{◌≡◌, [], ◌∷◌, slice_get};
 ghost use Rattle.lane_turn.specs.Frames.{top_of};
-ghost use Rattle.lane_turn.specs.Nest.{frame_of, ids_left, is_live, is_dispatch_layer, is_call_layer, blocked_by_layer, advanced_layer, HasRoomLayer};
+ghost use Rattle.lane_turn.specs.Nest.{frame_of, ids_left, is_live, is_dispatch_layer, is_call_layer, is_blocking_layer, blocked_by_layer, advanced_layer, taken_layer, HasRoomLayer};
 
 use loop_script::Body;
+
+/// A place that no action of a list has.
+const LAST: usize = 9_223_372_036_854_775_808;
 
 /// The source whose dispatch a call is, and the number of that dispatch.
 #[derive(Clone, Copy, Debug, PartialEq, Eq)]
@@ -113,6 +116,19 @@ impl Layer {
         }
     }
 
+    /// Whether it is a call that blocks its source.
+    pub(crate) fn is_blocking(&self) -> bool
+        ensures { result ≡ is_blocking_layer self.now }
+    {
+        match self {
+            Layer::Call(call) => match call.origin {
+                Origin::Source(caller) => !caller.recurse,
+                _ => false,
+            },
+            _ => false,
+        }
+    }
+
     /// The source of a context that it blocks.
     pub(crate) fn blocks(&self, context: u32) -> Option<u64>
         ensures { result ≡ blocked_by_layer context self.now }
@@ -141,6 +157,25 @@ impl Layer {
     {
         match self {
             Layer::Call(call) => call.place += 1,
+            Layer::Iteration(iteration) => {
+                if iteration.place < iteration.ids.len() {
+                    iteration.place += 1;
+                }
+            }
+            Layer::Loop(_, _) => {}
+        }
+    }
+
+    /// Counts an action or an id as taken, as far as numbers reach.
+    pub(crate) fn take(&mut self)
+        ensures { self.new ≡ taken_layer self.old }
+    {
+        match self {
+            Layer::Call(call) => {
+                if call.place < LAST {
+                    call.place += 1;
+                }
+            }
             Layer::Iteration(iteration) => {
                 if iteration.place < iteration.ids.len() {
                     iteration.place += 1;

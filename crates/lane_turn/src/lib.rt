@@ -5,6 +5,7 @@
 #![tactic(auto)]
 
 mod act;
+mod chain;
 mod frames;
 mod handlers;
 mod laws;
@@ -17,6 +18,7 @@ mod slot;
 mod sources;
 mod state;
 mod step;
+mod tally;
 mod turn;
 
 pub use laws::{iterations_go_on, turns_end};

@@ -1,9 +1,10 @@
 //! What is in progress in boxes: each call, iteration and loop holds what was begun in it.
-ghost use Rattle.std.specs.Prelude.{◌≡◌, ◌∷◌, ◌++◌, ◌<◌, ◌≤◌, ◌^◌, [], IsTrue, ◌↔◌, drop, length, count_by, OnOk, slice_get, option_map, reverse};
-ghost use Rattle.lane_turn.specs.Nest.{layers_of, is_dispatch_layer, is_call_layer, busy_layers, advanced_layers, HasRoomLayers};
+ghost use Rattle.std.specs.Prelude.{◌≡◌, ◌++◌, [], IsTrue, ◌↔◌, drop, take, OnOk, slice_get, option_map, reverse};
+ghost use Rattle.lane_turn.specs.Nest.{layers_of, busy_layers, advanced_layers, taken_layers, top_of_layers, HasRoomLayers};
 
-use crate::layer::Layer;
-use std::alloc::{AllocError, Global};
+use crate::layer::{Layer, Top};
+use std::alloc::AllocError;
+use std::mem;
 
 /// What is in progress, from the outermost inwards.
 #[derive(Drop)]
@@ -40,51 +41,6 @@ impl Nest {
         }
     }
 
-    /// How many are in progress.
-    pub(crate) fn count(&self) -> usize
-        requires { length (layers_of self.now) < 2 ^ 63 }
-        ensures { result ≡ length (layers_of self.now) }
-    {
-        match self {
-            Nest::Nothing => 0,
-            Nest::Begun(_, inner) => inner.count() + 1,
-        }
-    }
-
-    /// How many dispatches are in progress.
-    pub(crate) fn dispatches(&self) -> u64
-        requires { length (layers_of self.now) < 2 ^ 63 }
-        ensures value { result ≡ count_by is_dispatch_layer (layers_of self.now) }
-        ensures small { result ≤ length (layers_of self.now) }
-    {
-        match self {
-            Nest::Nothing => 0,
-            Nest::Begun(layer, inner) => {
-                let within = inner.dispatches();
-                if layer.is_dispatch() {
-                    within + 1
-                } else {
-                    within
-                }
-            }
-        }
-    }
-
-    /// How many calls are in progress but the one of `start`.
-    pub(crate) fn calls(&self) -> u64
-        requires { length (layers_of self.now) < 2 ^ 63 }
-        ensures value { result ≡ count_by is_call_layer (layers_of self.now) }
-        ensures small { result ≤ length (layers_of self.now) }
-    {
-        match self {
-            Nest::Nothing => 0,
-            Nest::Begun(layer, inner) => {
-                let within = inner.calls();
-                if layer.is_call() { within + 1 } else { within }
-            }
-        }
-    }
-
     /// Adds the sources of a context that calls in progress block.
     #[tactic(auto, using(crate::proofs::Layers::busy_none, crate::proofs::Layers::busy_some, std::proofs::lemmas::Grind::common_steps))]
     pub(crate) fn add_busy(&self, context: u32, ids: &mut Vec<u64>) -> Result<(), AllocError>
@@ -104,30 +60,49 @@ impl Nest {
         }
     }
 
-    /// Begins something in what is innermost.
-    pub(crate) fn begin(&mut self, alloc: Global, layer: Layer) -> Result<(), AllocError>
-        ensures { OnOk result (layers_of self.new ≡ layer ∷ layers_of self.old) }
+    /// Puts what was begun elsewhere into what is innermost.
+    pub(crate) fn put(&mut self, begun: &mut Nest)
+        ensures { layers_of self.new ≡ layers_of begun.old ++ layers_of self.old }
     {
         match self {
-            Nest::Nothing => {
-                *self = Nest::Begun(layer, Box::new(alloc, Nest::Nothing)?);
-                Ok(())
-            }
-            Nest::Begun(_, inner) => inner.begin(alloc, layer),
+            Nest::Nothing => mem::swap(self, begun),
+            Nest::Begun(_, inner) => inner.put(begun),
         }
     }
 
-    /// Ends what is innermost.
-    pub(crate) fn end(&mut self)
-        ensures { layers_of self.new ≡ drop 1 (layers_of self.old) }
+    /// Ends what is innermost, and hands it out with its box.
+    #[tactic(auto, using(crate::proofs::Layers::first_alone))]
+    pub(crate) fn end(&mut self, ended: &mut Nest)
+        requires { layers_of ended.old ≡ [] }
+        ensures left { layers_of self.new ≡ drop 1 (layers_of self.old) }
+        ensures ended { layers_of ended.new ≡ take 1 (layers_of self.old) }
     {
         match self {
             Nest::Nothing => {}
             Nest::Begun(_, inner) => {
                 if inner.is_nothing() {
-                    *self = Nest::Nothing;
+                    mem::swap(self, ended);
                 } else {
-                    inner.end();
+                    inner.end(ended);
+                }
+            }
+        }
+    }
+
+    /// What is innermost takes next, which is counted as taken.
+    #[tactic(auto, using(crate::proofs::Layers::first_within))]
+    pub(crate) fn take(&mut self, live: &[Option<usize>], level: usize, top: &mut Top)
+        ensures top { top.new ≡ top_of_layers live.now level (layers_of self.old) }
+        ensures taken { layers_of self.new ≡ taken_layers (layers_of self.old) }
+    {
+        match self {
+            Nest::Nothing => *top = Top::Nothing,
+            Nest::Begun(layer, inner) => {
+                if inner.is_nothing() {
+                    *top = layer.next(live, level);
+                    layer.take();
+                } else {
+                    inner.take(live, level, top);
                 }
             }
         }

@@ -1,9 +1,9 @@
 //! One step of what is innermost.
-ghost use Rattle.std.specs.Prelude.{◌≡◌, ◌^◌, ◌≤◌, OnOk, IfOk, is_some, slice_get, unwrap_or};
+ghost use Rattle.std.specs.Prelude.{◌≡◌, ◌^◌, ◌≤◌, ◌<◌, OnOk, IfOk, is_some, slice_get, unwrap_or};
 ghost use Rattle.loop_script.specs.Parts.{actions_of, time_of};
-ghost use Rattle.lane_turn.specs.Frames.{HasRoom, top_of};
+ghost use Rattle.lane_turn.specs.Frames.{HasRoom, top_of, calls};
 ghost use Rattle.lane_turn.specs.Lane.{popped, taken};
-ghost use Rattle.lane_turn.specs.Step.{body_of, dispatching, returned, left_source, step_call, step_iteration, step_loop, step};
+ghost use Rattle.lane_turn.specs.Step.{body_of, dispatching, dispatched_at, answered, returned, left_source, step_call, step_iteration, step_loop, step};
 ghost use Rattle.lane_turn.specs.Turn.{stepped};
 ghost use Rattle.lane_turn.specs.Sound.{IsWithin};
 ghost use Rattle.lane_turn.specs.Meaning.{lane_of, turn_of};
@@ -92,18 +92,13 @@ impl Parts {
         }
     }
 
-    /// Begins the dispatch of a row, or halts the lane where too many calls are in progress.
-    fn begin_dispatch(&mut self, tick: u32, context: u32, row: Row) -> Result<(), AllocError>
+    /// Begins the dispatch of a row that is taken, at a depth.
+    fn dispatch(&mut self, tick: u32, context: u32, row: Row, depth: u64) -> Result<(), AllocError>
         requires count { row.count ≤ 2 ^ 62 }
+        requires depth { depth ≤ 2 ^ 62 }
         requires within { IsWithin (2 ^ 62) (lane_of self.old) }
-        requires top { HasRoom (lane_of self.old).frames }
-        ensures { OnOk result (lane_of self.new ≡ dispatching tick context row (lane_of self.old)) }
+        ensures { OnOk result (lane_of self.new ≡ dispatched_at tick context row depth (lane_of self.old)) }
     {
-        let depth = self.frames.depth();
-        if self.frames.calls() >= 32 {
-            return self.halt(tick, Event::HaltDepth);
-        }
-        self.frames.advance();
         self.count(context, row.id);
         self.write(
             tick,
@@ -121,6 +116,21 @@ impl Parts {
         })
     }
 
+    /// Begins the dispatch of a row, or halts the lane where too many calls are in progress.
+    fn begin_dispatch(&mut self, tick: u32, context: u32, row: Row) -> Result<(), AllocError>
+        requires count { row.count ≤ 2 ^ 62 }
+        requires within { IsWithin (2 ^ 62) (lane_of self.old) }
+        requires top { HasRoom (lane_of self.old).frames }
+        ensures { OnOk result (lane_of self.new ≡ dispatching tick context row (lane_of self.old)) }
+    {
+        let depth = self.frames.depth();
+        if self.frames.calls() >= 32 {
+            return self.halt(tick, Event::HaltDepth);
+        }
+        self.frames.advance();
+        self.dispatch(tick, context, row, depth)
+    }
+
     /// Passes over an id whose source is destroyed.
     fn pass_over(&mut self) -> Result<(), AllocError>
         requires { HasRoom (lane_of self.old).frames }
@@ -128,6 +138,22 @@ impl Parts {
     {
         self.frames.advance();
         Ok(())
+    }
+
+    /// An iteration that has no id left ends.
+    fn end_iteration(
+        &mut self,
+        tick: u32,
+        context: u32,
+        answer: Option<bool>,
+    ) -> Result<(), AllocError>
+        ensures { OnOk result (lane_of self.new ≡ answered tick context answer (popped (lane_of self.old))) }
+    {
+        self.frames.end();
+        match answer {
+            None => Ok(()),
+            Some(any) => self.write(tick, Event::Iterate(context, any)),
+        }
     }
 
     /// A step of the innermost iteration.
@@ -144,13 +170,7 @@ impl Parts {
         ensures { OnOk result (turn_of self.new progress.new ≡ step_iteration tick (turn_of self.old progress.old) context answer next) }
     {
         match next {
-            None => {
-                self.frames.end();
-                match answer {
-                    None => Ok(()),
-                    Some(any) => self.write(tick, Event::Iterate(context, any)),
-                }
-            }
+            None => self.end_iteration(tick, context, answer),
             Some(id) => match self.row(context, id) {
                 None => self.pass_over(),
                 Some(row) => {
@@ -193,6 +213,54 @@ impl Parts {
         Ok(true)
     }
 
+    /// A step where an action or a dispatch may be counted and a call begun: what is innermost takes the next at once.
+    fn step_freely(
+        &mut self,
+        alloc: Global,
+        script: &Script,
+        tick: u32,
+        progress: &mut Progress,
+    ) -> Result<bool, AllocError>
+        requires within { IsWithin (2 ^ 62) (lane_of self.old) }
+        requires goes { self.old.status ≡ Status.GoesOn }
+        requires left { 1 ≤ progress.old.left }
+        requires calls { calls (lane_of self.old).frames < 32 }
+        ensures more { IfOk result (λ more. more ≡ is_some (step script.now tick (turn_of self.old progress.old))) }
+        ensures next { OnOk result (turn_of self.new progress.new ≡ stepped script.now tick (turn_of self.old progress.old)) }
+    {
+        let depth = self.frames.depth();
+        match self.frames.take() {
+            Top::Nothing => Ok(false),
+            Top::Call(call) => match script.actions(call.body).get(call.place) {
+                None => {
+                    self.end_call(script, tick, call)?;
+                    Ok(true)
+                }
+                Some(action) => {
+                    prove!(call.place < 9_223_372_036_854_775_808);
+                    progress.left -= 1;
+                    self.act(alloc, script, tick, action)?;
+                    Ok(true)
+                }
+            },
+            Top::Iteration(context, None, answer) => {
+                self.end_iteration(tick, context, answer)?;
+                Ok(true)
+            }
+            Top::Iteration(context, Some(id), _) => match self.row(context, id) {
+                None => Ok(true),
+                Some(row) => {
+                    progress.left -= 1;
+                    self.dispatch(tick, context, row, depth)?;
+                    Ok(true)
+                }
+            },
+            Top::Loop(number, context) => {
+                self.step_loop(alloc, script, tick, progress, number, context)
+            }
+        }
+    }
+
     /// One step of what is innermost. It answers false where there is none: the lane rests, has ended or is halted.
     pub(crate) fn step(
         &mut self,
@@ -208,6 +276,9 @@ impl Parts {
         match self.status {
             Status::GoesOn => {}
             _ => return Ok(false),
+        }
+        if progress.left > 0 && self.frames.calls() < 32 {
+            return self.step_freely(alloc, script, tick, progress);
         }
         match self.frames.top() {
             Top::Nothing => Ok(false),

@@ -1,0 +1,28 @@
+-- A step that counts at once what it takes.
+use Rattle.std.proofs.Common.{◌≡◌, ℕ, zero, suc, ◌-◌, ◌≤◌, Option, Some, None, refl, sym, ap, ◌∙◌, arith, slice_get, unwrap_or}
+use Rattle.loop_script.specs.declared.plan.Plan.{Plan}
+use Rattle.loop_script.specs.declared.action.Action.{Action}
+use Rattle.loop_script.specs.Parts.{actions_of}
+use Rattle.lane_turn.specs.declared.parts.Status.{Status}
+use Rattle.lane_turn.specs.declared.parts.Status.TheVariants.{GoesOn}
+use Rattle.lane_turn.specs.declared.layer.Call.{Call}
+use Rattle.lane_turn.specs.declared.layer.Top.{Top}
+use Rattle.lane_turn.specs.declared.layer.Top.TheVariants as tops
+use Rattle.lane_turn.specs.Frames.{top_of}
+use Rattle.lane_turn.specs.Lane.{Lane, Turn}
+use Rattle.lane_turn.specs.Step.{step_call, step_top, step_going, counted, counted_by}
+use Rattle.lane_turn.specs.Turn.{stepped}
+
+pub call_stepped : (script : Plan) (tick : ℕ) (t : Turn) (call : Call) (a : Option Action) → t.lane.status ≡ GoesOn → tops.Call call ≡ top_of t.lane.frames
+    → a ≡ slice_get (actions_of script call.body) call.place → step_call script tick t call a ≡ stepped script tick t
+call_stepped script tick t call a s e k =
+    ap (step_call script tick t call) k ∙ (ap (λ (top : Top). unwrap_or (step_top script tick t top) t) e ∙ ap (λ (s : Status). unwrap_or (step_going script tick t s) t) (sym s))
+
+counted_go : (tick : ℕ) (f : Lane → Lane) (t : Turn) (m : ℕ) → 1 ≤ m → record t { lane = f t.lane; left = m - 1 } ≡ counted_by tick f t m
+counted_go tick f t zero h = absurd (omega (arith, h))
+counted_go tick f t (suc n) h =
+    let left : suc n - 1 ≡ n = omega arith in
+    rw left refl
+
+pub counted_one : (tick : ℕ) (f : Lane → Lane) (t : Turn) → 1 ≤ t.left → record t { lane = f t.lane; left = t.left - 1 } ≡ counted tick f t
+counted_one tick f t h = counted_go tick f t t.left h

@@ -1,0 +1,155 @@
+//! What is in progress, counted, and the boxes of what has ended. Contracts see the layers, the innermost first.
+ghost use Rattle.std.specs.Prelude.{◌≡◌, ◌∷◌, ◌≤◌, ◌-◌, [], drop, length, count_by, OnOk, IfOk, slice_get, option_map, reverse};
+ghost use Rattle.lane_turn.specs.Nest.{layers_of, is_dispatch_layer, is_call_layer, busy_layers, advanced_layers, taken_layers, top_of_layers, HasRoomLayers};
+
+use crate::layer::{Layer, Top};
+use crate::nest::Nest;
+use crate::tally::Tally;
+use std::alloc::{AllocError, Global};
+use std::marker::Model;
+
+/// What is in progress, counted.
+#[derive(Drop)]
+pub struct Chain {
+    alloc: Global,
+    nest: Nest,
+    tally: Tally,
+    /// The boxes of what has ended, for what is begun next.
+    spare: Vec<Box<Nest>>,
+}
+
+impl Model for Chain {
+    ghost use Rattle.std.specs.Prelude.{◌≡◌, List};
+    ghost use Rattle.lane_turn.specs.declared.layer.Layer.{Layer};
+    ghost use Rattle.lane_turn.specs.Nest.{layers_of};
+    ghost use Rattle.lane_turn.specs.Tally.{tally_of};
+
+    ghost Value = { List Layer };
+
+    ghost view = { λ s. layers_of s.nest };
+
+    ghost invariant = { λ s. s.tally ≡ tally_of (layers_of s.nest) };
+}
+
+impl Chain {
+    /// Nothing in progress.
+    pub(crate) fn new(alloc: Global) -> Chain
+        ensures { result ≡ [] }
+    {
+        Chain {
+            alloc,
+            nest: Nest::Nothing,
+            tally: Tally {
+                layers: 0,
+                dispatches: 0,
+                calls: 0,
+                blocking: 0,
+            },
+            spare: Vec::new(alloc),
+        }
+    }
+
+    /// What is innermost.
+    pub(crate) fn innermost(&self) -> Option<&Layer>
+        ensures { option_map (λ r. r.now) result ≡ slice_get self.now 0 }
+    {
+        self.nest.innermost()
+    }
+
+    /// How many are in progress.
+    pub(crate) fn count(&self) -> usize
+        ensures { result ≡ length self.now }
+    {
+        self.tally.layers
+    }
+
+    /// How many dispatches are in progress.
+    #[tactic(auto, using(crate::proofs::Tallies::dispatches_small))]
+    pub(crate) fn dispatches(&self) -> u64
+        ensures value { result ≡ count_by is_dispatch_layer self.now }
+        ensures small { result ≤ length self.now }
+    {
+        self.tally.dispatches
+    }
+
+    /// How many calls are in progress but the one of `start`.
+    pub(crate) fn calls(&self) -> u64
+        ensures { result ≡ count_by is_call_layer self.now }
+    {
+        self.tally.calls
+    }
+
+    /// The sources of a context that calls in progress block.
+    pub(crate) fn busy(&self, context: u32) -> Result<Vec<u64>, AllocError>
+        ensures { IfOk result (λ ids. ids.items ≡ reverse (busy_layers context self.now)) }
+    {
+        let mut ids = Vec::new(self.alloc);
+        if self.tally.blocking == 0 {
+            return Ok(ids);
+        }
+        ids.reserve(self.tally.blocking as usize)?;
+        self.nest.add_busy(context, &mut ids)?;
+        Ok(ids)
+    }
+
+    /// A box with nothing in it: that of something that has ended, if there is one.
+    fn spare_box(&mut self) -> Result<Box<Nest>, AllocError>
+        ensures same { self.new ≡ self.old }
+        ensures nothing { IfOk result (λ inner. layers_of inner.value ≡ []) }
+    {
+        match self.spare.pop() {
+            None => Ok(Box::new(self.alloc, Nest::Nothing)?),
+            Some(mut inner) => {
+                *inner = Nest::Nothing;
+                Ok(inner)
+            }
+        }
+    }
+
+    /// Begins something in what is innermost.
+    pub(crate) fn begin(&mut self, layer: Layer) -> Result<(), AllocError>
+        ensures { OnOk result (self.new ≡ layer ∷ self.old) }
+    {
+        let tally = self.tally.with(&layer)?;
+        let inner = self.spare_box()?;
+        let mut begun = Nest::Begun(layer, inner);
+        self.nest.put(&mut begun);
+        self.tally = tally;
+        Ok(())
+    }
+
+    /// Ends what is innermost.
+    pub(crate) fn end(&mut self)
+        ensures { self.new ≡ drop 1 self.old }
+    {
+        let mut ended = Nest::Nothing;
+        self.nest.end(&mut ended);
+        if let Nest::Begun(layer, inner) = ended {
+            self.tally = self.tally.without(&layer);
+            // a box that is not kept is let go
+            let _ = self.spare.push(inner);
+        }
+    }
+
+    /// What is innermost takes next, which is counted as taken.
+    #[tactic(auto, using(crate::proofs::Tallies::taken_same))]
+    pub(crate) fn take(&mut self, live: &[Option<usize>]) -> Top
+        ensures top { result ≡ top_of_layers live.now (length self.old - 1) self.old }
+        ensures taken { self.new ≡ taken_layers self.old }
+    {
+        let mut top = Top::Nothing;
+        if self.tally.layers > 0 {
+            self.nest.take(live, self.tally.layers - 1, &mut top);
+        }
+        top
+    }
+
+    /// Counts an action or an id of what is innermost as taken.
+    #[tactic(auto, using(crate::proofs::Tallies::advanced_same))]
+    pub(crate) fn advance(&mut self)
+        requires { HasRoomLayers self.old }
+        ensures { self.new ≡ advanced_layers self.old }
+    {
+        self.nest.advance();
+    }
+}
