@@ -28,8 +28,3 @@ pub record Left (old new rest text : List ℕ) : Type 0 where
   pub front : List ℕ
   pub whole : front ++ rest ≡ text
   pub added : new ≡ old ++ front
-
--- ---- the parts of a dispatch's line
-
-pub line_parts : (t a ctx b src c pri d dep n : List ℕ) → (((((t ++ (a ++ ctx)) ++ (b ++ src)) ++ (c ++ pri)) ++ (d ++ dep)) ++ n) ≡ t ++ ((a ++ (ctx ++ (b ++ (src ++ (c ++ (pri ++ (d ++ dep))))))) ++ n)
-line_parts t a ctx b src c pri d dep n = simp append_assoc

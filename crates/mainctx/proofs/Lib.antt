@@ -1,3 +1,4 @@
+pub mod Endings
 pub mod Fronts
 pub mod Inputs
 pub mod Parts

@@ -3,3 +3,4 @@ pub mod Writing
 pub mod Run
 pub mod Serving
 pub mod Laws
+pub mod LastDispatch

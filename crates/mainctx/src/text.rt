@@ -1,11 +1,10 @@
 //! A lane's part of the text.
-ghost use Rattle.std.specs.Prelude.{◌≡◌, ◌++◌, [], codes, string_bytes, OnOk, OnErr};
-ghost use Rattle.std.specs.Fmt.{decimal, signed_decimal};
-ghost use Rattle.mainctx.specs.Text.{event_text, line_text, lane_text};
+ghost use Rattle.std.specs.Prelude.{◌≡◌, ◌++◌, OnOk, OnErr};
+ghost use Rattle.mainctx.specs.Text.{line_text, lane_text};
+ghost use Rattle.mainctx.specs.LastDispatch.{HoldsLine};
 ghost use Rattle.mainctx.specs.Writing.{AddsFront};
 
-use crate::words::EventText;
-use itoa::Buffer;
+use crate::ending::{LastDispatch, ROOM, put_line};
 use lane_turn::{Event, Line};
 use std::alloc::AllocError;
 use thiserror::Error;
@@ -21,61 +20,27 @@ impl From<AllocError> for OutOfMemory {
     }
 }
 
-/// Adds a label and a number.
-fn add_number(text: &mut String, label: &str, number: u64) -> Result<(), AllocError>
-    ensures { OnOk result (string_bytes text.new ≡ string_bytes text.old ++ (label.now ++ decimal number)) }
-{
-    let mut buffer = Buffer::new();
-    text.push_str(label)?;
-    text.push_str(buffer.format(number))?;
-    Ok(())
-}
-
-/// Adds a label and a number that may be below zero.
-fn add_signed(text: &mut String, label: &str, number: i32) -> Result<(), AllocError>
-    ensures { OnOk result (string_bytes text.new ≡ string_bytes text.old ++ (label.now ++ signed_decimal number)) }
-{
-    let mut buffer = Buffer::new();
-    text.push_str(label)?;
-    text.push_str(buffer.format(number))?;
-    Ok(())
-}
-
-/// Writes the line of a dispatch over an empty text. Most lines are of this kind, and `write!` takes twice as long.
-fn write_dispatch(
-    text: &mut String,
-    tick: u32,
-    context: u32,
-    source: u64,
-    priority: i32,
-    depth: u64,
+/// Adds a line.
+#[inline]
+fn add_line(
+    out: &mut Vec<u8>,
+    last: &mut LastDispatch,
+    bytes: &mut [u8; ROOM],
+    line: Line,
 ) -> Result<(), AllocError>
-    requires { string_bytes text.old ≡ [] }
-    ensures { OnOk result (string_bytes text.new
-        ≡ decimal tick ++ (codes " " ++ (event_text (Event.Dispatch context source priority depth) ++ codes "\n"))) }
+    requires { HoldsLine last.old }
+    ensures holds { HoldsLine last.new }
+    ensures added { OnOk result (out.new.items ≡ out.old.items ++ line_text line) }
+    ensures unchanged { OnErr result (out.new.items ≡ out.old.items) }
 {
-    add_number(text, "", u64::from(tick))?;
-    add_number(text, " dispatch ctx ", u64::from(context))?;
-    add_number(text, " source ", source)?;
-    add_signed(text, " priority ", priority)?;
-    add_number(text, " depth ", depth)?;
-    text.push_str("\n")?;
-    Ok(())
-}
-
-/// Writes a line and its newline over a text.
-fn write_line(text: &mut String, line: Line) -> Result<(), AllocError>
-    ensures { OnOk result (string_bytes text.new ≡ line_text line) }
-{
-    text.clear();
-    let tick = line.tick;
     match line.event {
         Event::Dispatch(context, source, priority, depth) => {
-            write_dispatch(text, tick, context, source, priority, depth)
+            last.write(line.tick, context, source, priority, depth);
+            out.extend_from_slice(last.line())
         }
-        event => {
-            let event = EventText(event);
-            write!(text, "{tick} {event}\n")
+        _ => {
+            let start = put_line(bytes, line);
+            out.extend_from_slice(&bytes[start..])
         }
     }
 }
@@ -90,10 +55,10 @@ pub fn add_text(out: &mut Vec<u8>, lane: u32, lines: &[Line]) -> Result<(), OutO
     let alloc = *out.allocator();
     let heading = format!(in alloc; "thread {lane}\n")?;
     out.extend_from_slice(heading.as_bytes())?;
-    let mut text = String::new(alloc);
+    let mut last = LastDispatch::new();
+    let mut bytes = [0; ROOM];
     for line in lines {
-        write_line(&mut text, *line)?;
-        out.extend_from_slice(text.as_bytes())?;
+        add_line(out, &mut last, &mut bytes, *line)?;
     }
     Ok(())
 }

@@ -1,0 +1,8 @@
+use Rattle.std.proofs.Common.{rules, ◌≡◌, [], drop, arith}
+use Rattle.std.proofs.lemmas.List.{drop_all}
+use Rattle.mainctx.proofs.ending.put_line.Goals as goal
+
+pub returns-clause-written : goal.returns-clause-written
+returns-clause-written c =
+    let none : drop 256 c.args.bytes.now ≡ [] = drop_all 256 c.args.bytes.now (omega arith) in
+    search (rules, none)

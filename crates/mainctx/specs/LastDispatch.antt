@@ -1,0 +1,21 @@
+-- The line of a dispatch in its parts.
+use Rattle.std.specs.Prelude.{◌≡◌, ℕ, ℤ, ◌+◌, ◌≤◌, List, ◌++◌, codes, drop, length}
+use Rattle.std.specs.Fmt.{decimal, signed_decimal}
+use Rattle.mainctx.specs.declared.ending.LastDispatch.{LastDispatch}
+
+-- what comes before the source
+abbrev pub head_text : ℕ → ℕ → List ℕ
+head_text tick context = decimal tick ++ (codes " dispatch ctx " ++ (decimal context ++ codes " source "))
+
+-- what follows it
+abbrev pub tail_text : ℤ → ℕ → List ℕ
+tail_text priority depth = codes " priority " ++ (signed_decimal priority ++ (codes " depth " ++ (decimal depth ++ codes "\n")))
+
+-- the bytes end with the parts where the places say
+pub record HoldsLine (last : LastDispatch) : Type 0 where
+  pub head : drop last.start last.bytes ≡ head_text last.tick last.context ++ drop last.number last.bytes
+  pub start : last.start + length (head_text last.tick last.context) ≡ last.number
+  pub tail : drop last.tail last.bytes ≡ tail_text last.priority last.depth
+  pub room : 256 ≤ last.tail + 100
+  pub within : last.tail ≤ 256
+  pub long : length last.bytes ≡ 256

@@ -1,0 +1,295 @@
+//! Texts that are written from their ends: each part before those that follow it.
+ghost use Rattle.std.specs.Prelude.{◌≡◌, ◌+◌, ◌≤◌, ◌++◌, codes, drop, length};
+ghost use Rattle.std.specs.Fmt.{decimal, signed_decimal};
+ghost use Rattle.mainctx.specs.Text.{event_text, outcome_text, line_text, truth_text};
+ghost use Rattle.mainctx.specs.LastDispatch.{HoldsLine, head_text, tail_text};
+ghost use Rattle.lane_turn.specs.declared.line.Event.TheVariants.{Dispatch};
+
+use crate::words::{action_word, invoked_word};
+use itoa::write_digits;
+use lane_turn::{Event, Line};
+use loop_script::Outcome;
+
+/// The bytes that a line may take: each of its parts, of which it has twelve at most, has at most 20.
+pub(crate) const ROOM: usize = 256;
+
+/// Writes a label so that it ends at `end`, and answers where it starts.
+#[inline(always)]
+fn put(bytes: &mut [u8; ROOM], end: usize, label: &str) -> usize
+    requires { (length label.now ≤ 20) × (20 ≤ end) × (end ≤ 256) }
+    ensures start { result + length label.now ≡ end }
+    ensures short { end ≤ result + 20 }
+    ensures written { drop result bytes.new ≡ label.now ++ drop end bytes.old }
+{
+    let start = end - label.len();
+    bytes[start..end].copy_from_slice(label.as_bytes());
+    start
+}
+
+/// Writes a number.
+#[inline(always)]
+fn put_number(bytes: &mut [u8; ROOM], end: usize, number: u64) -> usize
+    requires { (20 ≤ end) × (end ≤ 256) }
+    ensures start { result + length (decimal number) ≡ end }
+    ensures short { end ≤ result + 20 }
+    ensures written { drop result bytes.new ≡ decimal number ++ drop end bytes.old }
+{
+    write_digits(number, bytes, end)
+}
+
+/// Writes a number that may be below zero.
+#[inline(always)]
+fn put_signed(bytes: &mut [u8; ROOM], end: usize, number: i64) -> usize
+    requires { (20 ≤ end) × (end ≤ 256) }
+    ensures start { result + length (signed_decimal number) ≡ end }
+    ensures short { end ≤ result + 20 }
+    ensures written { drop result bytes.new ≡ signed_decimal number ++ drop end bytes.old }
+{
+    let start = write_digits(number.unsigned_abs(), bytes, end);
+    if number >= 0 {
+        return start;
+    }
+    bytes[start - 1] = b'-';
+    start - 1
+}
+
+/// Writes how a task ended.
+fn put_outcome(bytes: &mut [u8; ROOM], end: usize, outcome: Outcome) -> usize
+    requires { (40 ≤ end) × (end ≤ 256) }
+    ensures short { end ≤ result + 40 }
+    ensures within { result ≤ end }
+    ensures written { drop result bytes.new ≡ outcome_text outcome ++ drop end bytes.old }
+{
+    match outcome {
+        Outcome::Ok(value) => {
+            let value = put_signed(bytes, end, value);
+            put(bytes, value, "ok ")
+        }
+        Outcome::Failed => put(bytes, end, "failed"),
+        Outcome::Cancelled => put(bytes, end, "cancelled"),
+        Outcome::TimedOut => put(bytes, end, "timed-out"),
+    }
+}
+
+/// Writes an answer.
+#[inline]
+fn put_truth(bytes: &mut [u8; ROOM], end: usize, truth: bool) -> usize
+    requires { (20 ≤ end) × (end ≤ 256) }
+    ensures short { end ≤ result + 20 }
+    ensures within { result ≤ end }
+    ensures written { drop result bytes.new ≡ truth_text truth ++ drop end bytes.old }
+{
+    if truth {
+        put(bytes, end, "true")
+    } else {
+        put(bytes, end, "false")
+    }
+}
+
+/// Writes a label and a number after it.
+#[inline]
+fn put_numbered(bytes: &mut [u8; ROOM], end: usize, label: &str, number: u64) -> usize
+    requires { (length label.now ≤ 20) × (40 ≤ end) × (end ≤ 256) }
+    ensures short { end ≤ result + 40 }
+    ensures within { result ≤ end }
+    ensures written { drop result bytes.new ≡ label.now ++ (decimal number ++ drop end bytes.old) }
+{
+    let number = put_number(bytes, end, number);
+    put(bytes, number, label)
+}
+
+/// Writes what a line tells.
+fn put_event(bytes: &mut [u8; ROOM], end: usize, event: Event) -> usize
+    requires { (200 ≤ end) × (end ≤ 256) }
+    ensures short { end ≤ result + 160 }
+    ensures within { result ≤ end }
+    ensures written { drop result bytes.new ≡ event_text event ++ drop end bytes.old }
+{
+    match event {
+        Event::Dispatch(ctx, source, priority, depth) => {
+            let at = put_number(bytes, end, depth);
+            let at = put(bytes, at, " depth ");
+            let at = put_signed(bytes, at, i64::from(priority));
+            let at = put(bytes, at, " priority ");
+            let at = put_numbered(bytes, at, " source ", source);
+            put_numbered(bytes, at, "dispatch ctx ", u64::from(ctx))
+        }
+        Event::Log(number) => put_numbered(bytes, end, "log ", u64::from(number)),
+        Event::Iterate(ctx, answer) => {
+            let at = put_truth(bytes, end, answer);
+            let at = put(bytes, at, " ");
+            put_numbered(bytes, at, "iterate ctx ", u64::from(ctx))
+        }
+        Event::Pending(ctx, answer) => {
+            let at = put_truth(bytes, end, answer);
+            let at = put(bytes, at, " ");
+            put_numbered(bytes, at, "pending ctx ", u64::from(ctx))
+        }
+        Event::LoopEnd(number) => {
+            let at = put(bytes, end, " end");
+            put_numbered(bytes, at, "loop ", u64::from(number))
+        }
+        Event::Acquire(ctx, answer) => {
+            let at = put_truth(bytes, end, answer);
+            let at = put(bytes, at, " ");
+            put_numbered(bytes, at, "acquire ctx ", u64::from(ctx))
+        }
+        Event::Default(ctx) => put_numbered(bytes, end, "default ctx ", u64::from(ctx)),
+        Event::Invoke(ctx, how) => {
+            let at = put(bytes, end, invoked_word(how));
+            let at = put(bytes, at, " ");
+            put_numbered(bytes, at, "invoke ctx ", u64::from(ctx))
+        }
+        Event::Arrive(ctx, source) => {
+            let at = put_numbered(bytes, end, " source ", source);
+            put_numbered(bytes, at, "arrive ctx ", u64::from(ctx))
+        }
+        Event::Cancel(cancellable) => put_numbered(bytes, end, "cancel ", u64::from(cancellable)),
+        Event::Handler(id) => put_numbered(bytes, end, "handler ", id),
+        Event::Task(lane, number, outcome) => {
+            let at = put_outcome(bytes, end, outcome);
+            let at = put(bytes, at, " ");
+            let at = put_numbered(bytes, at, ".", number);
+            put_numbered(bytes, at, "task ", u64::from(lane))
+        }
+        Event::TaskLate(lane, number) => {
+            let at = put(bytes, end, " late");
+            let at = put_numbered(bytes, at, ".", number);
+            put_numbered(bytes, at, "task ", u64::from(lane))
+        }
+        Event::Give(ctx, lane) => {
+            let at = put_numbered(bytes, end, " lane ", u64::from(lane));
+            put_numbered(bytes, at, "give ctx ", u64::from(ctx))
+        }
+        Event::Hold(ctx) => put_numbered(bytes, end, "hold ctx ", u64::from(ctx)),
+        Event::Miss(word) => {
+            let at = put(bytes, end, action_word(word));
+            put(bytes, at, "miss ")
+        }
+        Event::HaltDepth => put(bytes, end, "halt depth"),
+        Event::HaltSteps => put(bytes, end, "halt steps"),
+        Event::End => put(bytes, end, "end"),
+    }
+}
+
+/// Writes a line at the end, and answers where it starts.
+pub(crate) fn put_line(bytes: &mut [u8; ROOM], line: Line) -> usize
+    ensures within { result ≤ 256 }
+    ensures written { drop result bytes.new ≡ line_text line }
+{
+    let at = put(bytes, ROOM, "\n");
+    let at = put_event(bytes, at, line.event);
+    let at = put(bytes, at, " ");
+    put_number(bytes, at, u64::from(line.tick))
+}
+
+/// Writes what follows the source in the line of a dispatch.
+fn put_tail(bytes: &mut [u8; ROOM], priority: i32, depth: u64) -> usize
+    ensures short { 256 ≤ result + 100 }
+    ensures within { result ≤ 256 }
+    ensures written { drop result bytes.new ≡ tail_text priority depth }
+{
+    let at = put(bytes, ROOM, "\n");
+    let at = put_number(bytes, at, depth);
+    let at = put(bytes, at, " depth ");
+    let at = put_signed(bytes, at, i64::from(priority));
+    put(bytes, at, " priority ")
+}
+
+/// Writes what comes before the source in the line of a dispatch.
+fn put_head(bytes: &mut [u8; ROOM], end: usize, tick: u32, context: u32) -> usize
+    requires { (100 ≤ end) × (end ≤ 256) }
+    ensures start { result + length (head_text tick context) ≡ end }
+    ensures written { drop result bytes.new ≡ head_text tick context ++ drop end bytes.old }
+{
+    let at = put(bytes, end, " source ");
+    let at = put_number(bytes, at, u64::from(context));
+    let at = put(bytes, at, " dispatch ctx ");
+    put_number(bytes, at, u64::from(tick))
+}
+
+/// The line of the dispatch that was written last. Most lines are of dispatches, and most of those differ from the
+/// one before in the source alone.
+#[derive(Clone, Copy)]
+pub(crate) struct LastDispatch {
+    bytes: [u8; ROOM],
+    start: usize,
+    /// Where the source starts.
+    number: usize,
+    /// Where what follows the source starts.
+    tail: usize,
+    tick: u32,
+    context: u32,
+    priority: i32,
+    depth: u64,
+}
+
+impl LastDispatch {
+    /// Any line of a dispatch.
+    pub(crate) fn new() -> Self
+        ensures { HoldsLine result }
+    {
+        LastDispatch::of(0, 0, 0, 0, 0)
+    }
+
+    fn of(tick: u32, context: u32, source: u64, priority: i32, depth: u64) -> Self
+        ensures holds { HoldsLine result }
+        ensures line { drop result.start result.bytes ≡ line_text (record { tick = tick; event = Dispatch context source priority depth }) }
+    {
+        let mut bytes = [0; ROOM];
+        let tail = put_tail(&mut bytes, priority, depth);
+        let number = write_digits(source, &mut bytes, tail);
+        let start = put_head(&mut bytes, number, tick, context);
+        LastDispatch {
+            bytes,
+            start,
+            number,
+            tail,
+            tick,
+            context,
+            priority,
+            depth,
+        }
+    }
+
+    /// Writes a whole line. Apart from `write`, so that only this pays for the room of another line.
+    #[cold]
+    #[inline(never)]
+    fn rewrite(&mut self, tick: u32, context: u32, source: u64, priority: i32, depth: u64)
+        ensures holds { HoldsLine self.new }
+        ensures line { drop self.new.start self.new.bytes ≡ line_text (record { tick = tick; event = Dispatch context source priority depth }) }
+    {
+        *self = LastDispatch::of(tick, context, source, priority, depth);
+    }
+
+    /// Writes the line of another dispatch.
+    #[inline]
+    pub(crate) fn write(&mut self, tick: u32, context: u32, source: u64, priority: i32, depth: u64)
+        requires { HoldsLine self.old }
+        ensures holds { HoldsLine self.new }
+        ensures line { drop self.new.start self.new.bytes ≡ line_text (record { tick = tick; event = Dispatch context source priority depth }) }
+    {
+        if self.priority != priority
+            || self.depth != depth
+            || self.tick != tick
+            || self.context != context
+        {
+            self.rewrite(tick, context, source, priority, depth);
+            return;
+        }
+        let number = write_digits(source, &mut self.bytes, self.tail);
+        if number != self.number {
+            self.number = number;
+            self.start = put_head(&mut self.bytes, number, tick, context);
+        }
+    }
+
+    /// The line.
+    #[inline]
+    pub(crate) fn line(&self) -> &[u8]
+        requires { HoldsLine self.now }
+        ensures { result.now ≡ drop self.now.start self.now.bytes }
+    {
+        &self.bytes[self.start..]
+    }
+}
