@@ -4,7 +4,6 @@ use Rattle.std.proofs.lemmas.Int.{ints}
 use Rattle.std.proofs.lemmas.Bool.Decides.{eqb_tells}
 use Rattle.std.specs.Prelude.{int_le, int_lt, bit_or}
 use Rattle.source_rows.specs.Slots.{asks}
-use Rattle.source_rows.proofs.Lists.{all_of}
 use Rattle.std.specs.List.{AllByRecursion, find, list_any, list_all}
 use Rattle.loop_script.specs.declared.source.Kind.{Kind}
 use Rattle.loop_script.specs.declared.source.Kind.TheVariants.{Idle, Timeout, ReadyTime, Fd, Cancel}
@@ -361,7 +360,7 @@ cutoff level cancelled now busy rows tree =
     (ready_more (own_ready nothing_shown cancelled now) (own_ready level cancelled now) busy rows (λ r. own_more level cancelled (is_due now r.ready) r.kind)) bound (least_of (filter ready rows)) refl refl in
     walk_same _ ready bound (in_order rows) (all_in_order _ rows same) ∙ walk_finds ready bound rows less
 
--- ---- with no descriptor: one pass with no bound finds what is selected
+-- ---- what is no descriptor's is not asked
 
 not_fd : (k : Kind) → asks k ≡ false → is_fd k ≡ false
 not_fd Idle h = refl
@@ -372,16 +371,3 @@ not_fd (Cancel c) h = refl
 
 pub not_asked : (bound : Option ℤ) (busy : List ℕ) (r : Row) → asks r.kind ≡ false → is_asked bound busy r ≡ false
 not_asked bound busy r h = rw (not_fd r.kind h) refl
-
-no_bound : (o : Option ℤ) → less_bound None o
-no_bound None = tt
-no_bound (Some m) = refl
-
-pub one_pass : (level : ℕ → ℕ) (cancelled : ℕ → Bool) (now : ℕ) (busy : List ℕ) (rows : List Row) → IsOneTree rows → AllByRecursion (λ r. asks r.kind ≡ false) rows
-    → walk (is_ready (own_ready (shown []) cancelled now) busy rows) None (in_order rows) ≡ selected (own_ready level cancelled now) busy rows
-one_pass level cancelled now busy rows tree quiet =
-    let f : ℕ → ℕ = shown [] in
-    let ready : Row → Bool = is_ready (own_ready level cancelled now) busy rows in
-    let shows = all_of (λ q. asks q.kind ≡ false) (λ q. is_asked None busy q ≡ true → f (fd_of q.kind) ≡ level (fd_of q.kind)) (λ q h e. let never = sym (not_asked None busy q h) ∙ e in cc) rows quiet in
-    let same = each_ready f level now cancelled busy None rows rows tree shows in
-    walk_same _ ready None (in_order rows) (all_in_order _ rows same) ∙ walk_finds ready None rows (no_bound (least_of (filter ready rows)))

@@ -1,11 +1,10 @@
 //! A context, and its three phases.
-ghost use Rattle.std.specs.Prelude.{◌≡◌, ◌≤◌, ◌^◌, ◌==◌, ◌&&◌, ◌||◌, false, IfOk, OnOk, ℕ, filter};
+ghost use Rattle.std.specs.Prelude.{◌≡◌, ◌≤◌, ◌^◌, ◌==◌, ◌&&◌, ◌||◌, IfOk, OnOk, ℕ, filter};
 ghost use Rattle.std.specs.Borrow.{sem};
 ghost use Rattle.context_core.specs.Lending.{LendsRows};
 ghost use Rattle.source_rows.specs.Rows.{no_rows, level_count, next_ready, in_order};
-ghost use Rattle.source_rows.specs.Slots.{asks};
 ghost use Rattle.source_rows.specs.Tree.{IsOneTree};
-ghost use Rattle.std.specs.List.{AllByRecursion, list_any};
+ghost use Rattle.std.specs.List.{list_any};
 ghost use Rattle.std.specs.Ordering.{nat_cmp};
 ghost use Rattle.std.specs.BTreeSet.{contains};
 ghost use Rattle.context_core.specs.Ready.{in_view, own_ready, selected, is_free, is_ready, calls};
@@ -164,22 +163,6 @@ impl Context {
             }
         }
         Ok(ids)
-    }
-
-    /// The ids of the sources that are dispatched next, in order, where none is one of a descriptor: in one pass over the
-    /// rows, with no `prepare` before it.
-    pub fn ready(
-        &self,
-        alloc: Global,
-        now: u64,
-        busy: &[u64],
-        view: &View,
-    ) -> Result<Vec<u64>, AllocError>
-        requires now { now ≤ 2 ^ 62 }
-        requires quiet { AllByRecursion (λ r. asks r.kind ≡ false) self.now.rows.rows }
-        ensures { (level : ℕ → ℕ) → IfOk result (λ ids. ids.items ≡ selected (own_ready level (in_view view.now) now) busy.now self.now.rows.rows) }
-    {
-        self.walk(alloc, None, &[], now, busy, view)
     }
 
     /// The ids of the sources that are dispatched next, in order, by the levels that descriptors show to the interests

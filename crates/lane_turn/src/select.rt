@@ -35,9 +35,6 @@ fn select(
     ensures { IfOk result (λ ids. ids.items ≡ chosen_in script.now tick view.now busy.now (Some context.now)) }
 {
     let now = script.now(tick);
-    if !context.rows().may_ask() {
-        return context.ready(alloc, now, busy, view);
-    }
     let prepared = context.prepare(now, busy, view);
     let interests = context.query(alloc, &prepared, busy)?;
     let levels = poll(alloc, script, tick, &interests)?;
