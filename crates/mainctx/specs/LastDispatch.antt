@@ -1,7 +1,7 @@
 -- The line of a dispatch in its parts.
 use Rattle.std.specs.Prelude.{◌≡◌, ℕ, ℤ, ◌+◌, ◌≤◌, List, ◌++◌, codes, drop, length}
 use Rattle.std.specs.Fmt.{decimal, signed_decimal}
-use Rattle.mainctx.specs.declared.ending.LastDispatch.{LastDispatch}
+use Rattle.mainctx.specs.declared.last_dispatch.LastDispatch.{LastDispatch}
 
 -- what comes before the source
 abbrev pub head_text : ℕ → ℕ → List ℕ

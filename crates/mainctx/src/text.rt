@@ -4,7 +4,8 @@ ghost use Rattle.mainctx.specs.Text.{line_text, lane_text};
 ghost use Rattle.mainctx.specs.LastDispatch.{HoldsLine};
 ghost use Rattle.mainctx.specs.Writing.{AddsFront};
 
-use crate::ending::{LastDispatch, ROOM, put_line};
+use crate::ending::{ROOM, put_line};
+use crate::last_dispatch::LastDispatch;
 use lane_turn::{Event, Line};
 use std::alloc::AllocError;
 use thiserror::Error;

@@ -1,6 +1,6 @@
 use Rattle.std.proofs.Common.{rules, ◌≡◌, [], drop, arith}
 use Rattle.std.proofs.lemmas.List.{drop_all}
-use Rattle.mainctx.proofs.ending.put_tail.Goals as goal
+use Rattle.mainctx.proofs.last_dispatch.put_tail.Goals as goal
 
 pub returns-clause-written : goal.returns-clause-written
 returns-clause-written c =

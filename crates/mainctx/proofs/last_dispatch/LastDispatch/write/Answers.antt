@@ -3,7 +3,7 @@ use Rattle.std.proofs.lemmas.Fmt.{length-decimal-le}
 use Rattle.std.specs.Fmt.{decimal}
 use Rattle.mainctx.specs.LastDispatch.{head_text, tail_text}
 use Rattle.mainctx.proofs.Endings.{end_kept, front_kept, line_is}
-use Rattle.mainctx.proofs.ending.LastDispatch.write.Goals as goal
+use Rattle.mainctx.proofs.last_dispatch.LastDispatch.write.Goals as goal
 
 pub write_digits-number-requires : goal.write_digits-number-requires
 write_digits-number-requires c = (omega (arith, length-decimal-le 20 c.args.source (omega arith) (omega arith) (omega arith), c.requires.room), omega (arith, c.requires.within, c.requires.long))
