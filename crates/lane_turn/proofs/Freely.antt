@@ -1,5 +1,5 @@
 -- A step that counts at once what it takes.
-use Rattle.std.proofs.Common.{◌≡◌, ℕ, zero, suc, ◌-◌, ◌≤◌, Option, Some, None, refl, sym, ap, ◌∙◌, arith, slice_get, unwrap_or}
+use Rattle.std.proofs.Common.{◌≡◌, ℕ, zero, suc, ◌-◌, ◌≤◌, Option, refl, sym, ap, ◌∙◌, arith, slice_get, unwrap_or}
 use Rattle.loop_script.specs.declared.plan.Plan.{Plan}
 use Rattle.loop_script.specs.declared.action.Action.{Action}
 use Rattle.loop_script.specs.Parts.{actions_of}

@@ -1,5 +1,5 @@
 -- What each step does to the frames.
-use Rattle.std.proofs.Common.{◌≡◌, ℕ, ℤ, zero, suc, ◌+◌, ◌==◌, Bool, true, false, cond, Option, Some, None, List, [], ◌∷◌, ◌⊎◌, inl, inr, drop, refl, ap, sym, ◌∙◌, subst, arith}
+use Rattle.std.proofs.Common.{◌≡◌, ℕ, ℤ, zero, suc, ◌==◌, Bool, true, false, cond, Option, Some, None, List, [], ◌∷◌, inl, inr, drop, refl, ap, sym, ◌∙◌, subst}
 use Rattle.std.specs.Prelude.{slice_get, nat_lt, is_some}
 use Rattle.std.specs.List.{AllByRecursion, find}
 use Rattle.std.proofs.lemmas.Bool.Decides.{eqb_tells}
@@ -26,7 +26,7 @@ use Rattle.lane_turn.specs.Lane.{Lane, Turn, taken, pushed, popped, stopped, set
 use Rattle.lane_turn.specs.Acted.{acted, missed, child_of, on_source, set_priority_of, disconnect_of}
 use Rattle.lane_turn.specs.Step.{step, step_call, step_id, returned, answered, counted_by, in_lane, dispatched, dispatching}
 use Rattle.lane_turn.proofs.Mild.{Plain, plain_cancel, plain_handled}
-use Rattle.lane_turn.specs.Iterations.{IsRest, Later, EachLater, IsOver, TakesNext, Begun, FramesGoOn}
+use Rattle.lane_turn.specs.Iterations.{IsRest, Later, EachLater, IsOver, Begun, FramesGoOn}
 
 -- ---- frames later on
 

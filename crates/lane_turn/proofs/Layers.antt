@@ -14,7 +14,7 @@ use Rattle.lane_turn.specs.declared.layer.Top.TheVariants as tops
 use Rattle.lane_turn.specs.declared.layer.Layer.{Layer}
 use Rattle.lane_turn.specs.declared.layer.Layer.TheVariants as layers
 use Rattle.lane_turn.specs.Frames.{Frame, CallOf, IterOf, LoopOf, emptied, emptied_one, is_dispatch, depth, is_call, calls, blocked_in, busy, advanced, advanced_one, top_of, IsTaken}
-use Rattle.lane_turn.specs.Nest.{level_at, is_level, is_live, ids_left, frame_of, frames_of, is_dispatch_layer, is_call_layer, blocked_by_layer, busy_layers, advanced_layer, advanced_layers, taken_layer, taken_layers, top_of_layers, HasRoomLayers}
+use Rattle.lane_turn.specs.Nest.{level_at, is_level, is_live, ids_left, frame_of, frames_of, is_dispatch_layer, is_call_layer, blocked_by_layer, busy_layers, advanced_layer, advanced_layers, taken_layers, top_of_layers, HasRoomLayers}
 
 pub first_within : (xs : List Layer) (x : Layer) → xs ≢ [] → slice_get (xs ++ x ∷ []) 0 ≡ slice_get xs 0
 first_within [] x h = absurd (h refl)

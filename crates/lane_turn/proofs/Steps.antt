@@ -12,7 +12,6 @@ use Rattle.lane_turn.specs.declared.line.Event.TheVariants as events
 use Rattle.lane_turn.specs.declared.parts.Status.{Status}
 use Rattle.lane_turn.specs.declared.parts.Status.TheVariants.{GoesOn, Ended, Halted}
 use Rattle.lane_turn.specs.declared.layer.Call.{Call}
-use Rattle.lane_turn.specs.declared.layer.Caller.{Caller}
 use Rattle.lane_turn.specs.declared.layer.Origin.{Origin}
 use Rattle.lane_turn.specs.declared.layer.Origin.TheVariants.{Start, Source, Invoke}
 use Rattle.cancel_view.specs.Seen.{Seen}
@@ -20,7 +19,7 @@ use Rattle.lane_turn.specs.Frames.{Frame, CallOf, IterOf, LoopOf}
 use Rattle.lane_turn.specs.Sources.{restarted}
 use Rattle.lane_turn.specs.Lane.{Lane, Turn, popped, taken, row_of, iterating, is_running, edited, written}
 use Rattle.lane_turn.specs.Acted.{acted}
-use Rattle.lane_turn.specs.Step.{step, step_call, step_id, returned, left_source, answered, counted_by, in_lane, dispatching}
+use Rattle.lane_turn.specs.Step.{step, step_call, step_id, returned, answered, counted_by, in_lane, dispatching}
 use Rattle.lane_turn.specs.Turn.{work, while_going, nest_work, row_count}
 use Rattle.lane_turn.specs.Sound.{IsSound, IsWithin, Bounded}
 use Rattle.lane_turn.proofs.Measure.{pays, lessens, begins}

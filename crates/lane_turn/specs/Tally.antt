@@ -1,5 +1,5 @@
 -- How much is in progress.
-use Rattle.std.specs.Prelude.{ℕ, ◌+◌, ◌≤◌, Bool, true, false, List, [], ◌∷◌, length, count_by, if◌then◌else◌}
+use Rattle.std.specs.Prelude.{ℕ, ◌+◌, ◌≤◌, Bool, List, length, count_by, if◌then◌else◌}
 use Rattle.lane_turn.specs.declared.layer.Layer.{Layer}
 use Rattle.lane_turn.specs.declared.tally.Tally.{Tally}
 use Rattle.lane_turn.specs.Nest.{is_dispatch_layer, is_call_layer, is_blocking_layer}

@@ -1,5 +1,5 @@
 -- What each status tells.
-use Rattle.std.proofs.Common.{◌≡◌, ◌≤◌, ◌⊎◌, inl, inr, ℕ, List, Option, arith, subst}
+use Rattle.std.proofs.Common.{◌≡◌, ◌≤◌, ◌⊎◌, inl, inr, ℕ, List, Option, arith}
 use Rattle.loop_script.specs.declared.fault.ScriptFault.TheVariants as faults
 use Rattle.mainctx.specs.declared.status.Refusal.{Refusal}
 use Rattle.mainctx.specs.declared.status.Refusal.TheVariants.{Usage, Script, Memory, Read, Write}

@@ -3,7 +3,7 @@ use Rattle.std.proofs.lemmas.Bool.{ltb-true}
 use Rattle.std.proofs.lemmas.Option.{slice_get_past, slice_get_read}
 use Rattle.loop_script.specs.declared.action.Action.{Action}
 use Rattle.lane_turn.specs.Frames.{Frame}
-use Rattle.lane_turn.specs.Lane.{Lane, Turn, taken}
+use Rattle.lane_turn.specs.Lane.{Lane, taken}
 use Rattle.lane_turn.specs.Acted.{acted}
 use Rattle.lane_turn.specs.Step.{returned}
 use Rattle.lane_turn.specs.Meaning.{lane_of, turn_of}
