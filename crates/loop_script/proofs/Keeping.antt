@@ -335,7 +335,7 @@ of_plan : (d : Option Data) → ClearsNone (plan d)
 unfolding plan
 of_plan d s =
     along (only (codes "version" ∷ codes "ticks" ∷ codes "tick_us" ∷ codes "lanes" ∷ codes "cancellables" ∷ codes "fds" ∷ codes "loops" ∷ codes "procs" ∷ []) d) (of_only _ d) s _ (
-    along (whole 1 1 (field (codes "version") d)) (of_whole 1 1 _) _ _ (
+    along (whole 1 2 (field (codes "version") d)) (of_whole 1 2 _) _ _ (
     along (whole 1 4096 (field (codes "ticks") d)) (of_whole 1 4096 _) _ _ (
     along (whole 1 1000000000 (field (codes "tick_us") d)) (of_whole 1 1000000000 _) _ _ (
     along (lanes (field (codes "lanes") d)) (of_lanes _) _ _ (

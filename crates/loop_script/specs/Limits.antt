@@ -5,6 +5,8 @@ use Rattle.loop_script.specs.References.{plan_refers}
 use Rattle.loop_script.specs.Rules.{plan_rules}
 
 pub record IsBounded (p : Plan) : Type 0 where
+  pub first : 1 ≤ p.version
+  pub last : p.version ≤ 2
   pub lanes : length p.lanes ≤ 64
   pub contexts : sum_by (λ l. l.contexts) p.lanes ≤ 256
   pub ticks : p.ticks ≤ 4096

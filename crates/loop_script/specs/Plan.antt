@@ -42,7 +42,7 @@ procedure d = do
 unfoldable pub plan : Option Data → Read Plan
 plan d = do
   _ ← only (codes "version" ∷ codes "ticks" ∷ codes "tick_us" ∷ codes "lanes" ∷ codes "cancellables" ∷ codes "fds" ∷ codes "loops" ∷ codes "procs" ∷ []) d
-  version ← whole 1 1 (field (codes "version") d)
+  version ← whole 1 2 (field (codes "version") d)
   ticks ← whole 1 4096 (field (codes "ticks") d)
   tick_us ← whole 1 1000000000 (field (codes "tick_us") d)
   lanes ← lanes (field (codes "lanes") d)

@@ -37,6 +37,7 @@ pub struct Proc {
 /// What a script says.
 #[derive(Drop)]
 pub struct Plan {
+    /// Of the rules: 1 or 2.
     pub version: u32,
     /// How many ticks it runs.
     pub ticks: u32,
@@ -180,7 +181,7 @@ impl Plan {
             ],
             faults,
         );
-        let version = whole_number(field_of(value, "version"), 1, 1, faults);
+        let version = whole_number(field_of(value, "version"), 1, 2, faults);
         let ticks = whole_number(field_of(value, "ticks"), 1, 4096, faults);
         let tick_us = whole_number(field_of(value, "tick_us"), 1, 1_000_000_000, faults);
         let lanes = read_lanes(alloc, field_of(value, "lanes"), faults)?;

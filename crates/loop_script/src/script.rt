@@ -55,6 +55,15 @@ impl Script {
         judged(plan, faults)
     }
 
+    /// The version of the rules: in version 1 a child has no children, in version 2 it may have some.
+    pub fn version(&self) -> u32
+        ensures version { result ≡ self.now.version }
+        ensures first { 1 ≤ result }
+        ensures last { result ≤ 2 }
+    {
+        self.plan.version
+    }
+
     /// How many ticks the script runs.
     pub fn ticks(&self) -> u32
         ensures ticks { result ≡ self.now.ticks }

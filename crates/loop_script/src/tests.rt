@@ -15,6 +15,7 @@ fn each_action() -> &'static str {
 #[test]
 fn tells_its_parts(rt: HostRuntime) -> Result<(), Fail> {
     let script = Script::read(rt.alloc(), first_run().as_bytes())?;
+    assert_eq!(rt; script.version(), 1);
     assert_eq!(rt; script.ticks(), 2);
     assert_eq!(rt; script.now(1), 1000);
     assert_eq!(rt; script.contexts(), 1);
