@@ -4,3 +4,4 @@ pub mod Wait
 pub mod Called
 pub mod Lent
 pub mod Phased
+pub mod AtTwo

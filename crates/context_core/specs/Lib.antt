@@ -2,3 +2,4 @@ pub mod Ready
 pub mod Phases
 pub mod Lending
 pub mod Lent
+pub mod TwoLevels

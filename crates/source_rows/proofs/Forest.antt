@@ -147,21 +147,25 @@ or_three false false true v = refl
 or_three false false false true = refl
 or_three false false false false = refl
 
-any_of : (id : ℕ) (xs ys : List ℕ) → xs ≡ ys → list_any (λ i. i == id) xs ≡ list_any (λ i. i == id) ys
-any_of id xs ys e = ap (list_any (λ i. i == id)) e
+any_of : (f : ℕ → Bool) (xs ys : List ℕ) → xs ≡ ys → list_any f xs ≡ list_any f ys
+any_of f xs ys e = ap (list_any f) e
+
+-- what some id on a child's line passes, its own does, or one on its parent's
+pub any_child : (f : ℕ → Bool) (q r : Row) → IsChildOf q r → r.level ≤ 4 → Shaped q → list_any f r.line ≡ (list_any f q.line || f r.id)
+any_child f q r c most (inl s) =
+    any_of f r.line (q.id ∷ r.id ∷ r.id ∷ r.id ∷ []) (c.line ∙ line_is q.level 1 q.line (q.id ∷ q.id ∷ q.id ∷ q.id ∷ []) r.id s.0 s.1)
+    ∙ (or_one (f q.id) (f r.id) ∙ sym (ap (λ (b : Bool). b || f r.id) (any_of f q.line (q.id ∷ q.id ∷ q.id ∷ q.id ∷ []) s.1)))
+any_child f q r c most (inr (inl s)) =
+    any_of f r.line (s.0 ∷ q.id ∷ r.id ∷ r.id ∷ []) (c.line ∙ line_is q.level 2 q.line (s.0 ∷ q.id ∷ q.id ∷ q.id ∷ []) r.id s.2 s.3)
+    ∙ (or_two (f s.0) (f q.id) (f r.id) ∙ sym (ap (λ (b : Bool). b || f r.id) (any_of f q.line (s.0 ∷ q.id ∷ q.id ∷ q.id ∷ []) s.3)))
+any_child f q r c most (inr (inr (inl s))) =
+    any_of f r.line (s.0 ∷ s.1 ∷ q.id ∷ r.id ∷ []) (c.line ∙ line_is q.level 3 q.line (s.0 ∷ s.1 ∷ q.id ∷ q.id ∷ []) r.id s.4 s.5)
+    ∙ (or_three (f s.0) (f s.1) (f q.id) (f r.id) ∙ sym (ap (λ (b : Bool). b || f r.id) (any_of f q.line (s.0 ∷ s.1 ∷ q.id ∷ q.id ∷ []) s.5)))
+any_child f q r c most (inr (inr (inr s))) = let up = c.level in let at = s.6 in absurd (omega (arith, up, at, most))
 
 -- under an id is what has it, or whose parent is under it
 pub under_child : (id : ℕ) (q r : Row) → IsChildOf q r → r.level ≤ 4 → Shaped q → is_under id r ≡ (is_under id q || (r.id == id))
-under_child id q r c most (inl s) =
-    any_of id r.line (q.id ∷ r.id ∷ r.id ∷ r.id ∷ []) (c.line ∙ line_is q.level 1 q.line (q.id ∷ q.id ∷ q.id ∷ q.id ∷ []) r.id s.0 s.1)
-    ∙ (or_one (q.id == id) (r.id == id) ∙ sym (ap (λ (b : Bool). b || (r.id == id)) (any_of id q.line (q.id ∷ q.id ∷ q.id ∷ q.id ∷ []) s.1)))
-under_child id q r c most (inr (inl s)) =
-    any_of id r.line (s.0 ∷ q.id ∷ r.id ∷ r.id ∷ []) (c.line ∙ line_is q.level 2 q.line (s.0 ∷ q.id ∷ q.id ∷ q.id ∷ []) r.id s.2 s.3)
-    ∙ (or_two (s.0 == id) (q.id == id) (r.id == id) ∙ sym (ap (λ (b : Bool). b || (r.id == id)) (any_of id q.line (s.0 ∷ q.id ∷ q.id ∷ q.id ∷ []) s.3)))
-under_child id q r c most (inr (inr (inl s))) =
-    any_of id r.line (s.0 ∷ s.1 ∷ q.id ∷ r.id ∷ []) (c.line ∙ line_is q.level 3 q.line (s.0 ∷ s.1 ∷ q.id ∷ q.id ∷ []) r.id s.4 s.5)
-    ∙ (or_three (s.0 == id) (s.1 == id) (q.id == id) (r.id == id) ∙ sym (ap (λ (b : Bool). b || (r.id == id)) (any_of id q.line (s.0 ∷ s.1 ∷ q.id ∷ q.id ∷ []) s.5)))
-under_child id q r c most (inr (inr (inr s))) = let up = c.level in let at = s.6 in absurd (omega (arith, up, at, most))
+under_child id q r c most s = any_child (λ i. i == id) q r c most s
 
 or_up : (a b : Bool) → a ≡ true → (a || b) ≡ true
 or_up true b h = refl
@@ -182,10 +186,10 @@ or_four true h = refl
 or_four false h = cc
 
 pub under_root : (id : ℕ) (r : Row) → IsRoot r → is_under id r ≡ true → r.id ≡ id
-under_root id r p h = are_same r.id id (or_four (r.id == id) (sym (any_of id r.line (root_line r.id) p.line) ∙ h))
+under_root id r p h = are_same r.id id (or_four (r.id == id) (sym (any_of (λ i. i == id) r.line (root_line r.id) p.line) ∙ h))
 
 pub under_self : (r : Row) → Shaped r → is_under r.id r ≡ true
-under_self r (inl s) = any_of r.id r.line (r.id ∷ r.id ∷ r.id ∷ r.id ∷ []) s.1 ∙ rw (same_self r.id) refl
-under_self r (inr (inl s)) = any_of r.id r.line (s.0 ∷ r.id ∷ r.id ∷ r.id ∷ []) s.3 ∙ rw (same_self r.id) (or_true (s.0 == r.id))
-under_self r (inr (inr (inl s))) = any_of r.id r.line (s.0 ∷ s.1 ∷ r.id ∷ r.id ∷ []) s.5 ∙ rw (same_self r.id, or_true (s.1 == r.id)) (or_true (s.0 == r.id))
-under_self r (inr (inr (inr s))) = any_of r.id r.line (s.0 ∷ s.1 ∷ s.2 ∷ r.id ∷ []) s.7 ∙ rw (same_self r.id, or_true (s.2 == r.id), or_true (s.1 == r.id)) (or_true (s.0 == r.id))
+under_self r (inl s) = any_of (λ i. i == r.id) r.line (r.id ∷ r.id ∷ r.id ∷ r.id ∷ []) s.1 ∙ rw (same_self r.id) refl
+under_self r (inr (inl s)) = any_of (λ i. i == r.id) r.line (s.0 ∷ r.id ∷ r.id ∷ r.id ∷ []) s.3 ∙ rw (same_self r.id) (or_true (s.0 == r.id))
+under_self r (inr (inr (inl s))) = any_of (λ i. i == r.id) r.line (s.0 ∷ s.1 ∷ r.id ∷ r.id ∷ []) s.5 ∙ rw (same_self r.id, or_true (s.1 == r.id)) (or_true (s.0 == r.id))
+under_self r (inr (inr (inr s))) = any_of (λ i. i == r.id) r.line (s.0 ∷ s.1 ∷ s.2 ∷ r.id ∷ []) s.7 ∙ rw (same_self r.id, or_true (s.2 == r.id), or_true (s.1 == r.id)) (or_true (s.0 == r.id))

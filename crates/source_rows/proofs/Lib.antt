@@ -23,3 +23,4 @@ pub mod Sooner
 pub mod InTime
 pub mod Timed
 pub mod TimeTree
+pub mod AtTwo

@@ -15,3 +15,4 @@ pub mod Lists
 pub mod Inserted
 pub mod Times
 pub mod TimeTree
+pub mod TwoLevels

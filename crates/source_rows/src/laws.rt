@@ -1,5 +1,6 @@
 //! Laws of the definitions, as functions that do nothing.
 ghost use Rattle.source_rows.specs.Laws.{OrderLaws, PathLaws, TreeLaws};
+ghost use Rattle.source_rows.specs.TwoLevels.{LevelLaws};
 ghost use Rattle.source_rows.specs.Worked.{WorkedOrders};
 
 /// How the order changes with the rows: a new row is put into its place, and what an edit leaves stands as it stood.
@@ -11,6 +12,13 @@ pub fn order_changes_little()
 /// the own number, and at any number of levels it is the post-order of the trees. One tree has one priority.
 pub fn order_is_post_order()
     ensures { TreeLaws }
+{}
+
+/// What the levels mean: under a row is what has its id and what has a parent under it, at any number of them. Where rows
+/// stand at two at most, that is the row with its children, and each edit, each refusal and the order are those of rows
+/// that are a root or the child of one.
+pub fn levels_go_by_parents()
+    ensures { LevelLaws }
 {}
 
 /// What the paths of one tree have to do with their order.

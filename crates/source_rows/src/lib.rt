@@ -20,7 +20,10 @@ mod times;
 
 pub use fault::RowsFault;
 pub use in_order::InOrder;
-pub use laws::{order_changes_little, order_is_post_order, paths_stand_together, worked_orders};
+pub use laws::{
+    levels_go_by_parents, order_changes_little, order_is_post_order, paths_stand_together,
+    worked_orders,
+};
 pub use levels::Levels;
 pub use row::Row;
 pub use rows::{Ordered, Rows};
