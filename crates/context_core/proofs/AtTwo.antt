@@ -1,5 +1,5 @@
 -- What calls in progress and sources below do to a source: by parents, and at two levels.
-use Rattle.std.proofs.Common.{◌≡◌, ℕ, ◌≤◌, ◌==◌, ◌&&◌, ◌||◌, Bool, true, false, not, Option, Some, None, List, [], ◌∷◌, map, filter, refl, ap, sym, ◌∙◌}
+use Rattle.std.proofs.Common.{◌≡◌, ℕ, ◌≤◌, ◌==◌, ◌&&◌, ◌||◌, Bool, true, false, not, cond, Option, Some, None, List, [], ◌∷◌, map, filter, refl, ap, sym, ◌∙◌}
 use Rattle.std.specs.List.{AllByRecursion, list_any}
 use Rattle.source_rows.specs.declared.row.Row.{Row}
 use Rattle.source_rows.specs.Rows.{row_of, is_under, in_order, stands_before}
@@ -10,7 +10,7 @@ use Rattle.source_rows.proofs.Lists.{all_of, all_and, all_both}
 use Rattle.source_rows.proofs.Forest.{InForest, members, shaped, found, same_id, any_child}
 use Rattle.source_rows.proofs.Post.{two_levels}
 use Rattle.source_rows.proofs.AtTwo.{or_turned, any_root, any_at_two, under_two, filter_same, order_same, each_passed}
-use Rattle.context_core.specs.Ready.{Own, is_blocked, is_free, calls, is_ready, ready_rows, is_most_urgent, selected}
+use Rattle.context_core.specs.Ready.{Own, is_blocked, is_free, calls, is_ready, is_most_urgent, selected}
 use Rattle.context_core.specs.TwoLevels.{is_busy, is_parent_busy, is_blocked_at_two, calls_at_two, is_ready_at_two, ready_at_two, selected_at_two, is_above_blocked}
 use Rattle.context_core.proofs.Cutoff.{any_same}
 

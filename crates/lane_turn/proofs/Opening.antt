@@ -13,13 +13,13 @@ each_pushed : (P : Option Context → Type 0) (os : List (Option Context)) (o : 
 each_pushed P [] o h p = (p, tt)
 each_pushed P (x ∷ os) o h p = (h.0, each_pushed P os o h.1 p)
 
-open_by : (b : Bool) → Bounded 1 (cond b (Some no_sources) None)
-open_by true = record { id = omega arith; order = omega arith; counts = tt }
-open_by false = tt
+open_by : (script : Plan) (b : Bool) → Bounded 1 (cond b (Some (no_sources script)) None)
+open_by script true = record { id = omega arith; order = omega arith; counts = tt }
+open_by script false = tt
 
 open_bounded : (script : Plan) (lane n : ℕ) → AllByRecursion (Bounded 1) (open_contexts_to script lane n)
 open_bounded script lane zero = tt
-open_bounded script lane (suc n) = each_pushed (Bounded 1) (open_contexts_to script lane n) (open_context script lane n) (open_bounded script lane n) (open_by (home_of script n == lane))
+open_bounded script lane (suc n) = each_pushed (Bounded 1) (open_contexts_to script lane n) (open_context script lane n) (open_bounded script lane n) (open_by script (home_of script n == lane))
 
 pub opening_within : (script : Plan) (lane : ℕ) → IsWithin 1 (opening script lane)
 opening_within script lane = record { contexts = open_bounded script lane (sizes script).contexts; frames = omega arith; handlers = omega arith }

@@ -1,5 +1,5 @@
 -- The contexts of a lane: their sources, and what a call's end does to one.
-use Rattle.std.specs.Prelude.{ℕ, ◌+◌, ◌*◌, ℤ, pos, Option, Some, None, List, []}
+use Rattle.std.specs.Prelude.{ℕ, ◌+◌, ◌*◌, ◌==◌, ℤ, pos, Option, Some, None, List, [], if◌then◌else◌}
 use Rattle.loop_script.specs.declared.plan.Plan.{Plan}
 use Rattle.loop_script.specs.declared.source.Kind.{Kind}
 use Rattle.loop_script.specs.declared.source.Kind.TheVariants.{Idle, Timeout, ReadyTime, Fd, Cancel}
@@ -10,9 +10,13 @@ use Rattle.context_core.specs.declared.context.Context.{Context}
 use Rattle.cancel_view.specs.Seen.{Seen}
 use Rattle.context_core.specs.Ready.{Own, in_view, own_ready, selected}
 
--- a context with no source, whose sources may have children that have none
-abbrev pub no_sources : Context
-no_sources = record { rows = no_rows 2 }
+-- at how many levels the sources of a script stand at most: in version 1 a child has no children
+abbrev pub tree_levels : Plan → ℕ
+tree_levels script = if script.version == 1 then 2 else 4
+
+-- a context with no source
+abbrev pub no_sources : Plan → Context
+no_sources script = record { rows = no_rows (tree_levels script) }
 
 -- so many milliseconds after a time in microseconds
 abbrev pub due_after : ℕ → ℕ → ℤ

@@ -70,7 +70,7 @@ turned script tick lane = (finished script tick (begun lane)).lane
 
 -- a context of the script, as a lane has it at first
 abbrev pub open_context : Plan → ℕ → ℕ → Option Context
-open_context script lane context = if home_of script context == lane then Some no_sources else None
+open_context script lane context = if home_of script context == lane then Some (no_sources script) else None
 
 -- the first n contexts of the script
 abbrev pub open_contexts_to : Plan → ℕ → ℕ → List (Option Context)

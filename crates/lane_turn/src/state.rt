@@ -1,6 +1,8 @@
 //! A lane between its turns.
 ghost use Rattle.std.specs.Prelude.{◌≡◌, ℕ, ◌+◌, ◌^◌, ◌≤◌, ◌↔◌, ◌≢◌, false, IsTrue, OnOk, IfOk, Err};
 ghost use Rattle.lane_turn.specs.Turn.{turned, opening, open_context, open_contexts, open_slots, open_view, open_loops};
+ghost use Rattle.source_rows.specs.Rows.{level_count};
+ghost use Rattle.lane_turn.specs.Sources.{tree_levels};
 ghost use Rattle.lane_turn.specs.Meaning.{lane_of};
 ghost use Rattle.lane_turn.specs.Sound.{IsWithin};
 
@@ -80,9 +82,20 @@ fn open_context(alloc: Global, script: &Script, lane: u32, context: u32) -> Opti
     ensures { result ≡ open_context script.now lane context }
 {
     if script.home(context) == lane {
-        Some(Context::new(alloc, Levels::Two))
+        Some(Context::new(alloc, tree_levels(script)))
     } else {
         None
+    }
+}
+
+/// At how many levels the sources of a script stand at most.
+fn tree_levels(script: &Script) -> Levels
+    ensures { level_count result ≡ tree_levels script.now }
+{
+    if script.version() == 1 {
+        Levels::Two
+    } else {
+        Levels::Four
     }
 }
 
