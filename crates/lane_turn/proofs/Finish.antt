@@ -20,7 +20,7 @@ pub one_taken : (script : Plan) (tick : ℕ) (t u : Turn) → step script tick t
 unfolding finish
 one_taken script tick t u e k = ap (λ (o : Option Turn). option_map_or (finish script tick k) o t) e
 
-finish_none : (script : Plan) (tick : ℕ) (t : Turn) → finish script tick zero t ≡ t
+pub finish_none : (script : Plan) (tick : ℕ) (t : Turn) → finish script tick zero t ≡ t
 unfolding finish
 finish_none script tick t = refl
 

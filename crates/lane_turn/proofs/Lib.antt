@@ -10,3 +10,4 @@ pub mod Steps
 pub mod Finish
 pub mod Opening
 pub mod Iterations
+pub mod Grown

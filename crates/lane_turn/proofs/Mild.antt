@@ -485,7 +485,7 @@ count_by_bound (Some r) h = let k = h r refl in omega (arith, k)
 pub count_fits : (id : ℕ) (s : RowSet) → IsBounded (2 ^ 62) s → IfSome (row_with id s.rows) (λ r. r.count < 2 ^ 63)
 count_fits id s b = count_by_bound (row_with id s.rows) (λ r e. found (2 ^ 62) (λ q. q.id == id) s.rows r b.counts e)
 
-bounded_at : (m : ℕ) (contexts : List (Option Context)) (i : ℕ) → AllByRecursion (Bounded m) contexts → Bounded m (known (slice_get contexts i))
+pub bounded_at : (m : ℕ) (contexts : List (Option Context)) (i : ℕ) → AllByRecursion (Bounded m) contexts → Bounded m (known (slice_get contexts i))
 bounded_at m [] i b = tt
 bounded_at m (o ∷ contexts) zero b = b.0
 bounded_at m (o ∷ contexts) (suc i) b = bounded_at m contexts i b.1

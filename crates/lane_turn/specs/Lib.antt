@@ -9,3 +9,4 @@ pub mod Turn
 pub mod Sound
 pub mod Meaning
 pub mod Iterations
+pub mod Levels

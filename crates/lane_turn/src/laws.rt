@@ -1,6 +1,7 @@
 //! Laws of the definitions, as functions that do nothing.
 ghost use Rattle.lane_turn.specs.Turn.{TurnsEnd};
 ghost use Rattle.lane_turn.specs.Iterations.{IterationsGoOn};
+ghost use Rattle.lane_turn.specs.Levels.{LevelsHold};
 
 /// A turn leaves a lane with no step left: it rests, has ended or is halted.
 pub fn turns_end()
@@ -12,4 +13,12 @@ pub fn turns_end()
 /// none is left; and what is dispatched is the next id of the innermost.
 pub fn iterations_go_on()
     ensures { IterationsGoOn }
+{}
+
+/// At each moment of a run, within turns too, the sources of each context stand in trees at no more levels than the
+/// script's version has: two in version 1, four in version 2. So a script of version 1 gives the text that it gave when
+/// there were no more: what is selected and blocked, where a child or a priority is refused, and what a destroy and a
+/// change of priority leave is what the rules of two levels say.
+pub fn levels_go_by_version()
+    ensures { LevelsHold }
 {}

@@ -21,7 +21,7 @@ mod step;
 mod tally;
 mod turn;
 
-pub use laws::{iterations_go_on, turns_end};
+pub use laws::{iterations_go_on, levels_go_by_version, turns_end};
 pub use line::{Event, Invoked, Line, Word};
 pub use parts::Status;
 pub use state::{LaneFault, LaneState};

@@ -41,7 +41,7 @@ none_gone id rows f none =
     let all = members rows f in
     all_stay (is_under id) rows (all_of (InForest rows) (λ r. is_under id r ≡ false) (λ r g. under_some rows all id none r g) rows all)
 
-sound_filter : (id : ℕ) (rows : List Row) (i n l : ℕ) → IsSound rows i n l → IsSound (filter (λ r. not (is_under id r)) rows) i n l
+pub sound_filter : (id : ℕ) (rows : List Row) (i n l : ℕ) → IsSound rows i n l → IsSound (filter (λ r. not (is_under id r)) rows) i n l
 sound_filter id rows i n l s =
     let p = λ (r : Row). not (is_under id r) in
     record {

@@ -24,3 +24,4 @@ pub mod InTime
 pub mod Timed
 pub mod TimeTree
 pub mod AtTwo
+pub mod Sound

@@ -16,3 +16,4 @@ pub mod Inserted
 pub mod Times
 pub mod TimeTree
 pub mod TwoLevels
+pub mod Edits

@@ -1,4 +1,5 @@
 //! Laws of the definitions, as functions that do nothing.
+ghost use Rattle.source_rows.specs.Edits.{EditLaws};
 ghost use Rattle.source_rows.specs.Laws.{OrderLaws, PathLaws, TreeLaws};
 ghost use Rattle.source_rows.specs.TwoLevels.{LevelLaws};
 ghost use Rattle.source_rows.specs.Worked.{WorkedOrders};
@@ -6,6 +7,11 @@ ghost use Rattle.source_rows.specs.Worked.{WorkedOrders};
 /// How the order changes with the rows: a new row is put into its place, and what an edit leaves stands as it stood.
 pub fn order_changes_little()
     ensures { OrderLaws }
+{}
+
+/// What each edit keeps: rows stand in trees within their levels, with distinct ids and places, before it and after it.
+pub fn edits_keep_trees()
+    ensures { EditLaws }
 {}
 
 /// What the order means for trees: at two levels it is by priority, the root's number, children before their parent and

@@ -21,7 +21,7 @@ mod times;
 pub use fault::RowsFault;
 pub use in_order::InOrder;
 pub use laws::{
-    levels_go_by_parents, order_changes_little, order_is_post_order, paths_stand_together,
+    edits_keep_trees, levels_go_by_parents, order_changes_little, order_is_post_order, paths_stand_together,
     worked_orders,
 };
 pub use levels::Levels;

@@ -1,0 +1,365 @@
+-- The sources of a lane stand in trees within the script's levels: one line for each action.
+use Rattle.std.proofs.Common.{◌≡◌, ℕ, ℤ, zero, suc, ◌+◌, ◌*◌, ◌^◌, ◌<◌, ◌≤◌, ◌==◌, Bool, true, false, cond, Option, Some, None, List, [], ◌∷◌, ◌++◌, slice_set, refl, ap, sym, ◌∙◌, arith, subst, option_map}
+use Rattle.std.specs.Prelude.{slice_get, is_some, is_none, nat_lt}
+use Rattle.std.specs.List.{AllByRecursion}
+use Rattle.loop_script.specs.declared.plan.Plan.{Plan}
+use Rattle.loop_script.specs.declared.source.SourceSpec.{SourceSpec}
+use Rattle.loop_script.specs.declared.source.Kind.{Kind}
+use Rattle.loop_script.specs.declared.source.Kind.TheVariants as kinds
+use Rattle.loop_script.specs.declared.action.Action.{Action}
+use Rattle.loop_script.specs.declared.action.Action.TheVariants.{Attach, Child, Destroy, SetReady, SetPriority, Iterate, Pending, Run, Quit, Cancel, Connect, Disconnect, Task, Push, Pop, ShowDefault, Acquire, Release, Invoke, Give, Log}
+use Rattle.loop_script.specs.declared.body.Body.{Body}
+use Rattle.loop_script.specs.declared.body.Body.TheVariants.{Procedure}
+use Rattle.loop_script.specs.Parts.{time_of, home_of, actions_of, stays}
+use Rattle.loop_script.specs.References.{sizes}
+use Rattle.source_rows.specs.declared.row.Row.{Row}
+use Rattle.source_rows.specs.declared.fault.RowsFault.{RowsFault}
+use Rattle.source_rows.specs.Rows.{RowSet, row_of as row_with, attached, child_added, child_fault, priority_fault, destroyed, ready_set, reprioritised, counted}
+use Rattle.source_rows.specs.TwoLevels.{IsWithinLevels}
+use Rattle.source_rows.proofs.AtTwo.{roots, children, destroyed_two, reprioritised_two}
+use Rattle.context_core.proofs.AtTwo.{selected_two}
+use Rattle.source_rows.proofs.Sound.{sound_none, sound_attached, sound_child, sound_destroyed, sound_reprioritised, sound_ready_set, sound_counted}
+use Rattle.cancel_view.specs.declared.handler.Fired.{Fired}
+use Rattle.cancel_view.specs.Seen.{has, fired, cancelled, may_disconnect}
+use Rattle.context_core.specs.declared.context.Context.{Context}
+use Rattle.lane_turn.specs.declared.line.Event.TheVariants as events
+use Rattle.lane_turn.specs.declared.parts.Status.{Status}
+use Rattle.lane_turn.specs.declared.parts.Status.TheVariants.{GoesOn, Ended, Halted}
+use Rattle.lane_turn.specs.declared.layer.Origin.{Origin}
+use Rattle.lane_turn.specs.declared.layer.Origin.TheVariants.{Start, Source, Invoke}
+use Rattle.lane_turn.specs.declared.layer.Call.{Call}
+use Rattle.lane_turn.specs.declared.slot.Place.{Place}
+use Rattle.lane_turn.specs.Frames.{Frame, CallOf, IterOf, LoopOf, calls}
+use Rattle.lane_turn.specs.Sources.{tree_levels, no_sources, restarted, restarted_row, restarted_kind, due_after}
+use Rattle.lane_turn.specs.Lane.{Lane, Turn, known, own, with_rows, edited, popped, taken, place_at, handler_at, row_of, row_in, row_at, is_running, written, viewing, iterating}
+use Rattle.lane_turn.specs.Acted.{acted, born, can_bear, can_bear_in, child_of, on_source, set_priority_of, plain_acted, all_acted, handled, all_handled, cancel, connect, disconnect_of}
+use Rattle.lane_turn.specs.declared.line.Word.{Word}
+use Rattle.lane_turn.specs.declared.line.Word.TheVariants as words
+use Rattle.lane_turn.specs.Step.{step, step_call, step_id, returned, answered, counted_by, in_lane, dispatching}
+use Rattle.lane_turn.specs.Turn.{work, finish, finished, begun, turned, lane_at, open_context, open_contexts_to}
+use Rattle.lane_turn.specs.Sound.{Bounded, IsSound, IsWithin}
+use Rattle.lane_turn.specs.Levels.{IsGrown, Grown, IsOfTwoLevels, OfTwoLevels, lane_within}
+use Rattle.lane_turn.proofs.Mild.{within_weaker, bounded_at}
+use Rattle.lane_turn.proofs.Steps.{goes}
+use Rattle.lane_turn.proofs.Finish.{fixed, one_taken, finish_none, within-turned}
+use Rattle.lane_turn.proofs.Opening.{opening_within}
+
+abbrev AllGrown : ℕ → Lane → Type 0
+AllGrown levels lane = AllByRecursion (Grown levels) lane.contexts
+
+abbrev AllBounded : Lane → Type 0
+AllBounded lane = AllByRecursion (Bounded (2 ^ 62)) lane.contexts
+
+either : (levels : ℕ) (x y : Lane) (b : Bool) → (b ≡ true → AllGrown levels x) → AllGrown levels y → AllGrown levels (cond b x y)
+either levels x y true h k = h refl
+either levels x y false h k = k
+
+-- ---- an edit of one context
+
+grown_at : (levels : ℕ) (contexts : List (Option Context)) (i : ℕ) → AllByRecursion (Grown levels) contexts → Grown levels (known (slice_get contexts i))
+grown_at levels [] i h = tt
+grown_at levels (o ∷ contexts) zero h = h.0
+grown_at levels (o ∷ contexts) (suc i) h = grown_at levels contexts i h.1
+
+mapped : (levels : ℕ) (edit : RowSet → RowSet) (o : Option Context) → ((c : Context) → o ≡ Some c → IsGrown levels (edit c.rows)) → Grown levels (option_map (with_rows edit) o)
+mapped levels edit None h = tt
+mapped levels edit (Some c) h = h c refl
+
+set_at : (levels : ℕ) (o : Option Context) (contexts : List (Option Context)) (i : ℕ) → Grown levels o → AllByRecursion (Grown levels) contexts → AllByRecursion (Grown levels) (slice_set contexts i o)
+set_at levels o [] i g h = tt
+set_at levels o (x ∷ contexts) zero g h = (g, h.1)
+set_at levels o (x ∷ contexts) (suc i) g h = (h.0, set_at levels o contexts i g h.1)
+
+grown_edit : (levels : ℕ) (lane : Lane) (context : ℕ) (edit : RowSet → RowSet) → ((c : Context) → own context lane ≡ Some c → IsGrown levels (edit c.rows)) → AllGrown levels lane → AllGrown levels (edited context edit lane)
+grown_edit levels lane context edit f h = set_at levels (option_map (with_rows edit) (own context lane)) lane.contexts context (mapped levels edit (own context lane) f) h
+
+-- the sources of an own context stand so, and have few numbers
+own_grown : (levels : ℕ) (lane : Lane) (context : ℕ) (c : Context) → own context lane ≡ Some c → AllGrown levels lane → IsGrown levels c.rows
+own_grown levels lane context c e h = subst (Grown levels) e (grown_at levels lane.contexts context h)
+
+few_numbers : (lane : Lane) (context : ℕ) (c : Context) → own context lane ≡ Some c → AllBounded lane → c.rows.next_order < 2 ^ 63
+few_numbers lane context c e b = let at = (subst (Bounded (2 ^ 62)) e (bounded_at (2 ^ 62) lane.contexts context b)).order in omega (arith, at)
+
+-- an edit that no sources are refused
+grown_free : (levels : ℕ) (lane : Lane) (context : ℕ) (edit : RowSet → RowSet) → ((s : RowSet) → IsGrown levels s → IsGrown levels (edit s)) → AllGrown levels lane → AllGrown levels (edited context edit lane)
+grown_free levels lane context edit f h = grown_edit levels lane context edit (λ c e. f c.rows (own_grown levels lane context c e h)) h
+
+grown_destroyed : (levels id : ℕ) (s : RowSet) → IsGrown levels s → IsGrown levels (destroyed id s)
+grown_destroyed levels id s g = record { most = g.most; sound = sound_destroyed id s g.sound }
+
+grown_ready_set : (levels id : ℕ) (us : ℤ) (s : RowSet) → IsGrown levels s → IsGrown levels (ready_set id us s)
+grown_ready_set levels id us s g = record { most = g.most; sound = sound_ready_set id us s g.sound }
+
+grown_counted : (levels id : ℕ) (s : RowSet) → IsGrown levels s → IsGrown levels (counted id s)
+grown_counted levels id s g = record { most = g.most; sound = sound_counted id s g.sound }
+
+grown_kind : (levels now id : ℕ) (k : Kind) (s : RowSet) → IsGrown levels s → IsGrown levels (restarted_kind now id k s)
+grown_kind levels now id kinds.Idle s g = g
+grown_kind levels now id (kinds.Timeout ms) s g = grown_ready_set levels id (due_after ms now) s g
+grown_kind levels now id (kinds.ReadyTime us) s g = g
+grown_kind levels now id (kinds.Fd fd bits) s g = g
+grown_kind levels now id (kinds.Cancel c) s g = g
+
+grown_row : (levels now id : ℕ) (o : Option Row) (s : RowSet) → IsGrown levels s → IsGrown levels (restarted_row now id o s)
+grown_row levels now id None s g = g
+grown_row levels now id (Some r) s g = grown_kind levels now id r.kind s g
+
+grown_restarted : (levels now id : ℕ) (s : RowSet) → IsGrown levels s → IsGrown levels (restarted now id s)
+grown_restarted levels now id s g = grown_row levels now id (row_with id s.rows) s g
+
+-- ---- the actions
+
+no_fault : (o : Option RowsFault) → is_none o ≡ true → o ≡ None
+no_fault None e = refl
+no_fault (Some f) e = let no : false ≡ true = e in cc
+
+grown_attach : (levels now context : ℕ) (spec : SourceSpec) (lane : Lane) → AllBounded lane → AllGrown levels lane → AllGrown levels (edited context (attached spec now) lane)
+grown_attach levels now context spec lane b h =
+    grown_edit levels lane context (attached spec now)
+    (λ c e. let g = own_grown levels lane context c e h in record { most = g.most; sound = sound_attached spec now c.rows (few_numbers lane context c e b) g.sound }) h
+
+levels_born : (levels : ℕ) (spec : SourceSpec) (now : ℕ) (s : RowSet) (o : Option Row) → s.levels ≡ levels → (child_added spec now o s).levels ≡ levels
+levels_born levels spec now s None e = e
+levels_born levels spec now s (Some parent) e = e
+
+grown_child : (levels tick now slot : ℕ) (spec : SourceSpec) (o : Option Place) (lane : Lane) → AllBounded lane → AllGrown levels lane → AllGrown levels (child_of tick now slot spec o lane)
+grown_child levels tick now slot spec None lane b h = h
+grown_child levels tick now slot spec (Some place) lane b h =
+    either levels _ _ (can_bear place lane)
+    (λ bears. grown_edit levels lane place.context (born spec now place.id)
+    (λ c e. let g = own_grown levels lane place.context c e h in
+    let free = no_fault (child_fault c.rows.levels (row_with place.id c.rows.rows)) (sym (ap (can_bear_in place.id) e) ∙ bears) in
+    record { most = levels_born levels spec now c.rows (row_with place.id c.rows.rows) g.most; sound = sound_child spec now place.id c.rows (few_numbers lane place.context c e b) free g.sound }) h)
+    h
+
+grown_source : (levels tick : ℕ) (word : Word) (edit : ℕ → RowSet → RowSet) → ((id : ℕ) (s : RowSet) → IsGrown levels s → IsGrown levels (edit id s)) → (o : Option Place) (lane : Lane) → AllGrown levels lane → AllGrown levels (on_source tick word edit o lane)
+grown_source levels tick word edit f None lane h = h
+grown_source levels tick word edit f (Some place) lane h = either levels _ _ (is_some (row_at place lane)) (λ _. grown_free levels lane place.context (edit place.id) (f place.id) h) h
+
+grown_priority : (levels tick : ℕ) (priority : ℤ) (o : Option Place) (lane : Lane) → AllBounded lane → AllGrown levels lane → AllGrown levels (set_priority_of tick priority o lane)
+grown_priority levels tick priority None lane b h = h
+grown_priority levels tick priority (Some place) lane b h =
+    either levels _ _ (is_none (priority_fault (row_at place lane)))
+    (λ moves. grown_edit levels lane place.context (reprioritised place.id priority)
+    (λ c e. let g = own_grown levels lane place.context c e h in
+    let free = no_fault (priority_fault (row_with place.id c.rows.rows)) (sym (ap (λ (o : Option Context). is_none (priority_fault (row_in place.id o))) e) ∙ moves) in
+    record { most = g.most; sound = sound_reprioritised place.id priority c.rows (few_numbers lane place.context c e b) free g.sound }) h)
+    h
+
+grown_plain : (levels : ℕ) (script : Plan) (tick : ℕ) (action : Action) (lane : Lane) → AllGrown levels lane → AllGrown levels (plain_acted script tick action lane)
+grown_plain levels script tick (Attach context slot spec) lane h = h
+grown_plain levels script tick (Child parent slot spec) lane h = h
+grown_plain levels script tick (Destroy slot) lane h = grown_source levels tick words.Destroy destroyed (grown_destroyed levels) (place_at slot lane) lane h
+grown_plain levels script tick (SetReady slot us) lane h = grown_source levels tick words.SetReady (λ id. ready_set id us) (λ id. grown_ready_set levels id us) (place_at slot lane) lane h
+grown_plain levels script tick (SetPriority slot priority) lane h = h
+grown_plain levels script tick (Iterate context) lane h = h
+grown_plain levels script tick (Pending context) lane h = h
+grown_plain levels script tick (Run number) lane h = h
+grown_plain levels script tick (Quit number) lane h = either levels _ _ _ (λ _. h) h
+grown_plain levels script tick (Cancel c) lane h = h
+grown_plain levels script tick (Connect c slot proc) lane h = h
+grown_plain levels script tick (Disconnect slot) lane h = h
+grown_plain levels script tick (Task spec) lane h = h
+grown_plain levels script tick (Push context) lane h = h
+grown_plain levels script tick (Pop context) lane h = h
+grown_plain levels script tick ShowDefault lane h = h
+grown_plain levels script tick (Acquire context) lane h = h
+grown_plain levels script tick (Release context) lane h = h
+grown_plain levels script tick (Invoke context proc) lane h = h
+grown_plain levels script tick (Give context to) lane h = h
+grown_plain levels script tick (Log n) lane h = h
+
+grown_all : (levels : ℕ) (script : Plan) (tick : ℕ) (actions : List Action) (lane : Lane) → AllGrown levels lane → AllGrown levels (all_acted script tick actions lane)
+grown_all levels script tick [] lane h = h
+grown_all levels script tick (a ∷ actions) lane h = grown_all levels script tick actions (plain_acted script tick a lane) (grown_plain levels script tick a lane h)
+
+grown_handled : (levels : ℕ) (script : Plan) (tick : ℕ) (f : Fired) (lane : Lane) → AllGrown levels lane → AllGrown levels (handled script tick f lane)
+grown_handled levels script tick f lane h = grown_all levels script tick (actions_of script (Procedure f.proc)) (written tick (events.Handler f.id) lane) h
+
+grown_all_handled : (levels : ℕ) (script : Plan) (tick : ℕ) (fs : List Fired) (lane : Lane) → AllGrown levels lane → AllGrown levels (all_handled script tick fs lane)
+grown_all_handled levels script tick [] lane h = h
+grown_all_handled levels script tick (f ∷ fs) lane h = grown_all_handled levels script tick fs (handled script tick f lane) (grown_handled levels script tick f lane h)
+
+grown_cancel : (levels : ℕ) (script : Plan) (tick c : ℕ) (lane : Lane) → AllGrown levels lane → AllGrown levels (cancel script tick c lane)
+grown_cancel levels script tick c lane h =
+    either levels _ _ (has c lane.view) (λ _. h) (grown_all_handled levels script tick (fired c lane.view) (written tick (events.Cancel c) (viewing (cancelled c lane.view) lane)) h)
+
+grown_connect : (levels : ℕ) (script : Plan) (tick c slot proc : ℕ) (lane : Lane) → AllGrown levels lane → AllGrown levels (connect script tick c slot proc lane)
+grown_connect levels script tick c slot proc lane h = either levels _ _ (has c lane.view) (λ _. grown_handled levels script tick (record { id = 0; proc = proc }) lane h) h
+
+grown_disconnect : (levels tick : ℕ) (o : Option ℕ) (lane : Lane) → AllGrown levels lane → AllGrown levels (disconnect_of tick o lane)
+grown_disconnect levels tick None lane h = h
+grown_disconnect levels tick (Some id) lane h = either levels _ _ (may_disconnect id lane.view) (λ _. h) h
+
+grown_acted : (levels : ℕ) (script : Plan) (tick : ℕ) (action : Action) (lane : Lane) → AllBounded lane → AllGrown levels lane → AllGrown levels (acted script tick action lane)
+grown_acted levels script tick (Attach context slot spec) lane b h = either levels _ _ (is_some (own context lane)) (λ _. grown_attach levels (time_of script tick) context spec lane b h) h
+grown_acted levels script tick (Child parent slot spec) lane b h = grown_child levels tick (time_of script tick) slot spec (place_at parent lane) lane b h
+grown_acted levels script tick (Destroy slot) lane b h = grown_source levels tick words.Destroy destroyed (grown_destroyed levels) (place_at slot lane) lane h
+grown_acted levels script tick (SetReady slot us) lane b h = grown_source levels tick words.SetReady (λ id. ready_set id us) (λ id. grown_ready_set levels id us) (place_at slot lane) lane h
+grown_acted levels script tick (SetPriority slot priority) lane b h = grown_priority levels tick priority (place_at slot lane) lane b h
+grown_acted levels script tick (Iterate context) lane b h = either levels _ _ _ (λ _. h) h
+grown_acted levels script tick (Pending context) lane b h = h
+grown_acted levels script tick (Run number) lane b h = either levels _ _ _ (λ _. h) h
+grown_acted levels script tick (Quit number) lane b h = either levels _ _ _ (λ _. h) h
+grown_acted levels script tick (Cancel c) lane b h = grown_cancel levels script tick c lane h
+grown_acted levels script tick (Connect c slot proc) lane b h = grown_connect levels script tick c slot proc lane h
+grown_acted levels script tick (Disconnect slot) lane b h = grown_disconnect levels tick (handler_at slot lane) lane h
+grown_acted levels script tick (Task spec) lane b h = h
+grown_acted levels script tick (Push context) lane b h = h
+grown_acted levels script tick (Pop context) lane b h = h
+grown_acted levels script tick ShowDefault lane b h = h
+grown_acted levels script tick (Acquire context) lane b h = h
+grown_acted levels script tick (Release context) lane b h = h
+grown_acted levels script tick (Invoke context proc) lane b h = h
+grown_acted levels script tick (Give context to) lane b h = h
+grown_acted levels script tick (Log n) lane b h = h
+
+-- ---- the steps
+
+grown_dispatching : (levels tick context : ℕ) (row : Row) (lane : Lane) → AllGrown levels lane → AllGrown levels (dispatching tick context row lane)
+grown_dispatching levels tick context row lane h = either levels _ _ (nat_lt (calls lane.frames) 32) (λ _. grown_free levels lane context (counted row.id) (grown_counted levels row.id) h) h
+
+grown_returned : (levels : ℕ) (script : Plan) (tick : ℕ) (body : Body) (origin : Origin) (lane : Lane) → AllGrown levels lane → AllGrown levels (returned script tick body origin lane)
+grown_returned levels script tick body Start lane h = h
+grown_returned levels script tick body (Invoke acquired) lane h = h
+grown_returned levels script tick body (Source caller) lane h =
+    either levels _ _ (stays script body caller.number)
+    (λ _. grown_free levels lane caller.context (restarted (time_of script tick) caller.id) (grown_restarted levels (time_of script tick) caller.id) h)
+    (grown_free levels lane caller.context (destroyed caller.id) (grown_destroyed levels caller.id) h)
+
+grown_answered : (levels tick context : ℕ) (answer : Option Bool) (lane : Lane) → AllGrown levels lane → AllGrown levels (answered tick context answer lane)
+grown_answered levels tick context None lane h = h
+grown_answered levels tick context (Some any) lane h = h
+
+grown_counting : (levels tick : ℕ) (f : Lane → Lane) (t : Turn) (left : ℕ) → AllGrown levels t.lane → AllGrown levels (f t.lane) → AllGrown levels (counted_by tick f t left).lane
+grown_counting levels tick f t zero h k = h
+grown_counting levels tick f t (suc left) h k = k
+
+some_same : (t u : Turn) → Some t ≡ Some u → t ≡ u
+some_same t u e = cc
+
+abbrev turn : Lane → ℕ → Bool → Turn
+turn lane left iterated = record { lane = lane; left = left; iterated = iterated }
+
+abbrev StaysGrown : ℕ → Turn → Turn → Type 0
+StaysGrown levels t u = AllBounded t.lane → AllGrown levels t.lane → AllGrown levels u.lane
+
+grown_call : (levels : ℕ) (script : Plan) (tick : ℕ) (t : Turn) (call : Call) (a : Option Action) → StaysGrown levels t (step_call script tick t call a)
+grown_call levels script tick t call None b h = grown_returned levels script tick call.body call.origin (popped t.lane) h
+grown_call levels script tick t call (Some a) b h = grown_counting levels tick (λ lane. acted script tick a (taken lane)) t t.left h (grown_acted levels script tick a (taken t.lane) b h)
+
+grown_id : (levels tick context : ℕ) (t : Turn) (r : Option Row) → StaysGrown levels t (step_id tick t context r)
+grown_id levels tick context t None b h = h
+grown_id levels tick context t (Some row) b h = grown_counting levels tick (dispatching tick context row) t t.left h (grown_dispatching levels tick context row t.lane h)
+
+grown_loop : (levels : ℕ) (script : Plan) (tick number context : ℕ) (t : Turn) (runs iterated : Bool) (u : Turn)
+    → cond runs (cond iterated None (Some (record t { lane = iterating script tick context None t.lane; iterated = true }))) (Some (in_lane (λ lane. written tick (events.LoopEnd number) (popped lane)) t)) ≡ Some u → StaysGrown levels t u
+grown_loop levels script tick number context t true true u e b h = cc
+grown_loop levels script tick number context t true false u e b h = subst (λ (v : Turn). AllGrown levels v.lane) (some_same _ _ e) h
+grown_loop levels script tick number context t false iterated u e b h = subst (λ (v : Turn). AllGrown levels v.lane) (some_same _ _ e) h
+
+grown_step_by : (levels : ℕ) (script : Plan) (tick : ℕ) (base : Lane) (frames : List Frame) (status : Status) (left : ℕ) (iterated : Bool) (u : Turn) →
+    let t : Turn = turn (record base { frames = frames; status = status }) left iterated in
+    step script tick t ≡ Some u → StaysGrown levels t u
+grown_step_by levels script tick base [] GoesOn left iterated u e b h = cc
+grown_step_by levels script tick base (CallOf call ∷ below) GoesOn left iterated u e b h =
+    let t : Turn = turn (record base { frames = CallOf call ∷ below; status = GoesOn }) left iterated in
+    subst (λ (v : Turn). AllGrown levels v.lane) (some_same _ _ e) (grown_call levels script tick t call (slice_get (actions_of script call.body) call.place) b h)
+grown_step_by levels script tick base (IterOf context [] answer ∷ below) GoesOn left iterated u e b h =
+    let t : Turn = turn (record base { frames = IterOf context [] answer ∷ below; status = GoesOn }) left iterated in
+    subst (λ (v : Turn). AllGrown levels v.lane) (some_same _ _ e) (grown_answered levels tick context answer (popped t.lane) h)
+grown_step_by levels script tick base (IterOf context (id ∷ ids) answer ∷ below) GoesOn left iterated u e b h =
+    let t : Turn = turn (record base { frames = IterOf context (id ∷ ids) answer ∷ below; status = GoesOn }) left iterated in
+    subst (λ (v : Turn). AllGrown levels v.lane) (some_same _ _ e) (grown_id levels tick context t (row_of context id t.lane) b h)
+grown_step_by levels script tick base (LoopOf number context ∷ below) GoesOn left iterated u e b h =
+    let t : Turn = turn (record base { frames = LoopOf number context ∷ below; status = GoesOn }) left iterated in
+    grown_loop levels script tick number context t (is_running number t.lane) iterated u e b h
+grown_step_by levels script tick base frames Ended left iterated u e b h = cc
+grown_step_by levels script tick base frames Halted left iterated u e b h = cc
+
+grown_step : (levels : ℕ) (script : Plan) (tick : ℕ) (t u : Turn) → step script tick t ≡ Some u → StaysGrown levels t u
+grown_step levels script tick t u e = grown_step_by levels script tick t.lane t.lane.frames t.lane.status t.left t.iterated u e
+
+-- ---- the turns
+
+bounded_now : (t : Turn) → IsSound (2 ^ 62) t → AllBounded t.lane
+bounded_now t s = (within_weaker s.bound (2 ^ 62) (omega (arith, s.fits)) t.lane s.within).contexts
+
+grown_on : (levels : ℕ) (script : Plan) (tick k : ℕ) (t : Turn) (o : Option Turn) → step script tick t ≡ o → IsSound (2 ^ 62) t → AllGrown levels t.lane
+    → ((u : Turn) → IsSound (2 ^ 62) u → AllGrown levels u.lane → AllGrown levels (finish script tick k u).lane) → AllGrown levels (finish script tick (suc k) t).lane
+grown_on levels script tick k t None e s h f = subst (λ (v : Turn). AllGrown levels v.lane) (sym (fixed script tick t e (suc k))) h
+grown_on levels script tick k t (Some u) e s h f =
+    subst (λ (v : Turn). AllGrown levels v.lane) (sym (one_taken script tick t u e k)) (f u ((goes script (2 ^ 62) tick t u e).keeps s) (grown_step levels script tick t u e (bounded_now t s) h))
+
+grown_finish : (levels : ℕ) (script : Plan) (tick k : ℕ) (t : Turn) → IsSound (2 ^ 62) t → AllGrown levels t.lane → AllGrown levels (finish script tick k t).lane
+grown_finish levels script tick zero t s h = subst (λ (v : Turn). AllGrown levels v.lane) (sym (finish_none script tick t)) h
+grown_finish levels script tick (suc k) t s h = grown_on levels script tick k t (step script tick t) refl s h (λ u r g. grown_finish levels script tick k u r g)
+
+begun_sound : (lane : Lane) (m : ℕ) → m + 20001 ≤ 2 ^ 62 → IsWithin m lane → IsSound (2 ^ 62) (begun lane)
+begun_sound lane m h w = record { bound = m; fits = omega (arith, h); within = w }
+
+within_at : (script : Plan) (lane tick : ℕ) → IsWithin (1 + tick * 20001) (lane_at script lane tick)
+within_at script lane zero = opening_within script lane
+within_at script lane (suc tick) =
+    within_weaker (1 + tick * 20001 + 20001) (1 + suc tick * 20001) (omega arith) (lane_at script lane (suc tick)) (within-turned script (1 + tick * 20001) tick (lane_at script lane tick) (within_at script lane tick))
+
+some_levels : (script : Plan) → (1 ≤ tree_levels script) × (tree_levels script ≤ 4)
+some_levels script = by_version (script.version == 1)
+  where
+    by_version : (b : Bool) → (1 ≤ cond b 2 4) × (cond b 2 4 ≤ 4)
+    by_version true = (omega arith, omega arith)
+    by_version false = (omega arith, omega arith)
+
+grown_open : (script : Plan) (b : Bool) → Grown (tree_levels script) (cond b (Some (no_sources script)) None)
+grown_open script true = let some = some_levels script in record { most = refl; sound = sound_none (tree_levels script) some.0 some.1 }
+grown_open script false = tt
+
+each_pushed : (P : Option Context → Type 0) (os : List (Option Context)) (o : Option Context) → AllByRecursion P os → P o → AllByRecursion P (os ++ o ∷ [])
+each_pushed P [] o h p = (p, tt)
+each_pushed P (x ∷ os) o h p = (h.0, each_pushed P os o h.1 p)
+
+all_open : (script : Plan) (lane n : ℕ) → AllByRecursion (Grown (tree_levels script)) (open_contexts_to script lane n)
+all_open script lane zero = tt
+all_open script lane (suc n) = each_pushed (Grown (tree_levels script)) (open_contexts_to script lane n) (open_context script lane n) (all_open script lane n) (grown_open script (home_of script n == lane))
+
+few_ticks : (tick : ℕ) → tick ≤ 4096 → 1 + tick * 20001 + 20001 ≤ 2 ^ 62
+few_ticks tick h = omega (arith, h)
+
+grown_turned : (script : Plan) (lane tick : ℕ) → tick ≤ 4096 → AllGrown (tree_levels script) (lane_at script lane tick) → AllGrown (tree_levels script) (turned script tick (lane_at script lane tick))
+unfolding finished
+grown_turned script lane tick h g =
+    let t : Turn = begun (lane_at script lane tick) in
+    grown_finish (tree_levels script) script tick (work t) t (begun_sound (lane_at script lane tick) (1 + tick * 20001) (few_ticks tick h) (within_at script lane tick)) g
+
+grown_lane : (script : Plan) (lane tick : ℕ) → tick ≤ 4096 → AllGrown (tree_levels script) (lane_at script lane tick)
+grown_lane script lane zero h = all_open script lane (sizes script).contexts
+grown_lane script lane (suc tick) h = grown_turned script lane tick (omega (arith, h)) (grown_lane script lane tick (omega (arith, h)))
+
+pub grown_within : (script : Plan) (lane tick steps : ℕ) → tick ≤ 4096 → AllByRecursion (Grown (tree_levels script)) (lane_within script lane tick steps).contexts
+grown_within script lane tick steps h =
+    grown_finish (tree_levels script) script tick steps (begun (lane_at script lane tick)) (begun_sound (lane_at script lane tick) (1 + tick * 20001) (few_ticks tick h) (within_at script lane tick)) (grown_lane script lane tick h)
+
+-- ---- version 1
+
+of_two : (s : RowSet) → IsGrown 2 s → IsOfTwoLevels s
+of_two s g =
+    let low : IsWithinLevels 2 s.rows = subst (λ (n : ℕ). IsWithinLevels n s.rows) g.most g.sound.within in
+    let forest = g.sound.forest in
+    record {
+      low = low;
+      selected = selected_two s.rows forest low;
+      child = λ id. ap (λ (n : ℕ). child_fault n (row_with id s.rows)) g.most ∙ children s.rows forest low id;
+      priority = roots s.rows forest;
+      destroyed = destroyed_two s forest low;
+      reprioritised = reprioritised_two s forest low;
+    }
+
+each_of_two : (contexts : List (Option Context)) → AllByRecursion (Grown 2) contexts → AllByRecursion OfTwoLevels contexts
+each_of_two [] h = tt
+each_of_two (None ∷ contexts) h = (tt, each_of_two contexts h.1)
+each_of_two (Some c ∷ contexts) h = (of_two c.rows h.0, each_of_two contexts h.1)
+
+pub version_one : (script : Plan) (lane tick steps : ℕ) → script.version ≡ 1 → tick ≤ 4096 → AllByRecursion OfTwoLevels (lane_within script lane tick steps).contexts
+version_one script lane tick steps e h =
+    let two : tree_levels script ≡ 2 = ap (λ (v : ℕ). cond (v == 1) 2 4) e in
+    each_of_two (lane_within script lane tick steps).contexts (subst (λ (n : ℕ). AllByRecursion (Grown n) (lane_within script lane tick steps).contexts) two (grown_within script lane tick steps h))
