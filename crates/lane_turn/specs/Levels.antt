@@ -1,4 +1,4 @@
--- At how many levels the sources of a lane stand, at each moment of a run.
+-- At how many levels the sources of a lane stand, before and after each step of a run.
 use Rattle.std.specs.Prelude.{◌≡◌, ℕ, ℤ, ◌≤◌, Option, Some, None, List}
 use Rattle.std.specs.List.{AllByRecursion}
 use Rattle.loop_script.specs.declared.plan.Plan.{Plan}
@@ -39,7 +39,7 @@ abbrev pub lane_within : Plan → (lane tick steps : ℕ) → Lane
 lane_within script lane tick steps = (finish script tick steps (begun (lane_at script lane tick))).lane
 
 pub record LevelsHold : Type 0 where
-  -- at each moment of a run sources stand at no more levels than the script's version has
+  -- sources stand at no more levels than the script's version has
   pub grown : (script : Plan) (lane tick steps : ℕ) → tick ≤ 4096 → AllByRecursion (Grown (tree_levels script)) (lane_within script lane tick steps).contexts
   -- in version 1 what is selected, what is refused and what an edit leaves is what it was with two levels alone
   pub version_1 : (script : Plan) (lane tick steps : ℕ) → script.version ≡ 1 → tick ≤ 4096 → AllByRecursion OfTwoLevels (lane_within script lane tick steps).contexts
