@@ -48,6 +48,7 @@ part_by u true c x y z e h k = whole u x y z c e (h refl) k
     twice true d = refl
     twice false true = refl
     twice false false = refl
+
     whole : (u x y z c : Bool) → u ≡ true → x ≡ y → x ≡ z → (u && x) ≡ (y || (c && z))
     whole u x y z c e h k = rw (e, sym h, sym k) (twice x c)
 part_by u false c x y z e h k = rw (e, k) refl
@@ -102,6 +103,7 @@ ready_by rows forest low own busy r f e =
         let same : calls own busy q ≡ calls_at_two own busy q = ap (λ (b : Bool). not b && own q) h.1 in
         part_by (is_under r.id q) (q.id == r.id) (is_child_of r.id q) (calls own busy q) (calls_at_two own busy r) (calls_at_two own busy q) u
         (λ t. same ∙ ap (calls_at_two own busy) (same_id rows q r h.0 f (are_same q.id r.id t))) same
+
     each : AllByRecursion (λ q. (is_under r.id q && calls own busy q) ≡ ((q.id == r.id && calls_at_two own busy r) || (is_child_of r.id q && calls_at_two own busy q))) rows
     each =
         all_both (λ q. InForest rows q × (is_blocked busy q ≡ is_blocked_at_two busy q)) (λ q. is_under r.id q ≡ goes_with r.id q)

@@ -81,6 +81,14 @@ sound_counted id s h = sound_changed id (λ r. record r { count = r.count + 1 })
 
 pub sound_none : (levels : ℕ) → 1 ≤ levels → levels ≤ 4 → IsSoundSet (no_rows levels)
 sound_none levels h k = record {
-  below = tt; fresh = tt; rising = tt; apart = tt; within = tt; some = h; few = k; numbered = tt; numbers = omega arith;
+  below = tt;
+  fresh = tt;
+  rising = tt;
+  apart = tt;
+  within = tt;
+  some = h;
+  few = k;
+  numbered = tt;
+  numbers = omega arith;
   forest = record { rising = tt; placed = tt; differ = tt; numbers = tt; levels = tt };
 }

@@ -21,8 +21,8 @@ mod times;
 pub use fault::RowsFault;
 pub use in_order::InOrder;
 pub use laws::{
-    edits_keep_trees, levels_go_by_parents, order_changes_little, order_is_post_order, paths_stand_together,
-    worked_orders,
+    edits_keep_trees, levels_go_by_parents, order_changes_little, order_is_post_order,
+    paths_stand_together, worked_orders,
 };
 pub use levels::Levels;
 pub use row::Row;
