@@ -10,6 +10,3 @@ mod ready;
 
 pub use context::Context;
 pub use interest::{Interest, Prepared};
-
-#[cfg(test)]
-mod tests;

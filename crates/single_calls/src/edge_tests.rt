@@ -1,6 +1,6 @@
 //! Writers that take little, refuse or fail to flush; each status; refused memory.
 use crate::script_tests::{first_run, first_run_text};
-use crate::{INPUT_LIMIT, MainFault, OverWrite, run_bytes, serve};
+use mainctx::{INPUT_LIMIT, MainFault, OverWrite, run_bytes, serve};
 use std::alloc::Global;
 use std::io;
 use std::io::{Cursor, ErrorKind, Read, Write};

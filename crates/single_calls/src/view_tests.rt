@@ -1,5 +1,5 @@
 //! Single calls of a view: with ample memory, and with memory refused.
-use crate::{Connected, Fired, OutOfMemory, View};
+use cancel_view::{Connected, Fired, OutOfMemory, View};
 use std::test::Fail;
 
 // (a proof grows faster than the length of its function, so a test is short)

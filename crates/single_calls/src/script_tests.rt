@@ -1,7 +1,7 @@
 //! One script and its text, and each form of a line; other whole scripts are vectors.
-use crate::{OverWrite, add_text, run_bytes};
 use lane_turn::{Event, Invoked, Line, Word};
 use loop_script::Outcome;
+use mainctx::{OverWrite, add_text, run_bytes};
 use std::test::Fail;
 
 // (texts stand in functions of their own: a proof that sees a literal reads it byte by byte)
