@@ -4,8 +4,6 @@
 mod handler;
 mod handlers;
 mod memory;
-#[cfg(test)]
-mod tests;
 mod view;
 
 pub use handler::{Connected, Fired, Handler};

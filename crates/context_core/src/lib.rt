@@ -12,6 +12,3 @@ mod ready;
 pub use context::Context;
 pub use interest::{Interest, Prepared};
 pub use laws::blocking_goes_by_parents;
-
-#[cfg(test)]
-mod tests;

@@ -25,6 +25,3 @@ pub use laws::{iterations_go_on, levels_go_by_version, turns_end};
 pub use line::{Event, Invoked, Line, Word};
 pub use parts::Status;
 pub use state::{LaneFault, LaneState};
-
-#[cfg(test)]
-mod tests;

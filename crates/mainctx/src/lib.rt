@@ -17,8 +17,3 @@ pub use run::{MainFault, run_bytes};
 pub use status::{Refusal, refuse, serve};
 pub use text::{OutOfMemory, add_text};
 pub use writer::{Out, OutFault, OverWrite};
-
-#[cfg(test)]
-mod edge_tests;
-#[cfg(test)]
-mod script_tests;

@@ -1,9 +1,11 @@
 //! Single calls of a view: with ample memory, and with memory refused.
-use crate::{Connected, Fired, OutOfMemory, View};
+use cancel_view::{Connected, Fired, OutOfMemory, View};
 use std::test::Fail;
 
+// (a proof grows faster than the length of its function, so a test is short)
+
 #[test]
-fn handlers_of_one_cancellable(rt: HostRuntime) -> Result<(), Fail> {
+fn handlers_come_and_go(rt: HostRuntime) -> Result<(), Fail> {
     let mut view = View::new(rt.alloc(), 1)?;
     assert_eq!(rt; view.is_cancelled(0), false);
     assert_eq!(rt; view.connect(0, 5)?, Connected::Id(1));
@@ -11,13 +13,30 @@ fn handlers_of_one_cancellable(rt: HostRuntime) -> Result<(), Fail> {
     assert_eq!(rt; view.disconnect(1), true);
     assert_eq!(rt; view.disconnect(1), false);
     assert_eq!(rt; view.disconnect(0), true);
+    Ok(())
+}
+
+#[test]
+fn handlers_of_one_cancellable(rt: HostRuntime) -> Result<(), Fail> {
+    let mut view = View::new(rt.alloc(), 1)?;
+    view.connect(0, 5)?;
+    view.connect(0, 6)?;
+    view.disconnect(1);
     let fired = view.cancel(rt.alloc(), 0)?.ok_or("a first cancel")?;
     assert_eq!(rt; fired.as_slice(), [Fired { id: 2, proc: 6 }].as_slice());
     assert_eq!(rt; view.is_cancelled(0), true);
+    Ok(())
+}
+
+#[test]
+fn cancelled_for_good(rt: HostRuntime) -> Result<(), Fail> {
+    let mut view = View::new(rt.alloc(), 1)?;
+    view.connect(0, 6)?;
+    view.cancel(rt.alloc(), 0)?;
     assert_eq!(rt; view.cancel(rt.alloc(), 0)?.is_none(), true);
     assert_eq!(rt; view.connect(0, 7)?, Connected::Already);
-    assert_eq!(rt; view.disconnect(2), true, "a fired handler stays connected");
-    assert_eq!(rt; view.disconnect(2), false);
+    assert_eq!(rt; view.disconnect(1), true, "a fired handler stays connected");
+    assert_eq!(rt; view.disconnect(1), false);
     Ok(())
 }
 

@@ -1,6 +1,6 @@
 //! The phases on single contexts.
-use crate::{Context, Interest, Prepared};
 use cancel_view::View;
+use context_core::{Context, Interest, Prepared};
 use loop_script::{Kind, SourceSpec};
 use source_rows::Levels;
 use std::test::Fail;

@@ -1,5 +1,5 @@
 //! The first run's lane with ample memory, and with memory refused.
-use crate::{Event, LaneFault, LaneState, Line};
+use lane_turn::{Event, LaneFault, LaneState, Line};
 use loop_script::Script;
 use std::test::Fail;
 

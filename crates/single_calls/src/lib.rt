@@ -1,0 +1,13 @@
+//! Tests of public calls of the libraries, in a crate of their own: a crate with tests is proved a second time with them.
+#![tactic(auto)]
+
+#[cfg(test)]
+mod context_tests;
+#[cfg(test)]
+mod edge_tests;
+#[cfg(test)]
+mod lane_tests;
+#[cfg(test)]
+mod script_tests;
+#[cfg(test)]
+mod view_tests;
