@@ -1,5 +1,5 @@
 //! One step of what is innermost.
-ghost use Rattle.std.specs.Prelude.{◌≡◌, ◌^◌, ◌≤◌, ◌<◌, OnOk, IfOk, is_some, slice_get, unwrap_or};
+ghost use Rattle.std.specs.Prelude.{◌≡◌, ◌≢◌, ◌^◌, ◌≤◌, ◌<◌, IsOk, OnOk, IfOk, is_some, slice_get, unwrap_or};
 ghost use Rattle.loop_script.specs.Parts.{actions_of, time_of};
 ghost use Rattle.lane_turn.specs.Frames.{HasRoom, top_of, calls};
 ghost use Rattle.lane_turn.specs.Lane.{popped, taken};
@@ -132,12 +132,11 @@ impl Parts {
     }
 
     /// Passes over an id whose source is destroyed.
-    fn pass_over(&mut self) -> Result<(), AllocError>
+    fn pass_over(&mut self)
         requires { HasRoom (lane_of self.old).frames }
-        ensures { OnOk result (lane_of self.new ≡ taken (lane_of self.old)) }
+        ensures { lane_of self.new ≡ taken (lane_of self.old) }
     {
         self.frames.advance();
-        Ok(())
     }
 
     /// An iteration that has no id left ends.
@@ -172,7 +171,10 @@ impl Parts {
         match next {
             None => self.end_iteration(tick, context, answer),
             Some(id) => match self.row(context, id) {
-                None => self.pass_over(),
+                None => {
+                    self.pass_over();
+                    Ok(())
+                }
                 Some(row) => {
                     if progress.left == 0 {
                         return self.halt(tick, Event::HaltSteps);
@@ -272,6 +274,7 @@ impl Parts {
         requires { IsWithin (2 ^ 62) (lane_of self.old) }
         ensures more { IfOk result (λ more. more ≡ is_some (step script.now tick (turn_of self.old progress.old))) }
         ensures next { OnOk result (turn_of self.new progress.new ≡ stepped script.now tick (turn_of self.old progress.old)) }
+        ensures rests { (lane_of self.old).status ≢ Status.GoesOn → IsOk result }
     {
         match self.status {
             Status::GoesOn => {}

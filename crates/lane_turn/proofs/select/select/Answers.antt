@@ -15,10 +15,3 @@ returns c =
     (λ ids i. i ∙ ap (λ (now : ℕ). selected (own_ready level (in_view c.args.view.now) now) c.args.busy.now c.args.context.now.rows.rows) c.now-now.ensures.now)
     (c.check.ensures level (c.deref-2.ensures.value ∙ (c.in_ok-levels.ensures
     ∙ (shown ∙ levels_polled level (asked_rows c.prepare-prepared.result.priority c.args.busy.now c.args.context.now.rows.rows)))))
-
-pub returns-then-not-may_ask : goal.returns-then-not-may_ask
-returns-then-not-may_ask c =
-    let level = λ (fd : ℕ). level_of c.args.script.now fd c.args.tick in
-    IfOk-weaker c.ready.result _ _
-    (λ ids i. i ∙ ap (λ (now : ℕ). selected (own_ready level (in_view c.args.view.now) now) c.args.busy.now c.args.context.now.rows.rows) c.now-now.ensures.now)
-    (c.ready.ensures level)
