@@ -1,4 +1,4 @@
-use Rattle.std.proofs.Common.{◌≡◌, ◌<◌, ◌++◌, [], take, length, arith, subst, sym, ◌∙◌, ap}
+use Rattle.std.proofs.Common.{◌≡◌, ◌<◌, ◌++◌, [], take, length, arith, ap}
 use Rattle.mainctx.proofs.Inputs.{consumes_nothing, consumes_more, consumes_all}
 use Rattle.mainctx.proofs.input.read_input.Goals as goal
 

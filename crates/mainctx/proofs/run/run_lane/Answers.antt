@@ -1,5 +1,4 @@
-use Rattle.std.proofs.Common.{ℕ, suc, ◌≡◌, ◌+◌, ◌*◌, ap, ◌∙◌, subst, arith, add-one}
-use Rattle.lane_turn.specs.Lane.{Lane}
+use Rattle.std.proofs.Common.{suc, ◌≡◌, ◌+◌, ◌*◌, ap, ◌∙◌, subst, arith, add-one}
 use Rattle.lane_turn.specs.Turn.{turned, lane_at}
 use Rattle.lane_turn.specs.Sound.{IsWithin}
 use Rattle.mainctx.proofs.run.run_lane.Goals as goal

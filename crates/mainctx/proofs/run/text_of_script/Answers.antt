@@ -1,6 +1,4 @@
-use Rattle.std.proofs.Common.{◌+◌, arith, sym, ◌∙◌, ap, ◌++◌}
-use Rattle.mainctx.specs.Text.{lane_text}
-use Rattle.lane_turn.specs.declared.line.Line.{Line}
+use Rattle.std.proofs.Common.{◌+◌, arith}
 use Rattle.mainctx.proofs.Parts.{parts_more}
 use Rattle.mainctx.proofs.run.text_of_script.Goals as goal
 
