@@ -1,5 +1,5 @@
 //! A lane's view of the cancellables, with its handlers.
-ghost use Rattle.std.specs.Prelude.{◌≡◌, ◌+◌, ◌<◌, ◌^◌, [], Some, None, true, false, replicate, slice_index_or, slice_set, IfOk, OnOk, OnErr, option_map, if◌then◌else◌};
+ghost use Rattle.std.specs.Prelude.{◌≡◌, ◌+◌, ◌<◌, ◌^◌, [], Some, None, true, false, replicate, slice_index_or, slice_set, IsTrue, IsOk, IfOk, OnOk, OnErr, option_map, if◌then◌else◌};
 
 use crate::handler::{Connected, Fired, Handler};
 use crate::handlers::{handlers_of, holds, remove};
@@ -67,13 +67,14 @@ impl View {
     }
 
     /// Brings a cancellable into the view, and gives the handlers to call, by rising id; they stay connected. None
-    /// where the view had it. After `OutOfMemory` the view is unchanged.
+    /// where the view had it, which takes no memory. After `OutOfMemory` the view is unchanged.
     #[tactic(auto, using(crate::proofs::Rising::rise_fired))]
     pub fn cancel(&mut self, alloc: Global, c: u32) -> Result<Option<Vec<Fired>>, OutOfMemory>
         ensures fired { IfOk result (λ f. option_map (λ v. v.items) f ≡ (if has c self.old then None else Some (fired c self.old))) }
         ensures rising { IsRising (fired c self.old) }
         ensures view { OnOk result (self.new ≡ cancelled c self.old) }
         ensures same { OnErr result (self.new ≡ self.old) }
+        ensures member { IsTrue (has c self.old) → IsOk result }
     {
         if has_member(&self.members, c) {
             return Ok(None);
@@ -83,13 +84,15 @@ impl View {
         Ok(Some(fired))
     }
 
-    /// Connects a handler, where the view does not have its cancellable. After `OutOfMemory` the view is unchanged.
+    /// Connects a handler, where the view does not have its cancellable; where it does, that takes no memory. After
+    /// `OutOfMemory` the view is unchanged.
     #[tactic(auto, using(crate::proofs::Rising::rise_pushed))]
     pub fn connect(&mut self, c: u32, proc: u32) -> Result<Connected, OutOfMemory>
         requires room { self.old.next_id < 2 ^ 63 }
         ensures answer { IfOk result (λ r. r ≡ connecting c self.old) }
         ensures view { OnOk result (self.new ≡ connected c proc self.old) }
         ensures same { OnErr result (self.new ≡ self.old) }
+        ensures member { IsTrue (has c self.old) → IsOk result }
     {
         if has_member(&self.members, c) {
             return Ok(Connected::Already);

@@ -1,13 +1,21 @@
 -- A turn by its steps: any number of steps that is large enough gives the same.
-use Rattle.std.proofs.Common.{◌≡◌, ℕ, zero, suc, ◌+◌, ◌<◌, ◌≤◌, true, false, Option, Some, None, is_some, unwrap_or, refl, ap, sym, ◌∙◌, arith, subst}
+use Rattle.std.proofs.Common.{◌≡◌, ℕ, zero, suc, ◌+◌, ◌<◌, ◌≤◌, ◌≢◌, true, false, Option, Some, None, is_some, unwrap_or, refl, ap, sym, ◌∙◌, arith, subst}
 use Rattle.std.specs.Option.{option_map_or}
 use Rattle.loop_script.specs.declared.plan.Plan.{Plan}
 use Rattle.lane_turn.specs.Lane.{Lane, Turn}
-use Rattle.lane_turn.specs.Step.{step}
+use Rattle.lane_turn.specs.declared.parts.Status.{Status}
+use Rattle.lane_turn.specs.declared.parts.Status.TheVariants.{GoesOn, Ended, Halted}
+use Rattle.lane_turn.specs.Step.{step, step_going}
 use Rattle.lane_turn.specs.Turn.{work, stepped, finish, finished, begun, turned}
 use Rattle.lane_turn.specs.Sound.{IsSound, IsWithin}
 use Rattle.lane_turn.proofs.Mild.{within_weaker}
 use Rattle.lane_turn.proofs.Steps.{Goes, goes}
+
+-- a lane that has ended or is halted has no step
+pub no_step : (script : Plan) (tick : ℕ) (t : Turn) (status : Status) → status ≢ GoesOn → is_some (step_going script tick t status) ≡ true → ⊥
+no_step script tick t GoesOn over some = over refl
+no_step script tick t Ended over some = cc
+no_step script tick t Halted over some = cc
 
 -- where no step is left, steps change nothing
 pub fixed : (script : Plan) (tick : ℕ) (t : Turn) → step script tick t ≡ None → (k : ℕ) → finish script tick k t ≡ t

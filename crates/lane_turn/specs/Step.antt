@@ -1,5 +1,5 @@
 -- One step of the innermost frame.
-use Rattle.std.specs.Prelude.{ℕ, zero, suc, ◌+◌, Bool, true, Option, Some, None, nat_lt, slice_get, if◌then◌else◌}
+use Rattle.std.specs.Prelude.{ℕ, zero, suc, ◌+◌, Bool, true, false, Option, Some, None, is_none, nat_lt, slice_get, if◌then◌else◌}
 use Rattle.loop_script.specs.declared.plan.Plan.{Plan}
 use Rattle.loop_script.specs.declared.action.Action.{Action}
 use Rattle.loop_script.specs.declared.body.Body.{Body}
@@ -95,6 +95,14 @@ step_loop script tick t number context =
     if is_running number t.lane
     then if t.iterated then None else Some (record t { lane = iterating script tick context None t.lane; iterated = true })
     else Some (in_lane (λ lane. written tick (events.LoopEnd number) (popped lane)) t)
+
+-- whether what comes next is an id whose source is destroyed
+abbrev pub is_passed : Lane → Top → Bool
+is_passed lane tops.Nothing = false
+is_passed lane (tops.Call call) = false
+is_passed lane (tops.Iteration context None answer) = false
+is_passed lane (tops.Iteration context (Some id) answer) = is_none (row_of context id lane)
+is_passed lane (tops.Loop number context) = false
 
 abbrev pub step_top : Plan → ℕ → Turn → Top → Option Turn
 step_top script tick t tops.Nothing = None

@@ -1,7 +1,8 @@
 //! What is cancelled, connected and disconnected.
-ghost use Rattle.std.specs.Prelude.{◌≡◌, ◌^◌, ◌≤◌, true, OnOk};
+ghost use Rattle.std.specs.Prelude.{◌≡◌, ◌^◌, ◌≤◌, true, IsTrue, IsOk, OnOk};
 ghost use Rattle.loop_script.specs.References.{sizes, action_refers};
 ghost use Rattle.lane_turn.specs.Acted.{plain_acted, handled, all_handled, cancel as cancelled_at, connect as connected_to, disconnect as disconnected_at};
+ghost use Rattle.cancel_view.specs.Seen.{has};
 ghost use Rattle.lane_turn.specs.Sound.{IsWithin};
 ghost use Rattle.lane_turn.specs.Meaning.{lane_of};
 
@@ -60,7 +61,8 @@ impl Parts {
         tick: u32,
         c: u32,
     ) -> Result<(), AllocError>
-        ensures { OnOk result (lane_of self.new ≡ cancelled_at script.now tick c (lane_of self.old)) }
+        ensures cancelled { OnOk result (lane_of self.new ≡ cancelled_at script.now tick c (lane_of self.old)) }
+        ensures again { IsTrue (has c (lane_of self.old).view) → IsOk result }
     {
         match self.view.cancel(alloc, c) {
             Err(_) => Err(AllocError),

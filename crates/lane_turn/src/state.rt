@@ -1,5 +1,5 @@
 //! A lane between its turns.
-ghost use Rattle.std.specs.Prelude.{◌≡◌, ℕ, ◌+◌, ◌^◌, ◌≤◌, ◌↔◌, ◌≢◌, false, IsTrue, OnOk, IfOk, Err};
+ghost use Rattle.std.specs.Prelude.{◌≡◌, ℕ, ◌+◌, ◌^◌, ◌≤◌, ◌↔◌, ◌≢◌, false, IsTrue, IsOk, OnOk, IfOk, Err};
 ghost use Rattle.lane_turn.specs.Turn.{turned, opening, open_context, open_contexts, open_slots, open_view, open_loops};
 ghost use Rattle.source_rows.specs.Rows.{level_count};
 ghost use Rattle.lane_turn.specs.Sources.{tree_levels};
@@ -169,7 +169,8 @@ impl LaneState {
         }
     }
 
-    /// The lane's turn at a tick. Turns come at rising ticks, each with the script of `new`.
+    /// The lane's turn at a tick. Turns come at rising ticks, each with the script of `new`. That of a lane that has
+    /// ended or is halted takes no memory.
     ///
     /// After `OutOfMemory` the lane is spent: each later turn answers `Spent`, and nothing is promised of its trace.
     pub fn turn(&mut self, script: &Script, tick: u32) -> Result<(), LaneFault>
@@ -180,6 +181,7 @@ impl LaneState {
         ensures spent { (result ≡ Err LaneFault.Spent) ↔ IsTrue self.old.spent }
         ensures memory { result ≡ Err LaneFault.OutOfMemory → IsTrue self.new.spent }
         ensures stays { result ≡ Err LaneFault.Spent → self.new ≡ self.old }
+        ensures rests { self.old.spent ≡ false → self.old.lane.status ≢ Status.GoesOn → IsOk result }
     {
         if self.spent {
             return Err(LaneFault::Spent);

@@ -1,9 +1,9 @@
 //! One step of what is innermost.
-ghost use Rattle.std.specs.Prelude.{◌≡◌, ◌^◌, ◌≤◌, ◌<◌, OnOk, IfOk, is_some, slice_get, unwrap_or};
+ghost use Rattle.std.specs.Prelude.{◌≡◌, ◌≢◌, ◌^◌, ◌≤◌, ◌<◌, IsTrue, IsOk, OnOk, IfOk, is_some, slice_get, unwrap_or};
 ghost use Rattle.loop_script.specs.Parts.{actions_of, time_of};
 ghost use Rattle.lane_turn.specs.Frames.{HasRoom, top_of, calls};
 ghost use Rattle.lane_turn.specs.Lane.{popped, taken};
-ghost use Rattle.lane_turn.specs.Step.{body_of, dispatching, dispatched_at, answered, returned, left_source, step_call, step_iteration, step_loop, step};
+ghost use Rattle.lane_turn.specs.Step.{body_of, dispatching, dispatched_at, answered, returned, left_source, step_call, step_iteration, step_loop, step, is_passed};
 ghost use Rattle.lane_turn.specs.Turn.{stepped};
 ghost use Rattle.lane_turn.specs.Sound.{IsWithin};
 ghost use Rattle.lane_turn.specs.Meaning.{lane_of, turn_of};
@@ -132,12 +132,11 @@ impl Parts {
     }
 
     /// Passes over an id whose source is destroyed.
-    fn pass_over(&mut self) -> Result<(), AllocError>
+    fn pass_over(&mut self)
         requires { HasRoom (lane_of self.old).frames }
-        ensures { OnOk result (lane_of self.new ≡ taken (lane_of self.old)) }
+        ensures { lane_of self.new ≡ taken (lane_of self.old) }
     {
         self.frames.advance();
-        Ok(())
     }
 
     /// An iteration that has no id left ends.
@@ -167,12 +166,16 @@ impl Parts {
     ) -> Result<(), AllocError>
         requires within { IsWithin (2 ^ 62) (lane_of self.old) }
         requires top { top_of (lane_of self.old).frames ≡ Top.Iteration context next answer }
-        ensures { OnOk result (turn_of self.new progress.new ≡ step_iteration tick (turn_of self.old progress.old) context answer next) }
+        ensures next { OnOk result (turn_of self.new progress.new ≡ step_iteration tick (turn_of self.old progress.old) context answer next) }
+        ensures passes { IsTrue (is_passed (lane_of self.old) (top_of (lane_of self.old).frames)) → IsOk result }
     {
         match next {
             None => self.end_iteration(tick, context, answer),
             Some(id) => match self.row(context, id) {
-                None => self.pass_over(),
+                None => {
+                    self.pass_over();
+                    Ok(())
+                }
                 Some(row) => {
                     if progress.left == 0 {
                         return self.halt(tick, Event::HaltSteps);
@@ -227,6 +230,7 @@ impl Parts {
         requires calls { calls (lane_of self.old).frames < 32 }
         ensures more { IfOk result (λ more. more ≡ is_some (step script.now tick (turn_of self.old progress.old))) }
         ensures next { OnOk result (turn_of self.new progress.new ≡ stepped script.now tick (turn_of self.old progress.old)) }
+        ensures passes { IsTrue (is_passed (lane_of self.old) (top_of (lane_of self.old).frames)) → IsOk result }
     {
         let depth = self.frames.depth();
         match self.frames.take() {
@@ -272,6 +276,8 @@ impl Parts {
         requires { IsWithin (2 ^ 62) (lane_of self.old) }
         ensures more { IfOk result (λ more. more ≡ is_some (step script.now tick (turn_of self.old progress.old))) }
         ensures next { OnOk result (turn_of self.new progress.new ≡ stepped script.now tick (turn_of self.old progress.old)) }
+        ensures passes { IsTrue (is_passed (lane_of self.old) (top_of (lane_of self.old).frames)) → IsOk result }
+        ensures rests { (lane_of self.old).status ≢ Status.GoesOn → IsOk result }
     {
         match self.status {
             Status::GoesOn => {}

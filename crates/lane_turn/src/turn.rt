@@ -1,10 +1,10 @@
 //! All steps of a turn.
-ghost use Rattle.std.specs.Prelude.{◌≡◌, ◌^◌, OnOk};
+ghost use Rattle.std.specs.Prelude.{◌≡◌, ◌≢◌, ◌^◌, IsOk, OnOk};
 ghost use Rattle.lane_turn.specs.Turn.{begun, turned};
 ghost use Rattle.lane_turn.specs.Sound.{IsSound};
 ghost use Rattle.lane_turn.specs.Meaning.{lane_of};
 
-use crate::parts::Parts;
+use crate::parts::{Parts, Status};
 use crate::step::Progress;
 use loop_script::Script;
 use std::alloc::{AllocError, Global};
@@ -22,6 +22,7 @@ impl Parts {
     ) -> Result<(), AllocError>
         requires { IsSound (2 ^ 62) (begun (lane_of self.old)) }
         ensures turned { OnOk result (lane_of self.new ≡ turned script.now tick (lane_of self.old)) }
+        ensures rests { (lane_of self.old).status ≢ Status.GoesOn → IsOk result }
     {
         let mut progress = Progress {
             left: COUNTED,

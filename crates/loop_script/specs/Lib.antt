@@ -18,6 +18,7 @@ pub mod Script
 pub mod Limits
 pub mod Parts
 pub mod Laws
+pub mod EachWord
 pub mod TreeDepth
 pub mod TreeForm
 pub mod TaskForm

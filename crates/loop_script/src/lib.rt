@@ -32,7 +32,7 @@ pub use action::Action;
 pub use body::Body;
 pub use fault::ScriptFault;
 pub use items::Items;
-pub use laws::{bytes_have_one_reading, no_fault_is_cleared};
+pub use laws::{bytes_have_one_reading, each_word_is_read, no_fault_is_cleared};
 pub use level::Level;
 pub use outcome::Outcome;
 pub use plan::{LaneSpec, Plan, Proc};

@@ -1,7 +1,7 @@
 -- Texts that were written in part.
-use Rattle.std.proofs.Common.{◌≡◌, ℕ, List, [], ◌++◌, take, drop, refl, sym, ap, ◌∙◌, append_assoc, append-nil}
+use Rattle.std.proofs.Common.{◌≡◌, ℕ, ◌-◌, length, List, [], ◌++◌, take, drop, refl, sym, ap, ◌∙◌, append_assoc, append-nil}
 use Rattle.std.proofs.lemmas.Grind.{flat_map-append}
-use Rattle.std.proofs.lemmas.List.{take-append-drop}
+use Rattle.std.proofs.lemmas.List.{take-append-drop, take_rest}
 use Rattle.std.specs.List.{flat_map}
 use Rattle.std.specs.Prelude.{codes}
 use Rattle.std.specs.Fmt.{decimal}
@@ -28,3 +28,13 @@ pub record Left (old new rest text : List ℕ) : Type 0 where
   pub front : List ℕ
   pub whole : front ++ rest ≡ text
   pub added : new ≡ old ++ front
+
+-- the next bytes of the rest were added
+pub left_more : (old now new rest text : List ℕ) (n : ℕ) → Left old now rest text → new ≡ now ++ take n rest → Left old new (take (length rest - n) (drop n rest)) text
+left_more old now new rest text n left e =
+    let parts : take n rest ++ take (length rest - n) (drop n rest) ≡ rest = ap (λ (t : List ℕ). take n rest ++ t) (take_rest rest n) ∙ take-append-drop n rest in
+    record {
+      front = left.front ++ take n rest;
+      whole = append_assoc left.front (take n rest) (take (length rest - n) (drop n rest)) ∙ (ap (λ (t : List ℕ). left.front ++ t) parts ∙ left.whole);
+      added = e ∙ (ap (λ (t : List ℕ). t ++ take n rest) left.added ∙ append_assoc old left.front (take n rest));
+    }

@@ -1,9 +1,12 @@
 -- What each status tells.
-use Rattle.std.proofs.Common.{◌≡◌, ◌≤◌, ◌⊎◌, inl, inr, ℕ, List, Option, arith}
+use Rattle.std.proofs.Common.{◌≡◌, ◌≤◌, ◌⊎◌, inl, inr, ℕ, List, Option, arith, subst, sym}
 use Rattle.loop_script.specs.declared.fault.ScriptFault.TheVariants as faults
 use Rattle.mainctx.specs.declared.status.Refusal.{Refusal}
 use Rattle.mainctx.specs.declared.status.Refusal.TheVariants.{Usage, Script, Memory, Read, Write}
-use Rattle.mainctx.specs.Serving.{Leaves, ServesFront, status_of}
+use Rattle.mainctx.specs.Run.{IsRunFaultOf}
+use Rattle.mainctx.specs.declared.run.MainFault.TheVariants as run_faults
+use Rattle.loop_script.specs.declared.fault.ScriptFault.{ScriptFault}
+use Rattle.mainctx.specs.Serving.{IsRestOf, Leaves, Refuses, ServesFront, status_of}
 
 pub status_above : (refusal : Refusal) → 1 ≤ status_of refusal
 status_above Usage = omega arith
@@ -42,3 +45,12 @@ leaves_front left (Script fault) old new leaves = inl leaves.nothing
 leaves_front left Memory old new leaves = inl leaves
 leaves_front left Read old new leaves = inl leaves
 leaves_front left Write old new leaves = inr leaves
+
+-- a run of all that is left that found a fault of the script
+pub refuses_by : (left : Option (List ℕ)) (bytes items : List ℕ) (fault : ScriptFault) (old new : List ℕ) → IsRestOf left items → bytes ≡ items → IsRunFaultOf bytes (run_faults.Script fault) → new ≡ old → Refuses left fault old new
+refuses_by left bytes items fault old new whole same class nothing = record {
+  bytes = bytes;
+  input = subst (IsRestOf left) (sym same) whole;
+  class = class;
+  nothing = nothing;
+}

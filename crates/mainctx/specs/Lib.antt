@@ -1,3 +1,4 @@
+pub mod Arguments
 pub mod Text
 pub mod Writing
 pub mod Run

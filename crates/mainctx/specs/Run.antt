@@ -1,5 +1,6 @@
 -- What running the bytes of a script writes.
-use Rattle.std.specs.Prelude.{◌≡◌, ◌≢◌, ℕ, List, ◌++◌, Ok, Err}
+use Rattle.std.specs.Prelude.{◌≡◌, ◌≢◌, ℕ, Option, List, ◌++◌, Ok, Err}
+use Rattle.std.specs.Io.KnownBytes.{Appends}
 use Rattle.loop_script.specs.declared.plan.Plan.{Plan}
 use Rattle.loop_script.specs.declared.fault.ScriptFault.{ScriptFault}
 use Rattle.loop_script.specs.declared.fault.ScriptFault.TheVariants.{OutOfMemory}
@@ -40,3 +41,9 @@ pub record WritesFront (bytes old new : List ℕ) : Type 0 where
   pub script : Plan
   pub read : IsScriptOf bytes script
   pub gained : AddsFront old new (text_of script)
+
+-- what the writer itself holds, where that is known, gained the text of the script of the bytes
+pub record HoldsText (bytes : List ℕ) (held holds : Option (List ℕ)) : Type 0 where
+  pub script : Plan
+  pub read : IsScriptOf bytes script
+  pub gained : Appends held holds (text_of script)

@@ -2,7 +2,7 @@
 use Rattle.std.specs.Prelude.{◌≡◌, ℕ, List, Option, IfSome}
 use Rattle.loop_script.specs.declared.fault.ScriptFault.{ScriptFault}
 use Rattle.loop_script.specs.declared.fault.ScriptFault.TheVariants as faults
-use Rattle.mainctx.specs.Run.{Writes, WritesFront, IsFaultOf}
+use Rattle.mainctx.specs.Run.{Writes, WritesFront, HoldsText, IsFaultOf}
 use Rattle.mainctx.specs.declared.status.Refusal.{Refusal}
 use Rattle.mainctx.specs.declared.status.Refusal.TheVariants.{Usage, Script, Memory, Read, Write}
 
@@ -10,11 +10,28 @@ use Rattle.mainctx.specs.declared.status.Refusal.TheVariants.{Usage, Script, Mem
 abbrev pub IsRestOf : Option (List ℕ) → List ℕ → Type 0
 IsRestOf left bytes = IfSome left (λ known. bytes ≡ known)
 
+-- the most bytes that the program reads
+abbrev pub input_limit : ℕ
+input_limit = 4194304
+
 -- the text of the script that the input has left was written
 pub record Serves (left : Option (List ℕ)) (old new : List ℕ) : Type 0 where
   pub bytes : List ℕ
   pub input : IsRestOf left bytes
   pub writes : Writes bytes old new
+
+-- what the writer itself holds, where that is known, gained that text
+pub record ServesHolder (left : Option (List ℕ)) (held holds : Option (List ℕ)) : Type 0 where
+  pub bytes : List ℕ
+  pub input : IsRestOf left bytes
+  pub gains : HoldsText bytes held holds
+
+-- the input has left no script, but bytes with a class of fault
+pub record HasFault (left : Option (List ℕ)) : Type 0 where
+  pub bytes : List ℕ
+  pub input : IsRestOf left bytes
+  pub fault : ScriptFault
+  pub class : IsFaultOf bytes fault
 
 -- nothing was written, and the input has left no script but bytes with this class of fault
 pub record Refuses (left : Option (List ℕ)) (fault : ScriptFault) (old new : List ℕ) : Type 0 where

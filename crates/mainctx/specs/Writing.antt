@@ -1,5 +1,6 @@
 -- What one call of a writer takes and counts, and what a call that stops early leaves.
-use Rattle.std.specs.Prelude.{◌≡◌, ℕ, zero, suc, List, [], ◌∷◌, ◌++◌, take, Result, Ok, Err}
+use Rattle.std.specs.Prelude.{◌≡◌, ℕ, zero, suc, List, [], ◌∷◌, ◌++◌, take, Option, Result, Ok, Err}
+use Rattle.std.specs.Io.KnownBytes.{Appends}
 
 -- the bytes that a write takes
 abbrev pub took : {E : Type 0} → Result ℕ E → List ℕ → List ℕ
@@ -19,3 +20,9 @@ pub record AddsFront (old new text : List ℕ) : Type 0 where
   pub rest : List ℕ
   pub whole : front ++ rest ≡ text
   pub added : new ≡ old ++ front
+
+-- what is told as taken, and what the writer itself holds where that is known, grew by the same bytes
+pub record GrowAlike (old new : List ℕ) (held holds : Option (List ℕ)) : Type 0 where
+  pub bytes : List ℕ
+  pub told : new ≡ old ++ bytes
+  pub known : Appends held holds bytes

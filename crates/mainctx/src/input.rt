@@ -1,6 +1,6 @@
 //! Reading the whole input, up to a limit.
-ghost use Rattle.std.specs.Prelude.{◌≤◌, IfOk, vec_len};
-ghost use Rattle.mainctx.specs.Serving.{IsRestOf};
+ghost use Rattle.std.specs.Prelude.{◌≡◌, ◌≤◌, IfOk, vec_len};
+ghost use Rattle.mainctx.specs.Serving.{IsRestOf, input_limit};
 
 use std::alloc::{AllocError, Global};
 use std::io::Read;
@@ -20,6 +20,10 @@ pub(crate) enum InputFault {
 }
 
 impl From<AllocError> for InputFault {
+    ghost use Rattle.mainctx.specs.declared.input.InputFault.TheVariants as faults;
+
+    ghost from_gives = { λ _ fault. fault ≡ faults.OutOfMemory };
+
     fn from(_: AllocError) -> Self {
         InputFault::OutOfMemory
     }
@@ -29,6 +33,7 @@ impl From<AllocError> for InputFault {
 pub(crate) fn read_input<R: Read>(alloc: Global, input: &mut R) -> Result<Vec<u8>, InputFault>
     ensures whole { IfOk result (λ bytes. IsRestOf (R.remaining input.old) bytes.items) }
     ensures limit { IfOk result (λ bytes. vec_len bytes ≤ 4194304) }
+    ensures constant { INPUT_LIMIT ≡ input_limit }
 {
     let mut space = vec![in alloc; 0u8; ROOM]?;
     let room = space.as_mut_slice();

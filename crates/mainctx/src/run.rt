@@ -1,8 +1,9 @@
 //! From the bytes of a script to the bytes of its text.
 ghost use Rattle.std.specs.Prelude.{◌≡◌, ◌≢◌, ◌<◌, ◌↔◌, OnOk, OnErr, IfOk, IfErr, Err};
 ghost use Rattle.lane_turn.specs.Turn.{lane_at};
-ghost use Rattle.mainctx.specs.Run.{IsRunFaultOf, IsTextOf, Writes, WritesFront};
+ghost use Rattle.mainctx.specs.Run.{IsRunFaultOf, IsTextOf, Writes, WritesFront, HoldsText};
 ghost use Rattle.mainctx.specs.Text.{text_of};
+ghost use Rattle.mainctx.specs.Writing.{GrowAlike};
 
 use crate::text::{OutOfMemory, add_text};
 use crate::writer::{Out, OutFault, write_whole};
@@ -80,7 +81,9 @@ fn text_of_bytes(alloc: Global, bytes: &[u8]) -> Result<Vec<u8>, MainFault>
     Ok(text)
 }
 
-/// Reads a script, runs it on this thread, and writes its text when the run has ended.
+/// Reads a script, runs it on this thread, and writes its text when the run has ended. What the writer itself holds,
+/// where that is known, grows by what it is told to have taken.
+#[tactic(auto, using(crate::proofs::Alike::alike_none))]
 pub fn run_bytes<R: AllocGlobal, W: Out>(
     _rt: &R,
     alloc: Global,
@@ -92,6 +95,8 @@ pub fn run_bytes<R: AllocGlobal, W: Out>(
     ensures write { (result ≡ Err MainFault.Write) ↔ (W.failures out.old < W.failures out.new) }
     ensures front { result ≡ Err MainFault.Write → WritesFront bytes.now (W.taken out.old) (W.taken out.new) }
     ensures nothing { OnErr result (result ≢ Err MainFault.Write → W.taken out.new ≡ W.taken out.old) }
+    ensures known { GrowAlike (W.taken out.old) (W.taken out.new) (W.contents out.old) (W.contents out.new) }
+    ensures holds { OnOk result (HoldsText bytes.now (W.contents out.old) (W.contents out.new)) }
 {
     let text = text_of_bytes(alloc, bytes)?;
     match write_whole(out, text.as_slice()) {

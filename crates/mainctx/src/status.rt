@@ -1,6 +1,10 @@
 //! What the program does with its arguments, input and output.
-ghost use Rattle.std.specs.Prelude.{◌≡◌, ◌≤◌, ◌⊎◌, OnOk, IfErr};
-ghost use Rattle.mainctx.specs.Serving.{Serves, ServesFront, Leaves, status_of};
+ghost use Rattle.std.specs.Prelude.{◌≡◌, ◌≤◌, ◌⊎◌, ◌↔◌, ℕ, OnOk, IfErr, IfSome, Some, Err};
+ghost use Rattle.std.specs.List.{list_all};
+ghost use Rattle.std.specs.Char.{is_ascii_digit};
+ghost use Rattle.mainctx.specs.Arguments.{AskFor};
+ghost use Rattle.mainctx.specs.Serving.{Serves, ServesFront, ServesHolder, HasFault, Leaves, status_of};
+ghost use Rattle.mainctx.specs.Writing.{GrowAlike};
 
 use crate::input::{InputFault, read_input};
 use crate::run::{MainFault, run_bytes};
@@ -61,13 +65,23 @@ pub fn refuse<E: Write>(refusal: Refusal, errors: &mut E) -> u8
     refusal.status()
 }
 
+/// Whether all bytes are decimal digits.
+fn are_digits(bytes: &[u8]) -> bool
+    ensures { result ≡ list_all is_ascii_digit bytes.now }
+{
+    bytes.iter().all(|b| b.is_ascii_digit())
+}
+
 /// The number of workers of the arguments `WORKERS fixed`, WORKERS being 1 to 9 digits.
-fn workers_of(args: &[String]) -> Option<u32> {
+fn workers_of(args: &[String]) -> Option<u32>
+    ensures asked { IfSome result (λ n. AskFor args.now n) }
+    ensures exact { (n : ℕ) → AskFor args.now n → result ≡ Some n }
+{
     let [workers, sharing] = args else {
         return None;
     };
     let digits = workers.as_bytes();
-    if digits.len() > 9 || !digits.iter().all(|b| b.is_ascii_digit()) {
+    if digits.len() > 9 || !are_digits(digits) {
         return None;
     }
     if sharing.as_str() != "fixed" {
@@ -86,6 +100,9 @@ fn attempt<X: AllocGlobal, R: Read, W: Out>(
 ) -> Result<(), Refusal>
     ensures text { OnOk result (Serves (R.remaining input.old) (W.taken out.old) (W.taken out.new)) }
     ensures refusal { IfErr result (λ refusal. Leaves (R.remaining input.old) refusal (W.taken out.old) (W.taken out.new)) }
+    ensures usage { (result ≡ Err Refusal.Usage) ↔ ¬ (AskFor args.now 1) }
+    ensures known { GrowAlike (W.taken out.old) (W.taken out.new) (W.contents out.old) (W.contents out.new) }
+    ensures holds { OnOk result (ServesHolder (R.remaining input.old) (W.contents out.old) (W.contents out.new)) }
 {
     let Some(1) = workers_of(args) else {
         return Err(Refusal::Usage);
@@ -116,6 +133,10 @@ pub fn serve<X: AllocGlobal, R: Read, W: Out, E: Write>(
     ensures nothing { 1 ≤ result → result ≤ 3 → W.taken out.new ≡ W.taken out.old }
     ensures front { result ≡ 4 → (W.taken out.new ≡ W.taken out.old) ⊎ ServesFront (R.remaining input.old) (W.taken out.old) (W.taken out.new) }
     ensures status { result ≤ 4 }
+    ensures usage { (result ≡ 1) ↔ ¬ (AskFor args.now 1) }
+    ensures script { result ≡ 2 → HasFault (R.remaining input.old) }
+    ensures known { GrowAlike (W.taken out.old) (W.taken out.new) (W.contents out.old) (W.contents out.new) }
+    ensures holds { result ≡ 0 → ServesHolder (R.remaining input.old) (W.contents out.old) (W.contents out.new) }
 {
     match attempt(rt, alloc, args, input, out) {
         Ok(()) => 0,

@@ -1,6 +1,7 @@
 //! Writers that tell what they take and count what fails.
-ghost use Rattle.std.specs.Prelude.{◌≡◌, ℕ, ◌+◌, ◌<◌, ◌≤◌, List, [], ◌++◌, length, is_ok, if◌then◌else◌, IfOk, OnOk, OnErr};
-ghost use Rattle.mainctx.specs.Writing.{took, missed, AddsFront};
+ghost use Rattle.std.specs.Prelude.{◌≡◌, ℕ, ◌+◌, ◌<◌, ◌≤◌, List, [], ◌++◌, Option, length, is_ok, if◌then◌else◌, IfOk, OnOk, OnErr};
+ghost use Rattle.std.specs.Io.KnownBytes.{Keeps, WriteAppends};
+ghost use Rattle.mainctx.specs.Writing.{took, missed, AddsFront, GrowAlike};
 
 use std::io::Write;
 use thiserror::Error;
@@ -12,22 +13,27 @@ use told::Told;
 pub struct OutFault;
 
 /// A writer that tells the bytes that it takes, and counts its failures: the calls that failed,
-/// and the writes of at least one byte that took none.
+/// and the writes of at least one byte that took none. Where what it holds is known, that grows by the same bytes.
 pub trait Out {
     ghost taken: { Self → List ℕ };
 
     ghost failures: { Self → ℕ };
 
+    // The bytes that the writer itself holds, where they are known.
+    ghost contents: { Self → Option (List ℕ) };
+
     /// Takes a front of `bytes`, and answers how many.
     fn write(&mut self, bytes: &[u8]) -> Result<usize, OutFault>
         ensures bound { IfOk result (λ n. n ≤ length bytes.now) }
         ensures taken { taken self.new ≡ taken self.old ++ took result bytes.now }
-        ensures failures { failures self.new ≡ failures self.old + missed result bytes.now };
+        ensures failures { failures self.new ≡ failures self.old + missed result bytes.now }
+        ensures known { WriteAppends (contents self.old) (contents self.new) result bytes.now };
 
     /// Hands on what was taken.
     fn flush(&mut self) -> Result<(), OutFault>
         ensures taken { taken self.new ≡ taken self.old }
-        ensures failures { failures self.new ≡ failures self.old + (if is_ok result then 0 else 1) };
+        ensures failures { failures self.new ≡ failures self.old + (if is_ok result then 0 else 1) }
+        ensures known { Keeps (contents self.old) (contents self.new) };
 }
 
 /// Any writer, with what it was told.
@@ -39,7 +45,10 @@ pub struct OverWrite<W: Write> {
 
 impl<W: Write> OverWrite<W> {
     /// Begins with nothing taken and nothing failed.
-    pub fn new(inner: W) -> Self {
+    pub fn new(inner: W) -> Self
+        ensures inner { result.inner ≡ inner }
+        ensures told { (result.told.taken ≡ []) × (result.told.failures ≡ 0) }
+    {
         OverWrite {
             inner,
             told: Told::new(),
@@ -59,6 +68,8 @@ impl<W: Write> Out for OverWrite<W> {
     ghost taken = { λ s. s.told.taken };
 
     ghost failures = { λ s. s.told.failures };
+
+    ghost contents = { λ s. W.contents s.inner };
 
     fn write(&mut self, bytes: &[u8]) -> Result<usize, OutFault> {
         match self.inner.write(bytes) {
@@ -93,6 +104,7 @@ pub(crate) fn write_whole<W: Out>(out: &mut W, text: &[u8]) -> Result<(), OutFau
     ensures clean { OnOk result (W.failures out.new ≡ W.failures out.old) }
     ensures front { OnErr result (AddsFront (W.taken out.old) (W.taken out.new) text.now) }
     ensures failed { OnErr result (W.failures out.old < W.failures out.new) }
+    ensures known { GrowAlike (W.taken out.old) (W.taken out.new) (W.contents out.old) (W.contents out.new) }
 {
     let mut rest = text;
     'rest: while !rest.is_empty() {

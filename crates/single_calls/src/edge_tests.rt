@@ -1,6 +1,6 @@
 //! Writers that take little, refuse or fail to flush; each status; refused memory.
 use crate::script_tests::{first_run, first_run_text};
-use mainctx::{INPUT_LIMIT, MainFault, OverWrite, run_bytes, serve};
+use mainctx::{MainFault, OverWrite, run_bytes, serve};
 use std::alloc::Global;
 use std::io;
 use std::io::{Cursor, ErrorKind, Read, Write};
@@ -201,7 +201,7 @@ fn reads_up_to_the_limit(rt: HostRuntime) -> Result<(), Fail> {
     )?;
     assert_eq!(rt; it.status, 4);
     assert_eq!(rt; it.said.as_slice(), b"read\n".as_slice());
-    let spaces = (INPUT_LIMIT as u64).saturating_sub(first_run().len() as u64);
+    let spaces = 4_194_304u64.saturating_sub(first_run().len() as u64);
     let mut input = Cursor::new(first_run().as_bytes()).chain(io::repeat(b' ').take(spaces));
     let it = served(&rt, "1 fixed", &mut input, 1000)?;
     assert_eq!(rt; it.status, 0);

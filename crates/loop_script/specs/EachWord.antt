@@ -1,0 +1,112 @@
+-- One script with each word of an action, each word of a kind and each key, and what it says.
+use Rattle.std.specs.Prelude.{◌≡◌, ℕ, ℤ, pos, negsuc, true, false, List, [], ◌∷◌, codes, Some, None, Ok}
+use Rattle.serde_json.specs.Data.{Data, Items, boolean, number, string, array, object, no_items, item, no_members, member, unsigned, negative}
+use Rattle.loop_script.specs.Script.{script_of}
+use Rattle.loop_script.specs.declared.plan.Plan.{Plan}
+use Rattle.loop_script.specs.declared.source.Kind.TheVariants as kinds
+use Rattle.loop_script.specs.declared.action.Action.TheVariants.{Attach, Child, Destroy, SetReady, SetPriority, Iterate, Pending, Run, Quit, Cancel, Connect, Disconnect, Log}
+
+abbrev items : List Data → Items
+items [] = no_items
+items (d ∷ ds) = item d (items ds)
+
+abbrev row : List Data → Data
+row ds = array (items ds)
+
+abbrev n : ℕ → Data
+n k = number (unsigned k)
+
+abbrev below_zero : ℤ → Data
+below_zero z = number (negative z)
+
+abbrev word : List ℕ → Data
+word w = string w
+
+-- {"call":0,"kind":["idle"],"priority":-5,"recurse":true}
+abbrev source : Data
+source = object (member (codes "call") (n 0) (member (codes "kind") (row (word (codes "idle") ∷ [])) (member (codes "priority") (below_zero (negsuc 4)) (member (codes "recurse") (boolean true) no_members))))
+
+-- {"call":0,"kind":["timeout",2],"recurse":true}
+abbrev child : Data
+child = object (member (codes "call") (n 0) (member (codes "kind") (row (word (codes "timeout") ∷ n 2 ∷ [])) (member (codes "recurse") (boolean true) no_members)))
+
+-- {"kind":..}
+abbrev of_kind : List Data → Data
+of_kind ds = object (member (codes "kind") (row ds) no_members)
+
+abbrev start : List Data
+start =
+    row (word (codes "attach") ∷ n 0 ∷ n 1 ∷ source ∷ [])
+    ∷ row (word (codes "attach") ∷ n 0 ∷ n 2 ∷ of_kind (word (codes "ready") ∷ below_zero (negsuc 0) ∷ []) ∷ [])
+    ∷ row (word (codes "attach") ∷ n 0 ∷ n 3 ∷ of_kind (word (codes "fd") ∷ n 0 ∷ n 5 ∷ []) ∷ [])
+    ∷ row (word (codes "attach") ∷ n 0 ∷ n 4 ∷ of_kind (word (codes "cancel") ∷ n 0 ∷ []) ∷ [])
+    ∷ row (word (codes "child") ∷ n 1 ∷ n 5 ∷ child ∷ [])
+    ∷ row (word (codes "destroy") ∷ n 5 ∷ [])
+    ∷ row (word (codes "set_ready") ∷ n 2 ∷ n 1500 ∷ [])
+    ∷ row (word (codes "set_priority") ∷ n 3 ∷ n 7 ∷ [])
+    ∷ row (word (codes "iterate") ∷ n 0 ∷ [])
+    ∷ row (word (codes "pending") ∷ n 0 ∷ [])
+    ∷ row (word (codes "connect") ∷ n 0 ∷ n 6 ∷ n 0 ∷ [])
+    ∷ row (word (codes "disconnect") ∷ n 6 ∷ [])
+    ∷ row (word (codes "cancel") ∷ n 0 ∷ [])
+    ∷ row (word (codes "quit") ∷ n 0 ∷ [])
+    ∷ row (word (codes "run") ∷ n 0 ∷ [])
+    ∷ row (word (codes "log") ∷ n 8 ∷ [])
+    ∷ []
+
+abbrev procedure : Data
+procedure = object (member (codes "do") (row (row (word (codes "log") ∷ n 9 ∷ []) ∷ [])) (member (codes "keep") (n 3) no_members))
+
+abbrev lane : Data
+lane = object (member (codes "contexts") (n 1) (member (codes "start") (row start) no_members))
+
+-- one descriptor, which shows the bits 5 from tick 1 on
+abbrev descriptors : Data
+descriptors = row (row (row (n 1 ∷ n 5 ∷ []) ∷ []) ∷ [])
+
+abbrev pub each_word : Data
+each_word = object
+    (member (codes "cancellables") (n 1)
+    (member (codes "fds") descriptors
+    (member (codes "lanes") (row (lane ∷ []))
+    (member (codes "loops") (row (n 0 ∷ []))
+    (member (codes "procs") (row (procedure ∷ []))
+    (member (codes "tick_us") (n 1000)
+    (member (codes "ticks") (n 2)
+    (member (codes "version") (n 1) no_members))))))))
+
+abbrev pub each_part : Plan
+each_part = record {
+  version = 1;
+  ticks = 2;
+  tick_us = 1000;
+  lanes = (record {
+    contexts = 1;
+    start =
+        Attach 0 1 (record { kind = kinds.Idle; priority = negsuc 4; recurse = true; call = Some 0 })
+        ∷ Attach 0 2 (record { kind = kinds.ReadyTime (negsuc 0); priority = pos 0; recurse = false; call = None })
+        ∷ Attach 0 3 (record { kind = kinds.Fd 0 5; priority = pos 0; recurse = false; call = None })
+        ∷ Attach 0 4 (record { kind = kinds.Cancel 0; priority = pos 0; recurse = false; call = None })
+        ∷ Child 1 5 (record { kind = kinds.Timeout 2; priority = pos 0; recurse = true; call = Some 0 })
+        ∷ Destroy 5
+        ∷ SetReady 2 (pos 1500)
+        ∷ SetPriority 3 (pos 7)
+        ∷ Iterate 0
+        ∷ Pending 0
+        ∷ Connect 0 6 0
+        ∷ Disconnect 6
+        ∷ Cancel 0
+        ∷ Quit 0
+        ∷ Run 0
+        ∷ Log 8
+        ∷ [];
+  }) ∷ [];
+  cancellables = 1;
+  fds = ((record { tick = 1; bits = 5 }) ∷ []) ∷ [];
+  loops = 0 ∷ [];
+  procs = (record { actions = Log 9 ∷ []; keep = Some 3 }) ∷ [];
+}
+
+-- it is read as that
+abbrev pub EachWord : Type 0
+EachWord = script_of each_word ≡ Ok each_part

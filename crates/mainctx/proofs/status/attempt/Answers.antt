@@ -1,0 +1,15 @@
+use Rattle.std.proofs.Common.{refl, subst}
+use Rattle.mainctx.specs.Run.{IsRunFaultOf}
+use Rattle.mainctx.proofs.Statuses.{refuses_by}
+use Rattle.mainctx.proofs.status.attempt.Goals as goal
+
+pub returns-in_default-2-clause-usage : goal.returns-in_default-2-clause-usage
+returns-in_default-2-clause-usage g c =
+    (λ e ask. let asked = c.workers_of.ensures.exact 1 ask in let is = c.in_default.is in cc, λ n. refl)
+
+pub returns-in-Err-Script-clause-refusal : goal.returns-in-Err-Script-clause-refusal
+returns-in-Err-Script-clause-refusal g c =
+    let script = c.in-Err-Script.field-0-is in
+    let class = subst (IsRunFaultOf c.as_slice.result.now) script c.in-Err-Script.ensures.script in
+    let nothing = c.in-Err-Script.ensures.nothing (λ write. cc) in
+    refuses_by (g.R.Read.remaining c.args.input.now) c.as_slice.result.now c.in-Ok.script.items c.in-Err-Script.fault (g.W.Out.taken c.args.out.now) (g.W.Out.taken c.run_bytes.new.out) c.in-Ok.ensures.whole c.as_slice.ensures.value class nothing
