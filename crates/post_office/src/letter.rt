@@ -1,0 +1,23 @@
+//! What a lane sends.
+use task_steps::Reply;
+
+/// What one turn of a lane sends. Lanes, contexts and cancellables go by their number in the script.
+#[derive(Clone, Copy, Debug, PartialEq, Eq)]
+pub struct Letter {
+    /// The tick of the turn.
+    pub tick: u32,
+    /// The lane that sends it.
+    pub sender: u32,
+    /// Which letter of the turn it is, from 0.
+    pub number: u64,
+    pub body: Body,
+}
+
+/// What a letter tells.
+#[derive(Clone, Copy, Debug, PartialEq, Eq)]
+pub enum Body {
+    /// A task of the sender replies.
+    Complete(Reply),
+    /// A cancellable is cancelled.
+    Cancelled(u32),
+}
