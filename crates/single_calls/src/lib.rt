@@ -11,3 +11,5 @@ mod lane_tests;
 mod script_tests;
 #[cfg(test)]
 mod view_tests;
+#[cfg(test)]
+mod watch_tests;

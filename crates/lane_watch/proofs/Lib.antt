@@ -1,0 +1,4 @@
+pub mod Dated
+pub mod Noticed
+pub mod Polled
+pub mod Joined

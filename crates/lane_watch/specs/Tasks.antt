@@ -1,0 +1,54 @@
+-- The tasks of a lane, and what a poll of one gives.
+use Rattle.std.specs.Prelude.{ℕ, ◌+◌, ◌==◌, Bool, not, max, Option, Some, None, List, slice_get, option_map}
+use Rattle.loop_script.specs.declared.task.TaskSpec.{TaskSpec}
+use Rattle.loop_script.specs.declared.outcome.Outcome.{Outcome}
+use Rattle.task_steps.specs.declared.entry.Reply.{Reply}
+use Rattle.task_steps.specs.End.{End, end_of}
+use Rattle.task_steps.specs.Task.{reply_in, is_late_in}
+
+-- a task whose end has not come: its number, what the script says of it, the context that its reply goes to, and the tick of
+-- its first poll
+pub record Started : Type 0 where
+  pub number : ℕ
+  pub spec : TaskSpec
+  pub ctx : ℕ
+  pub first : ℕ
+
+-- the tasks of a lane in start order, and the number of the next; how long a tick is; for each cancellable the tick in which it
+-- came into the lane's view; and the tick in which the tasks are polled next
+pub record Tasks : Type 0 where
+  pub started : List Started
+  pub next : ℕ
+  pub tick_us : ℕ
+  pub came : List (Option ℕ)
+  pub tick : ℕ
+
+abbrev pub flat : {A : Type 0} → Option (Option A) → Option A
+flat None = None
+flat (Some thing) = thing
+
+-- the tick in which a task's cancellable came into the view
+abbrev pub came_in : List (Option ℕ) → Option ℕ → Option ℕ
+came_in came None = None
+came_in came (Some c) = flat (slice_get came c)
+
+-- the first poll that sees a task's cancellable as cancelled
+abbrev pub first_seen : List (Option ℕ) → Started → Option ℕ
+first_seen came t = option_map (λ tick. max t.first (tick + 1)) (came_in came t.spec.cancel)
+
+abbrev pub end_of_task : ℕ → List (Option ℕ) → Started → End
+end_of_task tick_us came t = end_of tick_us t.spec.tree t.first (first_seen came t)
+
+abbrev pub reply_of : Started → Outcome → Reply
+reply_of t outcome = record { task = t.number; ctx = t.ctx; outcome = outcome; call = t.spec.call; priority = t.spec.priority; cancel = t.spec.cancel; check = t.spec.check }
+
+-- what the poll of a tick gives: a reply, whether the body ends after its reply or with it, and whether it goes on
+abbrev pub reply_at : ℕ → Tasks → Started → Option Reply
+reply_at tick tasks t =
+    option_map (reply_of t) (reply_in tick t.spec.return_on_cancel (first_seen tasks.came t) (end_of_task tasks.tick_us tasks.came t))
+
+abbrev pub is_late_at : ℕ → Tasks → Started → Bool
+is_late_at tick tasks t = is_late_in tick t.spec.return_on_cancel (first_seen tasks.came t) (end_of_task tasks.tick_us tasks.came t)
+
+abbrev pub stays_at : ℕ → Tasks → Started → Bool
+stays_at tick tasks t = not ((end_of_task tasks.tick_us tasks.came t).tick == tick)

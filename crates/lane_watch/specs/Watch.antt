@@ -1,0 +1,111 @@
+-- What a lane watches: its view of cancellations, and its tasks.
+use Rattle.std.specs.Prelude.{◌≡◌, ℕ, ◌+◌, ◌<◌, ◌≤◌, Bool, false, Option, Some, None, is_some, List, [], ◌∷◌, ◌++◌, slice_set, replicate, filter, map, if◌then◌else◌}
+use Rattle.std.specs.List.{AllByRecursion, filter_map}
+use Rattle.loop_script.specs.declared.task.TaskSpec.{TaskSpec}
+use Rattle.cancel_view.specs.Seen.{Seen, has, cancelled}
+use Rattle.task_steps.specs.declared.entry.Reply.{Reply}
+use Rattle.task_steps.specs.Task.{Task}
+use Rattle.task_steps.specs.Book.{Book, IsIn}
+use Rattle.task_steps.specs.Run.{IsUpTo}
+use Rattle.lane_watch.specs.Tasks.{Started, Tasks, first_seen, reply_at, is_late_at, stays_at}
+
+pub record Watched : Type 0 where
+  pub view : Seen
+  pub tasks : Tasks
+
+-- nothing seen cancelled of so many, no handler, and no task
+abbrev pub nothing_seen : ℕ → Seen
+nothing_seen n = record { members = replicate n false; handlers = []; next_id = 1 }
+
+abbrev pub no_tasks : (n tick_us : ℕ) → Tasks
+no_tasks n tick_us = record { started = []; next = 0; tick_us = tick_us; came = replicate n None; tick = 0 }
+
+-- a cancellable has come into the view in a tick, if it was not there
+abbrev pub cancelled_at : (tick c : ℕ) → Watched → Watched
+cancelled_at tick c w =
+    if has c w.view then w else record { view = cancelled c w.view; tasks = record w.tasks { came = slice_set w.tasks.came c (Some tick) } }
+
+-- another view of the same cancellables
+abbrev pub viewing : Seen → Watched → Watched
+viewing view w = record w { view = view }
+
+-- one more task, first polled in the next tick
+abbrev pub starting : (tick ctx : ℕ) → TaskSpec → Tasks → Tasks
+starting tick ctx spec tasks = record tasks {
+  started = tasks.started ++ (record { number = tasks.next; spec = spec; ctx = ctx; first = tick + 1 }) ∷ [];
+  next = tasks.next + 1;
+}
+
+-- the replies of a tick, the numbers of those that end after their reply or with it, and the tasks that go on
+abbrev pub replies_of : ℕ → Tasks → List Reply
+replies_of tick tasks = filter_map (reply_at tick tasks) tasks.started
+
+abbrev pub late_of : ℕ → Tasks → List ℕ
+late_of tick tasks = map (λ t. t.number) (filter (is_late_at tick tasks) tasks.started)
+
+abbrev pub polled : ℕ → Tasks → Tasks
+polled tick tasks = record tasks { started = filter (stays_at tick tasks) tasks.started; tick = tick + 1 }
+
+-- a watch that has forgotten its tasks, once memory was refused
+abbrev pub forgetful : Watched → Watched
+forgetful w = record w { tasks = record w.tasks { started = []; next = 0 } }
+
+-- ---- how the view, the ticks and the book go together
+
+-- a task of the book, without what its polls saw
+abbrev pub started_of : Task → Started
+started_of t = record {
+  number = t.number;
+  spec = record { tree = t.tree; call = t.call; cancel = t.cancel; check = t.check; return_on_cancel = t.return_on_cancel; priority = t.priority };
+  ctx = t.ctx;
+  first = t.first;
+}
+
+abbrev pub IsBelow : ℕ → Option ℕ → Type 0
+IsBelow tick None = Unit {0}
+IsBelow tick (Some k) = k < tick
+
+abbrev pub IsFrom : ℕ → Option ℕ → Type 0
+IsFrom tick None = Unit {0}
+IsFrom tick (Some k) = tick ≤ k
+
+-- a cancellable is in the view where it has a tick
+abbrev pub AreDated : List (Option ℕ) → List Bool → Type 0
+AreDated [] [] = Unit {0}
+AreDated [] (m ∷ ms) = ⊥
+AreDated (t ∷ ts) [] = ⊥
+AreDated (t ∷ ts) (m ∷ ms) = (is_some t ≡ m) × AreDated ts ms
+
+-- what polls before a tick saw of a task that is first seen as cancelled at c
+abbrev pub SeenAs : ℕ → (clear cancelled c : Option ℕ) → Type 0
+SeenAs tick clear None c = IsFrom tick c
+SeenAs tick clear (Some from) c = (c ≡ Some from) × IsBelow from clear
+
+pub record Fits (tick tick_us : ℕ) (view : Seen) (came : List (Option ℕ)) (t : Task) : Type 0 where
+  pub ticks : t.tick_us ≡ tick_us
+  pub first : t.first ≤ tick
+  pub clear : IsBelow tick t.clear
+  pub seen : SeenAs tick t.clear t.cancelled (first_seen came (started_of t))
+  pub known : IsIn view t.cancel
+
+-- the numbers of tasks rise from low, all below next
+abbrev pub Numbered : (low next : ℕ) → List Task → Type 0
+Numbered low next [] = low ≤ next
+Numbered low next (t ∷ ts) = (low ≤ t.number) × Numbered (t.number + 1) next ts
+
+-- the last poll or start was in the tick before
+abbrev pub IsLast : ℕ → Option ℕ → Type 0
+IsLast tick None = Unit {0}
+IsLast tick (Some last) = last + 1 ≡ tick
+
+pub record IsJoined (tick tick_us : ℕ) (view : Seen) (came : List (Option ℕ)) (book : Book) : Type 0 where
+  pub ticks : book.tick_us ≡ tick_us
+  pub some : 0 < tick_us
+  pub short : tick_us ≤ 1000000000
+  pub sound : book.spent ≡ false
+  pub last : IsLast tick book.last
+  pub wake : IsUpTo tick book.wake
+  pub dated : AreDated came view.members
+  pub past : AllByRecursion (IsBelow tick) came
+  pub fits : AllByRecursion (Fits tick tick_us view came) book.tasks
+  pub numbered : Numbered 0 book.next book.tasks

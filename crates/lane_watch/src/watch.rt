@@ -1,0 +1,159 @@
+//! A lane's view with its ticks, and its tasks.
+ghost use Rattle.std.specs.Prelude.{◌≡◌, ◌+◌, ◌<◌, ◌≤◌, ◌^◌, slice_set, Some, None, IsTrue, IsOk, IfOk, OnOk, OnErr, option_map, if◌then◌else◌};
+
+use cancel_view::{Connected, Fired, OutOfMemory, View};
+use loop_script::TaskSpec;
+use std::alloc::Global;
+use std::marker::Model;
+use task_steps::{Polled, TaskBook};
+
+/// A lane's view of cancellations, with the tick in which each came into it, and its tasks. Cancellables go by their
+/// number, from 0 on. Calls come tick by tick: the poll of a tick first, then what the lane does in it.
+#[derive(Drop)]
+pub struct Watch {
+    alloc: Global,
+    view: View,
+    /// For each cancellable the tick in which it came into the view.
+    came: Vec<Option<u32>>,
+    book: TaskBook,
+    tick_us: u64,
+    /// The tick in which the tasks are polled next.
+    tick: u32,
+}
+
+impl Model for Watch {
+    ghost use Rattle.std.specs.Prelude.{map};
+    ghost use Rattle.std.specs.Coded.{codes};
+    ghost use Rattle.loop_script.specs.contracts.tree.TaskTree as task_tree;
+    ghost use Rattle.lane_watch.specs.Watch.{Watched, started_of, IsJoined};
+
+    ghost Value = { Watched };
+
+    ghost coded = { Prim.hlevel (codes, task_tree.the_row.coded) };
+
+    ghost view = { λ w. record {
+      view = w.view;
+      tasks = record { started = map started_of w.book.tasks; next = w.book.next; tick_us = w.tick_us; came = w.came.items; tick = w.tick };
+    } };
+
+    ghost invariant = { λ w. IsJoined w.tick w.tick_us w.view w.came.items w.book };
+}
+
+/// Notes the tick in which a cancellable came into a view.
+fn note(came: &mut Vec<Option<u32>>, c: u32, tick: u32)
+    ensures { came.new.items ≡ slice_set came.old.items c (Some tick) }
+{
+    if let Some(noted) = came.get_mut(c as usize) {
+        *noted = Some(tick);
+    }
+}
+
+impl Watch {
+    ghost use Rattle.cancel_view.specs.Seen.{has, fired, connected, connecting, may_disconnect, without};
+    ghost use Rattle.task_steps.specs.Book.{IsIn};
+    ghost use Rattle.lane_watch.specs.Watch.{nothing_seen, no_tasks, cancelled_at, viewing, starting, replies_of, late_of, polled, forgetful};
+
+    /// What a lane watches at first: none of n cancellables is cancelled, and no task was started. Ticks are so many
+    /// microseconds long.
+    pub fn new(alloc: Global, n: u32, tick_us: u64) -> Result<Watch, OutOfMemory>
+        requires some { 0 < tick_us }
+        requires short { tick_us ≤ 1000000000 }
+        ensures { IfOk result (λ w. w ≡ record { view = nothing_seen n; tasks = no_tasks n tick_us }) }
+    {
+        Ok(Watch {
+            alloc,
+            view: View::new(alloc, n)?,
+            came: vec![in alloc; None; n as usize]?,
+            book: TaskBook::new(alloc, tick_us),
+            tick_us,
+            tick: 0,
+        })
+    }
+
+    /// The view.
+    pub fn view(&self) -> &View
+        ensures { result.now ≡ self.now.view }
+    {
+        &self.view
+    }
+
+    /// Brings a cancellable into the view at a tick, after its polls, and gives the handlers to call, by rising id. None
+    /// where the view had it, which takes no memory. After `OutOfMemory` nothing is changed.
+    pub fn cancel(
+        &mut self,
+        alloc: Global,
+        tick: u32,
+        c: u32,
+    ) -> Result<Option<Vec<Fired>>, OutOfMemory>
+        requires { self.old.tasks.tick ≡ tick + 1 }
+        ensures fired { IfOk result (λ f. option_map (λ v. v.items) f ≡ (if has c self.old.view then None else Some (fired c self.old.view))) }
+        ensures cancelled { OnOk result (self.new ≡ cancelled_at tick c self.old) }
+        ensures same { OnErr result (self.new ≡ self.old) }
+        ensures member { IsTrue (has c self.old.view) → IsOk result }
+    {
+        let fired = self.view.cancel(alloc, c)?;
+        if fired.is_some() {
+            note(&mut self.came, c, tick);
+        }
+        Ok(fired)
+    }
+
+    /// Connects a handler, where the view does not have its cancellable. After `OutOfMemory` nothing is changed.
+    pub fn connect(&mut self, c: u32, proc: u32) -> Result<Connected, OutOfMemory>
+        requires { self.old.view.next_id < 2 ^ 63 }
+        ensures answer { IfOk result (λ r. r ≡ connecting c self.old.view) }
+        ensures view { OnOk result (self.new ≡ viewing (connected c proc self.old.view) self.old) }
+        ensures same { OnErr result (self.new ≡ self.old) }
+        ensures member { IsTrue (has c self.old.view) → IsOk result }
+    {
+        self.view.connect(c, proc)
+    }
+
+    /// Disconnects the handler that has the id; false where there is none. The id 0 is that of no handler: it is always
+    /// true, and does nothing.
+    pub fn disconnect(&mut self, id: u64) -> bool
+        ensures answer { result ≡ may_disconnect id self.old.view }
+        ensures view { self.new ≡ viewing (without id self.old.view) self.old }
+    {
+        self.view.disconnect(id)
+    }
+
+    /// Starts a task whose reply goes to a context, in a tick after its polls. It is first polled in the next tick. After
+    /// `OutOfMemory` the tasks are forgotten.
+    pub fn start(&mut self, spec: &TaskSpec, ctx: u32, tick: u32) -> Result<(), OutOfMemory>
+        requires now { self.old.tasks.tick ≡ tick + 1 }
+        requires tick { tick < 2 ^ 31 }
+        requires room { self.old.tasks.next < 2 ^ 63 }
+        requires known { IsIn self.old.view spec.now.cancel }
+        ensures ok { OnOk result (self.new ≡ record self.old { tasks = starting tick ctx spec.now self.old.tasks }) }
+        ensures err { OnErr result (self.new ≡ forgetful self.old) }
+    {
+        if self.book.start(spec, ctx, tick).is_err() {
+            self.book = TaskBook::new(self.alloc, self.tick_us);
+            return Err(OutOfMemory);
+        }
+        Ok(())
+    }
+
+    /// Polls the tasks at a tick: their replies, and the numbers of those whose body ends after its reply or with it,
+    /// both in start order. After `OutOfMemory` the tasks are forgotten.
+    pub fn poll(&mut self, alloc: Global, tick: u32) -> Result<Polled, OutOfMemory>
+        requires now { self.old.tasks.tick ≡ tick }
+        requires tick { tick < 2 ^ 31 }
+        ensures replies { IfOk result (λ p. p.replies ≡ replies_of tick self.old.tasks) }
+        ensures late { IfOk result (λ p. p.late ≡ late_of tick self.old.tasks) }
+        ensures ok { OnOk result (self.new ≡ record self.old { tasks = polled tick self.old.tasks }) }
+        ensures err { OnErr result (self.new ≡ forgetful self.old) }
+    {
+        match self.book.poll_all(alloc, tick, &self.view) {
+            Ok(polled) => {
+                self.tick = tick + 1;
+                Ok(polled)
+            }
+            Err(_) => {
+                self.book = TaskBook::new(self.alloc, self.tick_us);
+                Err(OutOfMemory)
+            }
+        }
+    }
+}
