@@ -1,4 +1,6 @@
 //! What a lane watches: a task that is cancelled, one that runs, handlers, and refused memory.
+ghost use Rattle.std.specs.Prelude.{◌≡◌, ◌≤◌, IfOk, Some};
+
 use cancel_view::{Connected, Fired, OutOfMemory};
 use lane_watch::Watch;
 use loop_script::{Node, Outcome, TaskSpec, TaskTree};
@@ -6,7 +8,10 @@ use std::alloc::Global;
 use std::test::Fail;
 
 /// A task that sleeps so long, with cancellable 0, and returns where that is cancelled.
-fn sleeper(us: u64) -> TaskSpec {
+fn sleeper(us: u64) -> TaskSpec
+    requires { us ≤ 1000000000000000 }
+    ensures { result.cancel ≡ Some 0 }
+{
     TaskSpec {
         tree: TaskTree {
             node: Node::Sleep(us),
@@ -20,7 +25,9 @@ fn sleeper(us: u64) -> TaskSpec {
 }
 
 /// A watch whose first polls are over, with a task of three ticks.
-fn begun(alloc: Global) -> Result<Watch, OutOfMemory> {
+fn begun(alloc: Global) -> Result<Watch, OutOfMemory>
+    ensures { IfOk result (λ w. w.tasks.tick ≡ 1) }
+{
     let mut watch = Watch::new(alloc, 1, 1000)?;
     watch.poll(alloc, 0)?;
     watch.start(&sleeper(3000), 0, 0)?;
