@@ -1,6 +1,6 @@
 -- Letters that were sorted, and the one order of them.
-use Rattle.std.proofs.Common.{◌≡◌, ◌≢◌, ◌⊎◌, ℕ, zero, suc, ◌+◌, ◌<◌, ◌≤◌, ◌==◌, ◌&&◌, Bool, true, false, cond, nat_lt, List, [], ◌∷◌, length, refl, sym, ap, ◌∙◌, subst, inl, inr, ⊎_elim, arith, eq-eqb, eqb-true, ltb-false, true≢false}
-use Rattle.std.specs.Prelude.{IsPermutation, Contains}
+use Rattle.std.proofs.Common.{◌≡◌, ◌≢◌, ◌⊎◌, ℕ, zero, suc, ◌<◌, ◌≤◌, ◌==◌, Bool, true, false, cond, nat_lt, List, [], ◌∷◌, refl, sym, ◌∙◌, subst, inl, inr, ⊎_elim, arith, eq-eqb, eqb-true, ltb-false, true≢false}
+use Rattle.std.specs.Prelude.{Contains}
 use Rattle.std.specs.List.{IsDistinct, AllByRecursion}
 use Rattle.std.specs.Ordering.{is_lt, nat_cmp, ordering_then}
 use Rattle.std.specs.List.Sorted.{IsSortedByKey}
@@ -46,8 +46,8 @@ steps_of : (xs : List Letter) → IsSortedByKey place by_place xs → Steps xs
 steps_of [] h = tt
 steps_of (x ∷ []) h = tt
 steps_of (x ∷ (y ∷ zs)) h = (
-    not_before y.sender x.sender y.number x.number (h 0 x (omega arith) (omega arith)),
-    steps_of (y ∷ zs) (λ k d low high. let next = h (suc k) d (omega arith) (omega arith) in let plain = simp unary_clauses at next in simp unary_clauses plain),
+  not_before y.sender x.sender y.number x.number (h 0 x (omega arith) (omega arith)),
+  steps_of (y ∷ zs) (λ k d low high. let next = h (suc k) d (omega arith) (omega arith) in let plain = simp unary_clauses at next in simp unary_clauses plain),
 )
 
 along : (x y z : Letter) → MayPrecede x y → MayPrecede y z → MayPrecede x z
@@ -105,20 +105,20 @@ one [] (y ∷ ys) a p q f g b = absurd (nothing y (g y (here y ys)))
 one (x ∷ xs) [] a p q f g b = absurd (nothing x (f x (here x xs)))
 one (x ∷ xs) (y ∷ ys) a p q f g b =
     let e : x ≡ y =
-        ⊎_elim (λ (e : y ≡ x). sym e)
-        (λ c. ⊎_elim (λ (e : x ≡ y). e)
-            (λ d. absurd (true≢false (sym (both_ways x y (at (MayPrecede x) xs y p.0 d) (at (MayPrecede y) ys x q.0 c)) ∙ at (λ z. same_place x z ≡ false) xs y a.0 d)))
-            (head_or x xs y (g y (here y ys))))
-        (head_or y ys x (f x (here x xs))) in
+    ⊎_elim (λ (e : y ≡ x). sym e)
+    (λ c. ⊎_elim (λ (e : x ≡ y). e)
+    (λ d. absurd (true≢false (sym (both_ways x y (at (MayPrecede x) xs y p.0 d) (at (MayPrecede y) ys x q.0 c)) ∙ at (λ z. same_place x z ≡ false) xs y a.0 d)))
+    (head_or x xs y (g y (here y ys))))
+    (head_or y ys x (f x (here x xs))) in
     let self : (z : Letter) → same_place z z ≡ true = λ z. rw (eq-eqb z.sender z.sender refl, eq-eqb z.number z.number refl) refl in
     let f' : (z : Letter) → Contains xs z → Contains ys z =
-        λ z c. ⊎_elim
-        (λ (k : y ≡ z). absurd (true≢false (sym (self x) ∙ subst (λ (w : Letter). same_place x w ≡ false) (sym (e ∙ k)) (at (λ w. same_place x w ≡ false) xs z a.0 c))))
-        (λ d. d) (head_or y ys z (f z (later x xs z c))) in
+    λ z c. ⊎_elim
+    (λ (k : y ≡ z). absurd (true≢false (sym (self x) ∙ subst (λ (w : Letter). same_place x w ≡ false) (sym (e ∙ k)) (at (λ w. same_place x w ≡ false) xs z a.0 c))))
+    (λ d. d) (head_or y ys z (f z (later x xs z c))) in
     let g' : (z : Letter) → Contains ys z → Contains xs z =
-        λ z c. ⊎_elim
-        (λ (k : x ≡ z). absurd (true≢false (sym (self y) ∙ subst (λ (w : Letter). same_place y w ≡ false) (sym (sym e ∙ k)) (at (λ w. same_place y w ≡ false) ys z b.0 c))))
-        (λ d. d) (head_or x xs z (g z (later y ys z c))) in
+    λ z c. ⊎_elim
+    (λ (k : x ≡ z). absurd (true≢false (sym (self y) ∙ subst (λ (w : Letter). same_place y w ≡ false) (sym (sym e ∙ k)) (at (λ w. same_place y w ≡ false) ys z b.0 c))))
+    (λ d. d) (head_or x xs z (g z (later y ys z c))) in
     λ i. e i ∷ one xs ys a.1 p.1 q.1 f' g' b.1 i
 
 flips : (x y : Letter) → same_place x y ≡ same_place y x

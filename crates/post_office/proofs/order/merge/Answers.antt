@@ -1,4 +1,4 @@
-use Rattle.std.proofs.Common.{◌≡◌, ℕ, rules}
+use Rattle.std.proofs.Common.{◌≡◌, rules}
 use Rattle.std.proofs.lemmas.Fn.{always_returns_same}
 use Rattle.post_office.proofs.Sorted.{place, in_order_of}
 use Rattle.post_office.proofs.order.merge.Goals as goal
