@@ -12,6 +12,7 @@ use Rattle.context_core.specs.declared.context.Context.{Context}
 use Rattle.lane_turn.specs.Sources.{due_after, restarted, restarted_row, restarted_kind}
 use Rattle.lane_turn.specs.declared.line.Word.TheVariants as words
 use Rattle.lane_turn.specs.Lane.{Lane, known, with_rows, edited, handler_at, viewing}
+use Rattle.lane_watch.specs.Watch.{Watched}
 use Rattle.lane_turn.specs.Acted.{missed, disconnect, disconnect_of}
 
 pub edited_one : (edit : RowSet → RowSet) (o : Option Context) (c : Context) (now new : RowSet) → o ≡ Some c → now ≡ c.rows → new ≡ edit now → Some (with_rows (λ _. new) c) ≡ option_map (with_rows edit) o
@@ -51,9 +52,9 @@ without_none id view h = none_by (id == 0) h
     none_by true k = refl
     none_by false k = ap (λ (l : List Handler). record view { handlers = l }) (each_other id view.handlers k)
 
-pub missed_else : (tick slot id : ℕ) (lane : Lane) (view : Seen) → Some id ≡ handler_at slot lane → may_disconnect id lane.view ≡ false → view ≡ lane.view
-    → missed tick words.Disconnect (viewing view lane) ≡ disconnect tick slot lane
-missed_else tick slot id lane view e none v =
-    ap (λ (s : Seen). missed tick words.Disconnect (viewing s lane)) v
+pub missed_else : (tick slot id : ℕ) (lane : Lane) (watch : Watched) → Some id ≡ handler_at slot lane → may_disconnect id lane.view ≡ false → watch ≡ (record { view = lane.view; tasks = lane.tasks })
+    → missed tick words.Disconnect (record lane { view = watch.view; tasks = watch.tasks }) ≡ disconnect tick slot lane
+missed_else tick slot id lane watch e none v =
+    ap (λ (w : Watched). missed tick words.Disconnect (record lane { view = w.view; tasks = w.tasks })) v
     ∙ (ap (λ (b : Bool). cond b (viewing (without id lane.view) lane) (missed tick words.Disconnect lane)) (sym none)
     ∙ ap (λ (o : Option ℕ). disconnect_of tick o lane) e)

@@ -2,13 +2,12 @@
 use Rattle.std.proofs.Common.{◌≡◌, ℕ, zero, suc, ◌+◌, ◌<◌, ◌≤◌, ◌≢◌, true, false, Option, Some, None, is_some, unwrap_or, refl, ap, sym, ◌∙◌, arith, subst}
 use Rattle.std.specs.Option.{option_map_or}
 use Rattle.loop_script.specs.declared.plan.Plan.{Plan}
-use Rattle.lane_turn.specs.Lane.{Lane, Turn}
+use Rattle.lane_turn.specs.Lane.{Turn}
 use Rattle.lane_turn.specs.declared.parts.Status.{Status}
 use Rattle.lane_turn.specs.declared.parts.Status.TheVariants.{GoesOn, Ended, Halted}
 use Rattle.lane_turn.specs.Step.{step, step_going}
-use Rattle.lane_turn.specs.Turn.{work, stepped, finish, finished, begun, turned}
-use Rattle.lane_turn.specs.Sound.{IsSound, IsWithin}
-use Rattle.lane_turn.proofs.Mild.{within_weaker}
+use Rattle.lane_turn.specs.Turn.{work, stepped, finish, finished}
+use Rattle.lane_turn.specs.Sound.{IsSound}
 use Rattle.lane_turn.proofs.Steps.{Goes, goes}
 
 -- a lane that has ended or is halted has no step
@@ -101,12 +100,6 @@ sound-finish script n tick (suc k) t s = sound_on script n tick k t (step script
 pub sound-finished : (script : Plan) (n tick : ℕ) (t : Turn) → IsSound n t → IsSound n (finished script tick t)
 unfolding finished
 sound-finished script n tick t s = sound-finish script n tick (work t) t s
-
--- The same of a lane between turns.
-pub within-turned : (script : Plan) (m tick : ℕ) (lane : Lane) → IsWithin m lane → IsWithin (m + 20001) (turned script tick lane)
-within-turned script m tick lane w =
-    let s = sound-finished script (m + 20001) tick (begun lane) (record { bound = m; fits = omega arith; within = w }) in
-    within_weaker s.bound (m + 20001) (omega (arith, s.fits)) _ s.within
 
 -- where a number of steps is enough, no step is left after it
 none_after : (script : Plan) (tick n : ℕ) (t : Turn) (o : Option Turn) → step script tick t ≡ o → work t ≤ suc n

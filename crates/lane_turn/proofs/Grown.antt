@@ -1,7 +1,7 @@
 -- The sources of a lane stand in trees within the script's levels: one line for each action.
-use Rattle.std.proofs.Common.{◌≡◌, ℕ, ℤ, zero, suc, ◌+◌, ◌*◌, ◌^◌, ◌<◌, ◌≤◌, ◌==◌, Bool, true, false, cond, Option, Some, None, List, [], ◌∷◌, ◌++◌, slice_set, refl, ap, sym, ◌∙◌, arith, subst, option_map}
+use Rattle.std.proofs.Common.{◌≡◌, ℕ, ℤ, zero, suc, ◌+◌, ◌*◌, ◌^◌, ◌<◌, ◌≤◌, ◌==◌, Bool, true, false, not, ◌&&◌, cond, map, length, Option, Some, None, List, [], ◌∷◌, ◌++◌, slice_set, refl, ap, sym, ◌∙◌, arith, subst, option_map}
 use Rattle.std.specs.Prelude.{slice_get, is_some, is_none, nat_lt}
-use Rattle.std.specs.List.{AllByRecursion}
+use Rattle.std.specs.List.{AllByRecursion, range_with_len}
 use Rattle.loop_script.specs.declared.plan.Plan.{Plan}
 use Rattle.loop_script.specs.declared.source.SourceSpec.{SourceSpec}
 use Rattle.loop_script.specs.declared.source.Kind.{Kind}
@@ -31,18 +31,26 @@ use Rattle.lane_turn.specs.declared.layer.Call.{Call}
 use Rattle.lane_turn.specs.declared.slot.Place.{Place}
 use Rattle.lane_turn.specs.Frames.{Frame, CallOf, IterOf, LoopOf, calls}
 use Rattle.lane_turn.specs.Sources.{tree_levels, no_sources, restarted, restarted_row, restarted_kind, due_after}
-use Rattle.lane_turn.specs.Lane.{Lane, Turn, known, own, with_rows, edited, popped, taken, place_at, handler_at, row_of, row_in, row_at, is_running, written, viewing, iterating}
-use Rattle.lane_turn.specs.Acted.{acted, born, can_bear, can_bear_in, child_of, on_source, set_priority_of, plain_acted, all_acted, handled, all_handled, cancel, connect, disconnect_of}
+use Rattle.lane_turn.specs.Lane.{Lane, Turn, known, own, with_rows, edited, popped, taken, place_at, handler_at, row_of, row_in, row_at, is_running, written, viewing, noting, iterating}
+use Rattle.lane_turn.specs.Acted.{acted, sends, born, can_bear, can_bear_in, child_of, on_source, set_priority_of, plain_acted, all_acted, handled, all_handled, cancel, connect, disconnect_of}
+use Rattle.lane_watch.specs.Tasks.{Started}
+use Rattle.post_office.specs.declared.letter.Letter.{Letter}
+use Rattle.post_office.specs.declared.letter.Body.{Body as Mail}
+use Rattle.post_office.specs.declared.letter.Body.TheVariants as mails
 use Rattle.lane_turn.specs.declared.line.Word.{Word}
 use Rattle.lane_turn.specs.declared.line.Word.TheVariants as words
-use Rattle.lane_turn.specs.Step.{step, step_call, step_id, returned, answered, counted_by, in_lane, dispatching}
-use Rattle.lane_turn.specs.Turn.{work, finish, finished, begun, turned, lane_at, open_context, open_contexts_to}
-use Rattle.lane_turn.specs.Sound.{Bounded, IsSound, IsWithin}
-use Rattle.lane_turn.specs.Levels.{IsGrown, Grown, IsOfTwoLevels, OfTwoLevels, lane_within}
+use Rattle.lane_turn.specs.Step.{step, step_polling, step_call, step_id, returned, answered, counted_by, in_lane, dispatching}
+use Rattle.lane_turn.specs.Turn.{work, finish, finished, begun, turned, opening, open_context, open_contexts_to}
+use Rattle.lane_turn.specs.Deliver.{reply_spec, received_body, received, received_all}
+use Rattle.lane_turn.specs.Tick.{ticked, posted_at, lanes_at, lane_within}
+use Rattle.lane_turn.specs.Sound.{Bounded, IsSound, IsReady}
+use Rattle.lane_turn.specs.Levels.{IsGrown, Grown, IsOfTwoLevels, OfTwoLevels, OfAllLanes}
 use Rattle.lane_turn.proofs.Mild.{within_weaker, bounded_at}
 use Rattle.lane_turn.proofs.Steps.{goes}
-use Rattle.lane_turn.proofs.Finish.{fixed, one_taken, finish_none, within-turned}
-use Rattle.lane_turn.proofs.Opening.{opening_within}
+use Rattle.lane_turn.proofs.Turns.{IsTidy, tidy_on, begun_tidy, kept_finish, kept_finished, Kept}
+use Rattle.lane_turn.proofs.Runs.{most_at, ready_at, posted_fits, AllReady}
+use Rattle.lane_turn.proofs.Turns.{ready-turned}
+use Rattle.lane_turn.proofs.Delivered.{ready_received}
 
 abbrev AllGrown : ℕ → Lane → Type 0
 AllGrown levels lane = AllByRecursion (Grown levels) lane.contexts
@@ -182,7 +190,7 @@ grown_all_handled levels script tick (f ∷ fs) lane h = grown_all_handled level
 
 grown_cancel : (levels : ℕ) (script : Plan) (tick c : ℕ) (lane : Lane) → AllGrown levels lane → AllGrown levels (cancel script tick c lane)
 grown_cancel levels script tick c lane h =
-    either levels _ _ (has c lane.view) (λ _. h) (grown_all_handled levels script tick (fired c lane.view) (written tick (events.Cancel c) (viewing (cancelled c lane.view) lane)) h)
+    either levels _ _ (has c lane.view) (λ _. h) (grown_all_handled levels script tick (fired c lane.view) (written tick (events.Cancel c) (noting tick c (viewing (cancelled c lane.view) lane))) h)
 
 grown_connect : (levels : ℕ) (script : Plan) (tick c slot proc : ℕ) (lane : Lane) → AllGrown levels lane → AllGrown levels (connect script tick c slot proc lane)
 grown_connect levels script tick c slot proc lane h = either levels _ _ (has c lane.view) (λ _. grown_handled levels script tick (record { id = 0; proc = proc }) lane h) h
@@ -223,7 +231,7 @@ grown_returned : (levels : ℕ) (script : Plan) (tick : ℕ) (body : Body) (orig
 grown_returned levels script tick body Start lane h = h
 grown_returned levels script tick body (Invoke acquired) lane h = h
 grown_returned levels script tick body (Source caller) lane h =
-    either levels _ _ (stays script body caller.number)
+    either levels _ _ (not caller.once && stays script body caller.number)
     (λ _. grown_free levels lane caller.context (restarted (time_of script tick) caller.id) (grown_restarted levels (time_of script tick) caller.id) h)
     (grown_free levels lane caller.context (destroyed caller.id) (grown_destroyed levels caller.id) h)
 
@@ -231,26 +239,26 @@ grown_answered : (levels tick context : ℕ) (answer : Option Bool) (lane : Lane
 grown_answered levels tick context None lane h = h
 grown_answered levels tick context (Some any) lane h = h
 
-grown_counting : (levels tick : ℕ) (f : Lane → Lane) (t : Turn) (left : ℕ) → AllGrown levels t.lane → AllGrown levels (f t.lane) → AllGrown levels (counted_by tick f t left).lane
-grown_counting levels tick f t zero h k = h
-grown_counting levels tick f t (suc left) h k = k
+grown_counting : (levels tick : ℕ) (mail : Option Mail) (f : Lane → Lane) (t : Turn) (left : ℕ) → AllGrown levels t.lane → AllGrown levels (f t.lane) → AllGrown levels (counted_by tick mail f t left).lane
+grown_counting levels tick mail f t zero h k = h
+grown_counting levels tick mail f t (suc left) h k = k
 
 some_same : (t u : Turn) → Some t ≡ Some u → t ≡ u
 some_same t u e = cc
 
-abbrev turn : Lane → ℕ → Bool → Turn
-turn lane left iterated = record { lane = lane; left = left; iterated = iterated }
+abbrev turn : Turn → Lane → ℕ → Bool → Turn
+turn rest lane left iterated = record rest { lane = lane; unpolled = []; left = left; iterated = iterated }
 
 abbrev StaysGrown : ℕ → Turn → Turn → Type 0
 StaysGrown levels t u = AllBounded t.lane → AllGrown levels t.lane → AllGrown levels u.lane
 
 grown_call : (levels : ℕ) (script : Plan) (tick : ℕ) (t : Turn) (call : Call) (a : Option Action) → StaysGrown levels t (step_call script tick t call a)
 grown_call levels script tick t call None b h = grown_returned levels script tick call.body call.origin (popped t.lane) h
-grown_call levels script tick t call (Some a) b h = grown_counting levels tick (λ lane. acted script tick a (taken lane)) t t.left h (grown_acted levels script tick a (taken t.lane) b h)
+grown_call levels script tick t call (Some a) b h = grown_counting levels tick (sends a (taken t.lane)) (λ lane. acted script tick a (taken lane)) t t.left h (grown_acted levels script tick a (taken t.lane) b h)
 
 grown_id : (levels tick context : ℕ) (t : Turn) (r : Option Row) → StaysGrown levels t (step_id tick t context r)
 grown_id levels tick context t None b h = h
-grown_id levels tick context t (Some row) b h = grown_counting levels tick (dispatching tick context row) t t.left h (grown_dispatching levels tick context row t.lane h)
+grown_id levels tick context t (Some row) b h = grown_counting levels tick None (dispatching tick context row) t t.left h (grown_dispatching levels tick context row t.lane h)
 
 grown_loop : (levels : ℕ) (script : Plan) (tick number context : ℕ) (t : Turn) (runs iterated : Bool) (u : Turn)
     → cond runs (cond iterated None (Some (record t { lane = iterating script tick context None t.lane; iterated = true }))) (Some (in_lane (λ lane. written tick (events.LoopEnd number) (popped lane)) t)) ≡ Some u → StaysGrown levels t u
@@ -258,50 +266,73 @@ grown_loop levels script tick number context t true true u e b h = cc
 grown_loop levels script tick number context t true false u e b h = subst (λ (v : Turn). AllGrown levels v.lane) (some_same _ _ e) h
 grown_loop levels script tick number context t false iterated u e b h = subst (λ (v : Turn). AllGrown levels v.lane) (some_same _ _ e) h
 
-grown_step_by : (levels : ℕ) (script : Plan) (tick : ℕ) (base : Lane) (frames : List Frame) (status : Status) (left : ℕ) (iterated : Bool) (u : Turn) →
-    let t : Turn = turn (record base { frames = frames; status = status }) left iterated in
+grown_step_by : (rest : Turn) (levels : ℕ) (script : Plan) (tick : ℕ) (base : Lane) (frames : List Frame) (status : Status) (left : ℕ) (iterated : Bool) (u : Turn) →
+    let t : Turn = turn rest (record base { frames = frames; status = status }) left iterated in
     step script tick t ≡ Some u → StaysGrown levels t u
-grown_step_by levels script tick base [] GoesOn left iterated u e b h = cc
-grown_step_by levels script tick base (CallOf call ∷ below) GoesOn left iterated u e b h =
-    let t : Turn = turn (record base { frames = CallOf call ∷ below; status = GoesOn }) left iterated in
+grown_step_by rest levels script tick base [] GoesOn left iterated u e b h = cc
+grown_step_by rest levels script tick base (CallOf call ∷ below) GoesOn left iterated u e b h =
+    let t : Turn = turn rest (record base { frames = CallOf call ∷ below; status = GoesOn }) left iterated in
     subst (λ (v : Turn). AllGrown levels v.lane) (some_same _ _ e) (grown_call levels script tick t call (slice_get (actions_of script call.body) call.place) b h)
-grown_step_by levels script tick base (IterOf context [] answer ∷ below) GoesOn left iterated u e b h =
-    let t : Turn = turn (record base { frames = IterOf context [] answer ∷ below; status = GoesOn }) left iterated in
+grown_step_by rest levels script tick base (IterOf context [] answer ∷ below) GoesOn left iterated u e b h =
+    let t : Turn = turn rest (record base { frames = IterOf context [] answer ∷ below; status = GoesOn }) left iterated in
     subst (λ (v : Turn). AllGrown levels v.lane) (some_same _ _ e) (grown_answered levels tick context answer (popped t.lane) h)
-grown_step_by levels script tick base (IterOf context (id ∷ ids) answer ∷ below) GoesOn left iterated u e b h =
-    let t : Turn = turn (record base { frames = IterOf context (id ∷ ids) answer ∷ below; status = GoesOn }) left iterated in
+grown_step_by rest levels script tick base (IterOf context (id ∷ ids) answer ∷ below) GoesOn left iterated u e b h =
+    let t : Turn = turn rest (record base { frames = IterOf context (id ∷ ids) answer ∷ below; status = GoesOn }) left iterated in
     subst (λ (v : Turn). AllGrown levels v.lane) (some_same _ _ e) (grown_id levels tick context t (row_of context id t.lane) b h)
-grown_step_by levels script tick base (LoopOf number context ∷ below) GoesOn left iterated u e b h =
-    let t : Turn = turn (record base { frames = LoopOf number context ∷ below; status = GoesOn }) left iterated in
+grown_step_by rest levels script tick base (LoopOf number context ∷ below) GoesOn left iterated u e b h =
+    let t : Turn = turn rest (record base { frames = LoopOf number context ∷ below; status = GoesOn }) left iterated in
     grown_loop levels script tick number context t (is_running number t.lane) iterated u e b h
-grown_step_by levels script tick base frames Ended left iterated u e b h = cc
-grown_step_by levels script tick base frames Halted left iterated u e b h = cc
+grown_step_by rest levels script tick base frames Ended left iterated u e b h = cc
+grown_step_by rest levels script tick base frames Halted left iterated u e b h = cc
+
+grown_polling : (levels : ℕ) (script : Plan) (tick : ℕ) (t : Turn) (tasks : List Started) (u : Turn) → step_polling script tick (record t { unpolled = tasks }) tasks ≡ Some u → StaysGrown levels t u
+grown_polling levels script tick t [] u e b h = grown_step_by t levels script tick t.lane t.lane.frames t.lane.status t.left t.iterated u e b h
+grown_polling levels script tick t (task ∷ tasks) u e b h = subst (λ (v : Turn). AllGrown levels v.lane) (some_same _ _ e) h
 
 grown_step : (levels : ℕ) (script : Plan) (tick : ℕ) (t u : Turn) → step script tick t ≡ Some u → StaysGrown levels t u
-grown_step levels script tick t u e = grown_step_by levels script tick t.lane t.lane.frames t.lane.status t.left t.iterated u e
+grown_step levels script tick t u e = grown_polling levels script tick t t.unpolled u e
 
 -- ---- the turns
 
 bounded_now : (t : Turn) → IsSound (2 ^ 62) t → AllBounded t.lane
 bounded_now t s = (within_weaker s.bound (2 ^ 62) (omega (arith, s.fits)) t.lane s.within).contexts
 
-grown_on : (levels : ℕ) (script : Plan) (tick k : ℕ) (t : Turn) (o : Option Turn) → step script tick t ≡ o → IsSound (2 ^ 62) t → AllGrown levels t.lane
-    → ((u : Turn) → IsSound (2 ^ 62) u → AllGrown levels u.lane → AllGrown levels (finish script tick k u).lane) → AllGrown levels (finish script tick (suc k) t).lane
-grown_on levels script tick k t None e s h f = subst (λ (v : Turn). AllGrown levels v.lane) (sym (fixed script tick t e (suc k))) h
-grown_on levels script tick k t (Some u) e s h f =
-    subst (λ (v : Turn). AllGrown levels v.lane) (sym (one_taken script tick t u e k)) (f u ((goes script (2 ^ 62) tick t u e).keeps s) (grown_step levels script tick t u e (bounded_now t s) h))
+-- a turn whose counters stay low, and whose sources stand in trees
+record GrownTurn (levels n tick size : ℕ) (t : Turn) : Type 0 where
+  pub tidy : IsTidy n (2 ^ 62) tick size t
+  pub all : AllGrown levels t.lane
 
-grown_finish : (levels : ℕ) (script : Plan) (tick k : ℕ) (t : Turn) → IsSound (2 ^ 62) t → AllGrown levels t.lane → AllGrown levels (finish script tick k t).lane
-grown_finish levels script tick zero t s h = subst (λ (v : Turn). AllGrown levels v.lane) (sym (finish_none script tick t)) h
-grown_finish levels script tick (suc k) t s h = grown_on levels script tick k t (step script tick t) refl s h (λ u r g. grown_finish levels script tick k u r g)
+grown_on : (levels n size : ℕ) (script : Plan) (tick : ℕ) → Kept script tick (GrownTurn levels n (tick + 1) size)
+grown_on levels n size script tick t u e g =
+    record { tidy = tidy_on script n (2 ^ 62) tick size t u e g.tidy; all = grown_step levels script tick t u e (bounded_now t g.tidy.sound) g.all }
 
-begun_sound : (lane : Lane) (m : ℕ) → m + 20001 ≤ 2 ^ 62 → IsWithin m lane → IsSound (2 ^ 62) (begun lane)
-begun_sound lane m h w = record { bound = m; fits = omega (arith, h); within = w }
+grown_begun : (levels m : ℕ) (script : Plan) (tick : ℕ) (lane : Lane) → m + 20001 ≤ 2 ^ 62 → IsReady script tick m lane → AllGrown levels lane → GrownTurn levels (10000 * (tick + 1)) (tick + 1) script.cancellables (begun tick lane)
+grown_begun levels m script tick lane h r g =
+    let t = begun_tidy script tick m lane r in
+    record { tidy = record { sound = record { bound = t.sound.bound; fits = omega (arith, h, t.sound.fits); within = t.sound.within }; paced = t.paced; now = t.now; view = t.view }; all = g }
 
-within_at : (script : Plan) (lane tick : ℕ) → IsWithin (1 + tick * 20001) (lane_at script lane tick)
-within_at script lane zero = opening_within script lane
-within_at script lane (suc tick) =
-    within_weaker (1 + tick * 20001 + 20001) (1 + suc tick * 20001) (omega arith) (lane_at script lane (suc tick)) (within-turned script (1 + tick * 20001) tick (lane_at script lane tick) (within_at script lane tick))
+grown_within : (levels m : ℕ) (script : Plan) (tick steps : ℕ) (lane : Lane) → m + 20001 ≤ 2 ^ 62 → IsReady script tick m lane → AllGrown levels lane → AllGrown levels (lane_within script tick steps lane)
+grown_within levels m script tick steps lane h r g =
+    (kept_finish script tick steps (GrownTurn levels (10000 * (tick + 1)) (tick + 1) script.cancellables) (grown_on levels (10000 * (tick + 1)) script.cancellables script tick) (begun tick lane) (grown_begun levels m script tick lane h r g)).all
+
+grown_turned : (levels m : ℕ) (script : Plan) (tick : ℕ) (lane : Lane) → m + 20001 ≤ 2 ^ 62 → IsReady script tick m lane → AllGrown levels lane → AllGrown levels (turned script tick lane)
+grown_turned levels m script tick lane h r g =
+    (kept_finished script tick (GrownTurn levels (10000 * (tick + 1)) (tick + 1) script.cancellables) (grown_on levels (10000 * (tick + 1)) script.cancellables script tick) (begun tick lane) (grown_begun levels m script tick lane h r g)).all
+
+-- ---- the deliveries
+
+grown_received : (levels : ℕ) (script : Plan) (tick sender : ℕ) (body : Mail) (lane : Lane) → AllBounded lane → AllGrown levels lane → AllGrown levels (received_body script tick sender body lane)
+grown_received levels script tick sender (mails.Complete reply) lane b h =
+    either levels _ _ (is_some (own reply.ctx lane)) (λ _. grown_attach levels (time_of script tick) reply.ctx (reply_spec reply) lane b h) h
+grown_received levels script tick sender (mails.Cancelled c) lane b h = grown_cancel levels script tick c lane h
+
+grown_received_all : (levels : ℕ) (script : Plan) (tick next m : ℕ) (letters : List Letter) (lane : Lane) → m + 2 * length letters ≤ 2 ^ 62 → IsReady script next m lane → AllGrown levels lane → AllGrown levels (received_all script tick letters lane)
+grown_received_all levels script tick next m [] lane h r g = g
+grown_received_all levels script tick next m (letter ∷ letters) lane h r g =
+    let b = (within_weaker m (2 ^ 62) (omega (arith, h)) lane r.within).contexts in
+    grown_received_all levels script tick next (m + 2) letters (received script tick letter lane) (omega (arith, h)) (ready_received script tick next m letter lane r) (grown_received levels script tick letter.sender letter.body lane b g)
+
+-- ---- the run
 
 some_levels : (script : Plan) → (1 ≤ tree_levels script) × (tree_levels script ≤ 4)
 some_levels script = by_version (script.version == 1)
@@ -322,22 +353,38 @@ all_open : (script : Plan) (lane n : ℕ) → AllByRecursion (Grown (tree_levels
 all_open script lane zero = tt
 all_open script lane (suc n) = each_pushed (Grown (tree_levels script)) (open_contexts_to script lane n) (open_context script lane n) (all_open script lane n) (grown_open script (home_of script n == lane))
 
-few_ticks : (tick : ℕ) → tick ≤ 4096 → 1 + tick * 20001 + 20001 ≤ 2 ^ 62
-few_ticks tick h = omega (arith, h)
+-- the lanes of a run, with their bounds
+abbrev EachGrown : Plan → (tick m : ℕ) → List Lane → Type 0
+EachGrown script tick m lanes = AllByRecursion (λ lane. IsReady script tick m lane × AllGrown (tree_levels script) lane) lanes
 
-grown_turned : (script : Plan) (lane tick : ℕ) → tick ≤ 4096 → AllGrown (tree_levels script) (lane_at script lane tick) → AllGrown (tree_levels script) (turned script tick (lane_at script lane tick))
-unfolding finished
-grown_turned script lane tick h g =
-    let t : Turn = begun (lane_at script lane tick) in
-    grown_finish (tree_levels script) script tick (work t) t (begun_sound (lane_at script lane tick) (1 + tick * 20001) (few_ticks tick h) (within_at script lane tick)) g
+both : (script : Plan) (tick m : ℕ) (lanes : List Lane) → AllReady script tick m lanes → AllByRecursion (AllGrown (tree_levels script)) lanes → EachGrown script tick m lanes
+both script tick m [] r g = tt
+both script tick m (lane ∷ lanes) r g = ((r.0, g.0), both script tick m lanes r.1 g.1)
 
-grown_lane : (script : Plan) (lane tick : ℕ) → tick ≤ 4096 → AllGrown (tree_levels script) (lane_at script lane tick)
-grown_lane script lane zero h = all_open script lane (sizes script).contexts
-grown_lane script lane (suc tick) h = grown_turned script lane tick (omega (arith, h)) (grown_lane script lane tick (omega (arith, h)))
+grown_openings : (script : Plan) (numbers : List ℕ) → AllByRecursion (AllGrown (tree_levels script)) (map (opening script) numbers)
+grown_openings script [] = tt
+grown_openings script (n ∷ numbers) = (all_open script n (sizes script).contexts, grown_openings script numbers)
 
-pub grown_within : (script : Plan) (lane tick steps : ℕ) → tick ≤ 4096 → AllByRecursion (Grown (tree_levels script)) (lane_within script lane tick steps).contexts
-grown_within script lane tick steps h =
-    grown_finish (tree_levels script) script tick steps (begun (lane_at script lane tick)) (begun_sound (lane_at script lane tick) (1 + tick * 20001) (few_ticks tick h) (within_at script lane tick)) (grown_lane script lane tick h)
+grown_each : (script : Plan) (tick m : ℕ) (letters : List Letter) (lanes : List Lane) → m + 20001 + 2 * length letters ≤ 2 ^ 62 → EachGrown script tick m lanes
+    → AllByRecursion (AllGrown (tree_levels script)) (map (received_all script tick letters) (map (turned script tick) lanes))
+grown_each script tick m letters [] h g = tt
+grown_each script tick m letters (lane ∷ lanes) h g =
+    (grown_received_all (tree_levels script) script tick (tick + 1) (m + 20001) letters (turned script tick lane) h (ready-turned script tick m lane g.0.0) (grown_turned (tree_levels script) m script tick lane (omega (arith, h)) g.0.0 g.0.1), grown_each script tick m letters lanes h g.1)
+
+grown_at_tick : (script : Plan) (tick : ℕ) → length script.lanes ≤ 64 → tick ≤ 4096 → AllByRecursion (AllGrown (tree_levels script)) (lanes_at script tick)
+grown_at_tick script zero few h = grown_openings script (range_with_len 0 (length script.lanes))
+grown_at_tick script (suc tick) few h =
+    let lanes : List Lane = lanes_at script tick in
+    let ready = ready_at script tick few (omega (arith, h)) in
+    grown_each script tick (most_at tick) (posted_at script tick lanes) lanes (omega (arith, posted_fits script tick few (omega (arith, h)))) (both script tick (most_at tick) lanes ready (grown_at_tick script tick few (omega (arith, h))))
+
+each_within : (script : Plan) (tick steps m : ℕ) (lanes : List Lane) → m + 20001 ≤ 2 ^ 62 → EachGrown script tick m lanes → AllByRecursion (λ lane. AllGrown (tree_levels script) (lane_within script tick steps lane)) lanes
+each_within script tick steps m [] h g = tt
+each_within script tick steps m (lane ∷ lanes) h g = (grown_within (tree_levels script) m script tick steps lane h g.0.0 g.0.1, each_within script tick steps m lanes h g.1)
+
+pub grown_run : (script : Plan) → length script.lanes ≤ 64 → OfAllLanes script (λ lane. AllByRecursion (Grown (tree_levels script)) lane.contexts)
+grown_run script few tick steps h =
+    each_within script tick steps (most_at tick) (lanes_at script tick) (omega (arith, h)) (both script tick (most_at tick) (lanes_at script tick) (ready_at script tick few h) (grown_at_tick script tick few h))
 
 -- ---- version 1
 
@@ -359,7 +406,12 @@ each_of_two [] h = tt
 each_of_two (None ∷ contexts) h = (tt, each_of_two contexts h.1)
 each_of_two (Some c ∷ contexts) h = (of_two c.rows h.0, each_of_two contexts h.1)
 
-pub version_one : (script : Plan) (lane tick steps : ℕ) → script.version ≡ 1 → tick ≤ 4096 → AllByRecursion OfTwoLevels (lane_within script lane tick steps).contexts
-version_one script lane tick steps e h =
+each_lane_of_two : (script : Plan) (tick steps : ℕ) (lanes : List Lane) → AllByRecursion (λ lane. AllGrown 2 (lane_within script tick steps lane)) lanes → AllByRecursion (λ lane. AllByRecursion OfTwoLevels (lane_within script tick steps lane).contexts) lanes
+each_lane_of_two script tick steps [] h = tt
+each_lane_of_two script tick steps (lane ∷ lanes) h = (each_of_two (lane_within script tick steps lane).contexts h.0, each_lane_of_two script tick steps lanes h.1)
+
+pub version_one : (script : Plan) → length script.lanes ≤ 64 → script.version ≡ 1 → OfAllLanes script (λ lane. AllByRecursion OfTwoLevels lane.contexts)
+version_one script few e tick steps h =
     let two : tree_levels script ≡ 2 = ap (λ (v : ℕ). cond (v == 1) 2 4) e in
-    each_of_two (lane_within script lane tick steps).contexts (subst (λ (n : ℕ). AllByRecursion (Grown n) (lane_within script lane tick steps).contexts) two (grown_within script lane tick steps h))
+    each_lane_of_two script tick steps (lanes_at script tick)
+    (subst (λ (n : ℕ). AllByRecursion (λ lane. AllGrown n (lane_within script tick steps lane)) (lanes_at script tick)) two (grown_run script few tick steps h))

@@ -23,8 +23,10 @@ use Rattle.lane_turn.specs.declared.layer.Origin.{Origin}
 use Rattle.lane_turn.specs.declared.layer.Origin.TheVariants as origins
 use Rattle.lane_turn.specs.Frames.{Frame, CallOf, IterOf, LoopOf, advanced, advanced_one, emptied, emptied_one, calls}
 use Rattle.lane_turn.specs.Lane.{Lane, Turn, taken, pushed, popped, stopped, set_running, written, iterating, own, place_at, handler_at, row_in, row_of, is_running}
-use Rattle.lane_turn.specs.Acted.{acted, missed, child_of, on_source, set_priority_of, disconnect_of}
-use Rattle.lane_turn.specs.Step.{step, step_call, step_id, returned, answered, counted_by, in_lane, dispatched, dispatching}
+use Rattle.lane_watch.specs.Tasks.{Started}
+use Rattle.post_office.specs.declared.letter.Body.{Body as Mail}
+use Rattle.lane_turn.specs.Acted.{acted, sends, missed, child_of, on_source, set_priority_of, disconnect_of}
+use Rattle.lane_turn.specs.Step.{step, step_polling, step_call, step_id, returned, answered, counted_by, in_lane, dispatched, dispatching}
 use Rattle.lane_turn.proofs.Mild.{Plain, plain_cancel, plain_handled}
 use Rattle.lane_turn.specs.Iterations.{IsRest, Later, EachLater, IsOver, Begun, FramesGoOn}
 
@@ -150,9 +152,9 @@ some_turn t u e = cc
 abbrev On : List Frame → Turn → Type 0
 On fs u = FramesGoOn fs u.lane.frames
 
-counted_on : (tick : ℕ) (f : Lane → Lane) (t : Turn) (left : ℕ) → FramesGoOn t.lane.frames (f t.lane).frames → On t.lane.frames (counted_by tick f t left)
-counted_on tick f t zero h = inl (each_same t.lane.frames)
-counted_on tick f t (suc n) h = h
+counted_on : (tick : ℕ) (mail : Option Mail) (f : Lane → Lane) (t : Turn) (left : ℕ) → FramesGoOn t.lane.frames (f t.lane).frames → On t.lane.frames (counted_by tick mail f t left)
+counted_on tick mail f t zero h = inl (each_same t.lane.frames)
+counted_on tick mail f t (suc n) h = h
 
 returned_on : (script : Plan) (tick : ℕ) (body : Body) (origin : Origin) (lane : Lane) (fs : List Frame) → FramesGoOn fs lane.frames → FramesGoOn fs (returned script tick body origin lane).frames
 returned_on script tick body origins.Start lane fs h = h
@@ -167,7 +169,7 @@ ended_on : (fs : List Frame) → FramesGoOn fs (drop 1 fs)
 ended_on fs = inr (inl (each_same (drop 1 fs)))
 
 call_on : (script : Plan) (tick : ℕ) (t : Turn) (call : Call) (action : Option Action) → On t.lane.frames (step_call script tick t call action)
-call_on script tick t call (Some action) = counted_on tick (λ lane. acted script tick action (taken lane)) t t.left (acted_on script tick action t.lane)
+call_on script tick t call (Some action) = counted_on tick (sends action (taken t.lane)) (λ lane. acted script tick action (taken lane)) t t.left (acted_on script tick action t.lane)
 call_on script tick t call None = returned_on script tick call.body call.origin (popped t.lane) t.lane.frames (ended_on t.lane.frames)
 
 -- ---- a dispatch is of the next id
@@ -187,46 +189,50 @@ row_in_id : (id : ℕ) (o : Option Context) (row : Row) → Some row ≡ row_in 
 row_in_id id None row h = let no : Some row ≡ None = h in cc
 row_in_id id (Some c) row h = row_found id c.rows.rows row h
 
-abbrev turn : Lane → ℕ → Bool → Turn
-turn lane left iterated = record { lane = lane; left = left; iterated = iterated }
+abbrev turn : Turn → Lane → ℕ → Bool → Turn
+turn rest lane left iterated = record rest { lane = lane; unpolled = []; left = left; iterated = iterated }
 
 abbrev going : Lane → List Frame → Lane
 going base frames = record base { frames = frames; status = GoesOn }
 
-id_on : (tick : ℕ) (base : Lane) (below : List Frame) (left : ℕ) (iterated : Bool) (context id : ℕ) (ids : List ℕ) (answer : Option Bool) (r : Option Row)
+id_on : (rest : Turn) (tick : ℕ) (base : Lane) (below : List Frame) (left : ℕ) (iterated : Bool) (context id : ℕ) (ids : List ℕ) (answer : Option Bool) (r : Option Row)
     → let lane : Lane = going base (IterOf context (id ∷ ids) answer ∷ below) in
-    r ≡ row_of context id lane → On lane.frames (step_id tick (turn lane left iterated) context r)
-id_on tick base below left iterated context id ids answer None e = inl (each_taken (IterOf context (id ∷ ids) answer ∷ below))
-id_on tick base below left iterated context id ids answer (Some row) e =
+    r ≡ row_of context id lane → On lane.frames (step_id tick (turn rest lane left iterated) context r)
+id_on rest tick base below left iterated context id ids answer None e = inl (each_taken (IterOf context (id ∷ ids) answer ∷ below))
+id_on rest tick base below left iterated context id ids answer (Some row) e =
     let lane : Lane = going base (IterOf context (id ∷ ids) answer ∷ below) in
     let begun : Begun lane.frames (dispatched tick context row lane).frames = (each_taken lane.frames, (refl, sym (row_in_id id (own context lane) row e))) in
-    counted_on tick (dispatching tick context row) (turn lane left iterated) left (by_either lane.frames (dispatched tick context row lane) (stopped Halted (written tick events.HaltDepth lane)) (nat_lt (calls lane.frames) 32) (inr (inr begun)) (inl (each_same lane.frames)))
+    counted_on tick None (dispatching tick context row) (turn rest lane left iterated) left (by_either lane.frames (dispatched tick context row lane) (stopped Halted (written tick events.HaltDepth lane)) (nat_lt (calls lane.frames) 32) (inr (inr begun)) (inl (each_same lane.frames)))
 
-loop_on : (script : Plan) (tick : ℕ) (base : Lane) (below : List Frame) (left : ℕ) (iterated : Bool) (number context : ℕ) (runs : Bool) (u : Turn)
-    → let lane : Lane = going base (LoopOf number context ∷ below) in let t : Turn = turn lane left iterated in
-    cond runs (cond iterated None (Some (turn (iterating script tick context None t.lane) left true))) (Some (in_lane (λ lane. written tick (events.LoopEnd number) (popped lane)) t)) ≡ Some u → On lane.frames u
-loop_on script tick base below left true number context true u e = cc
-loop_on script tick base below left false number context true u e =
+loop_on : (rest : Turn) (script : Plan) (tick : ℕ) (base : Lane) (below : List Frame) (left : ℕ) (iterated : Bool) (number context : ℕ) (runs : Bool) (u : Turn)
+    → let lane : Lane = going base (LoopOf number context ∷ below) in let t : Turn = turn rest lane left iterated in
+    cond runs (cond iterated None (Some (turn rest (iterating script tick context None t.lane) left true))) (Some (in_lane (λ lane. written tick (events.LoopEnd number) (popped lane)) t)) ≡ Some u → On lane.frames u
+loop_on rest script tick base below left true number context true u e = cc
+loop_on rest script tick base below left false number context true u e =
     let fs : List Frame = LoopOf number context ∷ below in
     subst (On fs) (some_turn _ _ e) (inr (inr (each_emptied context fs fs (each_same fs), each_over context fs)))
-loop_on script tick base below left iterated number context false u e =
+loop_on rest script tick base below left iterated number context false u e =
     subst (On (LoopOf number context ∷ below)) (some_turn _ _ e) (ended_on (LoopOf number context ∷ below))
 
-step_on : (script : Plan) (tick : ℕ) (base : Lane) (frames : List Frame) (status : Status) (left : ℕ) (iterated : Bool) (u : Turn)
-    → step script tick (turn (record base { frames = frames; status = status }) left iterated) ≡ Some u → On frames u
-step_on script tick base [] GoesOn left iterated u e = cc
-step_on script tick base (CallOf call ∷ below) GoesOn left iterated u e =
-    subst (On (CallOf call ∷ below)) (some_turn _ _ e) (call_on script tick (turn (going base (CallOf call ∷ below)) left iterated) call (slice_get (actions_of script call.body) call.place))
-step_on script tick base (IterOf context [] answer ∷ below) GoesOn left iterated u e =
+step_on : (rest : Turn) (script : Plan) (tick : ℕ) (base : Lane) (frames : List Frame) (status : Status) (left : ℕ) (iterated : Bool) (u : Turn)
+    → step script tick (turn rest (record base { frames = frames; status = status }) left iterated) ≡ Some u → On frames u
+step_on rest script tick base [] GoesOn left iterated u e = cc
+step_on rest script tick base (CallOf call ∷ below) GoesOn left iterated u e =
+    subst (On (CallOf call ∷ below)) (some_turn _ _ e) (call_on script tick (turn rest (going base (CallOf call ∷ below)) left iterated) call (slice_get (actions_of script call.body) call.place))
+step_on rest script tick base (IterOf context [] answer ∷ below) GoesOn left iterated u e =
     let fs : List Frame = IterOf context [] answer ∷ below in
     subst (On fs) (some_turn _ _ e) (answered_on tick context answer (popped (going base fs)) fs (ended_on fs))
-step_on script tick base (IterOf context (id ∷ ids) answer ∷ below) GoesOn left iterated u e =
+step_on rest script tick base (IterOf context (id ∷ ids) answer ∷ below) GoesOn left iterated u e =
     let lane : Lane = going base (IterOf context (id ∷ ids) answer ∷ below) in
-    subst (On lane.frames) (some_turn _ _ e) (id_on tick base below left iterated context id ids answer (row_of context id lane) refl)
-step_on script tick base (LoopOf number context ∷ below) GoesOn left iterated u e =
-    loop_on script tick base below left iterated number context (is_running number (going base (LoopOf number context ∷ below))) u e
-step_on script tick base frames Ended left iterated u e = cc
-step_on script tick base frames Halted left iterated u e = cc
+    subst (On lane.frames) (some_turn _ _ e) (id_on rest tick base below left iterated context id ids answer (row_of context id lane) refl)
+step_on rest script tick base (LoopOf number context ∷ below) GoesOn left iterated u e =
+    loop_on rest script tick base below left iterated number context (is_running number (going base (LoopOf number context ∷ below))) u e
+step_on rest script tick base frames Ended left iterated u e = cc
+step_on rest script tick base frames Halted left iterated u e = cc
+
+polling_on : (script : Plan) (tick : ℕ) (t : Turn) (tasks : List Started) (u : Turn) → step_polling script tick (record t { unpolled = tasks }) tasks ≡ Some u → On t.lane.frames u
+polling_on script tick t [] u e = step_on t script tick t.lane t.lane.frames t.lane.status t.left t.iterated u e
+polling_on script tick t (task ∷ tasks) u e = subst (On t.lane.frames) (some_turn _ _ e) (inl (each_same t.lane.frames))
 
 pub goes_on : (script : Plan) (tick : ℕ) (t u : Turn) → step script tick t ≡ Some u → FramesGoOn t.lane.frames u.lane.frames
-goes_on script tick t u e = step_on script tick t.lane t.lane.frames t.lane.status t.left t.iterated u e
+goes_on script tick t u e = polling_on script tick t t.unpolled u e

@@ -7,7 +7,14 @@ pub mod Measure
 pub mod Mild
 pub mod Edits
 pub mod Steps
+pub mod Steady
+pub mod Sends
 pub mod Finish
+pub mod Turns
+pub mod Polls
+pub mod Behind
+pub mod Delivered
 pub mod Opening
+pub mod Runs
 pub mod Iterations
 pub mod Grown

@@ -1,6 +1,6 @@
 -- What a counted thing does to a lane stays within what it pays for.
 use Rattle.std.proofs.Common.{◌≡◌, ℕ, ℤ, zero, suc, ◌+◌, ◌^◌, ◌<◌, ◌≤◌, Bool, true, false, not, cond, Option, Some, None, List, [], ◌∷◌, ◌++◌, map, filter, length, slice_set, refl, ap, sym, ◌∙◌, arith, subst, ◌==◌, length-append, option_map, find}
-use Rattle.std.specs.Prelude.{slice_get, IfSome}
+use Rattle.std.specs.Prelude.{slice_get, nat_lt, IfSome}
 use Rattle.std.proofs.lemmas.List.{length-map}
 use Rattle.std.proofs.lemmas.List.Sums.{length-filter, count_by-le-length}
 use Rattle.std.specs.List.{AllByRecursion}
@@ -8,7 +8,7 @@ use Rattle.loop_script.specs.declared.plan.Plan.{Plan}
 use Rattle.loop_script.specs.declared.source.SourceSpec.{SourceSpec}
 use Rattle.loop_script.specs.declared.action.Action.{Action}
 use Rattle.loop_script.specs.declared.action.Action.TheVariants.{Attach, Child, Destroy, SetReady, SetPriority, Iterate, Pending, Run, Quit, Cancel, Connect, Disconnect, Task, Push, Pop, ShowDefault, Acquire, Release, Invoke, Give, Log}
-use Rattle.loop_script.specs.Parts.{time_of, actions_of}
+use Rattle.loop_script.specs.Parts.{time_of, actions_of, context_of}
 use Rattle.source_rows.specs.declared.row.Row.{Row}
 use Rattle.source_rows.specs.Row.{root_row, child_row}
 use Rattle.source_rows.specs.Rows.{RowSet, attached, child_added, destroyed, counted, ready_set, reprioritised, moved, changed, has_id, is_under, row_of as row_with}
@@ -19,16 +19,18 @@ use Rattle.lane_turn.specs.declared.slot.Held.TheVariants.{Source, Handler}
 use Rattle.cancel_view.specs.declared.handler.Fired.{Fired}
 use Rattle.cancel_view.specs.Seen.{Seen, has, fired, cancelled, connected, has_other_id, without}
 use Rattle.loop_script.specs.declared.body.Body.TheVariants.{Procedure}
+use Rattle.lane_turn.specs.declared.line.Event.{Event}
 use Rattle.lane_turn.specs.declared.line.Event.TheVariants as events
-use Rattle.lane_turn.specs.Frames.{Frame, CallOf, IterOf, LoopOf, advanced, emptied, busy}
+use Rattle.lane_turn.specs.Frames.{Frame, CallOf, IterOf, LoopOf, advanced, emptied, busy, calls}
 use Rattle.lane_turn.specs.Sources.{restarted, restarted_row, restarted_kind, due_after, own_ready_at, chosen_in}
 use Rattle.loop_script.specs.declared.source.Kind.{Kind}
 use Rattle.loop_script.specs.declared.source.Kind.TheVariants as kinds
-use Rattle.lane_turn.specs.Lane.{Lane, known, own, with_rows, edited, taken, iterating, row_in, row_of, place_at, handler_at, next_place, named, viewing, written, chosen}
-use Rattle.lane_turn.specs.Acted.{acted, born, child_of, on_source, set_priority_of, plain_acted, all_acted, handled, all_handled, cancel, connect, disconnect_of}
+use Rattle.lane_turn.specs.Lane.{Lane, known, own, with_rows, edited, taken, iterating, row_in, row_of, place_at, handler_at, next_place, named, viewing, noting, stopped, pushed, set_running, written, chosen}
+use Rattle.lane_turn.specs.Acted.{acted, missed, born, child_of, on_source, set_priority_of, plain_acted, all_acted, handled, all_handled, cancel, connect, disconnect_of}
 use Rattle.lane_turn.specs.declared.line.Word.{Word}
 use Rattle.lane_turn.specs.declared.line.Word.TheVariants as words
-use Rattle.lane_turn.specs.Step.{dispatching}
+use Rattle.lane_turn.specs.declared.parts.Status.TheVariants.{Halted}
+use Rattle.lane_turn.specs.Step.{dispatched, dispatching}
 use Rattle.lane_turn.specs.Turn.{nest_work, rows_in, row_count}
 use Rattle.lane_turn.specs.Sound.{IsBounded, Bounded, IsWithin}
 use Rattle.lane_turn.proofs.Lists.{each-push, each-filter, each_weaker, length-selected}
@@ -62,6 +64,9 @@ quiet lane after c f v = record {
     handlers = omega (arith, v, w.handlers);
   };
 }
+
+mild_line : (lane : Lane) (tick : ℕ) (event : Event) → Mild lane (written tick event lane)
+mild_line lane tick event = quiet lane (written tick event lane) refl refl (omega arith)
 
 pub either : (lane x y : Lane) (b : Bool) → Mild lane x → Mild lane y → Mild lane (cond b x y)
 either lane x y true p q = p
@@ -280,17 +285,17 @@ mild_child tick now slot spec None lane = quiet lane _ refl refl (omega arith)
 mild_child tick now slot spec (Some place) lane =
     either lane _ _ _
     (mild_named lane _ slot (Source (next_place place.context lane)) (mild_edit lane place.context (born spec now place.id) 1 2 (omega arith) (omega arith) (mild_born spec now place.id)))
-    (quiet lane _ refl refl (omega arith))
+    (mild_line lane tick (events.Miss words.Child))
 
 mild_on_source : (tick : ℕ) (word : Word) (edit : ℕ → RowSet → RowSet) → ((id : ℕ) → MildEdit 0 0 (edit id)) → (o : Option Place) (lane : Lane) → Mild lane (on_source tick word edit o lane)
 mild_on_source tick word edit e None lane = quiet lane _ refl refl (omega arith)
 mild_on_source tick word edit e (Some place) lane =
-    either lane _ _ _ (mild_edit lane place.context (edit place.id) 0 0 (omega arith) (omega arith) (e place.id)) (quiet lane _ refl refl (omega arith))
+    either lane _ _ _ (mild_edit lane place.context (edit place.id) 0 0 (omega arith) (omega arith) (e place.id)) (mild_line lane tick (events.Miss word))
 
 mild_set_priority : (tick : ℕ) (priority : ℤ) (o : Option Place) (lane : Lane) → Mild lane (set_priority_of tick priority o lane)
 mild_set_priority tick priority None lane = quiet lane _ refl refl (omega arith)
 mild_set_priority tick priority (Some place) lane =
-    either lane _ _ _ (mild_edit lane place.context (reprioritised place.id priority) 0 1 (omega arith) (omega arith) (mild_reprioritised place.id priority)) (quiet lane _ refl refl (omega arith))
+    either lane _ _ _ (mild_edit lane place.context (reprioritised place.id priority) 0 1 (omega arith) (omega arith) (mild_reprioritised place.id priority)) (mild_line lane tick (events.Miss words.SetPriority))
 
 -- What a handler does: it adds no row, leaves the frames, and raises no counter.
 pub record Plain (lane after : Lane) : Type 0 where
@@ -319,7 +324,7 @@ plain_edit lane context edit e = record {
 
 plain_source : (tick : ℕ) (word : Word) (edit : ℕ → RowSet → RowSet) → ((id : ℕ) → MildEdit 0 0 (edit id)) → (o : Option Place) (lane : Lane) → Plain lane (on_source tick word edit o lane)
 plain_source tick word edit e None lane = plain_line lane _ refl refl refl
-plain_source tick word edit e (Some place) lane = plain_either lane _ _ _ (plain_edit lane place.context (edit place.id) (e place.id)) (plain_line lane _ refl refl refl)
+plain_source tick word edit e (Some place) lane = plain_either lane _ _ _ (plain_edit lane place.context (edit place.id) (e place.id)) (plain_line lane (missed tick word lane) refl refl refl)
 
 plain_one : (script : Plan) (tick : ℕ) (action : Action) (lane : Lane) → Plain lane (plain_acted script tick action lane)
 plain_one script tick (Attach context slot spec) lane = plain_line lane _ refl refl refl
@@ -330,7 +335,7 @@ plain_one script tick (SetPriority slot priority) lane = plain_line lane _ refl 
 plain_one script tick (Iterate context) lane = plain_line lane _ refl refl refl
 plain_one script tick (Pending context) lane = plain_line lane _ refl refl refl
 plain_one script tick (Run number) lane = plain_line lane _ refl refl refl
-plain_one script tick (Quit number) lane = plain_either lane _ _ _ (plain_line lane _ refl refl refl) (plain_line lane _ refl refl refl)
+plain_one script tick (Quit number) lane = plain_either lane _ _ _ (plain_line lane (set_running number false lane) refl refl refl) (plain_line lane (missed tick words.Quit lane) refl refl refl)
 plain_one script tick (Cancel c) lane = plain_line lane _ refl refl refl
 plain_one script tick (Connect c slot proc) lane = plain_line lane _ refl refl refl
 plain_one script tick (Disconnect slot) lane = plain_line lane _ refl refl refl
@@ -365,9 +370,9 @@ cancelled_id view c = id_by (has c view)
 
 pub plain_cancel : (script : Plan) (tick c : ℕ) (lane : Lane) → Plain lane (cancel script tick c lane)
 plain_cancel script tick c lane =
-    plain_either lane _ _ _ (plain_line lane lane refl refl refl)
-    (plain_trans lane _ _ (plain_line lane (written tick (events.Cancel c) (viewing (cancelled c lane.view) lane)) refl refl (cancelled_id lane.view c))
-    (plain_all_handled script tick (fired c lane.view) (written tick (events.Cancel c) (viewing (cancelled c lane.view) lane))))
+    let seen : Lane = written tick (events.Cancel c) (noting tick c (viewing (cancelled c lane.view) lane)) in
+    plain_either lane lane _ (has c lane.view) (plain_line lane lane refl refl refl)
+    (plain_trans lane seen _ (plain_line lane seen refl refl (cancelled_id lane.view c)) (plain_all_handled script tick (fired c lane.view) seen))
 
 pub mild_plain : (lane after : Lane) → Plain lane after → Mild lane after
 mild_plain lane after h = record {
@@ -403,7 +408,7 @@ mild_connect script tick c slot proc lane =
 mild_disconnect : (tick : ℕ) (o : Option ℕ) (lane : Lane) → Mild lane (disconnect_of tick o lane)
 mild_disconnect tick None lane = quiet lane _ refl refl (omega arith)
 mild_disconnect tick (Some id) lane =
-    either lane _ _ _ (quiet lane (viewing (without id lane.view) lane) refl refl (omega (arith, without_id lane.view id))) (quiet lane _ refl refl (omega arith))
+    either lane _ _ _ (quiet lane (viewing (without id lane.view) lane) refl refl (omega (arith, without_id lane.view id))) (mild_line lane tick (events.Miss words.Disconnect))
 
 -- what each action does is mild
 pub mild_acted : (script : Plan) (tick : ℕ) (action : Action) (lane : Lane) → Mild lane (acted script tick action lane)
@@ -411,15 +416,17 @@ mild_acted script tick (Attach context slot spec) lane =
     let now = time_of script tick in
     either lane _ _ _
     (mild_named lane _ slot (Source (next_place context lane)) (mild_edit lane context (attached spec now) 1 2 (omega arith) (omega arith) (mild_attached spec now)))
-    (quiet lane _ refl refl (omega arith))
+    (mild_line lane tick (events.Miss words.Attach))
 mild_acted script tick (Child parent slot spec) lane = mild_child tick (time_of script tick) slot spec (place_at parent lane) lane
 mild_acted script tick (Destroy slot) lane = mild_on_source tick words.Destroy destroyed mild_destroyed (place_at slot lane) lane
 mild_acted script tick (SetReady slot us) lane = mild_on_source tick words.SetReady (λ id. ready_set id us) (λ id. mild_ready_set id us) (place_at slot lane) lane
 mild_acted script tick (SetPriority slot priority) lane = mild_set_priority tick priority (place_at slot lane) lane
-mild_acted script tick (Iterate context) lane = either lane _ _ _ (mild_iterating lane script tick context _) (quiet lane _ refl refl (omega arith))
+mild_acted script tick (Iterate context) lane = either lane _ _ _ (mild_iterating lane script tick context _) (mild_line lane tick (events.Iterate context false))
 mild_acted script tick (Pending context) lane = quiet lane _ refl refl (omega arith)
-mild_acted script tick (Run number) lane = either lane _ _ _ (begins_frame lane _ refl refl (omega arith) (omega arith)) (quiet lane _ refl refl (omega arith))
-mild_acted script tick (Quit number) lane = either lane _ _ _ (quiet lane _ refl refl (omega arith)) (quiet lane _ refl refl (omega arith))
+mild_acted script tick (Run number) lane =
+    let context : ℕ = context_of script number in
+    either lane _ _ _ (begins_frame lane (pushed (LoopOf number context) (set_running number true lane)) refl refl (omega arith) (omega arith)) (mild_line lane tick (events.Miss words.Run))
+mild_acted script tick (Quit number) lane = either lane _ _ _ (quiet lane (set_running number false lane) refl refl (omega arith)) (mild_line lane tick (events.Miss words.Quit))
 mild_acted script tick (Cancel c) lane = mild_plain lane _ (plain_cancel script tick c lane)
 mild_acted script tick (Connect c slot proc) lane = mild_connect script tick c slot proc lane
 mild_acted script tick (Disconnect slot) lane = mild_disconnect tick (handler_at slot lane) lane
@@ -454,7 +461,7 @@ mild_taken lane after h = record {
 
 -- a dispatch is mild
 pub mild_dispatching : (lane : Lane) (tick context : ℕ) (row : Row) → Mild lane (dispatching tick context row lane)
-mild_dispatching lane tick context row = either lane _ _ _
+mild_dispatching lane tick context row = either lane (dispatched tick context row lane) (stopped Halted (written tick events.HaltDepth lane)) (nat_lt (calls lane.frames) 32)
     (record {
       rows = omega (arith, rows_edited 0 1 (counted row.id) (mild_counted row.id) lane.contexts context);
       frames = omega (arith, work_taken lane.frames);
@@ -464,7 +471,7 @@ mild_dispatching lane tick context row = either lane _ _ _
         handlers = omega (arith, w.handlers);
       };
     })
-    (quiet lane _ refl refl (omega arith))
+    (quiet lane (stopped Halted (written tick events.HaltDepth lane)) refl refl (omega arith))
 
 -- a row that is found is within the bound of its lane
 some_row : (a b : Row) → Some a ≡ Some b → a ≡ b

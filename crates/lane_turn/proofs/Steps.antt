@@ -1,5 +1,5 @@
 -- Each step leaves less to do and keeps the bounds.
-use Rattle.std.proofs.Common.{◌≡◌, ℕ, zero, suc, ◌+◌, ◌<◌, ◌≤◌, Bool, true, false, cond, Option, Some, None, List, [], ◌∷◌, length, drop, refl, ap, sym, arith, subst}
+use Rattle.std.proofs.Common.{◌≡◌, ℕ, zero, suc, ◌+◌, ◌<◌, ◌≤◌, Bool, true, false, not, ◌&&◌, cond, Option, Some, None, List, [], ◌∷◌, length, drop, refl, ap, sym, arith, subst}
 use Rattle.std.specs.Prelude.{slice_get}
 use Rattle.std.specs.List.{AllByRecursion}
 use Rattle.loop_script.specs.declared.plan.Plan.{Plan}
@@ -18,9 +18,11 @@ use Rattle.cancel_view.specs.Seen.{Seen}
 use Rattle.lane_turn.specs.Frames.{Frame, CallOf, IterOf, LoopOf}
 use Rattle.lane_turn.specs.Sources.{restarted}
 use Rattle.lane_turn.specs.Lane.{Lane, Turn, popped, taken, row_of, iterating, is_running, edited, written}
-use Rattle.lane_turn.specs.Acted.{acted}
-use Rattle.lane_turn.specs.Step.{step, step_call, step_id, returned, answered, counted_by, in_lane, dispatching}
-use Rattle.lane_turn.specs.Turn.{work, while_going, nest_work, row_count}
+use Rattle.lane_watch.specs.Tasks.{Started}
+use Rattle.post_office.specs.declared.letter.Body.{Body as Mail}
+use Rattle.lane_turn.specs.Acted.{acted, sends}
+use Rattle.lane_turn.specs.Step.{step, step_polling, polled, step_call, step_id, returned, answered, counted_by, in_lane, dispatching}
+use Rattle.lane_turn.specs.Turn.{work, work_of, while_going, nest_work, row_count}
 use Rattle.lane_turn.specs.Sound.{IsSound, IsWithin, Bounded}
 use Rattle.lane_turn.proofs.Measure.{pays, lessens, begins}
 use Rattle.lane_turn.proofs.Mild.{Mild, mild_acted, mild_taken, mild_dispatching, MildEdit, rows_edited, bounded_edited, mild_destroyed, mild_restarted, work_emptied, each_bounded, length_emptied, length-chosen}
@@ -36,8 +38,9 @@ record Less (lane after : Lane) : Type 0 where
   pub frames : nest_work after.frames < nest_work lane.frames
   pub within : (m : ℕ) → IsWithin m lane → IsWithin m after
 
-abbrev turn : Lane → ℕ → Bool → Turn
-turn lane left iterated = record { lane = lane; left = left; iterated = iterated }
+-- a turn that polled all its tasks, with what else it keeps
+abbrev turn : Turn → Lane → ℕ → Bool → Turn
+turn rest lane left iterated = record rest { lane = lane; unpolled = []; left = left; iterated = iterated }
 
 some_same : (t u : Turn) → Some t ≡ Some u → t ≡ u
 some_same t u e = cc
@@ -54,26 +57,26 @@ halted : (s : Status) (a : ℕ) → s ≡ GoesOn → 0 < while_going s a
 halted s a g = let e : while_going s a ≡ suc a = ap (λ x. while_going x a) g in omega arith
 
 -- the three kinds of step
-counted_goes : (n tick : ℕ) (f : Lane → Lane) (lane : Lane) (left : ℕ) (iterated : Bool) → lane.status ≡ GoesOn → Mild lane (f lane)
-    → Goes n (turn lane left iterated) (counted_by tick f (turn lane left iterated) left)
-counted_goes n tick f lane zero iterated g h = record {
-  falls = halted lane.status _ g;
+counted_goes : (rest : Turn) (n tick : ℕ) (mail : Option Mail) (f : Lane → Lane) (lane : Lane) (left : ℕ) (iterated : Bool) → lane.status ≡ GoesOn → Mild lane (f lane)
+    → Goes n (turn rest lane left iterated) (counted_by tick mail f (turn rest lane left iterated) left)
+counted_goes rest n tick mail f lane zero iterated g h = record {
+  falls = omega (arith, halted lane.status (work_of 0 (row_count lane.contexts) (nest_work lane.frames) iterated) g);
   keeps = λ s. record { bound = s.bound; fits = omega (arith, s.fits); within = record { contexts = s.within.contexts; frames = s.within.frames; handlers = s.within.handlers } };
 }
-counted_goes n tick f lane (suc left) iterated g h = record {
-  falls = fall lane.status (f lane).status _ _ g (pays left (row_count lane.contexts) (row_count (f lane).contexts) (nest_work lane.frames) (nest_work (f lane).frames) iterated h.rows h.frames);
+counted_goes rest n tick mail f lane (suc left) iterated g h = record {
+  falls = omega (arith, fall lane.status (f lane).status _ _ g (pays left (row_count lane.contexts) (row_count (f lane).contexts) (nest_work lane.frames) (nest_work (f lane).frames) iterated h.rows h.frames));
   keeps = λ s. record { bound = s.bound + 2; fits = omega (arith, s.fits); within = h.within s.bound s.within };
 }
 
-less_goes : (n : ℕ) (lane after : Lane) (left : ℕ) (iterated : Bool) → lane.status ≡ GoesOn → Less lane after → Goes n (turn lane left iterated) (turn after left iterated)
-less_goes n lane after left iterated g h = record {
-  falls = fall lane.status after.status _ _ g (lessens left (row_count lane.contexts) (row_count after.contexts) (nest_work lane.frames) (nest_work after.frames) iterated h.rows h.frames);
+less_goes : (rest : Turn) (n : ℕ) (lane after : Lane) (left : ℕ) (iterated : Bool) → lane.status ≡ GoesOn → Less lane after → Goes n (turn rest lane left iterated) (turn rest after left iterated)
+less_goes rest n lane after left iterated g h = record {
+  falls = omega (arith, fall lane.status after.status _ _ g (lessens left (row_count lane.contexts) (row_count after.contexts) (nest_work lane.frames) (nest_work after.frames) iterated h.rows h.frames));
   keeps = λ s. record { bound = s.bound; fits = s.fits; within = h.within s.bound s.within };
 }
 
-begun_goes : (n : ℕ) (lane : Lane) (script : Plan) (left tick context : ℕ) (answer : Option Bool) → lane.status ≡ GoesOn → Goes n (turn lane left false) (turn (iterating script tick context answer lane) left true)
-begun_goes n lane script left tick context answer g = record {
-  falls = fall lane.status lane.status _ _ g (begins left (row_count lane.contexts) (nest_work lane.frames) (nest_work (iterating script tick context answer lane).frames) (omega (arith, work_emptied context lane.frames, length-chosen script tick context lane)));
+begun_goes : (rest : Turn) (n : ℕ) (lane : Lane) (script : Plan) (left tick context : ℕ) (answer : Option Bool) → lane.status ≡ GoesOn → Goes n (turn rest lane left false) (turn rest (iterating script tick context answer lane) left true)
+begun_goes rest n lane script left tick context answer g = record {
+  falls = omega (arith, fall lane.status lane.status _ _ g (begins left (row_count lane.contexts) (nest_work lane.frames) (nest_work (iterating script tick context answer lane).frames) (omega (arith, work_emptied context lane.frames, length-chosen script tick context lane))));
   keeps = λ s. record {
     bound = s.bound + 1;
     fits = omega (arith, s.fits);
@@ -121,57 +124,67 @@ returned_less script tick base below call body Start =
 returned_less script tick base below call body (Invoke acquired) =
     ends (going base (CallOf call ∷ below)) _ (omega arith) (omega arith) refl refl refl
 returned_less script tick base below call body (Source caller) =
-    less_either (going base (CallOf call ∷ below)) _ _ (stays script body caller.number)
+    less_either (going base (CallOf call ∷ below)) _ _ (not caller.once && stays script body caller.number)
     (edit_less base below call caller.context (restarted (time_of script tick) caller.id) (mild_restarted (time_of script tick) caller.id))
     (edit_less base below call caller.context (destroyed caller.id) (mild_destroyed caller.id))
 
-call_goes : (script : Plan) (n tick : ℕ) (base : Lane) (below : List Frame) (left : ℕ) (iterated : Bool) (call : Call) (a : Option Action)
-    → let t : Turn = turn (going base (CallOf call ∷ below)) left iterated in Goes n t (step_call script tick t call a)
-call_goes script n tick base below left iterated call (Some a) =
+call_goes : (rest : Turn) (script : Plan) (n tick : ℕ) (base : Lane) (below : List Frame) (left : ℕ) (iterated : Bool) (call : Call) (a : Option Action)
+    → let t : Turn = turn rest (going base (CallOf call ∷ below)) left iterated in Goes n t (step_call script tick t call a)
+call_goes rest script n tick base below left iterated call (Some a) =
     let lane : Lane = going base (CallOf call ∷ below) in
-    counted_goes n tick (λ lane. acted script tick a (taken lane)) lane left iterated refl (mild_taken lane _ (mild_acted script tick a (taken lane)))
-call_goes script n tick base below left iterated call None =
-    less_goes n (going base (CallOf call ∷ below)) _ left iterated refl (returned_less script tick base below call call.body call.origin)
+    counted_goes rest n tick (sends a (taken lane)) (λ lane. acted script tick a (taken lane)) lane left iterated refl (mild_taken lane _ (mild_acted script tick a (taken lane)))
+call_goes rest script n tick base below left iterated call None =
+    less_goes rest n (going base (CallOf call ∷ below)) _ left iterated refl (returned_less script tick base below call call.body call.origin)
 
 answered_less : (tick : ℕ) (base : Lane) (below : List Frame) (context : ℕ) (answer asked : Option Bool)
     → let lane : Lane = going base (IterOf context [] answer ∷ below) in Less lane (answered tick context asked (popped lane))
 answered_less tick base below context answer None = ends (going base (IterOf context [] answer ∷ below)) _ (omega arith) (omega arith) refl refl refl
 answered_less tick base below context answer (Some any) = ends (going base (IterOf context [] answer ∷ below)) _ (omega arith) (omega arith) refl refl refl
 
-id_goes : (n tick : ℕ) (base : Lane) (below : List Frame) (left : ℕ) (iterated : Bool) (context id : ℕ) (ids : List ℕ) (answer : Option Bool) (r : Option Row)
-    → let t : Turn = turn (going base (IterOf context (id ∷ ids) answer ∷ below)) left iterated in Goes n t (step_id tick t context r)
-id_goes n tick base below left iterated context id ids answer None =
-    less_goes n (going base (IterOf context (id ∷ ids) answer ∷ below)) _ left iterated refl
+id_goes : (rest : Turn) (n tick : ℕ) (base : Lane) (below : List Frame) (left : ℕ) (iterated : Bool) (context id : ℕ) (ids : List ℕ) (answer : Option Bool) (r : Option Row)
+    → let t : Turn = turn rest (going base (IterOf context (id ∷ ids) answer ∷ below)) left iterated in Goes n t (step_id tick t context r)
+id_goes rest n tick base below left iterated context id ids answer None =
+    less_goes rest n (going base (IterOf context (id ∷ ids) answer ∷ below)) _ left iterated refl
     (record { rows = omega arith; frames = omega arith; within = λ m i. record { contexts = i.contexts; frames = omega (arith, i.frames); handlers = i.handlers } })
-id_goes n tick base below left iterated context id ids answer (Some row) =
+id_goes rest n tick base below left iterated context id ids answer (Some row) =
     let lane : Lane = going base (IterOf context (id ∷ ids) answer ∷ below) in
-    counted_goes n tick (dispatching tick context row) lane left iterated refl (mild_dispatching lane tick context row)
+    counted_goes rest n tick None (dispatching tick context row) lane left iterated refl (mild_dispatching lane tick context row)
 
-loop_goes : (script : Plan) (n tick : ℕ) (base : Lane) (below : List Frame) (left : ℕ) (iterated : Bool) (number context : ℕ) (runs : Bool) (u : Turn)
-    → let t : Turn = turn (going base (LoopOf number context ∷ below)) left iterated in
-    cond runs (cond iterated None (Some (turn (iterating script tick context None t.lane) left true))) (Some (in_lane (λ lane. written tick (events.LoopEnd number) (popped lane)) t)) ≡ Some u → Goes n t u
-loop_goes script n tick base below left true number context true u e = cc
-loop_goes script n tick base below left false number context true u e =
-    subst (Goes n _) (some_same _ _ e) (begun_goes n (going base (LoopOf number context ∷ below)) script left tick context None refl)
-loop_goes script n tick base below left iterated number context false u e =
-    subst (Goes n _) (some_same _ _ e) (less_goes n (going base (LoopOf number context ∷ below)) _ left iterated refl (ends (going base (LoopOf number context ∷ below)) _ (omega arith) (omega arith) refl refl refl))
+loop_goes : (rest : Turn) (script : Plan) (n tick : ℕ) (base : Lane) (below : List Frame) (left : ℕ) (iterated : Bool) (number context : ℕ) (runs : Bool) (u : Turn)
+    → let t : Turn = turn rest (going base (LoopOf number context ∷ below)) left iterated in
+    cond runs (cond iterated None (Some (turn rest (iterating script tick context None t.lane) left true))) (Some (in_lane (λ lane. written tick (events.LoopEnd number) (popped lane)) t)) ≡ Some u → Goes n t u
+loop_goes rest script n tick base below left true number context true u e = cc
+loop_goes rest script n tick base below left false number context true u e =
+    subst (Goes n _) (some_same _ _ e) (begun_goes rest n (going base (LoopOf number context ∷ below)) script left tick context None refl)
+loop_goes rest script n tick base below left iterated number context false u e =
+    subst (Goes n _) (some_same _ _ e) (less_goes rest n (going base (LoopOf number context ∷ below)) _ left iterated refl (ends (going base (LoopOf number context ∷ below)) _ (omega arith) (omega arith) refl refl refl))
 
-step_goes : (script : Plan) (n tick : ℕ) (base : Lane) (frames : List Frame) (status : Status) (left : ℕ) (iterated : Bool) (u : Turn) →
-    let t : Turn = turn (record base { frames = frames; status = status }) left iterated in
+step_goes : (rest : Turn) (script : Plan) (n tick : ℕ) (base : Lane) (frames : List Frame) (status : Status) (left : ℕ) (iterated : Bool) (u : Turn) →
+    let t : Turn = turn rest (record base { frames = frames; status = status }) left iterated in
     step script tick t ≡ Some u → Goes n t u
-step_goes script n tick base [] GoesOn left iterated u e = cc
-step_goes script n tick base (CallOf call ∷ below) GoesOn left iterated u e =
-    subst (Goes n _) (some_same _ _ e) (call_goes script n tick base below left iterated call (slice_get (actions_of script call.body) call.place))
-step_goes script n tick base (IterOf context [] answer ∷ below) GoesOn left iterated u e =
-    subst (Goes n _) (some_same _ _ e) (less_goes n (going base (IterOf context [] answer ∷ below)) _ left iterated refl (answered_less tick base below context answer answer))
-step_goes script n tick base (IterOf context (id ∷ ids) answer ∷ below) GoesOn left iterated u e =
+step_goes rest script n tick base [] GoesOn left iterated u e = cc
+step_goes rest script n tick base (CallOf call ∷ below) GoesOn left iterated u e =
+    subst (Goes n _) (some_same _ _ e) (call_goes rest script n tick base below left iterated call (slice_get (actions_of script call.body) call.place))
+step_goes rest script n tick base (IterOf context [] answer ∷ below) GoesOn left iterated u e =
+    subst (Goes n _) (some_same _ _ e) (less_goes rest n (going base (IterOf context [] answer ∷ below)) _ left iterated refl (answered_less tick base below context answer answer))
+step_goes rest script n tick base (IterOf context (id ∷ ids) answer ∷ below) GoesOn left iterated u e =
     let lane : Lane = going base (IterOf context (id ∷ ids) answer ∷ below) in
-    subst (Goes n _) (some_same _ _ e) (id_goes n tick base below left iterated context id ids answer (row_of context id lane))
-step_goes script n tick base (LoopOf number context ∷ below) GoesOn left iterated u e =
+    subst (Goes n _) (some_same _ _ e) (id_goes rest n tick base below left iterated context id ids answer (row_of context id lane))
+step_goes rest script n tick base (LoopOf number context ∷ below) GoesOn left iterated u e =
     let lane : Lane = going base (LoopOf number context ∷ below) in
-    loop_goes script n tick base below left iterated number context (is_running number lane) u e
-step_goes script n tick base frames Ended left iterated u e = cc
-step_goes script n tick base frames Halted left iterated u e = cc
+    loop_goes rest script n tick base below left iterated number context (is_running number lane) u e
+step_goes rest script n tick base frames Ended left iterated u e = cc
+step_goes rest script n tick base frames Halted left iterated u e = cc
+
+polled_goes : (n tick : ℕ) (t : Turn) (task : Started) (tasks : List Started) → Goes n (record t { unpolled = task ∷ tasks }) (polled tick task (record t { unpolled = tasks }))
+polled_goes n tick t task tasks = record {
+  falls = omega arith;
+  keeps = λ s. record { bound = s.bound; fits = s.fits; within = record { contexts = s.within.contexts; frames = s.within.frames; handlers = s.within.handlers } };
+}
+
+polling_goes : (script : Plan) (n tick : ℕ) (t : Turn) (tasks : List Started) (u : Turn) → step_polling script tick (record t { unpolled = tasks }) tasks ≡ Some u → Goes n (record t { unpolled = tasks }) u
+polling_goes script n tick t [] u e = step_goes t script n tick t.lane t.lane.frames t.lane.status t.left t.iterated u e
+polling_goes script n tick t (task ∷ tasks) u e = subst (Goes n _) (some_same _ _ e) (polled_goes n tick t task tasks)
 
 pub goes : (script : Plan) (n tick : ℕ) (t u : Turn) → step script tick t ≡ Some u → Goes n t u
-goes script n tick t u e = step_goes script n tick t.lane t.lane.frames t.lane.status t.left t.iterated u e
+goes script n tick t u e = polling_goes script n tick t t.unpolled u e

@@ -4,6 +4,7 @@ use Rattle.loop_script.specs.declared.action.Action.{Action}
 use Rattle.loop_script.specs.declared.action.Action.TheVariants.{Attach, Child, Destroy, SetReady, SetPriority, Iterate, Pending, Run, Quit, Cancel, Connect, Disconnect, Task, Push, Pop, ShowDefault, Acquire, Release, Invoke, Give, Log}
 use Rattle.loop_script.specs.declared.plan.Plan.{Plan}
 use Rattle.loop_script.specs.declared.source.SourceSpec.{SourceSpec}
+use Rattle.loop_script.specs.declared.task.TaskSpec.{TaskSpec}
 use Rattle.loop_script.specs.Parts.{time_of, context_of, actions_of}
 use Rattle.lane_turn.specs.declared.line.Event.TheVariants as events
 use Rattle.lane_turn.specs.declared.line.Word.{Word}
@@ -16,7 +17,10 @@ use Rattle.loop_script.specs.declared.body.Body.TheVariants.{Procedure}
 use Rattle.source_rows.specs.Rows.{RowSet, attached, child_added, child_fault, destroyed, ready_set, reprioritised, priority_fault, row_of as row_with}
 use Rattle.context_core.specs.declared.context.Context.{Context}
 use Rattle.lane_turn.specs.Frames.{LoopOf}
-use Rattle.lane_turn.specs.Lane.{Lane, written, pushed, set_running, own, edited, place_at, handler_at, row_at, next_place, named, viewing, chosen, is_any, iterating}
+use Rattle.post_office.specs.declared.letter.Body.{Body as Mail}
+use Rattle.post_office.specs.declared.letter.Body.TheVariants as mails
+use Rattle.lane_watch.specs.Watch.{starting}
+use Rattle.lane_turn.specs.Lane.{Lane, written, pushed, set_running, own, edited, place_at, handler_at, row_at, next_place, named, viewing, noting, chosen, is_any, iterating}
 
 abbrev pub missed : ℕ → Word → Lane → Lane
 missed tick word lane = written tick (events.Miss word) lane
@@ -113,7 +117,7 @@ all_handled script tick (f ∷ fs) lane = all_handled script tick fs (handled sc
 abbrev pub cancel : Plan → ℕ → ℕ → Lane → Lane
 cancel script tick c lane =
     if has c lane.view then lane
-    else all_handled script tick (fired c lane.view) (written tick (events.Cancel c) (viewing (cancelled c lane.view) lane))
+    else all_handled script tick (fired c lane.view) (written tick (events.Cancel c) (noting tick c (viewing (cancelled c lane.view) lane)))
 
 -- to what was cancelled nothing is connected: the handler is called at once, and the slot names none
 abbrev pub connect : Plan → ℕ → ℕ → ℕ → ℕ → Lane → Lane
@@ -129,6 +133,13 @@ disconnect_of tick (Some id) lane = if may_disconnect id lane.view then viewing 
 abbrev pub disconnect : ℕ → ℕ → Lane → Lane
 disconnect tick slot lane = disconnect_of tick (handler_at slot lane) lane
 
+-- a task is started, whose reply goes to the thread-default context: the first one, until there is a stack of them
+abbrev pub default_context : Lane → ℕ
+default_context lane = 0
+
+abbrev pub start_task : ℕ → TaskSpec → Lane → Lane
+start_task tick spec lane = record lane { tasks = starting tick (default_context lane) spec lane.tasks }
+
 -- the words that no script may hold yet change nothing
 abbrev pub acted : Plan → ℕ → Action → Lane → Lane
 acted script tick (Attach context slot spec) lane = attach tick (time_of script tick) context slot spec lane
@@ -143,7 +154,7 @@ acted script tick (Quit number) lane = quit tick number (context_of script numbe
 acted script tick (Cancel c) lane = cancel script tick c lane
 acted script tick (Connect c slot proc) lane = connect script tick c slot proc lane
 acted script tick (Disconnect slot) lane = disconnect tick slot lane
-acted script tick (Task spec) lane = lane
+acted script tick (Task spec) lane = start_task tick spec lane
 acted script tick (Push context) lane = lane
 acted script tick (Pop context) lane = lane
 acted script tick ShowDefault lane = lane
@@ -152,3 +163,30 @@ acted script tick (Release context) lane = lane
 acted script tick (Invoke context proc) lane = lane
 acted script tick (Give context to) lane = lane
 acted script tick (Log n) lane = written tick (events.Log n) lane
+
+-- what an action sends: a cancellable that the lane has not seen cancelled is cancelled for all
+abbrev pub cancel_sends : ℕ → Lane → Option Mail
+cancel_sends c lane = if has c lane.view then None else Some (mails.Cancelled c)
+
+abbrev pub sends : Action → Lane → Option Mail
+sends (Cancel c) lane = cancel_sends c lane
+sends (Attach context slot spec) lane = None
+sends (Child parent slot spec) lane = None
+sends (Destroy slot) lane = None
+sends (SetReady slot us) lane = None
+sends (SetPriority slot priority) lane = None
+sends (Iterate context) lane = None
+sends (Pending context) lane = None
+sends (Run number) lane = None
+sends (Quit number) lane = None
+sends (Connect c slot proc) lane = None
+sends (Disconnect slot) lane = None
+sends (Task spec) lane = None
+sends (Push context) lane = None
+sends (Pop context) lane = None
+sends ShowDefault lane = None
+sends (Acquire context) lane = None
+sends (Release context) lane = None
+sends (Invoke context proc) lane = None
+sends (Give context to) lane = None
+sends (Log n) lane = None

@@ -1,5 +1,5 @@
 -- A lane, a turn of it, and their small changes.
-use Rattle.std.specs.Prelude.{ℕ, Option, Some, None, Bool, true, false, List, [], ◌∷◌, ◌++◌, drop, slice_get, slice_set, unwrap_or, option_map}
+use Rattle.std.specs.Prelude.{ℕ, Option, Some, None, Bool, true, false, List, [], ◌∷◌, ◌++◌, drop, slice_get, slice_set, unwrap_or, option_map, if◌then◌else◌}
 use Rattle.loop_script.specs.declared.plan.Plan.{Plan}
 use Rattle.source_rows.specs.declared.row.Row.{Row}
 use Rattle.source_rows.specs.Rows.{RowSet, row_of as row_with}
@@ -13,23 +13,34 @@ use Rattle.lane_turn.specs.declared.slot.Held.TheVariants.{Source, Handler}
 use Rattle.cancel_view.specs.Seen.{Seen}
 use Rattle.lane_turn.specs.Frames.{Frame, IterOf, advanced, emptied, busy}
 use Rattle.lane_turn.specs.Sources.{chosen_in}
+use Rattle.post_office.specs.declared.letter.Letter.{Letter}
+use Rattle.lane_turn.specs.Replies.{Replies}
+use Rattle.lane_watch.specs.Tasks.{Started, Tasks}
 
--- a lane: its contexts by number, where those of other lanes are none; what its slots name; its view of cancellations, with
--- its handlers; its frames with the innermost first; the loops that run; what it wrote
+-- a lane: its number; its contexts by number, where those of other lanes are none; what its slots name; its view of
+-- cancellations, with its handlers; its tasks; its frames with the innermost first; the loops that run; the replies that its
+-- sources hold; what it wrote
 pub record Lane : Type 0 where
+  pub number : ℕ
   pub contexts : List (Option Context)
   pub slots : List (Option Held)
   pub view : Seen
+  pub tasks : Tasks
   pub frames : List Frame
   pub running : List Bool
+  pub replies : Replies
   pub trace : List Line
   pub status : Status
 
--- a lane within a turn: how many actions and dispatches it may still count, and whether a loop began an iteration
+-- a lane within a turn: the tasks that are still to be polled; how many actions and dispatches it may still count; whether a loop
+-- began an iteration; how many letters it sent, and what its post holds
 pub record Turn : Type 0 where
   pub lane : Lane
+  pub unpolled : List Started
   pub left : ℕ
   pub iterated : Bool
+  pub sent : ℕ
+  pub posted : List Letter
 
 -- a lane between calls, and whether it is spent: a call of it ran out of memory
 pub record Kept : Type 0 where
@@ -120,6 +131,10 @@ named slot thing lane = record lane { slots = slice_set lane.slots slot (Some th
 -- another view
 abbrev pub viewing : Seen → Lane → Lane
 viewing view lane = record lane { view = view }
+
+-- a cancellable has come into the view in a tick
+abbrev pub noting : ℕ → ℕ → Lane → Lane
+noting tick c lane = record lane { tasks = record lane.tasks { came = slice_set lane.tasks.came c (Some tick) } }
 
 -- the ids that an iteration of a context would dispatch at a tick
 abbrev pub chosen : Plan → ℕ → ℕ → Lane → List ℕ

@@ -1,5 +1,5 @@
 -- At how many levels the sources of a lane stand, before and after each step of a run.
-use Rattle.std.specs.Prelude.{◌≡◌, ℕ, ℤ, ◌≤◌, Option, Some, None, List}
+use Rattle.std.specs.Prelude.{◌≡◌, ℕ, ℤ, ◌≤◌, Option, Some, None, List, length}
 use Rattle.std.specs.List.{AllByRecursion}
 use Rattle.loop_script.specs.declared.plan.Plan.{Plan}
 use Rattle.source_rows.specs.Rows.{RowSet, row_of, child_fault, priority_fault, destroyed, reprioritised}
@@ -10,7 +10,7 @@ use Rattle.context_core.specs.Ready.{Own, selected}
 use Rattle.context_core.specs.TwoLevels.{selected_at_two}
 use Rattle.lane_turn.specs.Sources.{tree_levels}
 use Rattle.lane_turn.specs.Lane.{Lane}
-use Rattle.lane_turn.specs.Turn.{finish, begun, lane_at}
+use Rattle.lane_turn.specs.Tick.{lanes_at, lane_within}
 
 -- the sources stand in trees, at so many levels at most
 pub record IsGrown (levels : ℕ) (s : RowSet) : Type 0 where
@@ -34,12 +34,12 @@ abbrev pub OfTwoLevels : Option Context → Type 0
 OfTwoLevels None = Unit {0}
 OfTwoLevels (Some context) = IsOfTwoLevels context.rows
 
--- a lane of a script after some steps of its turn at a tick
-abbrev pub lane_within : Plan → (lane tick steps : ℕ) → Lane
-lane_within script lane tick steps = (finish script tick steps (begun (lane_at script lane tick))).lane
+-- what all lanes of a script are at each tick, before and after each step of their turns
+abbrev pub OfAllLanes : Plan → (Lane → Type 0) → Type 0
+OfAllLanes script P = (tick steps : ℕ) → tick ≤ 4096 → AllByRecursion (λ lane. P (lane_within script tick steps lane)) (lanes_at script tick)
 
 pub record LevelsHold : Type 0 where
   -- sources stand at no more levels than the script's version has
-  pub grown : (script : Plan) (lane tick steps : ℕ) → tick ≤ 4096 → AllByRecursion (Grown (tree_levels script)) (lane_within script lane tick steps).contexts
+  pub grown : (script : Plan) → length script.lanes ≤ 64 → OfAllLanes script (λ lane. AllByRecursion (Grown (tree_levels script)) lane.contexts)
   -- in version 1 what is selected, what is refused and what an edit leaves is what it was with two levels alone
-  pub version_1 : (script : Plan) (lane tick steps : ℕ) → script.version ≡ 1 → tick ≤ 4096 → AllByRecursion OfTwoLevels (lane_within script lane tick steps).contexts
+  pub version_1 : (script : Plan) → length script.lanes ≤ 64 → script.version ≡ 1 → OfAllLanes script (λ lane. AllByRecursion OfTwoLevels lane.contexts)

@@ -3,9 +3,14 @@ pub mod Nest
 pub mod Tally
 pub mod Sources
 pub mod Lane
+pub mod Replies
 pub mod Acted
 pub mod Step
 pub mod Turn
+pub mod Deliver
+pub mod Tick
+pub mod Letters
+pub mod Polls
 pub mod Sound
 pub mod Meaning
 pub mod Iterations

@@ -1,18 +1,31 @@
 -- The lane that the parts stand for.
+use Rattle.std.specs.Prelude.{List, []}
+use Rattle.post_office.specs.declared.letter.Letter.{Letter}
 use Rattle.lane_turn.specs.declared.parts.Parts.{Parts}
 use Rattle.lane_turn.specs.declared.step.Progress.{Progress}
 use Rattle.lane_turn.specs.Lane.{Lane, Turn}
 
 abbrev pub lane_of : Parts → Lane
 lane_of p = record {
+  number = p.number;
   contexts = p.contexts.items;
   slots = p.slots.items;
-  view = p.view;
+  view = p.watch.view;
+  tasks = p.watch.tasks;
   frames = p.frames;
   running = p.running.items;
+  replies = p.replies.entries;
   trace = p.trace.items;
   status = p.status;
 }
 
-abbrev pub turn_of : Parts → Progress → Turn
-turn_of p progress = record { lane = lane_of p; left = progress.left; iterated = progress.iterated }
+-- the turn once its tasks are polled, with what the post holds
+abbrev pub turn_of : Parts → Progress → List Letter → Turn
+turn_of p progress letters = record {
+  lane = lane_of p;
+  unpolled = [];
+  left = progress.left;
+  iterated = progress.iterated;
+  sent = progress.sent;
+  posted = letters;
+}

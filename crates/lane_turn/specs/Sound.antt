@@ -1,6 +1,7 @@
--- The bounds of counters, and by how much a turn may raise them.
-use Rattle.std.specs.Prelude.{ℕ, ◌+◌, ◌*◌, ◌≤◌, Option, Some, None, length, if◌then◌else◌}
+-- The bounds of counters, and by how much a turn and a delivery may raise them.
+use Rattle.std.specs.Prelude.{◌≡◌, ℕ, ◌+◌, ◌*◌, ◌≤◌, Option, Some, None, List, length, if◌then◌else◌}
 use Rattle.std.specs.List.{AllByRecursion}
+use Rattle.loop_script.specs.declared.plan.Plan.{Plan}
 use Rattle.source_rows.specs.Rows.{RowSet}
 use Rattle.context_core.specs.declared.context.Context.{Context}
 use Rattle.lane_turn.specs.Lane.{Lane, Turn}
@@ -21,6 +22,14 @@ pub record IsWithin (m : ℕ) (lane : Lane) : Type 0 where
   pub frames : length lane.frames ≤ m
   pub handlers : lane.view.next_id ≤ m
 
+-- a lane of a script at the beginning of a tick: no counter is above m, and each turn before started 10,000 tasks at most
+pub record IsReady (script : Plan) (tick m : ℕ) (lane : Lane) : Type 0 where
+  pub within : IsWithin m lane
+  pub view : length lane.view.members ≡ script.cancellables
+  pub now : lane.tasks.tick ≡ tick
+  pub next : lane.tasks.next ≤ 10000 * tick
+  pub few : length lane.tasks.started ≤ 10000 * tick
+
 -- by how much the rest of a turn may raise them
 abbrev pub to_come : Turn → ℕ
 to_come t = 2 * t.left + (if t.iterated then 0 else 1)
@@ -30,3 +39,9 @@ pub record IsSound (n : ℕ) (t : Turn) : Type 0 where
   pub bound : ℕ
   pub fits : bound + to_come t ≤ n
   pub within : IsWithin bound t.lane
+
+-- neither tasks nor letters pass n in the rest of the turn
+pub record IsPaced (n : ℕ) (t : Turn) : Type 0 where
+  pub next : t.lane.tasks.next + t.left ≤ n
+  pub few : length t.unpolled + length t.lane.tasks.started + t.left ≤ n
+  pub sent : t.sent + length t.unpolled + t.left ≤ n

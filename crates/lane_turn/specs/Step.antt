@@ -1,5 +1,5 @@
 -- One step of the innermost frame.
-use Rattle.std.specs.Prelude.{ℕ, zero, suc, ◌+◌, Bool, true, false, Option, Some, None, is_none, nat_lt, slice_get, if◌then◌else◌}
+use Rattle.std.specs.Prelude.{ℕ, zero, suc, ◌+◌, ◌&&◌, not, Bool, true, false, Option, Some, None, is_some, is_none, nat_lt, slice_get, List, [], ◌∷◌, ◌++◌, if◌then◌else◌}
 use Rattle.loop_script.specs.declared.plan.Plan.{Plan}
 use Rattle.loop_script.specs.declared.action.Action.{Action}
 use Rattle.loop_script.specs.declared.body.Body.{Body}
@@ -7,6 +7,7 @@ use Rattle.loop_script.specs.declared.body.Body.TheVariants.{Procedure, Nothing}
 use Rattle.loop_script.specs.Parts.{time_of, actions_of, stays}
 use Rattle.source_rows.specs.declared.row.Row.{Row}
 use Rattle.source_rows.specs.Rows.{destroyed, counted as counted_once}
+use Rattle.lane_turn.specs.declared.line.Line.{Line}
 use Rattle.lane_turn.specs.declared.line.Event.TheVariants as events
 use Rattle.lane_turn.specs.declared.parts.Status.{Status}
 use Rattle.lane_turn.specs.declared.parts.Status.TheVariants.{GoesOn, Ended, Halted}
@@ -19,37 +20,64 @@ use Rattle.lane_turn.specs.declared.layer.Top.TheVariants as tops
 use Rattle.lane_turn.specs.Frames.{CallOf, top_of, depth, calls}
 use Rattle.lane_turn.specs.Sources.{restarted}
 use Rattle.lane_turn.specs.Lane.{Lane, Turn, written, pushed, popped, taken, stopped, is_running, edited, row_of, iterating}
-use Rattle.lane_turn.specs.Acted.{acted}
+use Rattle.lane_turn.specs.Acted.{acted, sends}
+use Rattle.lane_watch.specs.Tasks.{Started, Tasks, reply_at, is_late_at, stays_at}
+use Rattle.lane_turn.specs.Replies.{reply_held, without_reply}
+use Rattle.lane_turn.specs.declared.replies.Awaited.{Awaited}
+use Rattle.loop_script.specs.declared.outcome.Outcome.{Outcome}
+use Rattle.loop_script.specs.declared.outcome.Outcome.TheVariants as outcomes
+use Rattle.task_steps.specs.declared.entry.Reply.{Reply}
+use Rattle.task_steps.specs.Book.{sees}
+use Rattle.cancel_view.specs.Seen.{Seen}
+use Rattle.post_office.specs.declared.letter.Letter.{Letter}
+use Rattle.post_office.specs.declared.letter.Body.{Body as Mail}
+use Rattle.post_office.specs.declared.letter.Body.TheVariants as mails
 
 -- what a source calls
 abbrev pub body_of : Option ℕ → Body
 body_of None = Nothing
 body_of (Some proc) = Procedure proc
 
--- a row's dispatch: the count, the line, and its call; where 32 calls are in progress the lane is halted
-abbrev pub called : ℕ → Row → Lane → Lane
-called context row lane = pushed (CallOf (record {
-  origin = Source (record { context = context; id = row.id; recurse = row.recurse; number = row.count + 1 });
+-- the result of a task, taken from its reply: cancelled where that is checked and the view has the cancellable
+abbrev pub result_of : Seen → Reply → Outcome
+result_of view reply = if reply.check && sees view reply.cancel then outcomes.Cancelled else reply.outcome
+
+-- the line of the result that is taken from the reply that a source holds, if it holds one
+abbrev pub result_lines : ℕ → Option Awaited → Seen → List Line
+result_lines tick None view = []
+result_lines tick (Some awaited) view = record { tick = tick; event = events.Task awaited.sender awaited.reply.task (result_of view awaited.reply) } ∷ []
+
+abbrev pub taking : ℕ → Option Awaited → Lane → Lane
+taking tick awaited lane = record lane { trace = lane.trace ++ result_lines tick awaited lane.view }
+
+-- a row's dispatch: the count, the line, the result of a reply, and its call; where 32 calls are in progress the lane is halted
+abbrev pub called : ℕ → Row → Bool → Lane → Lane
+called context row once lane = pushed (CallOf (record {
+  origin = Source (record { context = context; id = row.id; recurse = row.recurse; number = row.count + 1; once = once });
   body = body_of row.call;
   place = 0;
 })) lane
 
-abbrev pub dispatched : ℕ → ℕ → Row → Lane → Lane
-dispatched tick context row lane =
-    called context row (written tick (events.Dispatch context row.id row.priority (depth lane.frames + 1)) (edited context (counted_once row.id) (taken lane)))
+abbrev pub begun_call : ℕ → ℕ → Row → Option Awaited → Lane → Lane
+begun_call tick context row awaited lane =
+    called context row (is_some awaited) (taking tick awaited (record lane { replies = without_reply context row.id lane.replies }))
 
 -- the same of a lane that took the id already, at a depth
 abbrev pub dispatched_at : ℕ → ℕ → Row → ℕ → Lane → Lane
-dispatched_at tick context row n lane = called context row (written tick (events.Dispatch context row.id row.priority (n + 1)) (edited context (counted_once row.id) lane))
+dispatched_at tick context row n lane =
+    begun_call tick context row (reply_held context row.id lane.replies) (written tick (events.Dispatch context row.id row.priority (n + 1)) (edited context (counted_once row.id) lane))
+
+abbrev pub dispatched : ℕ → ℕ → Row → Lane → Lane
+dispatched tick context row lane = dispatched_at tick context row (depth lane.frames) (taken lane)
 
 abbrev pub dispatching : ℕ → ℕ → Row → Lane → Lane
 dispatching tick context row lane =
     if nat_lt (calls lane.frames) 32 then dispatched tick context row lane else stopped Halted (written tick events.HaltDepth lane)
 
--- a source after its call: one that stays begins anew, one that does not is destroyed
+-- a source after its call: one that stays begins anew, one that does not is destroyed, as that of a reply is
 abbrev pub left_source : Plan → ℕ → Body → Caller → Lane → Lane
 left_source script tick body caller lane =
-    if stays script body caller.number
+    if not caller.once && stays script body caller.number
     then edited caller.context (restarted (time_of script tick) caller.id) lane
     else edited caller.context (destroyed caller.id) lane
 
@@ -68,22 +96,37 @@ answered tick context (Some any) lane = written tick (events.Iterate context any
 abbrev pub in_lane : (Lane → Lane) → Turn → Turn
 in_lane f t = record t { lane = f t.lane }
 
--- what is counted is done where the turn may count one more, else the lane is halted
-abbrev pub counted_by : ℕ → (Lane → Lane) → Turn → ℕ → Turn
-counted_by tick f t zero = in_lane (λ lane. stopped Halted (written tick events.HaltSteps lane)) t
-counted_by tick f t (suc n) = record t { lane = f t.lane; left = n }
+-- a letter of the turn: they are numbered from 0
+abbrev pub letter : (tick sender number : ℕ) → Mail → Letter
+letter tick sender number body = record { tick = tick; sender = sender; number = number; body = body }
 
-abbrev pub counted : ℕ → (Lane → Lane) → Turn → Turn
-counted tick f t = counted_by tick f t t.left
+abbrev pub sent_with : Option Mail → ℕ → ℕ
+sent_with None n = n
+sent_with (Some body) n = n + 1
+
+abbrev pub posted_with : (tick sender number : ℕ) → List Letter → Option Mail → List Letter
+posted_with tick sender number posted None = posted
+posted_with tick sender number posted (Some body) = posted ++ letter tick sender number body ∷ []
+
+abbrev pub sending : ℕ → Option Mail → Turn → Turn
+sending tick mail t = record t { sent = sent_with mail t.sent; posted = posted_with tick t.lane.number t.sent t.posted mail }
+
+-- what is counted is done, and sends what it sends, where the turn may count one more; else the lane is halted
+abbrev pub counted_by : ℕ → Option Mail → (Lane → Lane) → Turn → ℕ → Turn
+counted_by tick mail f t zero = in_lane (λ lane. stopped Halted (written tick events.HaltSteps lane)) t
+counted_by tick mail f t (suc n) = record (sending tick mail t) { lane = f t.lane; left = n }
+
+abbrev pub counted : ℕ → Option Mail → (Lane → Lane) → Turn → Turn
+counted tick mail f t = counted_by tick mail f t t.left
 
 abbrev pub step_call : Plan → ℕ → Turn → Call → Option Action → Turn
-step_call script tick t call (Some action) = counted tick (λ lane. acted script tick action (taken lane)) t
+step_call script tick t call (Some action) = counted tick (sends action (taken t.lane)) (λ lane. acted script tick action (taken lane)) t
 step_call script tick t call None = in_lane (λ lane. returned script tick call.body call.origin (popped lane)) t
 
 -- a destroyed source is passed over, and not counted
 abbrev pub step_id : ℕ → Turn → ℕ → Option Row → Turn
 step_id tick t context None = in_lane taken t
-step_id tick t context (Some row) = counted tick (dispatching tick context row) t
+step_id tick t context (Some row) = counted tick None (dispatching tick context row) t
 
 abbrev pub step_iteration : ℕ → Turn → ℕ → Option Bool → Option ℕ → Turn
 step_iteration tick t context answer None = in_lane (λ lane. answered tick context answer (popped lane)) t
@@ -115,6 +158,37 @@ step_going script tick t GoesOn = step_top script tick t (top_of t.lane.frames)
 step_going script tick t Ended = None
 step_going script tick t Halted = None
 
--- one step of the innermost frame; none where the lane rests, has ended or is halted
+-- the line of a body that ends after its reply or with it
+abbrev pub late_line : (tick lane number : ℕ) → Line
+late_line tick lane number = record { tick = tick; event = events.TaskLate lane number }
+
+-- one, if so
+abbrev pub one_if : {A : Type 0} → Bool → A → List A
+one_if true x = x ∷ []
+one_if false x = []
+
+-- a task that is late is told of; one that goes on after its poll stays one of the lane's
+abbrev pub told : ℕ → Bool → Bool → Started → Lane → Lane
+told tick late stays task lane = record lane {
+  tasks = record lane.tasks { started = lane.tasks.started ++ one_if stays task };
+  trace = lane.trace ++ one_if late (late_line tick lane.number task.number);
+}
+
+abbrev pub mail_of : Option Reply → Option Mail
+mail_of None = None
+mail_of (Some reply) = Some (mails.Complete reply)
+
+-- one poll: the reply is sent
+abbrev pub polled : ℕ → Started → Turn → Turn
+polled tick task t = record (sending tick (mail_of (reply_at tick t.lane.tasks task)) t) {
+  lane = told tick (is_late_at tick t.lane.tasks task) (stays_at tick t.lane.tasks task) task t.lane;
+}
+
+abbrev pub step_polling : Plan → ℕ → Turn → List Started → Option Turn
+step_polling script tick t [] = step_going script tick t t.lane.status
+step_polling script tick t (task ∷ tasks) = Some (polled tick task (record t { unpolled = tasks }))
+
+-- one step: a poll of a task where there is one to be polled, halted or not; else one of the innermost frame; none where the lane
+-- rests, has ended or is halted
 abbrev pub step : Plan → ℕ → Turn → Option Turn
-step script tick t = step_going script tick t t.lane.status
+step script tick t = step_polling script tick t t.unpolled

@@ -10,10 +10,11 @@ use Rattle.lane_turn.specs.declared.parts.Status.TheVariants.{GoesOn, Ended, Hal
 use Rattle.lane_turn.specs.declared.layer.Origin.TheVariants as origins
 use Rattle.lane_turn.specs.Frames.{Frame, CallOf, IterOf, LoopOf}
 use Rattle.lane_turn.specs.declared.slot.Held.{Held}
-use Rattle.cancel_view.specs.Seen.{Seen}
+use Rattle.lane_watch.specs.Watch.{nothing_seen, no_tasks}
 use Rattle.context_core.specs.declared.context.Context.{Context}
 use Rattle.lane_turn.specs.Sources.{no_sources}
 use Rattle.lane_turn.specs.Lane.{Lane, Turn}
+use Rattle.post_office.specs.declared.letter.Letter.{Letter}
 use Rattle.lane_turn.specs.Step.{step}
 
 -- the turn after its next step, if there is one
@@ -50,7 +51,7 @@ while_going Halted n = 0
 
 -- at most how many steps a turn still takes
 abbrev pub work : Turn → ℕ
-work t = while_going t.lane.status (work_of t.left (row_count t.lane.contexts) (nest_work t.lane.frames) t.iterated)
+work t = length t.unpolled + while_going t.lane.status (work_of t.left (row_count t.lane.contexts) (nest_work t.lane.frames) t.iterated)
 
 -- the turn after its steps, of which at most n are taken
 unfoldable pub finish : Plan → ℕ → ℕ → Turn → Turn
@@ -61,12 +62,24 @@ finish script tick (suc n) t = option_map_or (finish script tick n) (step script
 unfoldable pub finished : Plan → ℕ → Turn → Turn
 finished script tick t = finish script tick (work t) t
 
-abbrev pub begun : Lane → Turn
-begun lane = record { lane = lane; left = 10000; iterated = false }
+-- a turn at a tick: the tasks are to be polled, and nothing was sent
+abbrev pub begun : ℕ → Lane → Turn
+begun tick lane = record {
+  lane = record lane { tasks = record lane.tasks { started = []; tick = tick + 1 } };
+  unpolled = lane.tasks.started;
+  left = 10000;
+  iterated = false;
+  sent = 0;
+  posted = [];
+}
 
 -- the lane after its turn
 abbrev pub turned : Plan → ℕ → Lane → Lane
-turned script tick lane = (finished script tick (begun lane)).lane
+turned script tick lane = (finished script tick (begun tick lane)).lane
+
+-- the letters of the turn, in order
+abbrev pub out_of : Plan → ℕ → Lane → List Letter
+out_of script tick lane = (finished script tick (begun tick lane)).posted
 
 -- a context of the script, as a lane has it at first
 abbrev pub open_context : Plan → ℕ → ℕ → Option Context
@@ -88,27 +101,21 @@ abbrev pub open_loops : ℕ → List Bool
 open_loops zero = []
 open_loops (suc n) = open_loops n ++ false ∷ []
 
--- nothing seen cancelled, and no handler
-abbrev pub open_view : ℕ → Seen
-open_view n = record { members = replicate n false; handlers = []; next_id = 1 }
-
 -- a lane that holds its start call
 abbrev pub opening : Plan → ℕ → Lane
 opening script lane = record {
+  number = lane;
   contexts = open_contexts script lane;
   slots = open_slots 256;
-  view = open_view script.cancellables;
+  view = nothing_seen script.cancellables;
+  tasks = no_tasks script.cancellables script.tick_us;
   frames = CallOf (record { origin = origins.Start; body = bodies.Start lane; place = 0 }) ∷ [];
   running = open_loops (length script.loops);
+  replies = [];
   trace = [];
   status = GoesOn;
 }
 
--- the lane at the beginning of a tick
-abbrev pub lane_at : Plan → ℕ → ℕ → Lane
-lane_at script lane zero = opening script lane
-lane_at script lane (suc k) = turned script k (lane_at script lane k)
-
 -- a turn leaves no step
 abbrev pub TurnsEnd : Type 0
-TurnsEnd = (script : Plan) (tick : ℕ) (lane : Lane) → step script tick (finished script tick (begun lane)) ≡ None
+TurnsEnd = (script : Plan) (tick : ℕ) (lane : Lane) → step script tick (finished script tick (begun tick lane)) ≡ None

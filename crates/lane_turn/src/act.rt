@@ -1,14 +1,15 @@
 //! What each action does.
-ghost use Rattle.std.specs.Prelude.{◌≡◌, ◌^◌, ◌≤◌, true, OnOk};
+ghost use Rattle.std.specs.Prelude.{◌≡◌, ◌+◌, ◌^◌, ◌<◌, ◌≤◌, true, length, OnOk};
 ghost use Rattle.loop_script.specs.References.{sizes, action_refers};
-ghost use Rattle.lane_turn.specs.Acted.{attach as attached_to, child as child_born, destroy as destroyed_at, set_ready as ready_set_at, set_priority as priority_set_at, iterate as iterated, pending as asked, run as run_to, quit as quit_to, acted};
+ghost use Rattle.lane_turn.specs.Acted.{attach as attached_to, child as child_born, destroy as destroyed_at, set_ready as ready_set_at, set_priority as priority_set_at, iterate as iterated, pending as asked, run as run_to, quit as quit_to, start_task, acted};
+ghost use Rattle.task_steps.specs.Book.{IsIn};
 ghost use Rattle.lane_turn.specs.Sound.{IsWithin};
 ghost use Rattle.lane_turn.specs.Meaning.{lane_of};
 
 use crate::line::{Event, Word};
 use crate::parts::Parts;
 use crate::slot::{Held, Place};
-use loop_script::{Action, Script, SourceSpec};
+use loop_script::{Action, Script, SourceSpec, TaskSpec};
 use std::alloc::{AllocError, Global};
 
 impl Parts {
@@ -160,7 +161,21 @@ impl Parts {
         }
     }
 
-    /// Does an action of the innermost call.
+    /// Starts a task, whose reply goes to the thread-default context.
+    fn act_task(&mut self, tick: u32, spec: &TaskSpec) -> Result<(), AllocError>
+        requires room { (lane_of self.old).tasks.next < 2 ^ 63 }
+        requires now { (lane_of self.old).tasks.tick ≡ tick + 1 }
+        requires tick { tick < 2 ^ 31 }
+        requires known { IsIn (lane_of self.old).view spec.now.cancel }
+        ensures { OnOk result (lane_of self.new ≡ start_task tick spec.now (lane_of self.old)) }
+    {
+        match self.watch.start(spec, 0, tick) {
+            Ok(()) => Ok(()),
+            Err(_) => Err(AllocError),
+        }
+    }
+
+    /// Does an action of the innermost call, but for the letter that it sends.
     pub(crate) fn act(
         &mut self,
         alloc: Global,
@@ -169,6 +184,10 @@ impl Parts {
         action: &Action,
     ) -> Result<(), AllocError>
         requires within { IsWithin (2 ^ 62) (lane_of self.old) }
+        requires now { (lane_of self.old).tasks.tick ≡ tick + 1 }
+        requires tick { tick < 2 ^ 31 }
+        requires room { (lane_of self.old).tasks.next < 2 ^ 63 }
+        requires view { length (lane_of self.old).view.members ≡ script.now.cancellables }
         requires refers { action_refers (sizes script.now) action.now ≡ true }
         ensures { OnOk result (lane_of self.new ≡ acted script.now tick action.now (lane_of self.old)) }
     {
@@ -188,6 +207,7 @@ impl Parts {
             Action::Cancel(c) => self.act_cancel(alloc, script, tick, *c),
             Action::Connect(c, slot, proc) => self.act_connect(script, tick, *c, *slot, *proc),
             Action::Disconnect(slot) => self.act_disconnect(tick, *slot),
+            Action::Task(spec) => self.act_task(tick, spec),
             Action::Log(n) => self.write(tick, Event::Log(*n)),
             _ => Ok(()),
         }

@@ -1,5 +1,5 @@
 //! What is cancelled, connected and disconnected.
-ghost use Rattle.std.specs.Prelude.{◌≡◌, ◌^◌, ◌≤◌, true, IsTrue, IsOk, OnOk};
+ghost use Rattle.std.specs.Prelude.{◌≡◌, ◌+◌, ◌^◌, ◌≤◌, true, IsTrue, IsOk, OnOk};
 ghost use Rattle.loop_script.specs.References.{sizes, action_refers};
 ghost use Rattle.lane_turn.specs.Acted.{plain_acted, handled, all_handled, cancel as cancelled_at, connect as connected_to, disconnect as disconnected_at};
 ghost use Rattle.cancel_view.specs.Seen.{has};
@@ -61,10 +61,11 @@ impl Parts {
         tick: u32,
         c: u32,
     ) -> Result<(), AllocError>
+        requires { (lane_of self.old).tasks.tick ≡ tick + 1 }
         ensures cancelled { OnOk result (lane_of self.new ≡ cancelled_at script.now tick c (lane_of self.old)) }
         ensures again { IsTrue (has c (lane_of self.old).view) → IsOk result }
     {
-        match self.view.cancel(alloc, c) {
+        match self.watch.cancel(alloc, tick, c) {
             Err(_) => Err(AllocError),
             Ok(None) => Ok(()),
             Ok(Some(fired)) => {
@@ -85,7 +86,7 @@ impl Parts {
         requires { IsWithin (2 ^ 62) (lane_of self.old) }
         ensures { OnOk result (lane_of self.new ≡ connected_to script.now tick c slot proc (lane_of self.old)) }
     {
-        match self.view.connect(c, proc) {
+        match self.watch.connect(c, proc) {
             Err(_) => Err(AllocError),
             Ok(Connected::Id(id)) => {
                 self.name(slot, Held::Handler(id));
@@ -105,7 +106,7 @@ impl Parts {
         let Some(id) = self.handler(slot) else {
             return self.miss(tick, Word::Disconnect);
         };
-        if self.view.disconnect(id) {
+        if self.watch.disconnect(id) {
             Ok(())
         } else {
             self.miss(tick, Word::Disconnect)

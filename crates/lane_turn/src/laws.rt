@@ -2,6 +2,7 @@
 ghost use Rattle.lane_turn.specs.Turn.{TurnsEnd};
 ghost use Rattle.lane_turn.specs.Iterations.{IterationsGoOn};
 ghost use Rattle.lane_turn.specs.Levels.{LevelsHold};
+ghost use Rattle.lane_turn.specs.Letters.{LettersTell};
 
 /// A turn leaves a lane with no step left: it rests, has ended or is halted.
 pub fn turns_end()
@@ -21,4 +22,10 @@ pub fn iterations_go_on()
 /// change of priority leave is what the rules of two levels say.
 pub fn levels_go_by_version()
     ensures { LevelsHold }
+{}
+
+/// The letters of a turn carry its tick, its lane's number, and their own from 0 on; neither turns nor deliveries change
+/// the number of a lane.
+pub fn letters_tell()
+    ensures { LettersTell }
 {}

@@ -17,6 +17,8 @@ pub struct Caller {
     pub recurse: bool,
     /// Which dispatch of the source it is, from 1.
     pub number: u64,
+    /// Whether the source goes after this call, as that of a reply does.
+    pub once: bool,
 }
 
 /// Where a call came from.

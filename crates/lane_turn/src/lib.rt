@@ -6,13 +6,16 @@
 
 mod act;
 mod chain;
+mod deliver;
 mod frames;
 mod handlers;
 mod laws;
 mod layer;
+mod letters;
 mod line;
 mod nest;
 mod parts;
+mod replies;
 mod select;
 mod slot;
 mod sources;
@@ -21,7 +24,7 @@ mod step;
 mod tally;
 mod turn;
 
-pub use laws::{iterations_go_on, levels_go_by_version, turns_end};
+pub use laws::{iterations_go_on, letters_tell, levels_go_by_version, turns_end};
 pub use line::{Event, Invoked, Line, Word};
 pub use parts::Status;
 pub use state::{LaneFault, LaneState};

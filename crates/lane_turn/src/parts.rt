@@ -9,17 +9,19 @@ ghost use Rattle.lane_turn.specs.Meaning.{lane_of};
 
 use crate::frames::Frames;
 use crate::line::{Event, Line, Word};
+use crate::replies::Awaited;
 use crate::select::select_in;
 use crate::slot::{Held, Place};
 use crate::sources::{
     add_child_in, attach_in, count_in, destroy_in, restart_in, row_in, set_priority_in,
     set_ready_in,
 };
-use cancel_view::View;
 use context_core::Context;
+use lane_watch::Watch;
 use loop_script::{Script, SourceSpec};
 use source_rows::Row;
 use std::alloc::{AllocError, Global};
+use std::collections::BTreeMap;
 
 /// Whether a lane goes on.
 #[derive(Clone, Copy, Debug, PartialEq, Eq)]
@@ -34,13 +36,18 @@ pub enum Status {
 /// What a lane keeps. Contexts stand by their number in the script, and those of other lanes are none.
 #[derive(Drop)]
 pub struct Parts {
+    /// The number of the lane in its script.
+    pub number: u32,
     pub contexts: Vec<Option<Context>>,
     /// What the slots name.
     pub slots: Vec<Option<Held>>,
-    pub view: View,
+    /// The view of cancellations, and the tasks.
+    pub watch: Watch,
     pub frames: Frames,
     /// Which loops run.
     pub running: Vec<bool>,
+    /// What the sources of replies hold, by their context and id.
+    pub replies: BTreeMap<(u32, u64), Awaited>,
     pub trace: Vec<Line>,
     pub status: Status,
 }
@@ -141,7 +148,7 @@ impl Parts {
     {
         let busy = self.frames.busy(context)?;
         match self.contexts.get(context as usize) {
-            Some(context) => select_in(alloc, context, script, tick, &busy, &self.view),
+            Some(context) => select_in(alloc, context, script, tick, &busy, self.watch.view()),
             None => Ok(Vec::new(alloc)),
         }
     }

@@ -1,21 +1,25 @@
 //! A lane between its turns.
-ghost use Rattle.std.specs.Prelude.{◌≡◌, ℕ, ◌+◌, ◌^◌, ◌≤◌, ◌↔◌, ◌≢◌, false, IsTrue, IsOk, OnOk, IfOk, Err};
-ghost use Rattle.lane_turn.specs.Turn.{turned, opening, open_context, open_contexts, open_slots, open_view, open_loops};
+ghost use Rattle.std.specs.Prelude.{◌≡◌, ℕ, ◌+◌, ◌*◌, ◌^◌, ◌<◌, ◌≤◌, ◌++◌, ◌↔◌, ◌≢◌, [], false, length, IsTrue, IsOk, OnOk, IfOk, Err};
+ghost use Rattle.lane_turn.specs.Turn.{turned, out_of, opening, open_context, open_contexts, open_slots, open_loops};
+ghost use Rattle.lane_turn.specs.Deliver.{received_all};
+ghost use Rattle.lane_watch.specs.Watch.{nothing_seen, no_tasks};
 ghost use Rattle.source_rows.specs.Rows.{level_count};
 ghost use Rattle.lane_turn.specs.Sources.{tree_levels};
 ghost use Rattle.lane_turn.specs.Meaning.{lane_of};
-ghost use Rattle.lane_turn.specs.Sound.{IsWithin};
+ghost use Rattle.lane_turn.specs.Sound.{IsReady};
 
 use crate::frames::Frames;
 use crate::layer::{Call, Origin};
 use crate::line::Line;
 use crate::parts::{Parts, Status};
 use crate::slot::Held;
-use cancel_view::View;
 use context_core::Context;
+use lane_watch::Watch;
 use loop_script::{Body, Script};
+use post_office::{Letter, Post};
 use source_rows::Levels;
 use std::alloc::{AllocError, Global};
+use std::collections::BTreeMap;
 use std::marker::Model;
 use thiserror::Error;
 
@@ -55,9 +59,13 @@ pub struct LaneState {
 
 impl Model for LaneState {
     ghost use Rattle.lane_turn.specs.Lane.{Kept};
+    ghost use Rattle.std.specs.Coded.{codes};
+    ghost use Rattle.loop_script.specs.contracts.tree.TaskTree as task_tree;
     ghost use Rattle.lane_turn.specs.Meaning.{lane_of};
 
     ghost Value = { Kept };
+
+    ghost coded = { Prim.hlevel (codes, task_tree.the_row.coded) };
 
     ghost view = { λ s. record { lane = lane_of s.parts; spent = s.spent } };
 }
@@ -110,12 +118,12 @@ fn open_slots(alloc: Global, slots: usize) -> Result<Vec<Option<Held>>, AllocErr
     Ok(places)
 }
 
-/// A view that has seen none of a script's cancellables cancelled.
-fn open_view(alloc: Global, script: &Script) -> Result<View, AllocError>
-    ensures { IfOk result (λ view. view ≡ open_view script.now.cancellables) }
+/// What a lane watches at first: nothing is cancelled, and no task was started.
+fn open_watch(alloc: Global, script: &Script) -> Result<Watch, AllocError>
+    ensures { IfOk result (λ watch. watch ≡ record { view = nothing_seen script.now.cancellables; tasks = no_tasks script.now.cancellables script.now.tick_us }) }
 {
-    match View::new(alloc, script.cancellables()) {
-        Ok(view) => Ok(view),
+    match Watch::new(alloc, script.cancellables(), script.tick_us()) {
+        Ok(watch) => Ok(watch),
         Err(_) => Err(AllocError),
     }
 }
@@ -142,11 +150,13 @@ fn open_parts(alloc: Global, script: &Script, lane: u32) -> Result<Parts, AllocE
         place: 0,
     })?;
     Ok(Parts {
+        number: lane,
         contexts: open_contexts(alloc, script, lane)?,
         slots: open_slots(alloc, SLOTS)?,
-        view: open_view(alloc, script)?,
+        watch: open_watch(alloc, script)?,
         frames,
         running: open_loops(alloc, script.loops())?,
+        replies: BTreeMap::new(alloc),
         trace: Vec::new(alloc),
         status: Status::GoesOn,
     })
@@ -156,7 +166,7 @@ impl LaneState {
     /// A lane of a script that holds its start call.
     pub fn new(alloc: Global, script: &Script, lane: u32) -> Result<Self, LaneFault>
         ensures opening { IfOk result (λ s. s ≡ record { lane = opening script.now lane; spent = false }) }
-        ensures within { IfOk result (λ s. IsWithin 1 s.lane) }
+        ensures ready { IfOk result (λ s. IsReady script.now 0 1 s.lane) }
         ensures memory { result ≢ Err LaneFault.Spent }
     {
         match open_parts(alloc, script, lane) {
@@ -169,25 +179,69 @@ impl LaneState {
         }
     }
 
-    /// The lane's turn at a tick. Turns come at rising ticks, each with the script of `new`. That of a lane that has
-    /// ended or is halted takes no memory.
+    /// The lane's turn at a tick: its tasks are polled, and unless it has ended or is halted its steps are taken. What it
+    /// sends goes to `post`. Turns come at each tick from 0 on, each with the script of `new`, and after each the delivery
+    /// of the tick's letters. That of a lane that has ended or is halted, and has no task, takes no memory.
     ///
-    /// After `OutOfMemory` the lane is spent: each later turn answers `Spent`, and nothing is promised of its trace.
-    pub fn turn(&mut self, script: &Script, tick: u32) -> Result<(), LaneFault>
-        requires { self.old.spent ≡ false → IsWithin (2 ^ 61) self.old.lane }
+    /// After `OutOfMemory` the lane is spent: each later call answers `Spent`, and nothing is promised of its trace, nor of
+    /// the letters that `post` took in this call.
+    pub fn turn<P: Post>(
+        &mut self,
+        script: &Script,
+        tick: u32,
+        post: &mut P,
+    ) -> Result<(), LaneFault>
+        requires ready { self.old.spent ≡ false → IsReady script.now tick (2 ^ 61) self.old.lane }
+        requires tick { tick < 2 ^ 31 }
         ensures turned { OnOk result (self.new.lane ≡ turned script.now tick self.old.lane) }
-        ensures within { (m : ℕ) → IsWithin m self.old.lane → OnOk result (IsWithin (m + 20001) self.new.lane) }
+        ensures letters { OnOk result (P.letters post.new ≡ P.letters post.old ++ out_of script.now tick self.old.lane) }
+        ensures home { P.home post.new ≡ P.home post.old }
+        ensures ready { (m : ℕ) → IsReady script.now tick m self.old.lane → OnOk result (IsReady script.now (tick + 1) (m + 20001) self.new.lane) }
+        ensures few { OnOk result (length (out_of script.now tick self.old.lane) ≤ 10000 * (tick + 1)) }
         ensures lasts { OnOk result (self.new.spent ≡ false) }
         ensures spent { (result ≡ Err LaneFault.Spent) ↔ IsTrue self.old.spent }
         ensures memory { result ≡ Err LaneFault.OutOfMemory → IsTrue self.new.spent }
         ensures stays { result ≡ Err LaneFault.Spent → self.new ≡ self.old }
-        ensures rests { self.old.spent ≡ false → self.old.lane.status ≢ Status.GoesOn → IsOk result }
+        ensures rests { self.old.spent ≡ false → self.old.lane.status ≢ Status.GoesOn → self.old.lane.tasks.started ≡ [] → IsOk result }
     {
         if self.spent {
             return Err(LaneFault::Spent);
         }
         self.spent = true;
-        match self.parts.take_turn(self.alloc, script, tick) {
+        match self.parts.take_turn(self.alloc, script, tick, post) {
+            Err(_) => Err(LaneFault::OutOfMemory),
+            Ok(()) => {
+                self.spent = false;
+                Ok(())
+            }
+        }
+    }
+
+    /// Delivers the letters of a tick, in order, once after its turn: replies for the lane's contexts are attached, and
+    /// cancellations that it has not seen are seen, with their handlers. It sends nothing.
+    ///
+    /// After `OutOfMemory` the lane is spent, as after `turn`.
+    pub fn deliver(
+        &mut self,
+        script: &Script,
+        tick: u32,
+        letters: &[Letter],
+    ) -> Result<(), LaneFault>
+        requires ready { self.old.spent ≡ false → IsReady script.now (tick + 1) (2 ^ 61) self.old.lane }
+        requires few { length letters.now ≤ 2 ^ 60 }
+        ensures delivered { OnOk result (self.new.lane ≡ received_all script.now tick letters.now self.old.lane) }
+        ensures ready { (m : ℕ) → IsReady script.now (tick + 1) m self.old.lane → OnOk result (IsReady script.now (tick + 1) (m + 2 * length letters.now) self.new.lane) }
+        ensures lasts { OnOk result (self.new.spent ≡ false) }
+        ensures spent { (result ≡ Err LaneFault.Spent) ↔ IsTrue self.old.spent }
+        ensures memory { result ≡ Err LaneFault.OutOfMemory → IsTrue self.new.spent }
+        ensures stays { result ≡ Err LaneFault.Spent → self.new ≡ self.old }
+        ensures nothing { self.old.spent ≡ false → letters.now ≡ [] → IsOk result }
+    {
+        if self.spent {
+            return Err(LaneFault::Spent);
+        }
+        self.spent = true;
+        match self.parts.take_letters(self.alloc, script, tick, letters) {
             Err(_) => Err(LaneFault::OutOfMemory),
             Ok(()) => {
                 self.spent = false;

@@ -1,19 +1,25 @@
 //! One step of what is innermost.
-ghost use Rattle.std.specs.Prelude.{◌≡◌, ◌≢◌, ◌^◌, ◌≤◌, ◌<◌, IsTrue, IsOk, OnOk, IfOk, is_some, slice_get, unwrap_or};
+ghost use Rattle.std.specs.Prelude.{◌≡◌, ◌≢◌, ◌+◌, ◌^◌, ◌≤◌, ◌<◌, List, length, IsTrue, IsOk, OnOk, IfOk, is_some, slice_get, unwrap_or};
 ghost use Rattle.loop_script.specs.Parts.{actions_of, time_of};
 ghost use Rattle.lane_turn.specs.Frames.{HasRoom, top_of, calls};
 ghost use Rattle.lane_turn.specs.Lane.{popped, taken};
-ghost use Rattle.lane_turn.specs.Step.{body_of, dispatching, dispatched_at, answered, returned, left_source, step_call, step_iteration, step_loop, step, is_passed};
+ghost use Rattle.lane_turn.specs.Step.{body_of, result_of, taking, dispatching, dispatched_at, answered, returned, left_source, step_call, step_iteration, step_loop, step, is_passed};
 ghost use Rattle.lane_turn.specs.Turn.{stepped};
+ghost use Rattle.task_steps.specs.Book.{sees};
+ghost use Rattle.post_office.specs.declared.letter.Letter.{Letter};
 ghost use Rattle.lane_turn.specs.Sound.{IsWithin};
 ghost use Rattle.lane_turn.specs.Meaning.{lane_of, turn_of};
 
 use crate::layer::{Call, Caller, Origin, Top};
 use crate::line::Event;
 use crate::parts::{Parts, Status};
-use loop_script::{Body, Script};
+use crate::replies::Awaited;
+use cancel_view::View;
+use loop_script::{Body, Outcome, Script};
+use post_office::Post;
 use source_rows::Row;
 use std::alloc::{AllocError, Global};
+use task_steps::Reply;
 
 /// How far a turn has come.
 #[derive(Clone, Copy, Debug)]
@@ -22,6 +28,29 @@ pub struct Progress {
     pub left: u32,
     /// Whether a loop began an iteration.
     pub iterated: bool,
+    /// How many letters were sent.
+    pub sent: u64,
+}
+
+/// The result of a task, taken from its reply: cancelled where that is checked and the view has the cancellable.
+fn result_of(view: &View, reply: Reply) -> Outcome
+    ensures { result ≡ result_of view.now reply }
+{
+    if reply.check && sees(view, reply.cancel) {
+        Outcome::Cancelled
+    } else {
+        reply.outcome
+    }
+}
+
+/// Whether a view has a cancellable that may be absent.
+fn sees(view: &View, cancel: Option<u32>) -> bool
+    ensures { result ≡ sees view.now cancel }
+{
+    match cancel {
+        None => false,
+        Some(c) => view.is_cancelled(c),
+    }
 }
 
 /// What a source calls.
@@ -39,7 +68,7 @@ impl Parts {
     fn leave_source(&mut self, script: &Script, tick: u32, body: Body, caller: Caller)
         ensures { lane_of self.new ≡ left_source script.now tick body caller (lane_of self.old) }
     {
-        if script.stays(body, caller.number) {
+        if !caller.once && script.stays(body, caller.number) {
             self.restart(caller.context, caller.id, script.now(tick));
         } else {
             self.destroy(caller.context, caller.id);
@@ -66,18 +95,25 @@ impl Parts {
     }
 
     /// A step of the innermost call.
-    fn step_call(
+    fn step_call<P: Post>(
         &mut self,
         alloc: Global,
         script: &Script,
         tick: u32,
         progress: &mut Progress,
         call: Call,
+        post: &mut P,
     ) -> Result<(), AllocError>
         requires within { IsWithin (2 ^ 62) (lane_of self.old) }
+        requires now { (lane_of self.old).tasks.tick ≡ tick + 1 }
+        requires tick { tick < 2 ^ 31 }
+        requires room { (lane_of self.old).tasks.next < 2 ^ 63 }
+        requires view { length (lane_of self.old).view.members ≡ script.now.cancellables }
+        requires sent { progress.old.sent < 2 ^ 63 }
         requires top { top_of (lane_of self.old).frames ≡ Top.Call call }
-        ensures { OnOk result (turn_of self.new progress.new
-            ≡ step_call script.now tick (turn_of self.old progress.old) call (slice_get (actions_of script.now call.body) call.place)) }
+        ensures next { OnOk result (turn_of self.new progress.new (P.letters post.new)
+            ≡ step_call script.now tick (turn_of self.old progress.old (P.letters post.old)) call (slice_get (actions_of script.now call.body) call.place)) }
+        ensures home { P.home post.new ≡ P.home post.old }
     {
         match script.actions(call.body).get(call.place) {
             None => self.end_call(script, tick, call),
@@ -87,7 +123,20 @@ impl Parts {
                 }
                 progress.left -= 1;
                 self.frames.advance();
-                self.act(alloc, script, tick, action)
+                self.act_and_send(alloc, script, tick, progress, action, post)
+            }
+        }
+    }
+
+    /// Takes the result of a reply that a source held.
+    fn take_result(&mut self, tick: u32, awaited: Option<Awaited>) -> Result<(), AllocError>
+        ensures { OnOk result (lane_of self.new ≡ taking tick awaited (lane_of self.old)) }
+    {
+        match awaited {
+            None => Ok(()),
+            Some(Awaited { sender, reply }) => {
+                let outcome = result_of(self.watch.view(), reply);
+                self.write(tick, Event::Task(sender, reply.task, outcome))
             }
         }
     }
@@ -104,12 +153,15 @@ impl Parts {
             tick,
             Event::Dispatch(context, row.id, row.priority, depth + 1),
         )?;
+        let awaited = self.replies.remove(&(context, row.id));
+        self.take_result(tick, awaited)?;
         self.frames.begin_call(Call {
             origin: Origin::Source(Caller {
                 context,
                 id: row.id,
                 recurse: row.recurse,
                 number: row.count + 1,
+                once: awaited.is_some(),
             }),
             body: body(row.call),
             place: 0,
@@ -166,7 +218,7 @@ impl Parts {
     ) -> Result<(), AllocError>
         requires within { IsWithin (2 ^ 62) (lane_of self.old) }
         requires top { top_of (lane_of self.old).frames ≡ Top.Iteration context next answer }
-        ensures next { OnOk result (turn_of self.new progress.new ≡ step_iteration tick (turn_of self.old progress.old) context answer next) }
+        ensures next { (letters : List Letter) → OnOk result (turn_of self.new progress.new letters ≡ step_iteration tick (turn_of self.old progress.old letters) context answer next) }
         ensures passes { IsTrue (is_passed (lane_of self.old) (top_of (lane_of self.old).frames)) → IsOk result }
     {
         match next {
@@ -198,9 +250,9 @@ impl Parts {
         context: u32,
     ) -> Result<bool, AllocError>
         requires { IsWithin (2 ^ 62) (lane_of self.old) }
-        ensures more { IfOk result (λ more. more ≡ is_some (step_loop script.now tick (turn_of self.old progress.old) number context)) }
-        ensures next { OnOk result (turn_of self.new progress.new
-            ≡ unwrap_or (step_loop script.now tick (turn_of self.old progress.old) number context) (turn_of self.old progress.old)) }
+        ensures more { (letters : List Letter) → IfOk result (λ more. more ≡ is_some (step_loop script.now tick (turn_of self.old progress.old letters) number context)) }
+        ensures next { (letters : List Letter) → OnOk result (turn_of self.new progress.new letters
+            ≡ unwrap_or (step_loop script.now tick (turn_of self.old progress.old letters) number context) (turn_of self.old progress.old letters)) }
     {
         if !self.is_running(number) {
             self.frames.end();
@@ -217,19 +269,26 @@ impl Parts {
     }
 
     /// A step where an action or a dispatch may be counted and a call begun: what is innermost takes the next at once.
-    fn step_freely(
+    fn step_freely<P: Post>(
         &mut self,
         alloc: Global,
         script: &Script,
         tick: u32,
         progress: &mut Progress,
+        post: &mut P,
     ) -> Result<bool, AllocError>
         requires within { IsWithin (2 ^ 62) (lane_of self.old) }
+        requires now { (lane_of self.old).tasks.tick ≡ tick + 1 }
+        requires tick { tick < 2 ^ 31 }
+        requires room { (lane_of self.old).tasks.next < 2 ^ 63 }
+        requires view { length (lane_of self.old).view.members ≡ script.now.cancellables }
+        requires sent { progress.old.sent < 2 ^ 63 }
         requires goes { self.old.status ≡ Status.GoesOn }
         requires left { 1 ≤ progress.old.left }
         requires calls { calls (lane_of self.old).frames < 32 }
-        ensures more { IfOk result (λ more. more ≡ is_some (step script.now tick (turn_of self.old progress.old))) }
-        ensures next { OnOk result (turn_of self.new progress.new ≡ stepped script.now tick (turn_of self.old progress.old)) }
+        ensures more { IfOk result (λ more. more ≡ is_some (step script.now tick (turn_of self.old progress.old (P.letters post.old)))) }
+        ensures next { OnOk result (turn_of self.new progress.new (P.letters post.new) ≡ stepped script.now tick (turn_of self.old progress.old (P.letters post.old))) }
+        ensures home { P.home post.new ≡ P.home post.old }
         ensures passes { IsTrue (is_passed (lane_of self.old) (top_of (lane_of self.old).frames)) → IsOk result }
     {
         let depth = self.frames.depth();
@@ -243,7 +302,7 @@ impl Parts {
                 Some(action) => {
                     prove!(call.place < 9_223_372_036_854_775_808);
                     progress.left -= 1;
-                    self.act(alloc, script, tick, action)?;
+                    self.act_and_send(alloc, script, tick, progress, action, post)?;
                     Ok(true)
                 }
             },
@@ -265,17 +324,25 @@ impl Parts {
         }
     }
 
-    /// One step of what is innermost. It answers false where there is none: the lane rests, has ended or is halted.
-    pub(crate) fn step(
+    /// One step of what is innermost, once the tasks are polled. It answers false where there is none: the lane rests, has
+    /// ended or is halted.
+    pub(crate) fn step<P: Post>(
         &mut self,
         alloc: Global,
         script: &Script,
         tick: u32,
         progress: &mut Progress,
+        post: &mut P,
     ) -> Result<bool, AllocError>
-        requires { IsWithin (2 ^ 62) (lane_of self.old) }
-        ensures more { IfOk result (λ more. more ≡ is_some (step script.now tick (turn_of self.old progress.old))) }
-        ensures next { OnOk result (turn_of self.new progress.new ≡ stepped script.now tick (turn_of self.old progress.old)) }
+        requires within { IsWithin (2 ^ 62) (lane_of self.old) }
+        requires now { (lane_of self.old).tasks.tick ≡ tick + 1 }
+        requires tick { tick < 2 ^ 31 }
+        requires room { (lane_of self.old).tasks.next < 2 ^ 63 }
+        requires view { length (lane_of self.old).view.members ≡ script.now.cancellables }
+        requires sent { progress.old.sent < 2 ^ 63 }
+        ensures more { IfOk result (λ more. more ≡ is_some (step script.now tick (turn_of self.old progress.old (P.letters post.old)))) }
+        ensures next { OnOk result (turn_of self.new progress.new (P.letters post.new) ≡ stepped script.now tick (turn_of self.old progress.old (P.letters post.old))) }
+        ensures home { P.home post.new ≡ P.home post.old }
         ensures passes { IsTrue (is_passed (lane_of self.old) (top_of (lane_of self.old).frames)) → IsOk result }
         ensures rests { (lane_of self.old).status ≢ Status.GoesOn → IsOk result }
     {
@@ -284,12 +351,12 @@ impl Parts {
             _ => return Ok(false),
         }
         if progress.left > 0 && self.frames.calls() < 32 {
-            return self.step_freely(alloc, script, tick, progress);
+            return self.step_freely(alloc, script, tick, progress, post);
         }
         match self.frames.top() {
             Top::Nothing => Ok(false),
             Top::Call(call) => {
-                self.step_call(alloc, script, tick, progress, call)?;
+                self.step_call(alloc, script, tick, progress, call, post)?;
                 Ok(true)
             }
             Top::Iteration(context, next, answer) => {

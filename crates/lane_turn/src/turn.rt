@@ -1,35 +1,105 @@
-//! All steps of a turn.
-ghost use Rattle.std.specs.Prelude.{◌≡◌, ◌≢◌, ◌^◌, IsOk, OnOk};
-ghost use Rattle.lane_turn.specs.Turn.{begun, turned};
-ghost use Rattle.lane_turn.specs.Sound.{IsSound};
-ghost use Rattle.lane_turn.specs.Meaning.{lane_of};
+//! All of a turn: the polls of tasks, and the steps.
+ghost use Rattle.std.specs.Prelude.{◌≡◌, ◌≢◌, ◌+◌, ◌^◌, ◌<◌, ◌≤◌, ◌++◌, [], map, length, IsOk, OnOk};
+ghost use Rattle.lane_turn.specs.Turn.{begun, turned, out_of};
+ghost use Rattle.lane_turn.specs.Step.{late_line};
+ghost use Rattle.lane_turn.specs.Polls.{letters_of, after_polls};
+ghost use Rattle.lane_turn.specs.Sound.{IsReady};
+ghost use Rattle.lane_turn.specs.Meaning.{lane_of, turn_of};
 
+use crate::line::Event;
 use crate::parts::{Parts, Status};
 use crate::step::Progress;
 use loop_script::Script;
+use post_office::{Body, Post};
 use std::alloc::{AllocError, Global};
+use task_steps::Reply;
 
 /// How many actions and dispatches a turn may count.
 const COUNTED: u32 = 10_000;
 
+impl Progress {
+    /// Sends replies.
+    fn send_replies<P: Post>(
+        &mut self,
+        tick: u32,
+        sender: u32,
+        replies: &[Reply],
+        post: &mut P,
+    ) -> Result<(), AllocError>
+        requires { self.old.sent + length replies.now < 2 ^ 63 }
+        ensures sent { OnOk result (self.new ≡ record self.old { sent = self.old.sent + length replies.now }) }
+        ensures letters { OnOk result (P.letters post.new ≡ P.letters post.old ++ letters_of tick sender self.old.sent replies.now) }
+        ensures home { P.home post.new ≡ P.home post.old }
+        ensures none { replies.now ≡ [] → IsOk result }
+    {
+        'replies: for reply in replies {
+            self.send(tick, sender, Body::Complete(*reply), post)?;
+        }
+        Ok(())
+    }
+}
+
 impl Parts {
-    /// Takes steps until the lane rests, has ended or is halted.
-    pub(crate) fn take_turn(
+    /// Writes the lines of tasks whose body ends after its reply or with it.
+    fn write_late(&mut self, tick: u32, numbers: &[u64]) -> Result<(), AllocError>
+        ensures late { OnOk result (lane_of self.new ≡ record (lane_of self.old) { trace = (lane_of self.old).trace ++ map (late_line tick (lane_of self.old).number) numbers.now }) }
+        ensures none { numbers.now ≡ [] → IsOk result }
+    {
+        'numbers: for number in numbers {
+            self.write(tick, Event::TaskLate(self.number, *number))?;
+        }
+        Ok(())
+    }
+
+    /// Polls the tasks: sends their replies, and writes which of them are late.
+    fn poll_tasks<P: Post>(
+        &mut self,
+        alloc: Global,
+        tick: u32,
+        progress: &mut Progress,
+        post: &mut P,
+    ) -> Result<(), AllocError>
+        requires now { (lane_of self.old).tasks.tick ≡ tick }
+        requires tick { tick < 2 ^ 31 }
+        requires sent { progress.old.sent + length (lane_of self.old).tasks.started < 2 ^ 63 }
+        ensures polled { OnOk result (turn_of self.new progress.new (P.letters post.new)
+            ≡ after_polls tick (record (turn_of self.old progress.old (P.letters post.old)) {
+                lane = record (lane_of self.old) { tasks = record (lane_of self.old).tasks { started = []; tick = tick + 1 } };
+                unpolled = (lane_of self.old).tasks.started;
+            })) }
+        ensures home { P.home post.new ≡ P.home post.old }
+        ensures none { (lane_of self.old).tasks.started ≡ [] → IsOk result }
+    {
+        let Ok(polled) = self.watch.poll(alloc, tick) else {
+            return Err(AllocError);
+        };
+        progress.send_replies(tick, self.number, polled.replies.as_slice(), post)?;
+        self.write_late(tick, polled.late.as_slice())
+    }
+
+    /// Polls the tasks, and takes steps until the lane rests, has ended or is halted.
+    pub(crate) fn take_turn<P: Post>(
         &mut self,
         alloc: Global,
         script: &Script,
         tick: u32,
+        post: &mut P,
     ) -> Result<(), AllocError>
-        requires { IsSound (2 ^ 62) (begun (lane_of self.old)) }
+        requires ready { IsReady script.now tick (2 ^ 61) (lane_of self.old) }
+        requires tick { tick < 2 ^ 31 }
         ensures turned { OnOk result (lane_of self.new ≡ turned script.now tick (lane_of self.old)) }
-        ensures rests { (lane_of self.old).status ≢ Status.GoesOn → IsOk result }
+        ensures letters { OnOk result (P.letters post.new ≡ P.letters post.old ++ out_of script.now tick (lane_of self.old)) }
+        ensures home { P.home post.new ≡ P.home post.old }
+        ensures rests { (lane_of self.old).status ≢ Status.GoesOn → (lane_of self.old).tasks.started ≡ [] → IsOk result }
     {
         let mut progress = Progress {
             left: COUNTED,
             iterated: false,
+            sent: 0,
         };
+        self.poll_tasks(alloc, tick, &mut progress, post)?;
         'steps: loop {
-            if !self.step(alloc, script, tick, &mut progress)? {
+            if !self.step(alloc, script, tick, &mut progress, post)? {
                 break;
             }
         }

@@ -1,5 +1,5 @@
 //! A lane's view with its ticks, and its tasks.
-ghost use Rattle.std.specs.Prelude.{◌≡◌, ◌+◌, ◌<◌, ◌≤◌, ◌^◌, slice_set, Some, None, IsTrue, IsOk, IfOk, OnOk, OnErr, option_map, if◌then◌else◌};
+ghost use Rattle.std.specs.Prelude.{◌≡◌, [], ◌+◌, ◌<◌, ◌≤◌, ◌^◌, slice_set, Some, None, IsTrue, IsOk, IfOk, OnOk, OnErr, option_map, if◌then◌else◌};
 
 use cancel_view::{Connected, Fired, OutOfMemory, View};
 use loop_script::TaskSpec;
@@ -136,7 +136,7 @@ impl Watch {
     }
 
     /// Polls the tasks at a tick: their replies, and the numbers of those whose body ends after its reply or with it,
-    /// both in start order. After `OutOfMemory` the tasks are forgotten.
+    /// both in start order. Where there is no task, that takes no memory. After `OutOfMemory` the tasks are forgotten.
     pub fn poll(&mut self, alloc: Global, tick: u32) -> Result<Polled, OutOfMemory>
         requires now { self.old.tasks.tick ≡ tick }
         requires tick { tick < 2 ^ 31 }
@@ -144,6 +144,7 @@ impl Watch {
         ensures late { IfOk result (λ p. p.late ≡ late_of tick self.old.tasks) }
         ensures ok { OnOk result (self.new ≡ record self.old { tasks = polled tick self.old.tasks }) }
         ensures err { OnErr result (self.new ≡ forgetful self.old) }
+        ensures none { self.old.tasks.started ≡ [] → IsOk result }
     {
         match self.book.poll_all(alloc, tick, &self.view) {
             Ok(polled) => {

@@ -1,8 +1,8 @@
 -- No part of the reading clears a fault: the forms of reading first, then the parts of a script.
-use Rattle.std.proofs.Common.{ℕ, Bool, true, false, cond, ◌&&◌, List, [], ◌∷◌, Option, Some, None, length, refl, ◌==◌}
-use Rattle.std.specs.Prelude.{ℤ, pos, nat_le, int_le, is_some, option_and_then, codes, sum_by}
+use Rattle.std.proofs.Common.{ℕ, zero, suc, Bool, true, false, cond, ◌&&◌, List, [], ◌∷◌, Option, Some, None, length, refl, ◌==◌}
+use Rattle.std.specs.Prelude.{ℤ, pos, negsuc, nat_le, int_le, is_some, option_and_then, codes, sum_by}
 use Rattle.std.specs.Str.{bytes_eq}
-use Rattle.serde_json.specs.Data.{Data, Num, unsigned, negative, float, Items, no_items, item, Members}
+use Rattle.serde_json.specs.Data.{Data, null, boolean, number, string, array, object, Num, unsigned, negative, float, Items, no_items, item, Members}
 use Rattle.serde_json.specs.Find.{as_number, as_bool, as_null, as_array, as_object}
 use Rattle.loop_script.specs.Read.{Read, done, misshapen, beyond, ◌>>=◌, optional, nullable}
 use Rattle.loop_script.specs.Number.{number_within, whole, integer_from, integer_within, integer, index, index_or_null, slot, bits, priority, ready_time, count_or, flag_from, flag, flag_or}
@@ -12,7 +12,11 @@ use Rattle.loop_script.specs.Rows.{count, each, counted, rows_of, rows, rows_or}
 use Rattle.loop_script.specs.Words.{choice}
 use Rattle.loop_script.specs.Source.{idle, timeout, ready, fd, cancel as cancel_kind, kinds, kind, usual_priority, priority_or, source_spec, child_spec}
 use Rattle.loop_script.specs.Level.{level, levels}
-use Rattle.loop_script.specs.Action.{attach, child, destroy, set_ready, set_priority, iterate, pending, run, quit, cancel, connect, disconnect, log, forms, action}
+use Rattle.loop_script.specs.Action.{attach, child, destroy, set_ready, set_priority, iterate, pending, run, quit, cancel, connect, disconnect, task, log, forms, action}
+use Rattle.loop_script.specs.Tree.{Tree, fail, seq, both, first}
+use Rattle.loop_script.specs.TreeDepth.{fits_in}
+use Rattle.loop_script.specs.TreeForm.{tree, tree_in, trees_in, forms_from, tree_from, part_reading, value_form, fail_form, sleep_form, check_form, pair_from, within_from}
+use Rattle.loop_script.specs.TaskForm.{shallow_tree, limited, priority_or_zero, task_spec}
 use Rattle.loop_script.specs.Plan.{actions, lane, lanes, few_contexts, keep_or, procedure, plan}
 use Rattle.loop_script.specs.declared.action.Action.TheVariants.{Log}
 use Rattle.loop_script.specs.declared.source.Kind.{Kind}
@@ -226,6 +230,89 @@ of_levels : (d : Option Data) → ClearsNone (levels d)
 unfolding levels
 of_levels d = of_rows 0 4096 level of_level d
 
+-- trees, by the readings of their parts
+abbrev AllClear : List (Read Tree) → Type 0
+AllClear [] = Unit {0}
+AllClear (r ∷ rs) = ClearsNone r × AllClear rs
+
+part_clears : (n : ℕ) (rs : List (Read Tree)) → AllClear rs → ClearsNone (part_reading n rs)
+part_clears n [] h = of_misshapen fail
+part_clears zero (r ∷ rs) h = h.0
+part_clears (suc n) (r ∷ rs) h = part_clears n rs h.1
+
+of_value_form : (d : Option Data) → ClearsNone (value_form d)
+unfolding value_form
+of_value_form d s =
+    along (arity 2 d) (of_arity 2 d) s _ (
+    along (integer (negsuc 9223372036854775807) (pos 9223372036854775807) (part 1 d)) (of_integer _ _ _) _ _ (same _))
+
+of_fail_form : (d : Option Data) → ClearsNone (fail_form d)
+unfolding fail_form
+of_fail_form d s = along (arity 1 d) (of_arity 1 d) s _ (same _)
+
+of_sleep_form : (d : Option Data) → ClearsNone (sleep_form d)
+unfolding sleep_form
+of_sleep_form d s = along (arity 2 d) (of_arity 2 d) s _ (along (whole 0 1000000000000000 (part 1 d)) (of_whole 0 1000000000000000 _) _ _ (same _))
+
+of_check_form : (d : Option Data) → ClearsNone (check_form d)
+unfolding check_form
+of_check_form d s = along (arity 1 d) (of_arity 1 d) s _ (same _)
+
+of_pair : (join : Tree → Tree → Tree) (d : Option Data) (parts : ℕ → Read Tree) → ((n : ℕ) → ClearsNone (parts n)) → ClearsNone (pair_from join d parts)
+of_pair join d parts h s = along (arity 3 d) (of_arity 3 d) s _ (along (parts 1) (h 1) _ _ (along (parts 2) (h 2) _ _ (same _)))
+
+of_within : (d : Option Data) (parts : ℕ → Read Tree) → ((n : ℕ) → ClearsNone (parts n)) → ClearsNone (within_from d parts)
+of_within d parts h s =
+    along (arity 3 d) (of_arity 3 d) s _ (
+    along (whole 0 1000000000000000 (part 1 d)) (of_whole 0 1000000000000000 _) _ _ (
+    along (parts 2) (h 2) _ _ (same _)))
+
+of_tree_from : (d : Option Data) (parts : ℕ → Read Tree) → ((n : ℕ) → ClearsNone (parts n)) → ClearsNone (tree_from d parts)
+of_tree_from d parts h =
+    let rows : RowsClear (forms_from d parts) = (of_value_form d, (of_fail_form d, (of_sleep_form d, (of_check_form d, (of_pair seq d parts h, (of_pair both d parts h, (of_pair first d parts h, (of_within d parts h, tt)))))))) in
+    of_choice (word d) (forms_from d parts) (misshapen fail) rows (of_misshapen fail)
+
+mutual
+  unfolding tree_in trees_in
+  of_tree_in : (d : Data) → ClearsNone (tree_in d)
+  of_tree_in null = of_misshapen fail
+  of_tree_in (boolean b) = of_misshapen fail
+  of_tree_in (number n) = of_misshapen fail
+  of_tree_in (string s) = of_misshapen fail
+  of_tree_in (object ms) = of_misshapen fail
+  of_tree_in (array ds) = of_tree_from (Some (array ds)) (λ n. part_reading n (trees_in ds)) (λ n. part_clears n (trees_in ds) (of_trees_in ds))
+
+  of_trees_in : (ds : Items) → AllClear (trees_in ds)
+  of_trees_in no_items = tt
+  of_trees_in (item d ds) = (of_tree_in d, of_trees_in ds)
+
+of_tree : (d : Option Data) → ClearsNone (tree d)
+unfolding tree
+of_tree None = of_misshapen fail
+of_tree (Some d) = of_tree_in d
+
+of_limited : (t : Tree) → ClearsNone (limited t)
+of_limited t = of_either _ _ (fits_in 16 t) (of_done t) (of_beyond fail)
+
+of_shallow_tree : (d : Option Data) → ClearsNone (shallow_tree d)
+unfolding shallow_tree
+of_shallow_tree d = of_next (tree d) limited (of_tree d) of_limited
+
+of_priority_or_zero : (d : Option Data) → ClearsNone (priority_or_zero d)
+unfolding priority_or_zero
+of_priority_or_zero d = of_optional (pos 0) priority of_priority d
+
+of_task_spec : (d : Option Data) → ClearsNone (task_spec d)
+unfolding task_spec
+of_task_spec d s =
+    along (only (codes "tree" ∷ codes "call" ∷ codes "cancel" ∷ codes "check" ∷ codes "return_on_cancel" ∷ codes "priority" ∷ []) d) (of_only _ d) s _ (
+    along (shallow_tree (field (codes "tree") d)) (of_shallow_tree _) _ _ (
+    along (index (field (codes "call") d)) (of_index _) _ _ (
+    along (index_or_null (field (codes "cancel") d)) (of_index_or_null _) _ _ (
+    along (flag_or true (field (codes "check") d)) (of_flag_or _ _) _ _ (
+    along (flag_or false (field (codes "return_on_cancel") d)) (of_flag_or _ _) _ _ (
+    along (priority_or_zero (field (codes "priority") d)) (of_priority_or_zero _) _ _ (same _)))))))
+
 of_attach : (d : Option Data) → ClearsNone (attach d)
 unfolding attach
 of_attach d s =
@@ -292,6 +379,10 @@ of_disconnect : (d : Option Data) → ClearsNone (disconnect d)
 unfolding disconnect
 of_disconnect d s = along (arity 2 d) (of_arity 2 d) s _ (along (slot (part 1 d)) (of_slot _) _ _ (same _))
 
+of_task : (d : Option Data) → ClearsNone (task d)
+unfolding task
+of_task d s = along (arity 2 d) (of_arity 2 d) s _ (along (task_spec (part 1 d)) (of_task_spec _) _ _ (same _))
+
 of_log : (d : Option Data) → ClearsNone (log d)
 unfolding log
 of_log d s = along (arity 2 d) (of_arity 2 d) s _ (along (whole 0 4294967295 (part 1 d)) (of_whole 0 4294967295 _) _ _ (same _))
@@ -299,7 +390,7 @@ of_log d s = along (arity 2 d) (of_arity 2 d) s _ (along (whole 0 4294967295 (pa
 of_action : (d : Option Data) → ClearsNone (action d)
 unfolding action
 of_action d =
-    let rows : RowsClear (forms d) = (of_attach d, (of_child d, (of_destroy d, (of_set_ready d, (of_set_priority d, (of_iterate d, (of_pending d, (of_run d, (of_quit d, (of_cancel d, (of_connect d, (of_disconnect d, (of_log d, tt))))))))))))) in
+    let rows : RowsClear (forms d) = (of_attach d, (of_child d, (of_destroy d, (of_set_ready d, (of_set_priority d, (of_iterate d, (of_pending d, (of_run d, (of_quit d, (of_cancel d, (of_connect d, (of_disconnect d, (of_task d, (of_log d, tt)))))))))))))) in
     of_choice (word d) (forms d) (misshapen (Log 0)) rows (of_misshapen (Log 0))
 
 of_actions : (d : Option Data) → ClearsNone (actions d)
@@ -350,6 +441,8 @@ none_cleared = record {
   source_spec = of_source_spec;
   child_spec = of_child_spec;
   levels = of_levels;
+  tree = of_tree;
+  task_spec = of_task_spec;
   action = of_action;
   actions = of_actions;
   procedure = of_procedure;

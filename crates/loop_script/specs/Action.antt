@@ -6,8 +6,9 @@ use Rattle.loop_script.specs.Number.{whole, index, slot, priority, ready_time}
 use Rattle.loop_script.specs.Array.{part, arity, word}
 use Rattle.loop_script.specs.Words.{choice}
 use Rattle.loop_script.specs.Source.{source_spec, child_spec}
+use Rattle.loop_script.specs.TaskForm.{task_spec}
 use Rattle.loop_script.specs.declared.action.Action.{Action}
-use Rattle.loop_script.specs.declared.action.Action.TheVariants.{Attach, Child, Destroy, SetReady, SetPriority, Iterate, Pending, Run, Quit, Cancel, Connect, Disconnect, Log}
+use Rattle.loop_script.specs.declared.action.Action.TheVariants.{Attach, Child, Destroy, SetReady, SetPriority, Iterate, Pending, Run, Quit, Cancel, Connect, Disconnect, Task, Log}
 
 unfoldable pub attach : Option Data → Read Action
 attach d = do
@@ -89,6 +90,12 @@ disconnect d = do
   slot ← slot (part 1 d)
   done (Disconnect slot)
 
+unfoldable pub task : Option Data → Read Action
+task d = do
+  _ ← arity 2 d
+  spec ← task_spec (part 1 d)
+  done (Task spec)
+
 unfoldable pub log : Option Data → Read Action
 log d = do
   _ ← arity 2 d
@@ -109,6 +116,7 @@ forms d =
     ∷ (codes "cancel", cancel d)
     ∷ (codes "connect", connect d)
     ∷ (codes "disconnect", disconnect d)
+    ∷ (codes "task", task d)
     ∷ (codes "log", log d)
     ∷ []
 

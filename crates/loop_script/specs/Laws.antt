@@ -5,6 +5,8 @@ use Rattle.loop_script.specs.Read.{Read}
 use Rattle.loop_script.specs.Source.{kind, source_spec, child_spec}
 use Rattle.loop_script.specs.Level.{levels}
 use Rattle.loop_script.specs.Action.{action}
+use Rattle.loop_script.specs.TreeForm.{tree}
+use Rattle.loop_script.specs.TaskForm.{task_spec}
 use Rattle.loop_script.specs.Plan.{actions, lane, lanes, procedure, plan}
 use Rattle.loop_script.specs.Script.{Answers}
 use Rattle.loop_script.specs.declared.fault.ScriptFault.{ScriptFault}
@@ -25,6 +27,8 @@ pub record NoFaultIsCleared : Type 0 where
   pub source_spec : (d : Option Data) → ClearsNone (source_spec d)
   pub child_spec : (d : Option Data) → ClearsNone (child_spec d)
   pub levels : (d : Option Data) → ClearsNone (levels d)
+  pub tree : (d : Option Data) → ClearsNone (tree d)
+  pub task_spec : (d : Option Data) → ClearsNone (task_spec d)
   pub action : (d : Option Data) → ClearsNone (action d)
   pub actions : (d : Option Data) → ClearsNone (actions d)
   pub procedure : (d : Option Data) → ClearsNone (procedure d)

@@ -1,10 +1,10 @@
 -- What a script's parts must keep to beside one another.
-use Rattle.std.specs.Prelude.{ℕ, ◌&&◌, Bool, true, false, List, slice_get}
+use Rattle.std.specs.Prelude.{ℕ, ◌&&◌, ◌||◌, not, Bool, true, false, List, slice_get}
 use Rattle.std.specs.List.{list_all}
 use Rattle.loop_script.specs.Level.{rises}
 use Rattle.loop_script.specs.Parts.{actions_of_proc}
 use Rattle.loop_script.specs.declared.action.Action.{Action}
-use Rattle.loop_script.specs.declared.action.Action.TheVariants.{Destroy, SetReady, Quit, Connect, Log}
+use Rattle.loop_script.specs.declared.action.Action.TheVariants.{Destroy, SetReady, Quit, Connect, Task, Log}
 use Rattle.loop_script.specs.declared.plan.Proc.{Proc}
 use Rattle.loop_script.specs.declared.plan.Plan.{Plan}
 
@@ -20,9 +20,10 @@ is_plain _ = false
 abbrev pub is_handler : List Proc → ℕ → Bool
 is_handler procs proc = list_all is_plain (actions_of_proc (slice_get procs proc))
 
--- what is connected is a handler
+-- what is connected is a handler, and a task that returns on cancel checks its cancellable
 abbrev pub action_rules : List Proc → Action → Bool
 action_rules procs (Connect c slot proc) = is_handler procs proc
+action_rules procs (Task t) = t.check || not t.return_on_cancel
 action_rules procs _ = true
 
 abbrev pub plan_rules : Plan → Bool

@@ -50,10 +50,9 @@ within_from d parts = do
   a ← parts 2
   done (within us a)
 
-abbrev pub tree_from : Option Data → (ℕ → Read Tree) → Read Tree
-tree_from d parts =
-    choice (word d)
-    ((codes "value", value_form d)
+abbrev pub forms_from : Option Data → (ℕ → Read Tree) → List (List ℕ × Read Tree)
+forms_from d parts =
+    (codes "value", value_form d)
     ∷ (codes "fail", fail_form d)
     ∷ (codes "sleep", sleep_form d)
     ∷ (codes "check", check_form d)
@@ -61,8 +60,10 @@ tree_from d parts =
     ∷ (codes "both", pair_from both d parts)
     ∷ (codes "first", pair_from first d parts)
     ∷ (codes "within", within_from d parts)
-    ∷ [])
-    (misshapen fail)
+    ∷ []
+
+abbrev pub tree_from : Option Data → (ℕ → Read Tree) → Read Tree
+tree_from d parts = choice (word d) (forms_from d parts) (misshapen fail)
 
 unfoldable mutual
   pub tree_in : Data → Read Tree

@@ -1,7 +1,7 @@
 //! Reading the actions of a script.
 ghost use Rattle.std.specs.Prelude.{◌≡◌, IfOk, OnOk};
 ghost use Rattle.loop_script.specs.Read.{after};
-ghost use Rattle.loop_script.specs.Action.{attach, child, destroy, set_ready, set_priority, iterate, pending, run, quit, cancel, connect, disconnect, log, action};
+ghost use Rattle.loop_script.specs.Action.{attach, child, destroy, set_ready, set_priority, iterate, pending, run, quit, cancel, connect, disconnect, task, log, action};
 ghost use Rattle.loop_script.specs.Seen.{seen};
 
 use crate::action::Action;
@@ -10,6 +10,7 @@ use crate::form::Form;
 use crate::number::{index_number, priority_number, ready_time, slot_number, whole_number};
 use crate::part::{check_arity, part_of, word_of};
 use crate::source::{read_child, read_source};
+use crate::task_form::read_task;
 use serde_json::Value;
 use std::alloc::{AllocError, Global};
 
@@ -19,36 +20,41 @@ impl Form for Action {
     ghost form = { action };
 
     fn read(
-        _alloc: Global,
+        alloc: Global,
         value: Option<&Value>,
         faults: &mut Faults,
     ) -> Result<Action, AllocError> {
-        Ok(read_action(value, faults))
+        read_action(alloc, value, faults)
     }
 }
 
 #[tactic(auto, unfolding(crate::specs::Action::action))]
-fn read_action(value: Option<&Value>, faults: &mut Faults) -> Action
-    ensures value { result ≡ (action (seen value.entry)).value }
-    ensures faults { faults.new ≡ after faults.old (action (seen value.entry)) }
+fn read_action(
+    alloc: Global,
+    value: Option<&Value>,
+    faults: &mut Faults,
+) -> Result<Action, AllocError>
+    ensures value { IfOk result (λ a. a ≡ (action (seen value.entry)).value) }
+    ensures faults { OnOk result (faults.new ≡ after faults.old (action (seen value.entry))) }
 {
     match word_of(value) {
-        "attach" => read_attach(value, faults),
-        "child" => read_child_action(value, faults),
-        "destroy" => read_destroy(value, faults),
-        "set_ready" => read_set_ready(value, faults),
-        "set_priority" => read_set_priority(value, faults),
-        "iterate" => read_iterate(value, faults),
-        "pending" => read_pending(value, faults),
-        "run" => read_run(value, faults),
-        "quit" => read_quit(value, faults),
-        "cancel" => read_cancel(value, faults),
-        "connect" => read_connect(value, faults),
-        "disconnect" => read_disconnect(value, faults),
-        "log" => read_log(value, faults),
+        "attach" => Ok(read_attach(value, faults)),
+        "child" => Ok(read_child_action(value, faults)),
+        "destroy" => Ok(read_destroy(value, faults)),
+        "set_ready" => Ok(read_set_ready(value, faults)),
+        "set_priority" => Ok(read_set_priority(value, faults)),
+        "iterate" => Ok(read_iterate(value, faults)),
+        "pending" => Ok(read_pending(value, faults)),
+        "run" => Ok(read_run(value, faults)),
+        "quit" => Ok(read_quit(value, faults)),
+        "cancel" => Ok(read_cancel(value, faults)),
+        "connect" => Ok(read_connect(value, faults)),
+        "disconnect" => Ok(read_disconnect(value, faults)),
+        "task" => read_task_action(alloc, value, faults),
+        "log" => Ok(read_log(value, faults)),
         _ => {
             faults.shape = true;
-            Action::Log(0)
+            Ok(Action::Log(0))
         }
     }
 }
@@ -172,6 +178,19 @@ fn read_disconnect(value: Option<&Value>, faults: &mut Faults) -> Action
 {
     check_arity(value, 2, faults);
     Action::Disconnect(slot_number(part_of(value, 1), faults))
+}
+
+#[tactic(auto, unfolding(crate::specs::Action::task))]
+fn read_task_action(
+    alloc: Global,
+    value: Option<&Value>,
+    faults: &mut Faults,
+) -> Result<Action, AllocError>
+    ensures value { IfOk result (λ a. a ≡ (task (seen value.entry)).value) }
+    ensures faults { OnOk result (faults.new ≡ after faults.old (task (seen value.entry))) }
+{
+    check_arity(value, 2, faults);
+    Ok(Action::Task(read_task(alloc, part_of(value, 1), faults)?))
 }
 
 #[tactic(auto, unfolding(crate::specs::Action::log))]

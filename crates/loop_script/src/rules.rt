@@ -54,6 +54,7 @@ fn keeps_rules(action: &Action, procs: &[Proc]) -> bool
 {
     match action {
         Action::Connect(_, _, proc) => is_handler(procs, *proc),
+        Action::Task(spec) => spec.check || !spec.return_on_cancel,
         _ => true,
     }
 }

@@ -72,6 +72,15 @@ impl Script {
         self.plan.ticks
     }
 
+    /// How long a tick is, in microseconds.
+    pub fn tick_us(&self) -> u64
+        ensures tick_us { result ≡ self.now.tick_us }
+        ensures some { 0 < result }
+        ensures short { result ≤ 1000000000 }
+    {
+        self.plan.tick_us
+    }
+
     /// The time at a tick, in microseconds.
     pub fn now(&self, tick: u32) -> u64
         ensures now { result ≡ time_of self.now tick }

@@ -1,5 +1,5 @@
 //! The tasks of a lane.
-ghost use Rattle.std.specs.Prelude.{◌≡◌, ℕ, ◌+◌, ◌<◌, ◌≤◌, ◌^◌, ◌↔◌, [], Option, None, Some, false, IsTrue, IfOk, OnOk, OnErr, filter};
+ghost use Rattle.std.specs.Prelude.{◌≡◌, ℕ, ◌+◌, ◌<◌, ◌≤◌, ◌^◌, ◌↔◌, [], Option, None, Some, false, IsTrue, IsOk, IfOk, OnOk, OnErr, filter};
 
 use crate::entries::{add_entry, keep_waiting, new_entry};
 use crate::entry::{Entry, Reply};
@@ -128,7 +128,7 @@ impl TaskBook {
         self.spent = true;
     }
 
-    /// Polls each task in start order. After `OutOfMemory` the book is spent.
+    /// Polls each task in start order. Where there is none, that takes no memory. After `OutOfMemory` the book is spent.
     #[tactic(auto, using(crate::proofs::PollAll::wakes_later_all, crate::proofs::Waiting::kept_none, crate::proofs::Waiting::spent_forgets))]
     pub fn poll_all(&mut self, alloc: Global, tick: u32, view: &View) -> Result<Polled, BookFault>
         requires tick { tick < 2 ^ 31 }
@@ -146,6 +146,7 @@ impl TaskBook {
         ensures view { OnOk result (HasGrown view.now self.new.tasks) }
         ensures spent { (result ≡ Err BookFault.Spent) ↔ IsTrue self.old.spent }
         ensures err { OnErr result (self.new ≡ exhausted self.old) }
+        ensures none { self.old.spent ≡ false → self.old.tasks ≡ [] → IsOk result }
     {
         if self.spent {
             return Err(BookFault::Spent);

@@ -1,5 +1,5 @@
 //! One poll of all tasks.
-ghost use Rattle.std.specs.Prelude.{◌≡◌, ◌+◌, ◌<◌, ◌++◌, ◌∷◌, [], if◌then◌else◌, option_to_list, length, OnOk, map};
+ghost use Rattle.std.specs.Prelude.{◌≡◌, ◌+◌, ◌<◌, ◌++◌, ◌∷◌, [], if◌then◌else◌, option_to_list, length, IsOk, OnOk, map};
 ghost use Rattle.task_steps.specs.Book.{IsIn, HasGrown, replies_next, sees as sees_in};
 ghost use Rattle.task_steps.specs.BookInside.{wake_of_all};
 ghost use Rattle.task_steps.specs.Task.{task_of};
@@ -51,7 +51,8 @@ pub(crate) fn poll_each(
     late: &mut Vec<u64>,
 ) -> Result<(), AllocError>
     requires { CanPollAll tick view.now entries.old.items }
-    ensures { OnOk result (HasPolledAll tick view.now entries.old.items entries.new.items replies.old.items replies.new.items late.old.items late.new.items) }
+    ensures polled { OnOk result (HasPolledAll tick view.now entries.old.items entries.new.items replies.old.items replies.new.items late.old.items late.new.items) }
+    ensures none { entries.old.items ≡ [] → IsOk result }
 {
     let count = entries.len();
     for i in 0..count {

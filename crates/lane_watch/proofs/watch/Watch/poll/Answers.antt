@@ -1,4 +1,4 @@
-use Rattle.std.proofs.Common.{◌≡◌, ℕ, ◌+◌, Option, Some, List, map, filter, ap, sym, ◌∙◌, subst}
+use Rattle.std.proofs.Common.{◌≡◌, ℕ, ◌+◌, Option, Some, List, [], ◌∷◌, refl, map, filter, ap, sym, ◌∙◌, subst}
 use Rattle.task_steps.specs.Task.{Task}
 use Rattle.task_steps.specs.Book.{Book, goes_on, all_noticed}
 use Rattle.lane_watch.specs.Tasks.{Tasks}
@@ -63,3 +63,12 @@ returns-in-Ok-clause-ok c =
     let next = ap (λ (b : Book). b.next) c.in-Ok.ensures.rest in
     (λ i. record { view = c.self.inside.view; tasks = record { started = stay i; next = next i; tick_us = c.self.inside.tick_us; came = c.self.inside.came.items; tick = c.args.tick + 1 } })
     ∙ ap (λ (w : Watched). record w { tasks = polled c.args.tick w.tasks }) c.self.view_is
+
+-- a book without tasks is polled without memory
+none_started : (ts : List Task) → map started_of ts ≡ [] → ts ≡ []
+none_started [] e = refl
+none_started (t ∷ ts) e = cc
+
+pub returns-in-Err-clause-none : goal.returns-in-Err-clause-none
+returns-in-Err-clause-none c e =
+    let no = c.in-Err.ensures.none c.self.invariant.sound (none_started c.self.inside.book.tasks (ap (λ (w : Watched). w.tasks.started) c.self.view_is ∙ e)) in cc

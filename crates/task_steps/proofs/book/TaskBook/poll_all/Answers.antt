@@ -25,7 +25,7 @@ invariant_of-self-2 c =
     record {
       some = c.self.invariant.some;
       short = c.self.invariant.short;
-      waiting = rw c.keep_waiting.ensures (waiting_after b.tick_us b.last c.in-Ok.ensures next waiting);
+      waiting = rw c.keep_waiting.ensures (waiting_after b.tick_us b.last c.in-Ok.ensures.polled next waiting);
       forgotten = going_on c.if-self.false;
     }
 
@@ -34,17 +34,17 @@ found c = rw c.replace-entries.ensures.value (ap (λ (x : Book). x.tasks) c.self
 
 pub returns-clause-replies : goal.returns-clause-replies
 returns-clause-replies c = λ f m.
-    c.from_vec.ensures ∙ (poll_gives c.in-Ok.ensures c.args.self.now.tasks (found c) c.new-replies.ensures.items c.new-late.ensures.items f m).0
+    c.from_vec.ensures ∙ (poll_gives c.in-Ok.ensures.polled c.args.self.now.tasks (found c) c.new-replies.ensures.items c.new-late.ensures.items f m).0
 
 pub returns-clause-late : goal.returns-clause-late
 returns-clause-late c = λ f m.
-    c.from_vec-2.ensures ∙ (poll_gives c.in-Ok.ensures c.args.self.now.tasks (found c) c.new-replies.ensures.items c.new-late.ensures.items f m).1
+    c.from_vec-2.ensures ∙ (poll_gives c.in-Ok.ensures.polled c.args.self.now.tasks (found c) c.new-replies.ensures.items c.new-late.ensures.items f m).1
 
 pub returns-clause-tasks : goal.returns-clause-tasks
 returns-clause-tasks c = λ f m.
-    ap (map task_of) c.keep_waiting.ensures ∙ (poll_gives c.in-Ok.ensures c.args.self.now.tasks (found c) c.new-replies.ensures.items c.new-late.ensures.items f m).2
+    ap (map task_of) c.keep_waiting.ensures ∙ (poll_gives c.in-Ok.ensures.polled c.args.self.now.tasks (found c) c.new-replies.ensures.items c.new-late.ensures.items f m).2
 
 pub returns-clause-view : goal.returns-clause-view
 returns-clause-view c =
     let grown : HasGrown c.args.view.now (map task_of c.replace-entries.result.items) = rw (found c) c.requires.view in
-    rw c.keep_waiting.ensures (grown_after c.in-Ok.ensures grown)
+    rw c.keep_waiting.ensures (grown_after c.in-Ok.ensures.polled grown)

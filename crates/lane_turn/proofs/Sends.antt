@@ -1,0 +1,167 @@
+-- What a step sends, and how tasks and letters are counted.
+use Rattle.std.proofs.Common.{◌≡◌, ℕ, zero, suc, ◌+◌, ◌≤◌, ◌⊎◌, inl, inr, Bool, true, false, cond, Option, Some, None, List, [], ◌∷◌, ◌++◌, length, drop, refl, ap, sym, ◌∙◌, arith, subst, length-append}
+use Rattle.std.specs.Prelude.{slice_get}
+use Rattle.loop_script.specs.declared.plan.Plan.{Plan}
+use Rattle.loop_script.specs.declared.action.Action.{Action}
+use Rattle.loop_script.specs.Parts.{actions_of}
+use Rattle.source_rows.specs.declared.row.Row.{Row}
+use Rattle.post_office.specs.declared.letter.Letter.{Letter}
+use Rattle.post_office.specs.declared.letter.Body.{Body as Mail}
+use Rattle.lane_watch.specs.Tasks.{Started, reply_at, is_late_at, stays_at}
+use Rattle.lane_turn.specs.declared.line.Event.TheVariants as events
+use Rattle.lane_turn.specs.declared.parts.Status.{Status}
+use Rattle.lane_turn.specs.declared.parts.Status.TheVariants.{GoesOn, Ended, Halted}
+use Rattle.lane_turn.specs.declared.layer.Call.{Call}
+use Rattle.lane_turn.specs.Frames.{Frame, CallOf, IterOf, LoopOf}
+use Rattle.lane_turn.specs.Lane.{Lane, Turn, popped, taken, row_of, iterating, is_running, written}
+use Rattle.lane_turn.specs.Acted.{acted, sends}
+use Rattle.lane_turn.specs.Step.{step, step_polling, step_call, step_id, step_top, returned, answered, counted_by, in_lane, dispatching, polled, letter, sending, sent_with, posted_with, mail_of, one_if}
+use Rattle.lane_turn.specs.Sound.{IsPaced}
+use Rattle.lane_turn.specs.Letters.{AreNumbered}
+use Rattle.lane_turn.proofs.Steady.{Steady, still, steady_trans, steady_acted, steady_dispatching, steady_returned, steady_answered}
+
+-- a step sends one letter at most, the next of the turn, and starts one task at most where it counts one
+pub record Sends (tick : ℕ) (t u : Turn) : Type 0 where
+  pub number : u.lane.number ≡ t.lane.number
+  pub now : u.lane.tasks.tick ≡ t.lane.tasks.tick
+  pub view : length u.lane.view.members ≡ length t.lane.view.members
+  pub paced : (n : ℕ) → IsPaced n t → IsPaced n u
+  pub mail : Option Mail
+  pub sent : u.sent ≡ sent_with mail t.sent
+  pub posted : u.posted ≡ posted_with tick t.lane.number t.sent t.posted mail
+
+some_same : (t u : Turn) → Some t ≡ Some u → t ≡ u
+some_same t u e = cc
+
+sent_most : (mail : Option Mail) (n : ℕ) → sent_with mail n ≤ n + 1
+sent_most None n = omega arith
+sent_most (Some body) n = omega arith
+
+-- what is counted
+counted_sends : (tick : ℕ) (mail : Option Mail) (f : Lane → Lane) (t : Turn) (left : ℕ) → t.left ≡ left → Steady 1 t.lane (f t.lane) → Sends tick t (counted_by tick mail f t left)
+counted_sends tick mail f t zero e h = record {
+  number = refl;
+  now = refl;
+  view = refl;
+  paced = λ n p. record { next = p.next; few = p.few; sent = p.sent };
+  mail = None;
+  sent = refl;
+  posted = refl;
+}
+counted_sends tick mail f t (suc left) e h = record {
+  number = h.number;
+  now = h.tick;
+  view = h.view;
+  paced = λ n p. record { next = omega (arith, e, h.next, p.next); few = omega (arith, e, h.few, p.few); sent = omega (arith, e, sent_most mail t.sent, p.sent) };
+  mail = mail;
+  sent = refl;
+  posted = refl;
+}
+
+-- what is not
+freely_sends : (tick : ℕ) (t : Turn) (after : Lane) (iterated : Bool) → Steady 0 t.lane after → Sends tick t (record t { lane = after; iterated = iterated })
+freely_sends tick t after iterated h = record {
+  number = h.number;
+  now = h.tick;
+  view = h.view;
+  paced = λ n p. record { next = omega (arith, h.next, p.next); few = omega (arith, h.few, p.few); sent = p.sent };
+  mail = None;
+  sent = refl;
+  posted = refl;
+}
+
+taken_too : (lane after : Lane) → Steady 1 (taken lane) after → Steady 1 lane after
+taken_too lane after h = steady_trans 1 lane (taken lane) after (still 0 lane (taken lane) refl refl refl) h
+
+popped_too : (lane after : Lane) → Steady 0 (popped lane) after → Steady 0 lane after
+popped_too lane after h = steady_trans 0 lane (popped lane) after (still 0 lane (popped lane) refl refl refl) h
+
+call_sends : (script : Plan) (tick : ℕ) (t : Turn) (call : Call) (a : Option Action) → Sends tick t (step_call script tick t call a)
+call_sends script tick t call (Some a) = counted_sends tick (sends a (taken t.lane)) (λ lane. acted script tick a (taken lane)) t t.left refl (taken_too t.lane _ (steady_acted script tick a (taken t.lane)))
+call_sends script tick t call None = freely_sends tick t _ t.iterated (popped_too t.lane _ (steady_returned script tick call.body call.origin (popped t.lane)))
+
+id_sends : (tick : ℕ) (t : Turn) (context : ℕ) (r : Option Row) → Sends tick t (step_id tick t context r)
+id_sends tick t context None = freely_sends tick t (taken t.lane) t.iterated (still 0 t.lane _ refl refl refl)
+id_sends tick t context (Some row) = counted_sends tick None (dispatching tick context row) t t.left refl (steady_dispatching tick context row t.lane)
+
+loop_sends : (script : Plan) (tick : ℕ) (t : Turn) (number context : ℕ) (runs iterated : Bool) (u : Turn)
+    → cond runs (cond iterated None (Some (record t { lane = iterating script tick context None t.lane; iterated = true }))) (Some (in_lane (λ lane. written tick (events.LoopEnd number) (popped lane)) t)) ≡ Some u → Sends tick t u
+loop_sends script tick t number context true true u e = cc
+loop_sends script tick t number context true false u e = subst (Sends tick t) (some_same _ _ e) (freely_sends tick t (iterating script tick context None t.lane) true (still 0 t.lane _ refl refl refl))
+loop_sends script tick t number context false iterated u e = subst (Sends tick t) (some_same _ _ e) (freely_sends tick t (written tick (events.LoopEnd number) (popped t.lane)) t.iterated (still 0 t.lane _ refl refl refl))
+
+abbrev turn : Turn → List Frame → Status → Turn
+turn t frames status = record t { lane = record t.lane { frames = frames; status = status }; unpolled = [] }
+
+step_sends : (script : Plan) (tick : ℕ) (t : Turn) (frames : List Frame) (status : Status) (u : Turn) → step script tick (turn t frames status) ≡ Some u → Sends tick (turn t frames status) u
+step_sends script tick t [] GoesOn u e = cc
+step_sends script tick t (CallOf call ∷ below) GoesOn u e =
+    let now : Turn = turn t (CallOf call ∷ below) GoesOn in
+    subst (Sends tick now) (some_same _ _ e) (call_sends script tick now call (slice_get (actions_of script call.body) call.place))
+step_sends script tick t (IterOf context [] answer ∷ below) GoesOn u e =
+    let now : Turn = turn t (IterOf context [] answer ∷ below) GoesOn in
+    subst (Sends tick now) (some_same _ _ e) (freely_sends tick now _ now.iterated (popped_too now.lane _ (steady_answered tick context answer (popped now.lane))))
+step_sends script tick t (IterOf context (id ∷ ids) answer ∷ below) GoesOn u e =
+    let now : Turn = turn t (IterOf context (id ∷ ids) answer ∷ below) GoesOn in
+    subst (Sends tick now) (some_same _ _ e) (id_sends tick now context (row_of context id now.lane))
+step_sends script tick t (LoopOf number context ∷ below) GoesOn u e =
+    let now : Turn = turn t (LoopOf number context ∷ below) GoesOn in
+    loop_sends script tick now number context (is_running number now.lane) now.iterated u e
+step_sends script tick t frames Ended u e = cc
+step_sends script tick t frames Halted u e = cc
+
+-- a poll
+one_most : (A : Type 0) (b : Bool) (x : A) → length (one_if b x) ≤ 1
+one_most A true x = omega arith
+one_most A false x = omega arith
+
+polled_sends : (tick : ℕ) (t : Turn) (task : Started) (tasks : List Started) → Sends tick (record t { unpolled = task ∷ tasks }) (polled tick task (record t { unpolled = tasks }))
+polled_sends tick t task tasks =
+    let mail : Option Mail = mail_of (reply_at tick t.lane.tasks task) in
+    let stays : Bool = stays_at tick t.lane.tasks task in
+    record {
+      number = refl;
+      now = refl;
+      view = refl;
+      paced = λ n p. record {
+        next = p.next;
+        few = omega (arith, p.few, length-append t.lane.tasks.started (one_if stays task), one_most Started stays task);
+        sent = omega (arith, p.sent, sent_most mail t.sent);
+      };
+      mail = mail;
+      sent = refl;
+      posted = refl;
+    }
+
+polling_sends : (script : Plan) (tick : ℕ) (t : Turn) (tasks : List Started) (u : Turn) → step_polling script tick (record t { unpolled = tasks }) tasks ≡ Some u → Sends tick (record t { unpolled = tasks }) u
+polling_sends script tick t [] u e = step_sends script tick t t.lane.frames t.lane.status u e
+polling_sends script tick t (task ∷ tasks) u e = subst (Sends tick (record t { unpolled = task ∷ tasks })) (some_same _ _ e) (polled_sends tick t task tasks)
+
+pub step_tells : (script : Plan) (tick : ℕ) (t u : Turn) → step script tick t ≡ Some u → Sends tick t u
+step_tells script tick t u e = polling_sends script tick t t.unpolled u e
+
+-- ---- the letters of a turn
+
+numbered_push : (tick sender n : ℕ) (ls : List Letter) (l : Letter) → AreNumbered tick sender n ls → l.tick ≡ tick → l.sender ≡ sender → l.number ≡ n + length ls → AreNumbered tick sender n (ls ++ l ∷ [])
+numbered_push tick sender n [] l h t s e = (t, (s, (omega (arith, e), tt)))
+numbered_push tick sender n (x ∷ ls) l h t s e = (h.0, (h.1.0, (h.1.1.0, numbered_push tick sender (n + 1) ls l h.1.1.1 t s (omega (arith, e)))))
+
+-- a turn that numbered its letters from 0
+pub record Numbers (tick sender : ℕ) (t : Turn) : Type 0 where
+  pub number : t.lane.number ≡ sender
+  pub numbered : AreNumbered tick sender 0 t.posted
+  pub sent : length t.posted ≡ t.sent
+
+posted_numbers : (tick sender : ℕ) (t : Turn) (mail : Option Mail) → Numbers tick sender t → AreNumbered tick sender 0 (posted_with tick t.lane.number t.sent t.posted mail) × (length (posted_with tick t.lane.number t.sent t.posted mail) ≡ sent_with mail t.sent)
+posted_numbers tick sender t None h = (h.numbered, h.sent)
+posted_numbers tick sender t (Some body) h =
+    (numbered_push tick sender 0 t.posted (letter tick t.lane.number t.sent body) h.numbered refl h.number (omega (arith, h.sent)), omega (arith, h.sent, length-append t.posted (letter tick t.lane.number t.sent body ∷ [])))
+
+pub numbers_on : (tick sender : ℕ) (t u : Turn) → Sends tick t u → Numbers tick sender t → Numbers tick sender u
+numbers_on tick sender t u s h =
+    let p = posted_numbers tick sender t s.mail h in
+    record {
+      number = s.number ∙ h.number;
+      numbered = subst (AreNumbered tick sender 0) (sym s.posted) p.0;
+      sent = ap (λ (ls : List Letter). length ls) s.posted ∙ (p.1 ∙ sym s.sent);
+    }

@@ -1,0 +1,13 @@
+use Rattle.std.proofs.Common.{◌+◌, ◌*◌, sym, ap, subst, length}
+use Rattle.lane_turn.specs.Lane.{Kept}
+use Rattle.lane_turn.specs.Meaning.{lane_of}
+use Rattle.lane_turn.specs.Sound.{IsReady}
+use Rattle.lane_turn.proofs.Delivered.{ready-received_all}
+use Rattle.lane_turn.proofs.state.LaneState.deliver.Goals as goal
+
+pub returns-in-Ok-clause-ready : goal.returns-in-Ok-clause-ready
+returns-in-Ok-clause-ready c m r =
+    let script = c.args.script.now in
+    let next = c.args.tick + 1 in
+    subst (IsReady script next (m + 2 * length c.args.letters.now)) (sym c.in-Ok.ensures.delivered)
+    (ready-received_all script c.args.tick next m c.args.letters.now (lane_of c.self.inside.parts) (subst (IsReady script next m) (sym (ap (λ (k : Kept). k.lane) c.self.view_is)) r))

@@ -1,0 +1,40 @@
+-- All polls of a turn at once.
+use Rattle.std.specs.Prelude.{ℕ, ◌+◌, List, [], ◌∷◌, ◌++◌, map, filter, length}
+use Rattle.std.specs.List.{filter_map}
+use Rattle.task_steps.specs.declared.entry.Reply.{Reply}
+use Rattle.post_office.specs.declared.letter.Letter.{Letter}
+use Rattle.post_office.specs.declared.letter.Body.TheVariants as mails
+use Rattle.lane_watch.specs.Tasks.{Started, Tasks, reply_at, is_late_at, stays_at}
+use Rattle.lane_turn.specs.Lane.{Lane, Turn}
+use Rattle.lane_turn.specs.Step.{late_line}
+
+-- the letters of replies, numbered on
+abbrev pub letters_of : (tick sender number : ℕ) → List Reply → List Letter
+letters_of tick sender number [] = []
+letters_of tick sender number (reply ∷ replies) =
+    record { tick = tick; sender = sender; number = number; body = mails.Complete reply } ∷ letters_of tick sender (number + 1) replies
+
+-- the replies, the late numbers and the tasks that go on, of a poll of some tasks
+abbrev pub replies_among : ℕ → Tasks → List Started → List Reply
+replies_among tick tasks ts = filter_map (reply_at tick tasks) ts
+
+abbrev pub late_among : ℕ → Tasks → List Started → List ℕ
+late_among tick tasks ts = map (λ t. t.number) (filter (is_late_at tick tasks) ts)
+
+abbrev pub staying_among : ℕ → Tasks → List Started → List Started
+staying_among tick tasks ts = filter (stays_at tick tasks) ts
+
+-- the turn once all its tasks are polled
+abbrev pub polled_lane : ℕ → List Started → Lane → Lane
+polled_lane tick ts lane = record lane {
+  tasks = record lane.tasks { started = lane.tasks.started ++ staying_among tick lane.tasks ts };
+  trace = lane.trace ++ map (late_line tick lane.number) (late_among tick lane.tasks ts);
+}
+
+abbrev pub after_polls : ℕ → Turn → Turn
+after_polls tick t = record t {
+  lane = polled_lane tick t.unpolled t.lane;
+  unpolled = [];
+  sent = t.sent + length (replies_among tick t.lane.tasks t.unpolled);
+  posted = t.posted ++ letters_of tick t.lane.number t.sent (replies_among tick t.lane.tasks t.unpolled);
+}

@@ -1,0 +1,85 @@
+//! What a lane does with the letters of a tick.
+ghost use Rattle.std.specs.Prelude.{◌≡◌, ◌+◌, ◌≤◌, ◌^◌, [], length, IsOk, OnOk};
+ghost use Rattle.lane_turn.specs.Deliver.{reply_spec, arrived, received, received_all};
+ghost use Rattle.lane_turn.specs.Sound.{IsWithin, IsReady};
+ghost use Rattle.lane_turn.specs.Meaning.{lane_of};
+
+use crate::line::Event;
+use crate::parts::Parts;
+use crate::replies::Awaited;
+use loop_script::{Kind, Script, SourceSpec};
+use post_office::{Body, Letter};
+use std::alloc::{AllocError, Global};
+use task_steps::Reply;
+
+/// The source of a reply.
+fn reply_spec(reply: &Reply) -> SourceSpec
+    ensures { result ≡ reply_spec reply.now }
+{
+    SourceSpec {
+        kind: Kind::Idle,
+        priority: reply.priority,
+        recurse: false,
+        call: Some(reply.call),
+    }
+}
+
+impl Parts {
+    /// Attaches the source of a reply, where its context is the lane's.
+    fn arrive(
+        &mut self,
+        script: &Script,
+        tick: u32,
+        sender: u32,
+        reply: Reply,
+    ) -> Result<(), AllocError>
+        requires { IsWithin (2 ^ 62) (lane_of self.old) }
+        ensures { OnOk result (lane_of self.new ≡ arrived script.now tick sender reply (lane_of self.old)) }
+    {
+        if !self.owns(reply.ctx) {
+            return Ok(());
+        }
+        let id = self.attach(reply.ctx, reply_spec(&reply), script.now(tick))?;
+        if self.replies.insert((reply.ctx, id), Awaited { sender, reply }).is_err() {
+            return Err(AllocError);
+        }
+        self.write(tick, Event::Arrive(reply.ctx, id))
+    }
+
+    /// Takes a letter.
+    fn receive(
+        &mut self,
+        alloc: Global,
+        script: &Script,
+        tick: u32,
+        letter: &Letter,
+    ) -> Result<(), AllocError>
+        requires within { IsWithin (2 ^ 62) (lane_of self.old) }
+        requires now { (lane_of self.old).tasks.tick ≡ tick + 1 }
+        ensures { OnOk result (lane_of self.new ≡ received script.now tick letter.now (lane_of self.old)) }
+    {
+        match letter.body {
+            Body::Complete(reply) => self.arrive(script, tick, letter.sender, reply),
+            Body::Cancelled(c) => self.act_cancel(alloc, script, tick, c),
+        }
+    }
+
+    /// Takes the letters of a tick.
+    pub(crate) fn take_letters(
+        &mut self,
+        alloc: Global,
+        script: &Script,
+        tick: u32,
+        letters: &[Letter],
+    ) -> Result<(), AllocError>
+        requires ready { IsReady script.now (tick + 1) (2 ^ 61) (lane_of self.old) }
+        requires few { length letters.now ≤ 2 ^ 60 }
+        ensures delivered { OnOk result (lane_of self.new ≡ received_all script.now tick letters.now (lane_of self.old)) }
+        ensures nothing { letters.now ≡ [] → IsOk result }
+    {
+        'letters: for letter in letters {
+            self.receive(alloc, script, tick, letter)?;
+        }
+        Ok(())
+    }
+}
