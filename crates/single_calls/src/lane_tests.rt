@@ -1,6 +1,11 @@
-//! The first run's lane with ample memory, and with memory refused.
+//! Lanes with ample memory, and with memory refused: the first run's, and one that takes a task's reply.
+ghost use Rattle.std.specs.Prelude.{◌≡◌, ℕ, ◌^◌, false, Err, IsTrue};
+ghost use Rattle.lane_turn.specs.Sound.{IsReady};
+
 use lane_turn::{Event, LaneFault, LaneState, Line};
-use loop_script::Script;
+use loop_script::{Outcome, Script};
+use post_office::Tray;
+use std::alloc::Global;
 use std::test::Fail;
 
 fn first_run_script() -> &'static str {
@@ -22,10 +27,12 @@ const LINES: [Line; 2] = [
 fn first_run(rt: HostRuntime) -> Result<(), Fail> {
     let script = Script::read(rt.alloc(), first_run_script().as_bytes())?;
     let mut lane = LaneState::new(rt.alloc(), &script, 0)?;
-    lane.turn(&script, 0)?;
-    lane.turn(&script, 1)?;
+    let mut tray = Tray::new(rt.alloc());
+    lane.turn(&script, 0, &mut tray)?;
+    lane.turn(&script, 1, &mut tray)?;
     assert_eq!(rt; lane.trace(), LINES.as_slice());
     assert!(rt; !lane.halted());
+    assert_eq!(rt; tray.into_letters().len(), 0);
     Ok(())
 }
 
@@ -41,12 +48,80 @@ fn refused_turn(rt: HostRuntime) {
             return;
         }
     };
-    match lane.turn(&script, 0) {
+    let mut tray = Tray::new(rt.alloc());
+    match lane.turn(&script, 0, &mut tray) {
         Ok(()) => assert_eq!(rt; lane.trace(), LINES.as_slice()),
         Err(fault) => {
             assert_eq!(rt; fault, LaneFault::OutOfMemory);
-            assert_eq!(rt; lane.turn(&script, 1), Err(LaneFault::Spent));
-            assert_eq!(rt; lane.turn(&script, 1), Err(LaneFault::Spent));
+            assert_eq!(rt; lane.turn(&script, 1, &mut tray), Err(LaneFault::Spent));
+            assert_eq!(rt; lane.turn(&script, 1, &mut tray), Err(LaneFault::Spent));
+        }
+    }
+}
+
+fn reply_script() -> &'static str {
+    r#"{"version":1,"ticks":3,"tick_us":1000,"loops":[0],"procs":[{"do":[]}],"lanes":[{"contexts":1,"start":[["task",{"tree":["value",8],"call":0}],["run",0]]}]}"#
+}
+
+const REPLY_LINES: [Line; 3] = [
+    Line {
+        tick: 1,
+        event: Event::Arrive(0, 1),
+    },
+    Line {
+        tick: 2,
+        event: Event::Dispatch(0, 1, 0, 1),
+    },
+    Line {
+        tick: 2,
+        event: Event::Task(0, 0, Outcome::Ok(8)),
+    },
+];
+
+/// A new lane's turns and deliveries up to the turn that dispatches a reply; the first fault ends them.
+fn take_reply(alloc: Global, script: &Script, lane: &mut LaneState) -> Result<(), LaneFault>
+    requires fresh { lane.old.spent ≡ false }
+    requires ready { IsReady script.now 0 1 lane.old.lane }
+    ensures memory { result ≡ Err LaneFault.OutOfMemory → IsTrue lane.new.spent }
+{
+    let mut tray = Tray::new(alloc);
+    lane.turn(script, 0, &mut tray)?;
+    lane.deliver(script, 0, &[])?;
+    lane.turn(script, 1, &mut tray)?;
+    let letters = tray.into_letters();
+    if letters.len() > 100 {
+        return Ok(());
+    }
+    lane.deliver(script, 1, &letters)?;
+    lane.turn(script, 2, &mut Tray::new(alloc))
+}
+
+#[test]
+fn takes_a_reply(rt: HostRuntime) -> Result<(), Fail> {
+    let script = Script::read(rt.alloc(), reply_script().as_bytes())?;
+    let mut lane = LaneState::new(rt.alloc(), &script, 0)?;
+    take_reply(rt.alloc(), &script, &mut lane)?;
+    assert_eq!(rt; lane.trace(), REPLY_LINES.as_slice());
+    Ok(())
+}
+
+/// Whatever request is refused, the lines are right or the lane is spent for both calls.
+#[test]
+fn refused_reply(rt: HostRuntime) {
+    let Ok(script) = Script::read(rt.alloc(), reply_script().as_bytes()) else {
+        return;
+    };
+    let Ok(mut lane) = LaneState::new(rt.alloc(), &script, 0) else {
+        return;
+    };
+    match take_reply(rt.alloc(), &script, &mut lane) {
+        Ok(()) => assert_eq!(rt; lane.trace(), REPLY_LINES.as_slice()),
+        Err(LaneFault::Spent) => assert!(rt; false),
+        Err(LaneFault::OutOfMemory) => {
+            let mut tray = Tray::new(rt.alloc());
+            assert_eq!(rt; lane.turn(&script, 2, &mut tray), Err(LaneFault::Spent));
+            assert_eq!(rt; lane.deliver(&script, 2, &[]), Err(LaneFault::Spent));
+            assert_eq!(rt; lane.deliver(&script, 2, &[]), Err(LaneFault::Spent));
         }
     }
 }
