@@ -40,6 +40,3 @@ pub use script::Script;
 pub use source::{Kind, SourceSpec};
 pub use task::TaskSpec;
 pub use tree::{Node, TaskTree};
-
-#[cfg(test)]
-mod tests;

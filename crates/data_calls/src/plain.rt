@@ -1,7 +1,7 @@
 //! Rows in a plain list, which each call goes through, and numbers from a seed.
 ghost use Rattle.std.specs.Prelude.{◌<◌};
 
-use crate::{Levels, Row, RowsFault};
+use source_rows::{Levels, Row, RowsFault};
 use std::alloc::{AllocError, Global};
 
 /// Numbers that look random, the same for the same seed.

@@ -1,8 +1,8 @@
 //! Rows with few enough edits ahead that each may be tried.
 ghost use Rattle.std.specs.Prelude.{◌+◌, ◌≤◌, ◌^◌};
 
-use crate::{Levels, Rows, RowsFault};
 use loop_script::SourceSpec;
+use source_rows::{Levels, Rows, RowsFault};
 use std::alloc::Global;
 use std::test::Fail;
 

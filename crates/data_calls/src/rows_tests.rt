@@ -1,13 +1,11 @@
 //! Single calls of rows, with ample memory and with memory refused, and random edits beside plain rows.
-mod plain;
-mod tried;
-
-use crate::{Levels, RowsFault};
+use crate::plain::{Plain, Random};
+use crate::tried::Tried;
 use loop_script::{Kind, SourceSpec};
-use plain::{Plain, Random};
+use source_rows::{Levels, RowsFault};
 use std::alloc::Global;
+use std::process::Abort;
 use std::test::Fail;
-use tried::Tried;
 
 fn idle() -> SourceSpec {
     SourceSpec {
@@ -98,24 +96,70 @@ fn steps_of_four_levels() -> [Known; 14] {
     ]
 }
 
-#[test]
-fn two_levels(rt: HostRuntime) -> Result<(), Fail> {
-    let mut rows = Tried::new(rt.alloc(), Levels::Two);
-    for (step, answer, order) in steps_of_two_levels().iter() {
+/// Takes steps of which the answers and the orders are known.
+fn expect_steps(
+    rt: &impl Abort,
+    alloc: Global,
+    levels: Levels,
+    steps: &[Known],
+) -> Result<(), Fail> {
+    let mut rows = Tried::new(alloc, levels);
+    for (step, answer, order) in steps.iter() {
         assert_eq!(rt; take(&mut rows, step), *answer);
-        assert_eq!(rt; rows.ids(rt.alloc())?.as_slice(), *order);
+        assert_eq!(rt; rows.ids(alloc)?.as_slice(), *order);
     }
     Ok(())
 }
 
 #[test]
+fn two_levels(rt: HostRuntime) -> Result<(), Fail> {
+    expect_steps(&rt, rt.alloc(), Levels::Two, &steps_of_two_levels())
+}
+
+#[test]
 fn four_levels(rt: HostRuntime) -> Result<(), Fail> {
-    let mut rows = Tried::new(rt.alloc(), Levels::Four);
-    for (step, answer, order) in steps_of_four_levels().iter() {
-        assert_eq!(rt; take(&mut rows, step), *answer);
-        assert_eq!(rt; rows.ids(rt.alloc())?.as_slice(), *order);
+    expect_steps(&rt, rt.alloc(), Levels::Four, &steps_of_four_levels())
+}
+
+fn count(rows: &Tried) -> usize {
+    rows.rows.ordered().count()
+}
+
+fn expect_priority(rt: &impl Abort, rows: &Tried, id: u64, priority: i32) {
+    match rows.rows.row(id) {
+        Some(row) => assert_eq!(rt; row.priority, priority),
+        None => assert!(rt; false, "no row {id}"),
     }
-    Ok(())
+}
+
+/// Whether a call made a row, behind so many; else memory was refused, and those are left.
+fn is_made(rt: &impl Abort, rows: &Tried, answer: Result<u64, RowsFault>, before: u32) -> bool {
+    let id = u64::from(before) + 1;
+    match answer {
+        Ok(made) => {
+            assert_eq!(rt; made, id);
+            true
+        }
+        Err(fault) => {
+            assert_eq!(rt; fault, RowsFault::OutOfMemory);
+            assert_eq!(rt; rows.rows.row(id), None);
+            assert_eq!(rt; count(rows), before as usize);
+            false
+        }
+    }
+}
+
+/// Gives a root with one child a priority, or finds both as they were.
+fn try_priority(rt: &impl Abort, rows: &mut Tried) {
+    match rows.set_priority(1, 0) {
+        Ok(()) => expect_priority(rt, rows, 2, 0),
+        Err(fault) => {
+            assert_eq!(rt; fault, RowsFault::OutOfMemory);
+            expect_priority(rt, rows, 1, 200);
+            expect_priority(rt, rows, 2, 200);
+            assert_eq!(rt; count(rows), 2);
+        }
+    }
 }
 
 /// Each call answers that memory was refused, and leaves the rows as they were, or gives the exact answer.
@@ -123,30 +167,16 @@ fn four_levels(rt: HostRuntime) -> Result<(), Fail> {
 fn refused_rows(rt: HostRuntime) {
     let mut rows = Tried::new(rt.alloc(), Levels::Two);
     let attached = rows.attach(idle(), 0);
-    if attached == Err(RowsFault::OutOfMemory) {
-        assert_eq!(rt; rows.rows.row(1), None);
-        assert_eq!(rt; rows.rows.ordered().count(), 0);
+    if !is_made(&rt, &rows, attached, 0) {
         return;
     }
-    assert_eq!(rt; attached, Ok(1));
     let added = rows.add_child(1, idle(), 0);
-    if added == Err(RowsFault::OutOfMemory) {
-        assert_eq!(rt; rows.rows.row(2), None);
-        assert_eq!(rt; rows.rows.ordered().count(), 1);
+    if !is_made(&rt, &rows, added, 1) {
         return;
     }
-    assert_eq!(rt; added, Ok(2));
-    match rows.set_priority(1, 0) {
-        Ok(()) => assert_eq!(rt; rows.rows.row(2).map(|row| row.priority), Some(0)),
-        Err(fault) => {
-            assert_eq!(rt; fault, RowsFault::OutOfMemory);
-            assert_eq!(rt; rows.rows.row(1).map(|row| row.priority), Some(200));
-            assert_eq!(rt; rows.rows.row(2).map(|row| row.priority), Some(200));
-            assert_eq!(rt; rows.rows.ordered().count(), 2);
-        }
-    }
-    assert_eq!(rt; rows.destroy(1), true);
-    assert_eq!(rt; rows.rows.ordered().count(), 0);
+    try_priority(&rt, &mut rows);
+    assert!(rt; rows.destroy(1));
+    assert_eq!(rt; count(&rows), 0);
 }
 
 /// One random edit of the rows and of the plain ones; both then have the same rows in the same order.
@@ -204,26 +234,24 @@ fn random_edits(rt: HostRuntime) -> Result<(), Fail> {
 }
 
 /// Ready times that come one behind the other, that are changed from the first on, and that go from the first on, stand in
-/// a low tree: in a balanced one of 2,000 at most 15 are above each other, in one of 100 at most 9.
+/// a low tree: in one that leans so many would stand above each other that a call finds no stack, or no end.
 #[test]
 fn low_tree(rt: HostRuntime) -> Result<(), Fail> {
     let mut rows = Tried::new(rt.alloc(), Levels::Two);
-    for now in 0..2_000_u32 {
+    for now in 0..100_000_u32 {
         assert_eq!(rt; rows.attach(timeout(), now), Ok(now as u64 + 1));
     }
-    assert!(rt; rows.rows.height() <= 15, "low when built");
-    for id in 1..=1_000_u64 {
-        assert!(rt; rows.set_ready(id, 5_000 + id as i64), "a row");
+    assert_eq!(rt; rows.next_ready(0), 2_000);
+    for id in 1..=90_000_u64 {
+        assert!(rt; rows.set_ready(id, 500_000 + id as i64), "a row");
     }
-    assert!(rt; rows.rows.height() <= 15, "low when changed");
-    assert_eq!(rt; rows.next_ready(0), 3_000);
-    for id in 1_001..=2_000_u64 {
+    assert_eq!(rt; rows.next_ready(0), 92_000);
+    for id in 90_001..=100_000_u64 {
         assert!(rt; rows.destroy(id), "a row");
     }
-    for id in 101..=1_000_u64 {
+    for id in 101..=90_000_u64 {
         assert!(rt; rows.destroy(id), "a row");
     }
-    assert!(rt; rows.rows.height() <= 9, "low when most are gone");
-    assert_eq!(rt; rows.next_ready(0), 5_001);
+    assert_eq!(rt; rows.next_ready(0), 500_001);
     Ok(())
 }

@@ -1,5 +1,5 @@
 //! A script that is read with ample memory and tells its parts, and one that is read with memory refused.
-use crate::{Action, Body, Script, ScriptFault};
+use loop_script::{Action, Body, Script, ScriptFault};
 use std::test::Fail;
 
 // (texts stand in functions of their own: a proof that sees a literal reads it byte by byte)

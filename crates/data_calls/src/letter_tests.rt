@@ -1,5 +1,5 @@
 //! Letters in a tray and in order, with ample memory and with memory refused.
-use crate::{Body, Letter, Post, Tray, merge};
+use post_office::{Body, Letter, Post, Tray, merge};
 use std::alloc::Global;
 use std::test::Fail;
 

@@ -1,5 +1,5 @@
-use Rattle.task_steps.proofs.Going.{going_started}
-use Rattle.task_steps.proofs.book_tests.Lane.start.Goals as goal
+use Rattle.data_calls.proofs.Going.{going_started}
+use Rattle.data_calls.proofs.book_tests.Lane.start.Goals as goal
 
 pub returns : goal.returns
 returns g c =

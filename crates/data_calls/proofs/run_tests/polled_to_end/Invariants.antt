@@ -1,7 +1,7 @@
 use Rattle.std.proofs.Common.{◌≡◌, ℕ, ◌<◌, true, Option, Some, None}
 use Rattle.task_steps.specs.End.{seen}
 use Rattle.task_steps.specs.Run.{MaySet}
-use Rattle.task_steps.proofs.tests.polled_to_end.Given as goal
+use Rattle.data_calls.proofs.run_tests.polled_to_end.Given as goal
 
 -- what was seen as cancelled is cancelled, and was set before
 abbrev IsSeenBefore : Option ℕ → ℕ → Option ℕ → Type 0

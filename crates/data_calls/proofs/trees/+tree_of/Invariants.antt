@@ -1,4 +1,4 @@
-use Rattle.task_steps.proofs.trees.+tree_of.Given as goal
+use Rattle.data_calls.proofs.trees.+tree_of.Given as goal
 
 abbrev pub decreases-tree_of : goal.decreases-tree_of
 decreases-tree_of l = l.depth

@@ -7,7 +7,7 @@ use Rattle.task_steps.specs.Task.{Task}
 use Rattle.task_steps.specs.Run.{IsAfter, StaysSet}
 use Rattle.task_steps.specs.Rest.{sooner}
 use Rattle.task_steps.specs.Book.{Book, started, with_task, sees, IsIn, HasGrown}
-use Rattle.task_steps.specs.Going.{GoesOn, IsKnown}
+use Rattle.data_calls.specs.Going.{GoesOn, IsKnown}
 
 grown-more : (view : Seen) (ts : List Task) (t : Task) → HasGrown view ts → IsIn view t.cancel → t.cancelled ≡ None → HasGrown view (ts ++ t ∷ [])
 grown-more view [] t h i n = (i, rw n tt, tt)
