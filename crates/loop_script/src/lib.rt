@@ -23,8 +23,6 @@ mod script;
 mod source;
 mod task;
 mod task_form;
-#[cfg(test)]
-mod task_tests;
 mod tree;
 mod tree_form;
 
@@ -40,6 +38,3 @@ pub use script::Script;
 pub use source::{Kind, SourceSpec};
 pub use task::TaskSpec;
 pub use tree::{Node, TaskTree};
-
-#[cfg(test)]
-mod tests;

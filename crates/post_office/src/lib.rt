@@ -17,6 +17,3 @@ pub use memory::OutOfMemory;
 pub use order::merge;
 pub use post::Post;
 pub use tray::Tray;
-
-#[cfg(test)]
-mod tests;

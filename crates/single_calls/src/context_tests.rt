@@ -1,45 +1,101 @@
 //! The phases on single contexts.
+ghost use Rattle.std.specs.Prelude.{◌≡◌, ◌<◌, ◌+◌, OnOk};
+
 use cancel_view::View;
 use context_core::{Context, Interest, Prepared};
 use loop_script::{Kind, SourceSpec};
-use source_rows::Levels;
+use source_rows::{Levels, RowsFault};
+use std::alloc::{AllocError, Global};
+use std::process::Abort;
 use std::test::Fail;
 
-fn source(kind: Kind, priority: i32) -> SourceSpec {
-    SourceSpec {
+// (a proof grows faster than the length of its function, so a test is short and what tests share is a function)
+
+fn attach(context: &mut Context, kind: Kind, priority: i32) -> Result<(), RowsFault>
+    requires id { context.old.rows.next_id < 1000 }
+    requires order { context.old.rows.next_order < 1000 }
+    ensures id { OnOk result (context.new.rows.next_id ≡ context.old.rows.next_id + 1) }
+    ensures order { OnOk result (context.new.rows.next_order ≡ context.old.rows.next_order + 1) }
+{
+    let spec = SourceSpec {
         kind,
         priority,
         recurse: false,
         call: None,
+    };
+    context.rows_mut().attach(spec, 0)?;
+    Ok(())
+}
+
+/// Phases at time 0 with nothing busy: what `prepare` answers, what `query` asks and, by what descriptors then show, the
+/// sources that `check` gives.
+fn expect_phases(
+    rt: &impl Abort,
+    alloc: Global,
+    context: &Context,
+    view: &View,
+    prepared: Prepared,
+    asked: &[Interest],
+) -> Result<(), AllocError> {
+    let found = context.prepare(0, &[], view);
+    assert_eq!(rt; found, prepared);
+    let interests = context.query(alloc, &found, &[])?;
+    assert_eq!(rt; interests.as_slice(), asked);
+    Ok(())
+}
+
+fn expect_selected(
+    rt: &impl Abort,
+    alloc: Global,
+    context: &Context,
+    view: &View,
+    shown: &[u8],
+    ids: &[u64],
+) -> Result<(), AllocError> {
+    let prepared = context.prepare(0, &[], view);
+    let selected = context.check(alloc, &prepared, 0, &[], view, shown)?;
+    assert_eq!(rt; selected.as_slice(), ids);
+    Ok(())
+}
+
+fn ready_at(priority: i32) -> Prepared {
+    Prepared {
+        priority: Some(priority),
+        timeout_ms: 0,
+    }
+}
+
+fn waiting(timeout_ms: i64) -> Prepared {
+    Prepared {
+        priority: None,
+        timeout_ms,
     }
 }
 
 /// An idle source, a descriptor more urgent than it, and one less urgent.
+fn idle_and_descriptors(alloc: Global) -> Result<Context, RowsFault> {
+    let mut context = Context::new(alloc, Levels::Two);
+    attach(&mut context, Kind::Idle, 200)?;
+    attach(&mut context, Kind::Fd(0, 1), 0)?;
+    attach(&mut context, Kind::Fd(1, 1), 300)?;
+    Ok(context)
+}
+
 #[test]
 fn asks_what_can_matter(rt: HostRuntime) -> Result<(), Fail> {
-    let alloc = rt.alloc();
-    let mut context = Context::new(alloc, Levels::Two);
-    context.rows_mut().attach(source(Kind::Idle, 200), 0)?;
-    context.rows_mut().attach(source(Kind::Fd(0, 1), 0), 0)?;
-    context.rows_mut().attach(source(Kind::Fd(1, 1), 300), 0)?;
-    let view = View::new(alloc, 1)?;
-    let prepared = context.prepare(0, &[], &view);
-    assert_eq!(rt;
-        prepared,
-        Prepared {
-            priority: Some(200),
-            timeout_ms: 0
-        }
-    );
-    let interests = context.query(alloc, &prepared, &[])?;
-    assert_eq!(rt;
-        interests.as_slice(),
-        [Interest { fd: 0, bits: 1 }].as_slice()
-    );
-    let shown = context.check(alloc, &prepared, 0, &[], &view, &[1])?;
-    assert_eq!(rt; shown.as_slice(), [2].as_slice());
-    let nothing = context.check(alloc, &prepared, 0, &[], &view, &[0])?;
-    assert_eq!(rt; nothing.as_slice(), [1].as_slice());
+    let view = View::new(rt.alloc(), 1)?;
+    let context = idle_and_descriptors(rt.alloc())?;
+    let asked = [Interest { fd: 0, bits: 1 }];
+    expect_phases(&rt, rt.alloc(), &context, &view, ready_at(200), &asked)?;
+    Ok(())
+}
+
+#[test]
+fn selects_by_what_is_shown(rt: HostRuntime) -> Result<(), Fail> {
+    let view = View::new(rt.alloc(), 1)?;
+    let context = idle_and_descriptors(rt.alloc())?;
+    expect_selected(&rt, rt.alloc(), &context, &view, &[1], &[2])?;
+    expect_selected(&rt, rt.alloc(), &context, &view, &[0], &[1])?;
     Ok(())
 }
 
@@ -48,61 +104,30 @@ fn asks_what_can_matter(rt: HostRuntime) -> Result<(), Fail> {
 fn waits_in_whole_milliseconds(rt: HostRuntime) -> Result<(), Fail> {
     let view = View::new(rt.alloc(), 1)?;
     let mut context = Context::new(rt.alloc(), Levels::Two);
-    context
-        .rows_mut()
-        .attach(source(Kind::ReadyTime(1500), 0), 0)?;
-    assert_eq!(rt;
-        context.prepare(0, &[], &view),
-        Prepared {
-            priority: None,
-            timeout_ms: 2
-        }
-    );
+    attach(&mut context, Kind::ReadyTime(1500), 0)?;
+    assert_eq!(rt; context.prepare(0, &[], &view), waiting(2));
     Ok(())
 }
 
 #[test]
 fn empty(rt: HostRuntime) -> Result<(), Fail> {
-    let alloc = rt.alloc();
-    let context = Context::new(alloc, Levels::Two);
-    let view = View::new(alloc, 1)?;
-    let prepared = context.prepare(0, &[], &view);
-    assert_eq!(rt;
-        prepared,
-        Prepared {
-            priority: None,
-            timeout_ms: -1
-        }
-    );
-    assert!(rt; context.query(alloc, &prepared, &[])?.is_empty());
-    assert!(rt;
-        context
-            .check(alloc, &prepared, 0, &[], &view, &[])?
-            .is_empty()
-    );
+    let view = View::new(rt.alloc(), 1)?;
+    let context = Context::new(rt.alloc(), Levels::Two);
+    expect_phases(&rt, rt.alloc(), &context, &view, waiting(-1), &[])?;
+    expect_selected(&rt, rt.alloc(), &context, &view, &[], &[])?;
     Ok(())
 }
 
 /// A source that waits for a cancellable, before it is cancelled and after.
 #[test]
 fn waits_for_a_cancellable(rt: HostRuntime) -> Result<(), Fail> {
-    let alloc = rt.alloc();
-    let mut view = View::new(alloc, 1)?;
-    let mut context = Context::new(alloc, Levels::Two);
-    context.rows_mut().attach(source(Kind::Cancel(0), 0), 0)?;
-    let waiting = context.prepare(0, &[], &view);
-    assert_eq!(rt; waiting.priority, None);
-    assert!(rt;
-        context
-            .check(alloc, &waiting, 0, &[], &view, &[])?
-            .is_empty()
-    );
-    view.cancel(alloc, 0)?;
-    let ready = context.prepare(0, &[], &view);
-    assert_eq!(rt; ready.priority, Some(0));
-    assert_eq!(rt;
-        context.check(alloc, &ready, 0, &[], &view, &[])?.as_slice(),
-        [1].as_slice()
-    );
+    let mut view = View::new(rt.alloc(), 1)?;
+    let mut context = Context::new(rt.alloc(), Levels::Two);
+    attach(&mut context, Kind::Cancel(0), 0)?;
+    assert_eq!(rt; context.prepare(0, &[], &view).priority, None);
+    expect_selected(&rt, rt.alloc(), &context, &view, &[], &[])?;
+    view.cancel(rt.alloc(), 0)?;
+    assert_eq!(rt; context.prepare(0, &[], &view).priority, Some(0));
+    expect_selected(&rt, rt.alloc(), &context, &view, &[], &[1])?;
     Ok(())
 }

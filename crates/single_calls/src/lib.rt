@@ -8,7 +8,11 @@ mod edge_tests;
 #[cfg(test)]
 mod lane_tests;
 #[cfg(test)]
+mod refused_tests;
+#[cfg(test)]
 mod script_tests;
+#[cfg(test)]
+mod serve_tests;
 #[cfg(test)]
 mod view_tests;
 #[cfg(test)]

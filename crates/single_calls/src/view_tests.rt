@@ -1,62 +1,127 @@
 //! Single calls of a view: with ample memory, and with memory refused.
+ghost use Rattle.std.specs.Prelude.{◌≤◌, ◌<◌, ◌+◌, IfOk, OnOk};
+
 use cancel_view::{Connected, Fired, OutOfMemory, View};
+use std::alloc::Global;
+use std::process::Abort;
 use std::test::Fail;
 
-// (a proof grows faster than the length of its function, so a test is short)
+// (a proof grows faster than the length of its function, so a test is short and what tests share is a function)
+
+/// Connects a handler that is to have an id.
+fn connect(rt: &impl Abort, view: &mut View, c: u32, proc: u32, id: u64) -> Result<(), OutOfMemory>
+    requires { view.old.next_id < 1000 }
+    ensures { OnOk result (view.new.next_id ≤ view.old.next_id + 1) }
+{
+    let connected = view.connect(c, proc)?;
+    assert_eq!(rt; connected, Connected::Id(id));
+    Ok(())
+}
+
+fn expect_disconnect(rt: &impl Abort, view: &mut View, id: u64, answer: bool) {
+    assert_eq!(rt; view.disconnect(id), answer);
+}
+
+/// Cancels, which is to call handlers.
+fn expect_fired(
+    rt: &impl Abort,
+    alloc: Global,
+    view: &mut View,
+    c: u32,
+    fired: &[Fired],
+) -> Result<(), Fail> {
+    let found = view.cancel(alloc, c)?.ok_or("a first cancel")?;
+    assert_eq!(rt; found.as_slice(), fired);
+    assert!(rt; view.is_cancelled(c));
+    Ok(())
+}
+
+/// A view of one cancellable with handlers 1 and 2.
+fn with_two(rt: &impl Abort, alloc: Global) -> Result<View, OutOfMemory> {
+    let mut view = View::new(alloc, 1)?;
+    connect(rt, &mut view, 0, 5, 1)?;
+    connect(rt, &mut view, 0, 6, 2)?;
+    Ok(view)
+}
 
 #[test]
 fn handlers_come_and_go(rt: HostRuntime) -> Result<(), Fail> {
-    let mut view = View::new(rt.alloc(), 1)?;
-    assert_eq!(rt; view.is_cancelled(0), false);
-    assert_eq!(rt; view.connect(0, 5)?, Connected::Id(1));
-    assert_eq!(rt; view.connect(0, 6)?, Connected::Id(2));
-    assert_eq!(rt; view.disconnect(1), true);
-    assert_eq!(rt; view.disconnect(1), false);
-    assert_eq!(rt; view.disconnect(0), true);
+    let mut view = with_two(&rt, rt.alloc())?;
+    assert!(rt; !view.is_cancelled(0));
+    expect_disconnect(&rt, &mut view, 1, true);
+    expect_disconnect(&rt, &mut view, 1, false);
+    expect_disconnect(&rt, &mut view, 0, true);
     Ok(())
 }
 
 #[test]
 fn handlers_of_one_cancellable(rt: HostRuntime) -> Result<(), Fail> {
-    let mut view = View::new(rt.alloc(), 1)?;
-    view.connect(0, 5)?;
-    view.connect(0, 6)?;
-    view.disconnect(1);
-    let fired = view.cancel(rt.alloc(), 0)?.ok_or("a first cancel")?;
-    assert_eq!(rt; fired.as_slice(), [Fired { id: 2, proc: 6 }].as_slice());
-    assert_eq!(rt; view.is_cancelled(0), true);
+    let mut view = with_two(&rt, rt.alloc())?;
+    expect_disconnect(&rt, &mut view, 1, true);
+    expect_fired(&rt, rt.alloc(), &mut view, 0, &[Fired { id: 2, proc: 6 }])?;
     Ok(())
+}
+
+/// A view of one cancellable that was cancelled, with handler 1.
+fn with_cancelled(rt: &impl Abort, alloc: Global) -> Result<View, OutOfMemory>
+    ensures { IfOk result (λ v. v.next_id ≤ 2) }
+{
+    let mut view = View::new(alloc, 1)?;
+    connect(rt, &mut view, 0, 6, 1)?;
+    view.cancel(alloc, 0)?;
+    Ok(view)
 }
 
 #[test]
 fn cancelled_for_good(rt: HostRuntime) -> Result<(), Fail> {
-    let mut view = View::new(rt.alloc(), 1)?;
-    view.connect(0, 6)?;
-    view.cancel(rt.alloc(), 0)?;
-    assert_eq!(rt; view.cancel(rt.alloc(), 0)?.is_none(), true);
+    let mut view = with_cancelled(&rt, rt.alloc())?;
     assert_eq!(rt; view.connect(0, 7)?, Connected::Already);
-    assert_eq!(rt; view.disconnect(1), true, "a fired handler stays connected");
-    assert_eq!(rt; view.disconnect(1), false);
+    assert!(rt; view.cancel(rt.alloc(), 0)?.is_none());
     Ok(())
+}
+
+/// A handler that was called stays connected.
+#[test]
+fn fired_handler_stays(rt: HostRuntime) -> Result<(), Fail> {
+    let mut view = with_cancelled(&rt, rt.alloc())?;
+    expect_disconnect(&rt, &mut view, 1, true);
+    expect_disconnect(&rt, &mut view, 1, false);
+    Ok(())
+}
+
+/// A view of two cancellables, of which the first has handlers 1 and 4 and the second 2; 3 is gone.
+fn with_handlers_of_two(rt: &impl Abort, alloc: Global) -> Result<View, OutOfMemory> {
+    let mut view = View::new(alloc, 2)?;
+    connect(rt, &mut view, 0, 10, 1)?;
+    connect(rt, &mut view, 1, 11, 2)?;
+    connect(rt, &mut view, 0, 12, 3)?;
+    connect(rt, &mut view, 0, 13, 4)?;
+    expect_disconnect(rt, &mut view, 3, true);
+    Ok(view)
 }
 
 #[test]
 fn handlers_by_rising_id(rt: HostRuntime) -> Result<(), Fail> {
-    let mut view = View::new(rt.alloc(), 2)?;
-    view.connect(0, 10)?;
-    view.connect(1, 11)?;
-    view.connect(0, 12)?;
-    view.connect(0, 13)?;
-    assert_eq!(rt; view.disconnect(3), true);
-    let fired = view.cancel(rt.alloc(), 0)?.ok_or("a first cancel")?;
-    assert_eq!(rt;
-        fired.as_slice(),
-        [Fired { id: 1, proc: 10 }, Fired { id: 4, proc: 13 }].as_slice()
-    );
-    assert_eq!(rt; view.is_cancelled(1), false);
-    let fired = view.cancel(rt.alloc(), 1)?.ok_or("a first cancel")?;
-    assert_eq!(rt; fired.as_slice(), [Fired { id: 2, proc: 11 }].as_slice());
+    let mut view = with_handlers_of_two(&rt, rt.alloc())?;
+    let of_first = [Fired { id: 1, proc: 10 }, Fired { id: 4, proc: 13 }];
+    expect_fired(&rt, rt.alloc(), &mut view, 0, &of_first)?;
+    assert!(rt; !view.is_cancelled(1));
+    expect_fired(&rt, rt.alloc(), &mut view, 1, &[Fired { id: 2, proc: 11 }])?;
     Ok(())
+}
+
+/// Cancels where there is one handler, or finds the view as it was.
+fn try_cancel(rt: &impl Abort, alloc: Global, view: &mut View) {
+    match view.cancel(alloc, 0) {
+        Err(_) => {
+            assert!(rt; !view.is_cancelled(0));
+            expect_disconnect(rt, view, 1, true);
+        }
+        Ok(fired) => {
+            assert_eq!(rt; fired.map(|list| list.len()), Some(1));
+            assert!(rt; view.is_cancelled(0));
+        }
+    }
 }
 
 /// Each call answers that memory was refused, and leaves the view as it was, or gives the exact answer.
@@ -65,20 +130,11 @@ fn refused_view(rt: HostRuntime) {
     let Ok(mut view) = View::new(rt.alloc(), 1) else {
         return;
     };
-    let connected = view.connect(0, 5);
-    if connected == Err(OutOfMemory) {
-        assert_eq!(rt; view.disconnect(1), false);
-        return;
-    }
-    assert_eq!(rt; connected, Ok(Connected::Id(1)));
-    match view.cancel(rt.alloc(), 0) {
-        Err(_) => {
-            assert_eq!(rt; view.is_cancelled(0), false);
-            assert_eq!(rt; view.disconnect(1), true);
-        }
-        Ok(fired) => {
-            assert_eq!(rt; fired.map(|list| list.len()), Some(1));
-            assert_eq!(rt; view.is_cancelled(0), true);
+    match view.connect(0, 5) {
+        Err(_) => expect_disconnect(&rt, &mut view, 1, false),
+        Ok(connected) => {
+            assert_eq!(rt; connected, Connected::Id(1));
+            try_cancel(&rt, rt.alloc(), &mut view);
         }
     }
 }

@@ -1,11 +1,13 @@
 //! What a lane watches: a task that is cancelled, one that runs, handlers, and refused memory.
-ghost use Rattle.std.specs.Prelude.{◌≡◌, ◌≤◌, IfOk, Some};
+ghost use Rattle.std.specs.Prelude.{◌≡◌, ◌≤◌, ◌<◌, ◌+◌, IfOk, OnOk, Some};
 
 use cancel_view::{Connected, Fired, OutOfMemory};
 use lane_watch::Watch;
 use loop_script::{Node, Outcome, TaskSpec, TaskTree};
 use std::alloc::Global;
+use std::process::Abort;
 use std::test::Fail;
+use task_steps::Polled;
 
 /// A task that sleeps so long, with cancellable 0, and returns where that is cancelled.
 fn sleeper(us: u64) -> TaskSpec
@@ -26,7 +28,8 @@ fn sleeper(us: u64) -> TaskSpec
 
 /// A watch whose first polls are over, with a task of three ticks.
 fn begun(alloc: Global) -> Result<Watch, OutOfMemory>
-    ensures { IfOk result (λ w. w.tasks.tick ≡ 1) }
+    ensures tick { IfOk result (λ w. w.tasks.tick ≡ 1) }
+    ensures id { IfOk result (λ w. w.view.next_id ≡ 1) }
 {
     let mut watch = Watch::new(alloc, 1, 1000)?;
     watch.poll(alloc, 0)?;
@@ -34,44 +37,108 @@ fn begun(alloc: Global) -> Result<Watch, OutOfMemory>
     Ok(watch)
 }
 
-#[test]
-fn task_replies_where_it_is_cancelled(rt: HostRuntime) -> Result<(), Fail> {
-    let mut watch = begun(rt.alloc())?;
-    watch.poll(rt.alloc(), 1)?;
-    assert_eq!(rt; watch.cancel(rt.alloc(), 1, 0)?.is_some(), true);
-    assert_eq!(rt; watch.view().is_cancelled(0), true);
-    let polled = watch.poll(rt.alloc(), 2)?;
+/// Polls in a tick.
+fn poll(watch: &mut Watch, alloc: Global, tick: u32) -> Result<Polled, OutOfMemory>
+    requires now { watch.old.tasks.tick ≡ tick }
+    requires early { tick < 1000 }
+    ensures { OnOk result (watch.new.tasks.tick ≡ tick + 1) }
+{
+    watch.poll(alloc, tick)
+}
+
+/// Cancels in a tick; whether the cancellable came into the view.
+fn cancel(watch: &mut Watch, alloc: Global, tick: u32) -> Result<bool, OutOfMemory>
+    requires { watch.old.tasks.tick ≡ tick + 1 }
+    ensures { OnOk result (watch.new.tasks.tick ≡ tick + 1) }
+{
+    Ok(watch.cancel(alloc, tick, 0)?.is_some())
+}
+
+/// A watch whose task is cancelled in tick 1.
+fn cancelled(rt: &impl Abort, alloc: Global) -> Result<Watch, OutOfMemory>
+    ensures { IfOk result (λ w. w.tasks.tick ≡ 2) }
+{
+    let mut watch = begun(alloc)?;
+    poll(&mut watch, alloc, 1)?;
+    let came = cancel(&mut watch, alloc, 1)?;
+    assert!(rt; came);
+    Ok(watch)
+}
+
+/// One reply, and none that is late.
+fn expect_reply(rt: &impl Abort, polled: &Polled, outcome: Outcome) {
     match polled.replies.as_slice() {
-        [reply] => assert_eq!(rt; reply.outcome, Outcome::Cancelled),
+        [reply] => assert_eq!(rt; reply.outcome, outcome),
         _ => assert!(rt; false),
     }
     assert_eq!(rt; polled.late.as_slice().len(), 0);
+}
+
+#[test]
+fn task_replies_where_it_is_cancelled(rt: HostRuntime) -> Result<(), Fail> {
+    let mut watch = cancelled(&rt, rt.alloc())?;
+    assert!(rt; watch.view().is_cancelled(0));
+    let polled = poll(&mut watch, rt.alloc(), 2)?;
+    expect_reply(&rt, &polled, Outcome::Cancelled);
     Ok(())
+}
+
+/// A task that is cancelled in tick 1, polled to its end in tick 4.
+fn polled_to_end(rt: &impl Abort, alloc: Global) -> Result<Polled, OutOfMemory> {
+    let mut watch = cancelled(rt, alloc)?;
+    poll(&mut watch, alloc, 2)?;
+    poll(&mut watch, alloc, 3)?;
+    poll(&mut watch, alloc, 4)
 }
 
 #[test]
 fn cancelled_task_ends_late(rt: HostRuntime) -> Result<(), Fail> {
-    let mut watch = begun(rt.alloc())?;
-    watch.poll(rt.alloc(), 1)?;
-    watch.cancel(rt.alloc(), 1, 0)?;
-    watch.poll(rt.alloc(), 2)?;
-    watch.poll(rt.alloc(), 3)?;
-    let polled = watch.poll(rt.alloc(), 4)?;
+    let polled = polled_to_end(&rt, rt.alloc())?;
     assert_eq!(rt; polled.replies.as_slice().len(), 0);
     assert_eq!(rt; polled.late.as_slice(), [0].as_slice());
     Ok(())
 }
 
+/// Connects a handler that is to have an id.
+fn connect(rt: &impl Abort, watch: &mut Watch, proc: u32, id: u64) -> Result<(), OutOfMemory>
+    requires { watch.old.view.next_id < 1000 }
+    ensures id { OnOk result (watch.new.view.next_id ≤ watch.old.view.next_id + 1) }
+    ensures tick { OnOk result (watch.new.tasks.tick ≡ watch.old.tasks.tick) }
+{
+    let connected = watch.connect(0, proc)?;
+    assert_eq!(rt; connected, Connected::Id(id));
+    Ok(())
+}
+
+/// A watch with handlers 1 and 2 of its cancellable, of which the first is gone again.
+fn with_handlers(rt: &impl Abort, alloc: Global) -> Result<Watch, OutOfMemory>
+    ensures { IfOk result (λ w. w.tasks.tick ≡ 1) }
+{
+    let mut watch = begun(alloc)?;
+    connect(rt, &mut watch, 5, 1)?;
+    connect(rt, &mut watch, 6, 2)?;
+    assert!(rt; watch.disconnect(1));
+    Ok(watch)
+}
+
 #[test]
 fn handlers_of_a_watch(rt: HostRuntime) -> Result<(), Fail> {
-    let mut watch = Watch::new(rt.alloc(), 1, 1000)?;
-    watch.poll(rt.alloc(), 0)?;
-    assert_eq!(rt; watch.connect(0, 5)?, Connected::Id(1));
-    assert_eq!(rt; watch.connect(0, 6)?, Connected::Id(2));
-    assert_eq!(rt; watch.disconnect(1), true);
+    let mut watch = with_handlers(&rt, rt.alloc())?;
     let fired = watch.cancel(rt.alloc(), 0, 0)?.ok_or("a first cancel")?;
     assert_eq!(rt; fired.as_slice(), [Fired { id: 2, proc: 6 }].as_slice());
     Ok(())
+}
+
+fn expect_no_reply(rt: &impl Abort, polled: Result<Polled, OutOfMemory>) {
+    if let Ok(polled) = polled {
+        assert_eq!(rt; polled.replies.as_slice().len(), 0);
+    }
+}
+
+fn expect_its_end(rt: &impl Abort, polled: Result<Polled, OutOfMemory>) {
+    if let Ok(polled) = polled {
+        expect_reply(rt, &polled, Outcome::Ok(0));
+    }
 }
 
 /// A watch that was refused memory has forgotten its tasks, and goes on.
@@ -85,18 +152,7 @@ fn refused_watch(rt: HostRuntime) {
         return;
     };
     match watch.start(&sleeper(0), 0, 0) {
-        Err(OutOfMemory) => {
-            if let Ok(polled) = watch.poll(alloc, 1) {
-                assert_eq!(rt; polled.replies.as_slice().len(), 0);
-            }
-        }
-        Ok(()) => {
-            if let Ok(polled) = watch.poll(alloc, 1) {
-                match polled.replies.as_slice() {
-                    [reply] => assert_eq!(rt; reply.outcome, Outcome::Ok(0)),
-                    _ => assert!(rt; false),
-                }
-            }
-        }
+        Err(OutOfMemory) => expect_no_reply(&rt, watch.poll(alloc, 1)),
+        Ok(()) => expect_its_end(&rt, watch.poll(alloc, 1)),
     }
 }

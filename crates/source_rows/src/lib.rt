@@ -14,8 +14,6 @@ mod removal;
 mod row;
 mod rows;
 mod table;
-#[cfg(test)]
-mod tests;
 mod times;
 
 pub use fault::RowsFault;

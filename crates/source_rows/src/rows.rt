@@ -233,12 +233,6 @@ impl Rows {
         self.table.next_ready(now)
     }
 
-    /// How many ready times stand above each other at most.
-    #[cfg(test)]
-    pub(crate) fn height(&self) -> u64 {
-        self.table.height()
-    }
-
     /// Takes a row away with all that are under it (`g_source_destroy`); false where there is no such row. The others
     /// stand as they stood, and its id comes to no other row.
     pub fn destroy(&mut self, id: u64) -> bool

@@ -114,12 +114,6 @@ impl Table {
         self.times.first_above(now as i64)
     }
 
-    /// How many ready times stand above each other at most.
-    #[cfg(test)]
-    pub fn height(&self) -> u64 {
-        self.times.height()
-    }
-
     /// Puts a row behind the others.
     pub fn push(&mut self, row: Row) -> Result<(), AllocError>
         requires last { AllByRecursion (λ r. r.id < row.id) self.old }

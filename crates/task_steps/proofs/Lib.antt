@@ -7,4 +7,3 @@ pub mod PollAll
 pub mod Soonest
 pub mod Quiet
 pub mod Once
-pub mod Going

@@ -9,4 +9,3 @@ pub mod BookInside
 pub mod Reply
 pub mod Polls
 pub mod Once
-pub mod Going

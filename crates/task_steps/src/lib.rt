@@ -2,22 +2,14 @@
 #![tactic(auto)]
 
 mod book;
-#[cfg(test)]
-mod book_tests;
 mod entries;
 mod entry;
 pub mod laws;
-#[cfg(test)]
-mod oracle;
 mod polls;
 mod run;
 mod stage;
 mod steps;
-#[cfg(test)]
-mod tests;
 mod time;
-#[cfg(test)]
-mod trees;
 mod wait;
 
 pub use book::{BookFault, Polled, TaskBook};

@@ -1,0 +1,335 @@
+//! The book alone: single calls, the tasks of a worked script, and memory refused.
+ghost use Rattle.std.specs.Prelude.{IfOk, ◌≤◌};
+ghost use Rattle.data_calls.specs.Going.{GoesOn, IsKnown};
+
+use crate::trees::{first, seq, sleep, value, within};
+use cancel_view::{OutOfMemory, View};
+use loop_script::{Outcome, TaskSpec, TaskTree};
+use std::alloc::{AllocError, Global};
+use std::process::Abort;
+use std::test::Fail;
+use task_steps::{BookFault, Polled, Reply, TaskBook};
+
+/// A book whose view and tick go on as in a lane.
+#[derive(Drop)]
+struct Lane {
+    alloc: Global,
+    book: TaskBook,
+    view: View,
+    cancellables: u32,
+    started: u32,
+    tick: u32,
+}
+
+impl Lane {
+    fn new(alloc: Global, cancellables: u32) -> Result<Lane, OutOfMemory>
+        ensures { IfOk result (λ l. GoesOn l.book l.view l.cancellables l.started l.tick) }
+    {
+        let view = View::new(alloc, cancellables)?;
+        Ok(Lane {
+            alloc,
+            book: TaskBook::new(alloc, 1000),
+            view,
+            cancellables,
+            started: 0,
+            tick: 0,
+        })
+    }
+
+    fn start(&mut self, rt: &impl Abort, spec: &TaskSpec) -> Result<u64, BookFault>
+        requires { GoesOn self.old.book self.old.view self.old.cancellables self.old.started self.old.tick }
+        ensures { GoesOn self.new.book self.new.view self.new.cancellables self.new.started self.new.tick }
+    {
+        assert!(rt; self.started < 1000 && self.tick < 1000);
+        expect_known(rt, spec.cancel, self.cancellables);
+        let number = self.book.start(spec, 7, self.tick)?;
+        self.started += 1;
+        Ok(number)
+    }
+
+    /// Polls in the next tick.
+    fn poll(&mut self, rt: &impl Abort) -> Result<Polled, BookFault>
+        requires { GoesOn self.old.book self.old.view self.old.cancellables self.old.started self.old.tick }
+        ensures { GoesOn self.new.book self.new.view self.new.cancellables self.new.started self.new.tick }
+    {
+        assert!(rt; self.tick < 1000);
+        self.tick += 1;
+        self.book.poll_all(self.alloc, self.tick, &self.view)
+    }
+
+    fn cancel(&mut self, rt: &impl Abort, c: u32) -> Result<(), OutOfMemory>
+        requires { GoesOn self.old.book self.old.view self.old.cancellables self.old.started self.old.tick }
+        ensures { GoesOn self.new.book self.new.view self.new.cancellables self.new.started self.new.tick }
+    {
+        assert!(rt; c < self.cancellables);
+        let _fired = self.view.cancel(self.alloc, c)?;
+        Ok(())
+    }
+
+    fn wake(&self) -> Option<u64>
+        requires { GoesOn self.now.book self.now.view self.now.cancellables self.now.started self.now.tick }
+    {
+        self.book.next_wake(self.tick, &self.view)
+    }
+}
+
+fn expect_known(rt: &impl Abort, cancel: Option<u32>, cancellables: u32)
+    ensures { IsKnown cancellables cancel }
+{
+    if let Some(c) = cancel {
+        assert!(rt; c < cancellables);
+    }
+}
+
+/// A task that calls procedure 5, with priority -1.
+fn task(tree: TaskTree, cancel: Option<u32>, check: bool, return_on_cancel: bool) -> TaskSpec {
+    TaskSpec {
+        tree,
+        call: 5,
+        cancel,
+        check,
+        return_on_cancel,
+        priority: -1,
+    }
+}
+
+fn reply(task: u64, outcome: Outcome, cancel: Option<u32>, check: bool) -> Reply {
+    Reply {
+        task,
+        ctx: 7,
+        outcome,
+        call: 5,
+        priority: -1,
+        cancel,
+        check,
+    }
+}
+
+/// Polls in the next tick, and compares.
+fn expect(
+    rt: &impl Abort,
+    lane: &mut Lane,
+    replies: &[Reply],
+    late: &[u64],
+) -> Result<(), BookFault>
+    requires { GoesOn lane.old.book lane.old.view lane.old.cancellables lane.old.started lane.old.tick }
+    ensures { GoesOn lane.new.book lane.new.view lane.new.cancellables lane.new.started lane.new.tick }
+{
+    let polled = lane.poll(rt)?;
+    assert_eq!(rt;
+        polled.replies.as_slice(),
+        replies,
+        "the replies in {}",
+        lane.tick
+    );
+    assert_eq!(rt; polled.late.as_slice(), late, "late in {}", lane.tick);
+    Ok(())
+}
+
+/// Starts a task, polls it to its end and starts another.
+fn start_and_end(rt: &impl Abort, lane: &mut Lane) -> Result<(), BookFault>
+    requires { GoesOn lane.old.book lane.old.view lane.old.cancellables lane.old.started lane.old.tick }
+    ensures { GoesOn lane.new.book lane.new.view lane.new.cancellables lane.new.started lane.new.tick }
+{
+    assert_eq!(rt; lane.wake(), None);
+    begin(rt, lane, &task(value(1), None, true, false), 0)?;
+    assert_eq!(rt; lane.wake(), Some(1));
+    expect(rt, lane, &[reply(0, Outcome::Ok(1), None, true)], &[])?;
+    assert_eq!(rt; lane.wake(), None);
+    expect(rt, lane, &[], &[])?;
+    begin(rt, lane, &task(value(2), None, true, false), 1)
+}
+
+#[test]
+fn one_task(rt: HostRuntime) -> Result<(), Fail> {
+    let mut lane = Lane::new(rt.alloc(), 0)?;
+    start_and_end(&rt, &mut lane)?;
+    Ok(())
+}
+
+fn after_sleep(alloc: Global, us: u64, number: i64) -> Result<TaskTree, AllocError>
+    requires { us ≤ 1000000000000000 }
+{
+    seq(alloc, sleep(us), value(number))
+}
+
+fn tie(alloc: Global) -> Result<TaskTree, AllocError> {
+    let a = after_sleep(alloc, 1000, 1)?;
+    let b = after_sleep(alloc, 1000, 2)?;
+    first(alloc, a, b)
+}
+
+fn end_at_the_limit(alloc: Global) -> Result<TaskTree, AllocError> {
+    let body = after_sleep(alloc, 2000, 3)?;
+    within(alloc, 2000, body)
+}
+
+/// Starts a task that is to have a number.
+fn begin(rt: &impl Abort, lane: &mut Lane, spec: &TaskSpec, number: u64) -> Result<(), BookFault>
+    requires { GoesOn lane.old.book lane.old.view lane.old.cancellables lane.old.started lane.old.tick }
+    ensures { GoesOn lane.new.book lane.new.view lane.new.cancellables lane.new.started lane.new.tick }
+{
+    let started = lane.start(rt, spec)?;
+    assert_eq!(rt; started, number);
+    Ok(())
+}
+
+/// Starts the first five tasks of the script.
+fn begin_five(rt: &impl Abort, lane: &mut Lane) -> Result<(), Fail>
+    requires { GoesOn lane.old.book lane.old.view lane.old.cancellables lane.old.started lane.old.tick }
+    ensures { GoesOn lane.new.book lane.new.view lane.new.cancellables lane.new.started lane.new.tick }
+{
+    let alloc = lane.alloc;
+    begin(rt, lane, &task(sleep(3000), Some(0), true, true), 0)?;
+    begin(rt, lane, &task(tie(alloc)?, None, true, false), 1)?;
+    begin(
+        rt,
+        lane,
+        &task(end_at_the_limit(alloc)?, None, true, false),
+        2,
+    )?;
+    begin(
+        rt,
+        lane,
+        &task(after_sleep(alloc, 2000, 4)?, Some(0), false, false),
+        3,
+    )?;
+    begin(
+        rt,
+        lane,
+        &task(after_sleep(alloc, 2000, 4)?, Some(0), true, false),
+        4,
+    )?;
+    Ok(())
+}
+
+/// The ticks 1 to 3, in which the tasks end that nothing cancels.
+fn poll_three(rt: &impl Abort, lane: &mut Lane) -> Result<(), BookFault>
+    requires { GoesOn lane.old.book lane.old.view lane.old.cancellables lane.old.started lane.old.tick }
+    ensures { GoesOn lane.new.book lane.new.view lane.new.cancellables lane.new.started lane.new.tick }
+{
+    assert_eq!(rt; lane.wake(), Some(1));
+    expect(rt, lane, &[], &[])?;
+    assert_eq!(rt; lane.wake(), Some(2));
+    expect(rt, lane, &[reply(1, Outcome::Ok(1), None, true)], &[])?;
+    assert_eq!(rt; lane.wake(), Some(3));
+    expect(rt, lane, &ends_in_tick_three(), &[])
+}
+
+fn ends_in_tick_three() -> [Reply; 3] {
+    [
+        reply(2, Outcome::Ok(3), None, true),
+        reply(3, Outcome::Ok(4), Some(0), false),
+        reply(4, Outcome::Ok(4), Some(0), true),
+    ]
+}
+
+/// The ticks 4 to 6, in which the replies of cancelled tasks come, and then their ends.
+fn poll_cancelled(rt: &impl Abort, lane: &mut Lane) -> Result<(), BookFault>
+    requires { GoesOn lane.old.book lane.old.view lane.old.cancellables lane.old.started lane.old.tick }
+    ensures { GoesOn lane.new.book lane.new.view lane.new.cancellables lane.new.started lane.new.tick }
+{
+    assert_eq!(rt; lane.wake(), Some(4));
+    expect(rt, lane, &cancelled_in_tick_four(), &[0])?;
+    assert_eq!(rt; lane.wake(), Some(6));
+    expect(rt, lane, &[], &[])?;
+    expect(rt, lane, &[], &[5])?;
+    assert_eq!(rt; lane.wake(), None);
+    Ok(())
+}
+
+fn cancelled_in_tick_four() -> [Reply; 2] {
+    [
+        reply(0, Outcome::Cancelled, Some(0), true),
+        reply(5, Outcome::Cancelled, Some(0), true),
+    ]
+}
+
+/// The tasks of a script whose lane cancels in its turn of tick 3, after the polls, and then starts the last task.
+#[test]
+fn tasks(rt: HostRuntime) -> Result<(), Fail> {
+    let mut lane = Lane::new(rt.alloc(), 1)?;
+    begin_five(&rt, &mut lane)?;
+    poll_three(&rt, &mut lane)?;
+    lane.cancel(&rt, 0)?;
+    begin(&rt, &mut lane, &task(sleep(2000), Some(0), true, true), 5)?;
+    poll_cancelled(&rt, &mut lane)?;
+    Ok(())
+}
+
+fn cancel_one_of_two(rt: &impl Abort, lane: &mut Lane) -> Result<(), Fail>
+    requires { GoesOn lane.old.book lane.old.view lane.old.cancellables lane.old.started lane.old.tick }
+    ensures { GoesOn lane.new.book lane.new.view lane.new.cancellables lane.new.started lane.new.tick }
+{
+    begin(rt, lane, &task(sleep(9000), Some(1), true, true), 0)?;
+    begin(rt, lane, &task(sleep(7000), Some(1), true, false), 1)?;
+    expect(rt, lane, &[], &[])?;
+    assert_eq!(rt; lane.wake(), Some(8));
+    lane.cancel(rt, 1)?;
+    assert_eq!(rt; lane.wake(), Some(2));
+    let cancelled = reply(0, Outcome::Cancelled, Some(1), true);
+    expect(rt, lane, &[cancelled], &[])?;
+    assert_eq!(rt; lane.wake(), Some(8));
+    Ok(())
+}
+
+/// A cancellation is due in the next tick, before every sleep's end, and moves nothing after its reply.
+#[test]
+fn wake_of_a_cancelled_task(rt: HostRuntime) -> Result<(), Fail> {
+    let mut lane = Lane::new(rt.alloc(), 2)?;
+    cancel_one_of_two(&rt, &mut lane)
+}
+
+fn expect_spent_once(rt: &impl Abort, lane: &mut Lane)
+    requires { GoesOn lane.old.book lane.old.view lane.old.cancellables lane.old.started lane.old.tick }
+    ensures { GoesOn lane.new.book lane.new.view lane.new.cancellables lane.new.started lane.new.tick }
+{
+    let spec = task(value(1), None, true, false);
+    assert_eq!(rt; lane.start(rt, &spec), Err(BookFault::Spent));
+    assert_eq!(rt; lane.poll(rt).err(), Some(BookFault::Spent));
+}
+
+/// That a book answers `Spent`, to both calls and a second time too, and has no wake.
+fn expect_spent(rt: &impl Abort, lane: &mut Lane)
+    requires { GoesOn lane.old.book lane.old.view lane.old.cancellables lane.old.started lane.old.tick }
+    ensures { GoesOn lane.new.book lane.new.view lane.new.cancellables lane.new.started lane.new.tick }
+{
+    expect_spent_once(rt, lane);
+    expect_spent_once(rt, lane);
+    assert_eq!(rt; lane.wake(), None);
+}
+
+/// Polls a book with one task that ends at once, where memory may be refused.
+fn poll_one(rt: &impl Abort, lane: &mut Lane)
+    requires { GoesOn lane.old.book lane.old.view lane.old.cancellables lane.old.started lane.old.tick }
+    ensures { GoesOn lane.new.book lane.new.view lane.new.cancellables lane.new.started lane.new.tick }
+{
+    match lane.poll(rt) {
+        Err(fault) => {
+            assert_eq!(rt; fault, BookFault::OutOfMemory);
+            expect_spent(rt, lane);
+        }
+        Ok(polled) => {
+            let want = reply(0, Outcome::Ok(1), Some(0), true);
+            assert_eq!(rt; polled.replies.as_slice(), [want].as_slice());
+        }
+    }
+}
+
+/// A book that was refused memory answers `Spent` from then on.
+#[test]
+fn refused_book(rt: HostRuntime) {
+    let Ok(mut lane) = Lane::new(rt.alloc(), 1) else {
+        return;
+    };
+    match lane.start(&rt, &task(value(1), Some(0), true, true)) {
+        Err(fault) => {
+            assert_eq!(rt; fault, BookFault::OutOfMemory);
+            expect_spent(&rt, &mut lane);
+        }
+        Ok(number) => {
+            assert_eq!(rt; number, 0);
+            poll_one(&rt, &mut lane);
+        }
+    }
+}

@@ -1,0 +1,64 @@
+//! Letters in a tray and in order, with ample memory and with memory refused.
+use post_office::{Body, Letter, Post, Tray, merge};
+use std::alloc::Global;
+use std::test::Fail;
+
+fn letter(sender: u32, number: u64) -> Letter {
+    Letter {
+        tick: 1,
+        sender,
+        number,
+        body: Body::Cancelled(0),
+    }
+}
+
+/// A tray with letters of these senders and numbers; none where memory was refused.
+fn tray_of(alloc: Global, places: &[(u32, u64)]) -> Option<Tray> {
+    let mut tray = Tray::new(alloc);
+    for (sender, number) in places {
+        if tray.post(letter(*sender, *number)).is_err() {
+            return None;
+        }
+    }
+    Some(tray)
+}
+
+#[test]
+fn merges_by_sender_and_number(rt: HostRuntime) -> Result<(), Fail> {
+    let Some(tray) = tray_of(rt.alloc(), &[(2, 0), (0, 1), (1, 0), (0, 0)]) else {
+        assert!(rt; false);
+        return Ok(());
+    };
+    let merged = merge(rt.alloc(), tray.into_letters())?;
+    let expected = [(0, 0), (0, 1), (1, 0), (2, 0)];
+    assert_eq!(rt; merged.len(), expected.len());
+    for (merged, (sender, number)) in merged.iter().zip(expected.iter()) {
+        assert_eq!(rt; *merged, letter(*sender, *number));
+    }
+    Ok(())
+}
+
+#[test]
+fn merges_none(rt: HostRuntime) -> Result<(), Fail> {
+    let merged = merge(rt.alloc(), Tray::new(rt.alloc()).into_letters())?;
+    assert_eq!(rt; merged.len(), 0);
+    Ok(())
+}
+
+/// A letter that finds no memory comes back, and the tray keeps what it had.
+#[test]
+fn refused_post(rt: HostRuntime) {
+    let mut tray = Tray::new(rt.alloc());
+    let mut taken = Vec::new(rt.alloc());
+    for number in 0..9 {
+        match tray.post(letter(0, number)) {
+            Ok(()) => {
+                if taken.push(letter(0, number)).is_err() {
+                    return;
+                }
+            }
+            Err(back) => assert_eq!(rt; back, letter(0, number)),
+        }
+    }
+    assert_eq!(rt; tray.into_letters(), taken);
+}

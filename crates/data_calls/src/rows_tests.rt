@@ -1,0 +1,257 @@
+//! Single calls of rows, with ample memory and with memory refused, and random edits beside plain rows.
+use crate::plain::{Plain, Random};
+use crate::tried::Tried;
+use loop_script::{Kind, SourceSpec};
+use source_rows::{Levels, RowsFault};
+use std::alloc::Global;
+use std::process::Abort;
+use std::test::Fail;
+
+fn idle() -> SourceSpec {
+    SourceSpec {
+        kind: Kind::Idle,
+        priority: 200,
+        recurse: false,
+        call: None,
+    }
+}
+
+fn timeout() -> SourceSpec {
+    SourceSpec {
+        kind: Kind::Timeout(2),
+        priority: 0,
+        recurse: false,
+        call: Some(7),
+    }
+}
+
+/// A call, of which a test knows the answer and the order after it.
+#[derive(Clone, Copy)]
+enum Step {
+    Attach(SourceSpec),
+    Child(u64, SourceSpec),
+    Priority(u64, i32),
+    Ready(u64, i64),
+    NextReady(u64),
+    Dispatched(u64),
+    Destroy(u64),
+}
+
+/// Takes a step. Where a call answers true or false the number is 1 or 0, and where it answers none it is 0.
+fn take(rows: &mut Tried, step: &Step) -> Result<u64, RowsFault> {
+    match step {
+        Step::Attach(spec) => rows.attach(*spec, 0),
+        Step::Child(parent, spec) => rows.add_child(*parent, *spec, 0),
+        Step::Priority(id, priority) => rows.set_priority(*id, *priority).map(|_| 0),
+        Step::Ready(id, ready) => Ok(rows.set_ready(*id, *ready) as u64),
+        Step::NextReady(now) => Ok(rows.next_ready(*now)),
+        Step::Dispatched(id) => Ok(rows.dispatched(*id).unwrap_or(0)),
+        Step::Destroy(id) => Ok(rows.destroy(*id) as u64),
+    }
+}
+
+type Known = (Step, Result<u64, RowsFault>, &'static [u64]);
+
+fn steps_of_two_levels() -> [Known; 15] {
+    [
+        (Step::Attach(idle()), Ok(1), &[1]),
+        (Step::Attach(timeout()), Ok(2), &[2, 1]),
+        (Step::Child(1, idle()), Ok(3), &[2, 3, 1]),
+        (Step::Child(3, idle()), Err(RowsFault::IsChild), &[2, 3, 1]),
+        (Step::Child(9, idle()), Err(RowsFault::NoSource), &[2, 3, 1]),
+        (Step::Priority(3, 0), Err(RowsFault::IsChild), &[2, 3, 1]),
+        (Step::Priority(1, -5), Ok(0), &[3, 1, 2]),
+        (Step::NextReady(1_999), Ok(2_000), &[3, 1, 2]),
+        (Step::NextReady(2_000), Ok(0), &[3, 1, 2]),
+        (Step::Ready(2, 5), Ok(1), &[3, 1, 2]),
+        (Step::NextReady(4), Ok(5), &[3, 1, 2]),
+        (Step::Destroy(1), Ok(1), &[2]),
+        (Step::Destroy(1), Ok(0), &[2]),
+        (Step::Dispatched(2), Ok(1), &[2]),
+        (Step::Dispatched(1), Ok(0), &[2]),
+    ]
+}
+
+/// A chain of four, and then a root with two branches and one that is more urgent until the first has its priority.
+fn steps_of_four_levels() -> [Known; 14] {
+    [
+        (Step::Attach(idle()), Ok(1), &[1]),
+        (Step::Child(1, idle()), Ok(2), &[2, 1]),
+        (Step::Child(2, idle()), Ok(3), &[3, 2, 1]),
+        (Step::Child(3, idle()), Ok(4), &[4, 3, 2, 1]),
+        (
+            Step::Child(4, idle()),
+            Err(RowsFault::TooDeep),
+            &[4, 3, 2, 1],
+        ),
+        (Step::Priority(2, 0), Err(RowsFault::IsChild), &[4, 3, 2, 1]),
+        (Step::Destroy(2), Ok(1), &[1]),
+        (Step::Child(1, idle()), Ok(5), &[5, 1]),
+        (Step::Child(1, idle()), Ok(6), &[5, 6, 1]),
+        (Step::Child(5, timeout()), Ok(7), &[7, 5, 6, 1]),
+        (Step::Attach(timeout()), Ok(8), &[8, 7, 5, 6, 1]),
+        (Step::Priority(1, 0), Ok(0), &[8, 7, 5, 6, 1]),
+        (Step::Priority(1, -1), Ok(0), &[7, 5, 6, 1, 8]),
+        (Step::Destroy(5), Ok(1), &[6, 1, 8]),
+    ]
+}
+
+/// Takes steps of which the answers and the orders are known.
+fn expect_steps(
+    rt: &impl Abort,
+    alloc: Global,
+    levels: Levels,
+    steps: &[Known],
+) -> Result<(), Fail> {
+    let mut rows = Tried::new(alloc, levels);
+    for (step, answer, order) in steps.iter() {
+        assert_eq!(rt; take(&mut rows, step), *answer);
+        assert_eq!(rt; rows.ids(alloc)?.as_slice(), *order);
+    }
+    Ok(())
+}
+
+#[test]
+fn two_levels(rt: HostRuntime) -> Result<(), Fail> {
+    expect_steps(&rt, rt.alloc(), Levels::Two, &steps_of_two_levels())
+}
+
+#[test]
+fn four_levels(rt: HostRuntime) -> Result<(), Fail> {
+    expect_steps(&rt, rt.alloc(), Levels::Four, &steps_of_four_levels())
+}
+
+fn count(rows: &Tried) -> usize {
+    rows.rows.ordered().count()
+}
+
+fn expect_priority(rt: &impl Abort, rows: &Tried, id: u64, priority: i32) {
+    match rows.rows.row(id) {
+        Some(row) => assert_eq!(rt; row.priority, priority),
+        None => assert!(rt; false, "no row {id}"),
+    }
+}
+
+/// Whether a call made a row, behind so many; else memory was refused, and those are left.
+fn is_made(rt: &impl Abort, rows: &Tried, answer: Result<u64, RowsFault>, before: u32) -> bool {
+    let id = u64::from(before) + 1;
+    match answer {
+        Ok(made) => {
+            assert_eq!(rt; made, id);
+            true
+        }
+        Err(fault) => {
+            assert_eq!(rt; fault, RowsFault::OutOfMemory);
+            assert_eq!(rt; rows.rows.row(id), None);
+            assert_eq!(rt; count(rows), before as usize);
+            false
+        }
+    }
+}
+
+/// Gives a root with one child a priority, or finds both as they were.
+fn try_priority(rt: &impl Abort, rows: &mut Tried) {
+    match rows.set_priority(1, 0) {
+        Ok(()) => expect_priority(rt, rows, 2, 0),
+        Err(fault) => {
+            assert_eq!(rt; fault, RowsFault::OutOfMemory);
+            expect_priority(rt, rows, 1, 200);
+            expect_priority(rt, rows, 2, 200);
+            assert_eq!(rt; count(rows), 2);
+        }
+    }
+}
+
+/// Each call answers that memory was refused, and leaves the rows as they were, or gives the exact answer.
+#[test]
+fn refused_rows(rt: HostRuntime) {
+    let mut rows = Tried::new(rt.alloc(), Levels::Two);
+    let attached = rows.attach(idle(), 0);
+    if !is_made(&rt, &rows, attached, 0) {
+        return;
+    }
+    let added = rows.add_child(1, idle(), 0);
+    if !is_made(&rt, &rows, added, 1) {
+        return;
+    }
+    try_priority(&rt, &mut rows);
+    assert!(rt; rows.destroy(1));
+    assert_eq!(rt; count(&rows), 0);
+}
+
+/// One random edit of the rows and of the plain ones; both then have the same rows in the same order.
+fn edit(
+    alloc: Global,
+    random: &mut Random,
+    rows: &mut Tried,
+    plain: &mut Plain,
+) -> Result<(), Fail> {
+    let choice = if plain.len() > 24 {
+        12
+    } else {
+        random.below(20)
+    };
+    let id = plain.some_id(random);
+    let ready = random.below(50) as i64 - 1;
+    let spec = SourceSpec {
+        priority: random.below(3) as i32 * 100 - 100,
+        ..idle()
+    };
+    let same = match choice {
+        0..=3 => rows.attach(spec, 0) == Ok(plain.attach(spec.priority)?),
+        4..=9 => rows.add_child(id, spec, 0) == plain.add_child(id)?,
+        10..=13 => rows.destroy(id) == plain.destroy(id),
+        14..=15 => rows.set_ready(id, ready) == plain.set_ready(id, ready),
+        16..=17 => rows.set_priority(id, spec.priority) == plain.set_priority(id, spec.priority),
+        _ => rows.dispatched(id) == plain.dispatched(id),
+    };
+    if !same {
+        return Err("another answer".into());
+    }
+    if rows.rows.next_ready(20) != plain.next_ready(20) {
+        return Err("another ready time".into());
+    }
+    if rows.ids(alloc)?.as_slice() != plain.ordered(alloc)?.as_slice() {
+        return Err("another order".into());
+    }
+    Ok(())
+}
+
+#[test]
+fn random_edits(rt: HostRuntime) -> Result<(), Fail> {
+    for levels in [Levels::Two, Levels::Four] {
+        let mut random = Random::new(20);
+        let mut rows = Tried::new(rt.alloc(), levels);
+        let mut plain = Plain::new(rt.alloc(), levels);
+        for _ in 0..2_000_u64 {
+            edit(rt.alloc(), &mut random, &mut rows, &mut plain)?;
+            for row in rows.rows.in_order() {
+                assert!(rt; plain.has(&row), "a row as it was made and edited");
+            }
+        }
+    }
+    Ok(())
+}
+
+/// Ready times that come one behind the other, that are changed from the first on, and that go from the first on, stand in
+/// a low tree: in one that leans so many would stand above each other that a call finds no stack, or no end.
+#[test]
+fn low_tree(rt: HostRuntime) -> Result<(), Fail> {
+    let mut rows = Tried::new(rt.alloc(), Levels::Two);
+    for now in 0..100_000_u32 {
+        assert_eq!(rt; rows.attach(timeout(), now), Ok(now as u64 + 1));
+    }
+    assert_eq!(rt; rows.next_ready(0), 2_000);
+    for id in 1..=90_000_u64 {
+        assert!(rt; rows.set_ready(id, 500_000 + id as i64), "a row");
+    }
+    assert_eq!(rt; rows.next_ready(0), 92_000);
+    for id in 90_001..=100_000_u64 {
+        assert!(rt; rows.destroy(id), "a row");
+    }
+    for id in 101..=90_000_u64 {
+        assert!(rt; rows.destroy(id), "a row");
+    }
+    assert_eq!(rt; rows.next_ready(0), 500_001);
+    Ok(())
+}
