@@ -4,7 +4,8 @@ use Rattle.serde_json.specs.Data.{Data, Items, boolean, number, string, array, o
 use Rattle.loop_script.specs.Script.{script_of}
 use Rattle.loop_script.specs.declared.plan.Plan.{Plan}
 use Rattle.loop_script.specs.declared.source.Kind.TheVariants as kinds
-use Rattle.loop_script.specs.declared.action.Action.TheVariants.{Attach, Child, Destroy, SetReady, SetPriority, Iterate, Pending, Run, Quit, Cancel, Connect, Disconnect, Log}
+use Rattle.loop_script.specs.declared.action.Action.TheVariants.{Attach, Child, Destroy, SetReady, SetPriority, Iterate, Pending, Run, Quit, Cancel, Connect, Disconnect, Task, Log}
+use Rattle.loop_script.specs.Tree.{value, fail, sleep, check, seq, both, first, within}
 
 abbrev items : List Data → Items
 items [] = no_items
@@ -34,6 +35,18 @@ child = object (member (codes "call") (n 0) (member (codes "kind") (row (word (c
 abbrev of_kind : List Data → Data
 of_kind ds = object (member (codes "kind") (row ds) no_members)
 
+-- ["seq",["within",5,["sleep",6]],["first",["both",["value",-3],["fail"]],["check"]]]
+abbrev tree : Data
+tree =
+    let timed : Data = row (word (codes "within") ∷ n 5 ∷ row (word (codes "sleep") ∷ n 6 ∷ []) ∷ []) in
+    let joined : Data = row (word (codes "both") ∷ row (word (codes "value") ∷ below_zero (negsuc 2) ∷ []) ∷ row (word (codes "fail") ∷ []) ∷ []) in
+    row (word (codes "seq") ∷ timed ∷ row (word (codes "first") ∷ joined ∷ row (word (codes "check") ∷ []) ∷ []) ∷ [])
+
+-- {"call":0,"cancel":0,"check":true,"priority":-5,"return_on_cancel":true,"tree":..}
+abbrev task : Data
+task = object (member (codes "call") (n 0) (member (codes "cancel") (n 0) (member (codes "check") (boolean true)
+    (member (codes "priority") (below_zero (negsuc 4)) (member (codes "return_on_cancel") (boolean true) (member (codes "tree") tree no_members))))))
+
 abbrev start : List Data
 start =
     row (word (codes "attach") ∷ n 0 ∷ n 1 ∷ source ∷ [])
@@ -51,6 +64,7 @@ start =
     ∷ row (word (codes "cancel") ∷ n 0 ∷ [])
     ∷ row (word (codes "quit") ∷ n 0 ∷ [])
     ∷ row (word (codes "run") ∷ n 0 ∷ [])
+    ∷ row (word (codes "task") ∷ task ∷ [])
     ∷ row (word (codes "log") ∷ n 8 ∷ [])
     ∷ []
 
@@ -98,6 +112,7 @@ each_part = record {
         ∷ Cancel 0
         ∷ Quit 0
         ∷ Run 0
+        ∷ Task (record { tree = seq (within 5 (sleep 6)) (first (both (value (negsuc 2)) fail) check); call = 0; cancel = Some 0; check = true; return_on_cancel = true; priority = negsuc 4 })
         ∷ Log 8
         ∷ [];
   }) ∷ [];

@@ -1,7 +1,10 @@
 pub mod Alike
+pub mod Along
 pub mod Arguments
+pub mod Bounds
 pub mod Endings
 pub mod Fronts
 pub mod Inputs
 pub mod Parts
+pub mod Posted
 pub mod Statuses

@@ -1,6 +1,6 @@
 -- The text of a run: for each lane a heading, and a line for each event.
-use Rattle.std.specs.Prelude.{ℕ, Bool, List, ◌++◌, codes, length, if◌then◌else◌}
-use Rattle.std.specs.List.{flat_map, range_with_len}
+use Rattle.std.specs.Prelude.{ℕ, Bool, List, ◌++◌, codes, if◌then◌else◌}
+use Rattle.std.specs.List.{flat_map}
 use Rattle.std.specs.Fmt.{decimal, signed_decimal}
 use Rattle.loop_script.specs.declared.plan.Plan.{Plan}
 use Rattle.loop_script.specs.declared.outcome.Outcome.{Outcome}
@@ -12,7 +12,8 @@ use Rattle.lane_turn.specs.declared.line.Invoked.{Invoked}
 use Rattle.lane_turn.specs.declared.line.Invoked.TheVariants.{Direct, Attached, Posted}
 use Rattle.lane_turn.specs.declared.line.Word.{Word}
 use Rattle.lane_turn.specs.declared.line.Word.TheVariants as words
-use Rattle.lane_turn.specs.Turn.{lane_at}
+use Rattle.lane_turn.specs.Lane.{Lane}
+use Rattle.lane_turn.specs.Tick.{lanes_at}
 
 abbrev pub truth_text : Bool → List ℕ
 truth_text b = if b then codes "true" else codes "false"
@@ -74,10 +75,10 @@ line_text line = decimal line.tick ++ (codes " " ++ (event_text line.event ++ co
 abbrev pub lane_text : ℕ → List Line → List ℕ
 lane_text number lines = codes "thread " ++ (decimal number ++ (codes "\n" ++ flat_map line_text lines))
 
--- the part of a lane of a script that ran to its end
-abbrev pub part_of : Plan → ℕ → List ℕ
-part_of script number = lane_text number (lane_at script number script.ticks).trace
+-- the part of a lane, under its number
+abbrev pub part_of : Lane → List ℕ
+part_of lane = lane_text lane.number lane.trace
 
--- the text of a script: the parts of its lanes, in order
+-- the text of a script: the parts of its lanes in order, when its ticks are over
 abbrev pub text_of : Plan → List ℕ
-text_of script = flat_map (part_of script) (range_with_len 0 (length script.lanes))
+text_of script = flat_map part_of (lanes_at script script.ticks)

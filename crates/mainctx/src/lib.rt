@@ -3,6 +3,7 @@
 
 mod ending;
 mod input;
+mod lanes;
 mod last_dispatch;
 mod laws;
 mod run;

@@ -1,13 +1,12 @@
 //! From the bytes of a script to the bytes of its text.
 ghost use Rattle.std.specs.Prelude.{◌≡◌, ◌≢◌, ◌<◌, ◌↔◌, OnOk, OnErr, IfOk, IfErr, Err};
-ghost use Rattle.lane_turn.specs.Turn.{lane_at};
 ghost use Rattle.mainctx.specs.Run.{IsRunFaultOf, IsTextOf, Writes, WritesFront, HoldsText};
 ghost use Rattle.mainctx.specs.Text.{text_of};
 ghost use Rattle.mainctx.specs.Writing.{GrowAlike};
 
+use crate::lanes::run_lanes;
 use crate::text::{OutOfMemory, add_text};
 use crate::writer::{Out, OutFault, write_whole};
-use lane_turn::{LaneFault, LaneState};
 use loop_script::{Script, ScriptFault};
 use std::alloc::Global;
 use thiserror::Error;
@@ -36,32 +35,14 @@ impl From<OutOfMemory> for MainFault {
     }
 }
 
-/// A lane is spent only after a refusal of memory.
-impl From<LaneFault> for OutOfMemory {
-    fn from(_: LaneFault) -> Self {
-        OutOfMemory
-    }
-}
-
-/// A lane after its turns at all ticks.
-fn run_lane(alloc: Global, script: &Script, number: u32) -> Result<LaneState, OutOfMemory>
-    ensures { IfOk result (λ state. state.lane ≡ lane_at script.now number script.now.ticks) }
-{
-    let mut lane = LaneState::new(alloc, script, number)?;
-    for tick in 0..script.ticks() {
-        lane.turn(script, tick)?;
-    }
-    Ok(lane)
-}
-
 /// Runs a script to its end, and gives its text.
 fn text_of_script(alloc: Global, script: &Script) -> Result<Vec<u8>, OutOfMemory>
     ensures { IfOk result (λ text. text.items ≡ text_of script.now) }
 {
+    let lanes = run_lanes(alloc, script)?;
     let mut text = Vec::new(alloc);
     for number in 0..script.lanes() {
-        let lane = run_lane(alloc, script, number)?;
-        add_text(&mut text, number, lane.trace())?;
+        add_text(&mut text, number, lanes[number as usize].trace())?;
     }
     Ok(text)
 }

@@ -23,38 +23,50 @@ const LINES: [Line; 2] = [
     },
 ];
 
+/// A new lane's turns at the first two ticks; the first fault ends them.
+fn two_turns(alloc: Global, script: &Script, lane: &mut LaneState) -> Result<(), LaneFault>
+    requires fresh { lane.old.spent ≡ false }
+    requires ready { IsReady script.now 0 1 lane.old.lane }
+    ensures memory { result ≡ Err LaneFault.OutOfMemory → IsTrue lane.new.spent }
+{
+    let mut tray = Tray::new(alloc);
+    lane.turn(script, 0, &mut tray)?;
+    lane.turn(script, 1, &mut tray)
+}
+
 #[test]
 fn first_run(rt: HostRuntime) -> Result<(), Fail> {
     let script = Script::read(rt.alloc(), first_run_script().as_bytes())?;
     let mut lane = LaneState::new(rt.alloc(), &script, 0)?;
-    let mut tray = Tray::new(rt.alloc());
-    lane.turn(&script, 0, &mut tray)?;
-    lane.turn(&script, 1, &mut tray)?;
+    two_turns(rt.alloc(), &script, &mut lane)?;
     assert_eq!(rt; lane.trace(), LINES.as_slice());
     assert!(rt; !lane.halted());
-    assert_eq!(rt; tray.into_letters().len(), 0);
     Ok(())
 }
 
+/// A spent lane answers so to both calls.
+fn stays_spent(alloc: Global, script: &Script, lane: &mut LaneState) -> bool
+    requires { IsTrue lane.old.spent }
+{
+    lane.turn(script, 2, &mut Tray::new(alloc)) == Err(LaneFault::Spent)
+        && lane.deliver(script, 2, &[]) == Err(LaneFault::Spent)
+        && lane.turn(script, 2, &mut Tray::new(alloc)) == Err(LaneFault::Spent)
+}
+
+/// Whatever request is refused, the lines are right or the lane is spent.
 #[test]
 fn refused_turn(rt: HostRuntime) {
     let Ok(script) = Script::read(rt.alloc(), first_run_script().as_bytes()) else {
         return;
     };
-    let mut lane = match LaneState::new(rt.alloc(), &script, 0) {
-        Ok(lane) => lane,
-        Err(fault) => {
-            assert_eq!(rt; fault, LaneFault::OutOfMemory);
-            return;
-        }
+    let Ok(mut lane) = LaneState::new(rt.alloc(), &script, 0) else {
+        return;
     };
-    let mut tray = Tray::new(rt.alloc());
-    match lane.turn(&script, 0, &mut tray) {
+    match two_turns(rt.alloc(), &script, &mut lane) {
         Ok(()) => assert_eq!(rt; lane.trace(), LINES.as_slice()),
-        Err(fault) => {
-            assert_eq!(rt; fault, LaneFault::OutOfMemory);
-            assert_eq!(rt; lane.turn(&script, 1, &mut tray), Err(LaneFault::Spent));
-            assert_eq!(rt; lane.turn(&script, 1, &mut tray), Err(LaneFault::Spent));
+        Err(LaneFault::Spent) => assert!(rt; false),
+        Err(LaneFault::OutOfMemory) => {
+            assert!(rt; stays_spent(rt.alloc(), &script, &mut lane));
         }
     }
 }
@@ -105,7 +117,7 @@ fn takes_a_reply(rt: HostRuntime) -> Result<(), Fail> {
     Ok(())
 }
 
-/// Whatever request is refused, the lines are right or the lane is spent for both calls.
+/// Whatever request is refused, the lines are right or the lane is spent.
 #[test]
 fn refused_reply(rt: HostRuntime) {
     let Ok(script) = Script::read(rt.alloc(), reply_script().as_bytes()) else {
@@ -118,10 +130,7 @@ fn refused_reply(rt: HostRuntime) {
         Ok(()) => assert_eq!(rt; lane.trace(), REPLY_LINES.as_slice()),
         Err(LaneFault::Spent) => assert!(rt; false),
         Err(LaneFault::OutOfMemory) => {
-            let mut tray = Tray::new(rt.alloc());
-            assert_eq!(rt; lane.turn(&script, 2, &mut tray), Err(LaneFault::Spent));
-            assert_eq!(rt; lane.deliver(&script, 2, &[]), Err(LaneFault::Spent));
-            assert_eq!(rt; lane.deliver(&script, 2, &[]), Err(LaneFault::Spent));
+            assert!(rt; stays_spent(rt.alloc(), &script, &mut lane));
         }
     }
 }
