@@ -1,5 +1,5 @@
 -- A turn whose post held letters before: the same turn, behind them.
-use Rattle.std.proofs.Common.{◌≡◌, ℕ, zero, suc, ◌+◌, Bool, true, false, cond, Option, Some, None, List, [], ◌∷◌, ◌++◌, refl, ap, sym, ◌∙◌, option_map, append_assoc, append-nil}
+use Rattle.std.proofs.Common.{◌≡◌, ℕ, zero, suc, Bool, true, false, cond, Option, Some, None, List, [], ◌∷◌, ◌++◌, refl, ap, ◌∙◌, append_assoc}
 use Rattle.std.specs.Prelude.{slice_get}
 use Rattle.std.specs.Option.{option_map_or}
 use Rattle.loop_script.specs.declared.plan.Plan.{Plan}
@@ -17,9 +17,8 @@ use Rattle.lane_turn.specs.declared.layer.Top.TheVariants as tops
 use Rattle.lane_turn.specs.Frames.{top_of}
 use Rattle.lane_turn.specs.Lane.{Lane, Turn, taken, row_of, is_running}
 use Rattle.lane_turn.specs.Acted.{acted, sends}
-use Rattle.lane_turn.specs.Step.{step, step_polling, step_going, step_top, step_call, step_id, step_iteration, step_loop, counted_by, dispatching, polled, letter, sending, sent_with, posted_with}
+use Rattle.lane_turn.specs.Step.{step, step_polling, step_going, step_top, step_call, step_id, step_iteration, counted_by, dispatching, polled, letter, sent_with, posted_with}
 use Rattle.lane_turn.specs.Turn.{work, finish, finished}
-use Rattle.lane_turn.proofs.Finish.{finish_none}
 
 abbrev pub behind : List Letter → Turn → Turn
 behind front t = record t { posted = front ++ t.posted }

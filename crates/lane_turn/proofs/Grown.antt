@@ -40,13 +40,12 @@ use Rattle.post_office.specs.declared.letter.Body.TheVariants as mails
 use Rattle.lane_turn.specs.declared.line.Word.{Word}
 use Rattle.lane_turn.specs.declared.line.Word.TheVariants as words
 use Rattle.lane_turn.specs.Step.{step, step_polling, step_call, step_id, returned, answered, counted_by, in_lane, dispatching}
-use Rattle.lane_turn.specs.Turn.{work, finish, finished, begun, turned, opening, open_context, open_contexts_to}
+use Rattle.lane_turn.specs.Turn.{begun, turned, opening, open_context, open_contexts_to}
 use Rattle.lane_turn.specs.Deliver.{reply_spec, received_body, received, received_all}
-use Rattle.lane_turn.specs.Tick.{ticked, posted_at, lanes_at, lane_within}
+use Rattle.lane_turn.specs.Tick.{posted_at, lanes_at, lane_within}
 use Rattle.lane_turn.specs.Sound.{Bounded, IsSound, IsReady}
 use Rattle.lane_turn.specs.Levels.{IsGrown, Grown, IsOfTwoLevels, OfTwoLevels, OfAllLanes}
 use Rattle.lane_turn.proofs.Mild.{within_weaker, bounded_at}
-use Rattle.lane_turn.proofs.Steps.{goes}
 use Rattle.lane_turn.proofs.Turns.{IsTidy, tidy_on, begun_tidy, kept_finish, kept_finished, Kept}
 use Rattle.lane_turn.proofs.Runs.{most_at, ready_at, posted_fits, AllReady}
 use Rattle.lane_turn.proofs.Turns.{ready-turned}

@@ -1,15 +1,15 @@
 -- The polls of a turn, one by one and all at once.
-use Rattle.std.proofs.Common.{◌≡◌, ℕ, suc, ◌+◌, ◌≤◌, Bool, true, false, cond, Option, Some, None, List, [], ◌∷◌, ◌++◌, map, filter, length, refl, ap, sym, ◌∙◌, arith, append_assoc, append-nil, subst}
+use Rattle.std.proofs.Common.{◌≡◌, ℕ, ◌+◌, ◌≤◌, Bool, true, false, cond, Option, Some, None, List, [], ◌∷◌, ◌++◌, map, filter, length, refl, ap, sym, ◌∙◌, arith, append_assoc, append-nil, subst}
 use Rattle.std.specs.List.{filter_map}
 use Rattle.loop_script.specs.declared.plan.Plan.{Plan}
 use Rattle.task_steps.specs.declared.entry.Reply.{Reply}
 use Rattle.post_office.specs.declared.letter.Letter.{Letter}
 use Rattle.lane_watch.specs.Tasks.{Started, Tasks, reply_at, is_late_at, stays_at}
 use Rattle.lane_turn.specs.declared.line.Line.{Line}
-use Rattle.lane_turn.specs.Lane.{Lane, Turn}
-use Rattle.lane_turn.specs.Step.{step, polled, sent_with, posted_with, mail_of, one_if, late_line}
-use Rattle.lane_turn.specs.Turn.{finished, stepped}
-use Rattle.lane_turn.specs.Polls.{letters_of, replies_among, late_among, staying_among, polled_lane, after_polls}
+use Rattle.lane_turn.specs.Lane.{Turn}
+use Rattle.lane_turn.specs.Step.{polled, sent_with, posted_with, mail_of, one_if, late_line}
+use Rattle.lane_turn.specs.Turn.{finished}
+use Rattle.lane_turn.specs.Polls.{letters_of, staying_among, after_polls}
 use Rattle.lane_turn.proofs.Finish.{finished_on}
 use Rattle.lane_turn.proofs.Turns.{Kept}
 

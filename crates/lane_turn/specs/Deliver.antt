@@ -27,7 +27,7 @@ abbrev pub arrived : Plan → (tick sender : ℕ) → Reply → Lane → Lane
 arrived script tick sender reply lane =
     if is_some (own reply.ctx lane)
     then written tick (events.Arrive reply.ctx (next_id (own reply.ctx lane)))
-        (holding reply.ctx (next_id (own reply.ctx lane)) sender reply (edited reply.ctx (attached (reply_spec reply) (time_of script tick)) lane))
+    (holding reply.ctx (next_id (own reply.ctx lane)) sender reply (edited reply.ctx (attached (reply_spec reply) (time_of script tick)) lane))
     else lane
 
 -- a cancellation that the lane has not seen is seen; no letter is sent for it

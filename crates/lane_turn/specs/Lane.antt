@@ -1,5 +1,5 @@
 -- A lane, a turn of it, and their small changes.
-use Rattle.std.specs.Prelude.{ℕ, Option, Some, None, Bool, true, false, List, [], ◌∷◌, ◌++◌, drop, slice_get, slice_set, unwrap_or, option_map, if◌then◌else◌}
+use Rattle.std.specs.Prelude.{ℕ, Option, Some, None, Bool, true, false, List, [], ◌∷◌, ◌++◌, drop, slice_get, slice_set, unwrap_or, option_map}
 use Rattle.loop_script.specs.declared.plan.Plan.{Plan}
 use Rattle.source_rows.specs.declared.row.Row.{Row}
 use Rattle.source_rows.specs.Rows.{RowSet, row_of as row_with}

@@ -1,5 +1,5 @@
 -- The bounds of counters, and by how much a turn and a delivery may raise them.
-use Rattle.std.specs.Prelude.{◌≡◌, ℕ, ◌+◌, ◌*◌, ◌≤◌, Option, Some, None, List, length, if◌then◌else◌}
+use Rattle.std.specs.Prelude.{◌≡◌, ℕ, ◌+◌, ◌*◌, ◌≤◌, Option, Some, None, length, if◌then◌else◌}
 use Rattle.std.specs.List.{AllByRecursion}
 use Rattle.loop_script.specs.declared.plan.Plan.{Plan}
 use Rattle.source_rows.specs.Rows.{RowSet}

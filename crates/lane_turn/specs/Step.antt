@@ -21,7 +21,7 @@ use Rattle.lane_turn.specs.Frames.{CallOf, top_of, depth, calls}
 use Rattle.lane_turn.specs.Sources.{restarted}
 use Rattle.lane_turn.specs.Lane.{Lane, Turn, written, pushed, popped, taken, stopped, is_running, edited, row_of, iterating}
 use Rattle.lane_turn.specs.Acted.{acted, sends}
-use Rattle.lane_watch.specs.Tasks.{Started, Tasks, reply_at, is_late_at, stays_at}
+use Rattle.lane_watch.specs.Tasks.{Started, reply_at, is_late_at, stays_at}
 use Rattle.lane_turn.specs.Replies.{reply_held, without_reply}
 use Rattle.lane_turn.specs.declared.replies.Awaited.{Awaited}
 use Rattle.loop_script.specs.declared.outcome.Outcome.{Outcome}

@@ -40,7 +40,11 @@ impl Parts {
             return Ok(());
         }
         let id = self.attach(reply.ctx, reply_spec(&reply), script.now(tick))?;
-        if self.replies.insert((reply.ctx, id), Awaited { sender, reply }).is_err() {
+        if self
+            .replies
+            .insert((reply.ctx, id), Awaited { sender, reply })
+            .is_err()
+        {
             return Err(AllocError);
         }
         self.write(tick, Event::Arrive(reply.ctx, id))

@@ -64,8 +64,8 @@ impl Parts {
         requires sent { progress.old.sent + length (lane_of self.old).tasks.started < 2 ^ 63 }
         ensures polled { OnOk result (turn_of self.new progress.new (P.letters post.new)
             ≡ after_polls tick (record (turn_of self.old progress.old (P.letters post.old)) {
-                lane = record (lane_of self.old) { tasks = record (lane_of self.old).tasks { started = []; tick = tick + 1 } };
-                unpolled = (lane_of self.old).tasks.started;
+              lane = record (lane_of self.old) { tasks = record (lane_of self.old).tasks { started = []; tick = tick + 1 } };
+              unpolled = (lane_of self.old).tasks.started;
             })) }
         ensures home { P.home post.new ≡ P.home post.old }
         ensures none { (lane_of self.old).tasks.started ≡ [] → IsOk result }

@@ -274,6 +274,7 @@ of_tree_from d parts h =
 
 mutual
   unfolding tree_in trees_in
+
   of_tree_in : (d : Data) → ClearsNone (tree_in d)
   of_tree_in null = of_misshapen fail
   of_tree_in (boolean b) = of_misshapen fail

@@ -1,4 +1,4 @@
-use Rattle.std.proofs.Common.{ℕ, List, ap, ◌∙◌, arith, length}
+use Rattle.std.proofs.Common.{List, ap, ◌∙◌, arith, length}
 use Rattle.task_steps.specs.declared.entry.Reply.{Reply}
 use Rattle.lane_watch.specs.Tasks.{reply_at}
 use Rattle.lane_turn.proofs.Polls.{fewer_replies}
