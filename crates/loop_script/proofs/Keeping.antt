@@ -421,7 +421,7 @@ of_few ls = of_either _ _ (nat_le (sum_by (λ l. l.contexts) ls) 256) (of_done l
 
 of_lanes : (d : Option Data) → ClearsNone (lanes d)
 unfolding lanes
-of_lanes d s = along (rows 1 1 lane d) (of_rows 1 1 lane of_lane d) s _ (of_few (rows 1 1 lane d).value _)
+of_lanes d s = along (rows 1 64 lane d) (of_rows 1 64 lane of_lane d) s _ (of_few (rows 1 64 lane d).value _)
 
 of_plan : (d : Option Data) → ClearsNone (plan d)
 unfolding plan

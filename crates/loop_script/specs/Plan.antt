@@ -27,7 +27,7 @@ abbrev pub few_contexts : List LaneSpec → Read (List LaneSpec)
 few_contexts lanes = if nat_le (sum_by (λ l. l.contexts) lanes) 256 then done lanes else beyond []
 
 unfoldable pub lanes : Option Data → Read (List LaneSpec)
-lanes d = rows 1 1 lane d >>= few_contexts
+lanes d = rows 1 64 lane d >>= few_contexts
 
 unfoldable pub keep_or : Option Data → Read (Option ℕ)
 keep_or d = optional (Some 0) (nullable (whole 0 4294967295)) d

@@ -136,7 +136,7 @@ fn read_lanes(
     ensures few { IfOk result (λ xs. length xs ≤ 64) }
     ensures contexts { IfOk result (λ xs. sum_by (λ l. l.contexts) xs ≤ 256) }
 {
-    let lanes = rows_within(alloc, value, 1, 1, faults)?;
+    let lanes = rows_within(alloc, value, 1, 64, faults)?;
     Ok(with_few_contexts(alloc, lanes, faults))
 }
 
