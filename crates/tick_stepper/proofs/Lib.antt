@@ -1,0 +1,11 @@
+pub mod Merges
+pub mod Concats
+pub mod Deals
+pub mod Sorted
+pub mod Turns
+pub mod Posted
+pub mod Readings
+pub mod Workers
+pub mod Delivery
+pub mod Changes
+pub mod Happens

@@ -1,0 +1,5 @@
+pub mod Merge
+pub mod Parts
+pub mod Order
+pub mod Machine
+pub mod Law

@@ -1,0 +1,118 @@
+-- A tick as several workers take it, one move of one worker at a time.
+use Rattle.std.specs.Prelude.{◌≡◌, ℕ, Option, Some, None, List, [], ◌∷◌, ◌++◌, map, set, drop, length, replicate, slice_get}
+use Rattle.std.specs.List.{AllByRecursion}
+use Rattle.loop_script.specs.declared.plan.Plan.{Plan}
+use Rattle.post_office.specs.declared.letter.Letter.{Letter}
+use Rattle.lane_turn.specs.Lane.{Lane, Turn}
+use Rattle.lane_turn.specs.Step.{step}
+use Rattle.lane_turn.specs.Turn.{begun}
+use Rattle.tick_stepper.specs.Parts.{Work, Mail, without}
+
+-- a worker: the turn that it is in the middle of, the lanes that it took, those whose turn it ended, and what it posted
+pub record Worker : Type 0 where
+  pub held : Option Turn
+  pub taken : List Lane
+  pub over : List Lane
+  pub posted : List Letter
+
+-- a tick: the lanes that wait, the workers, and all that was posted
+pub record Tick : Type 0 where
+  pub waiting : List Lane
+  pub workers : List Worker
+  pub office : List Letter
+
+-- a worker takes the lane at a place of those that wait, takes one step of its turn, or is done with it
+pub data Move : Type 0 where
+  Claim : (worker place : ℕ) → Move
+  Step : (worker : ℕ) → Move
+  Done : (worker : ℕ) → Move
+
+-- what a step from t to u posted
+abbrev pub posted_by : Turn → Turn → List Letter
+posted_by t u = drop (length t.posted) u.posted
+
+-- a worker takes a lane, whose turn begins; the turn goes on from t to u; it is over, and the lane let go
+abbrev pub takes : ℕ → Worker → Lane → Worker
+takes tick worker lane = record worker { held = Some (begun tick lane); taken = worker.taken ++ lane ∷ [] }
+
+abbrev pub goes_on : Worker → Turn → Turn → Worker
+goes_on worker t u = record worker { held = Some u; posted = worker.posted ++ posted_by t u }
+
+abbrev pub lets_go : Worker → Turn → Worker
+lets_go worker t = record worker { held = None; over = worker.over ++ t.lane ∷ [] }
+
+-- the same within the tick, where worker is the one of number w; a move that cannot be made changes nothing
+abbrev pub claimed : ℕ → Tick → (w n : ℕ) → Worker → Option Lane → Tick
+claimed tick s w n worker None = s
+claimed tick s w n worker (Some lane) = record { waiting = without n s.waiting; workers = set s.workers w (takes tick worker lane); office = s.office }
+
+abbrev pub gone_on : Tick → ℕ → Worker → Turn → Option Turn → Tick
+gone_on s w worker t None = s
+gone_on s w worker t (Some u) = record { waiting = s.waiting; workers = set s.workers w (goes_on worker t u); office = s.office ++ posted_by t u }
+
+abbrev pub ended : Tick → ℕ → Worker → Turn → Option Turn → Tick
+ended s w worker t None = record { waiting = s.waiting; workers = set s.workers w (lets_go worker t); office = s.office }
+ended s w worker t (Some u) = s
+
+abbrev pub claim : ℕ → Tick → (w n : ℕ) → Worker → Option Turn → Tick
+claim tick s w n worker None = claimed tick s w n worker (slice_get s.waiting n)
+claim tick s w n worker (Some t) = s
+
+abbrev pub go_on : Plan → ℕ → Tick → ℕ → Worker → Option Turn → Tick
+go_on script tick s w worker None = s
+go_on script tick s w worker (Some t) = gone_on s w worker t (step script tick t)
+
+abbrev pub end : Plan → ℕ → Tick → ℕ → Worker → Option Turn → Tick
+end script tick s w worker None = s
+end script tick s w worker (Some t) = ended s w worker t (step script tick t)
+
+abbrev pub by_worker : Plan → ℕ → Tick → Move → Option Worker → Tick
+by_worker script tick s move None = s
+by_worker script tick s (Claim w n) (Some worker) = claim tick s w n worker worker.held
+by_worker script tick s (Step w) (Some worker) = go_on script tick s w worker worker.held
+by_worker script tick s (Done w) (Some worker) = end script tick s w worker worker.held
+
+abbrev pub worker_of : Move → ℕ
+worker_of (Claim w n) = w
+worker_of (Step w) = w
+worker_of (Done w) = w
+
+-- a move is made; moves are made, one after another
+abbrev pub moved : Plan → ℕ → Tick → Move → Tick
+moved script tick s move = by_worker script tick s move (slice_get s.workers (worker_of move))
+
+abbrev pub after : Plan → ℕ → List Move → Tick → Tick
+after script tick [] s = s
+after script tick (move ∷ moves) s = after script tick moves (moved script tick s move)
+
+-- no worker has done anything, and all lanes wait
+abbrev pub idle : Worker
+idle = record { held = None; taken = []; over = []; posted = [] }
+
+abbrev pub opening : ℕ → List Lane → Tick
+opening workers lanes = record { waiting = lanes; workers = replicate workers idle; office = [] }
+
+-- no worker is in the middle of a turn; and then no lane waits either
+abbrev pub AreFree : List Worker → Type 0
+AreFree workers = AllByRecursion (λ worker. worker.held ≡ None) workers
+
+pub record IsFull (s : Tick) : Type 0 where
+  pub waiting : s.waiting ≡ []
+  pub held : AreFree s.workers
+
+-- the lanes that the workers took, those whose turn they ended, and what they posted
+abbrev pub taken_of : Tick → List (List Lane)
+taken_of s = map (λ worker. worker.taken) s.workers
+
+abbrev pub over_of : Tick → List (List Lane)
+over_of s = map (λ worker. worker.over) s.workers
+
+abbrev pub posted_of : Tick → List (List Letter)
+posted_of s = map (λ worker. worker.posted) s.workers
+
+-- its two parts
+abbrev pub work_of : Tick → Work Lane
+work_of s = record { waiting = s.waiting; taken = taken_of s }
+
+abbrev pub mail_of : Tick → Mail Letter
+mail_of s = record { posted = posted_of s; office = s.office }
