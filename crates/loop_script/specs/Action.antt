@@ -8,7 +8,7 @@ use Rattle.loop_script.specs.Words.{choice}
 use Rattle.loop_script.specs.Source.{source_spec, child_spec}
 use Rattle.loop_script.specs.TaskForm.{task_spec}
 use Rattle.loop_script.specs.declared.action.Action.{Action}
-use Rattle.loop_script.specs.declared.action.Action.TheVariants.{Attach, Child, Destroy, SetReady, SetPriority, Iterate, Pending, Run, Quit, Cancel, Connect, Disconnect, Task, Log}
+use Rattle.loop_script.specs.declared.action.Action.TheVariants.{Attach, Child, Destroy, SetReady, SetPriority, Iterate, Pending, Run, Quit, Cancel, Connect, Disconnect, Task, Push, Pop, ShowDefault, Acquire, Release, Invoke, Log}
 
 unfoldable pub attach : Option Data → Read Action
 attach d = do
@@ -96,6 +96,42 @@ task d = do
   spec ← task_spec (part 1 d)
   done (Task spec)
 
+unfoldable pub push : Option Data → Read Action
+push d = do
+  _ ← arity 2 d
+  context ← index (part 1 d)
+  done (Push context)
+
+unfoldable pub pop : Option Data → Read Action
+pop d = do
+  _ ← arity 2 d
+  context ← index (part 1 d)
+  done (Pop context)
+
+unfoldable pub show_default : Option Data → Read Action
+show_default d = do
+  _ ← arity 1 d
+  done ShowDefault
+
+unfoldable pub acquire : Option Data → Read Action
+acquire d = do
+  _ ← arity 2 d
+  context ← index (part 1 d)
+  done (Acquire context)
+
+unfoldable pub release : Option Data → Read Action
+release d = do
+  _ ← arity 2 d
+  context ← index (part 1 d)
+  done (Release context)
+
+unfoldable pub invoke : Option Data → Read Action
+invoke d = do
+  _ ← arity 3 d
+  context ← index (part 1 d)
+  proc ← index (part 2 d)
+  done (Invoke context proc)
+
 unfoldable pub log : Option Data → Read Action
 log d = do
   _ ← arity 2 d
@@ -117,6 +153,12 @@ forms d =
     ∷ (codes "connect", connect d)
     ∷ (codes "disconnect", disconnect d)
     ∷ (codes "task", task d)
+    ∷ (codes "push", push d)
+    ∷ (codes "pop", pop d)
+    ∷ (codes "show_default", show_default d)
+    ∷ (codes "acquire", acquire d)
+    ∷ (codes "release", release d)
+    ∷ (codes "invoke", invoke d)
     ∷ (codes "log", log d)
     ∷ []
 

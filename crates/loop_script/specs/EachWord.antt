@@ -4,7 +4,7 @@ use Rattle.serde_json.specs.Data.{Data, Items, boolean, number, string, array, o
 use Rattle.loop_script.specs.Script.{script_of}
 use Rattle.loop_script.specs.declared.plan.Plan.{Plan}
 use Rattle.loop_script.specs.declared.source.Kind.TheVariants as kinds
-use Rattle.loop_script.specs.declared.action.Action.TheVariants.{Attach, Child, Destroy, SetReady, SetPriority, Iterate, Pending, Run, Quit, Cancel, Connect, Disconnect, Task, Log}
+use Rattle.loop_script.specs.declared.action.Action.TheVariants.{Attach, Child, Destroy, SetReady, SetPriority, Iterate, Pending, Run, Quit, Cancel, Connect, Disconnect, Task, Push, Pop, ShowDefault, Acquire, Release, Invoke, Log}
 use Rattle.loop_script.specs.Tree.{value, fail, sleep, check, seq, both, first, within}
 
 abbrev items : List Data → Items
@@ -65,11 +65,21 @@ start =
     ∷ row (word (codes "quit") ∷ n 0 ∷ [])
     ∷ row (word (codes "run") ∷ n 0 ∷ [])
     ∷ row (word (codes "task") ∷ task ∷ [])
+    ∷ row (word (codes "push") ∷ n 0 ∷ [])
+    ∷ row (word (codes "pop") ∷ n 0 ∷ [])
+    ∷ row (word (codes "show_default") ∷ [])
+    ∷ row (word (codes "acquire") ∷ n 0 ∷ [])
+    ∷ row (word (codes "release") ∷ n 0 ∷ [])
+    ∷ row (word (codes "invoke") ∷ n 0 ∷ n 1 ∷ [])
     ∷ row (word (codes "log") ∷ n 8 ∷ [])
     ∷ []
 
 abbrev procedure : Data
 procedure = object (member (codes "do") (row (row (word (codes "log") ∷ n 9 ∷ []) ∷ [])) (member (codes "keep") (n 3) no_members))
+
+-- a procedure that goes after its one call, since it has no `keep`
+abbrev once : Data
+once = object (member (codes "do") (row []) no_members)
 
 abbrev lane : Data
 lane = object (member (codes "contexts") (n 1) (member (codes "start") (row start) no_members))
@@ -84,7 +94,7 @@ each_word = object
     (member (codes "fds") descriptors
     (member (codes "lanes") (row (lane ∷ []))
     (member (codes "loops") (row (n 0 ∷ []))
-    (member (codes "procs") (row (procedure ∷ []))
+    (member (codes "procs") (row (procedure ∷ once ∷ []))
     (member (codes "tick_us") (n 1000)
     (member (codes "ticks") (n 2)
     (member (codes "version") (n 1) no_members))))))))
@@ -113,13 +123,19 @@ each_part = record {
         ∷ Quit 0
         ∷ Run 0
         ∷ Task (record { tree = seq (within 5 (sleep 6)) (first (both (value (negsuc 2)) fail) check); call = 0; cancel = Some 0; check = true; return_on_cancel = true; priority = negsuc 4 })
+        ∷ Push 0
+        ∷ Pop 0
+        ∷ ShowDefault
+        ∷ Acquire 0
+        ∷ Release 0
+        ∷ Invoke 0 1
         ∷ Log 8
         ∷ [];
   }) ∷ [];
   cancellables = 1;
   fds = ((record { tick = 1; bits = 5 }) ∷ []) ∷ [];
   loops = 0 ∷ [];
-  procs = (record { actions = Log 9 ∷ []; keep = Some 3 }) ∷ [];
+  procs = (record { actions = Log 9 ∷ []; keep = Some 3 }) ∷ (record { actions = []; keep = Some 0 }) ∷ [];
 }
 
 -- it is read as that

@@ -2,9 +2,9 @@
 use Rattle.std.specs.Prelude.{ℕ, ◌&&◌, ◌||◌, not, Bool, true, false, List, slice_get}
 use Rattle.std.specs.List.{list_all}
 use Rattle.loop_script.specs.Level.{rises}
-use Rattle.loop_script.specs.Parts.{actions_of_proc}
+use Rattle.loop_script.specs.Parts.{actions_of_proc, keeps}
 use Rattle.loop_script.specs.declared.action.Action.{Action}
-use Rattle.loop_script.specs.declared.action.Action.TheVariants.{Destroy, SetReady, Quit, Connect, Task, Log}
+use Rattle.loop_script.specs.declared.action.Action.TheVariants.{Destroy, SetReady, Quit, Connect, Task, Invoke, Log}
 use Rattle.loop_script.specs.declared.plan.Proc.{Proc}
 use Rattle.loop_script.specs.declared.plan.Plan.{Plan}
 
@@ -20,9 +20,15 @@ is_plain _ = false
 abbrev pub is_handler : List Proc → ℕ → Bool
 is_handler procs proc = list_all is_plain (actions_of_proc (slice_get procs proc))
 
--- what is connected is a handler, and a task that returns on cancel checks its cancellable
+-- a procedure after whose first call a source goes; the number of none is one
+abbrev pub goes_at_once : List Proc → ℕ → Bool
+goes_at_once procs proc = not (keeps (slice_get procs proc) 1)
+
+-- what is connected is a handler, what is invoked goes after its one call, and a task that returns on cancel checks its
+-- cancellable
 abbrev pub action_rules : List Proc → Action → Bool
 action_rules procs (Connect c slot proc) = is_handler procs proc
+action_rules procs (Invoke context proc) = goes_at_once procs proc
 action_rules procs (Task t) = t.check || not t.return_on_cancel
 action_rules procs _ = true
 

@@ -1,7 +1,7 @@
 //! Reading the actions of a script.
 ghost use Rattle.std.specs.Prelude.{◌≡◌, IfOk, OnOk};
 ghost use Rattle.loop_script.specs.Read.{after};
-ghost use Rattle.loop_script.specs.Action.{attach, child, destroy, set_ready, set_priority, iterate, pending, run, quit, cancel, connect, disconnect, task, log, action};
+ghost use Rattle.loop_script.specs.Action.{attach, child, destroy, set_ready, set_priority, iterate, pending, run, quit, cancel, connect, disconnect, task, push, pop, show_default, acquire, release, invoke, log, action};
 ghost use Rattle.loop_script.specs.Seen.{seen};
 
 use crate::action::Action;
@@ -51,6 +51,12 @@ fn read_action(
         "connect" => Ok(read_connect(value, faults)),
         "disconnect" => Ok(read_disconnect(value, faults)),
         "task" => read_task_action(alloc, value, faults),
+        "push" => Ok(read_push(value, faults)),
+        "pop" => Ok(read_pop(value, faults)),
+        "show_default" => Ok(read_show_default(value, faults)),
+        "acquire" => Ok(read_acquire(value, faults)),
+        "release" => Ok(read_release(value, faults)),
+        "invoke" => Ok(read_invoke(value, faults)),
         "log" => Ok(read_log(value, faults)),
         _ => {
             faults.shape = true;
@@ -191,6 +197,62 @@ fn read_task_action(
 {
     check_arity(value, 2, faults);
     Ok(Action::Task(read_task(alloc, part_of(value, 1), faults)?))
+}
+
+#[tactic(auto, unfolding(crate::specs::Action::push))]
+fn read_push(value: Option<&Value>, faults: &mut Faults) -> Action
+    ensures value { result ≡ (push (seen value.entry)).value }
+    ensures faults { faults.new ≡ after faults.old (push (seen value.entry)) }
+{
+    check_arity(value, 2, faults);
+    Action::Push(index_number(part_of(value, 1), faults))
+}
+
+#[tactic(auto, unfolding(crate::specs::Action::pop))]
+fn read_pop(value: Option<&Value>, faults: &mut Faults) -> Action
+    ensures value { result ≡ (pop (seen value.entry)).value }
+    ensures faults { faults.new ≡ after faults.old (pop (seen value.entry)) }
+{
+    check_arity(value, 2, faults);
+    Action::Pop(index_number(part_of(value, 1), faults))
+}
+
+#[tactic(auto, unfolding(crate::specs::Action::show_default))]
+fn read_show_default(value: Option<&Value>, faults: &mut Faults) -> Action
+    ensures value { result ≡ (show_default (seen value.entry)).value }
+    ensures faults { faults.new ≡ after faults.old (show_default (seen value.entry)) }
+{
+    check_arity(value, 1, faults);
+    Action::ShowDefault
+}
+
+#[tactic(auto, unfolding(crate::specs::Action::acquire))]
+fn read_acquire(value: Option<&Value>, faults: &mut Faults) -> Action
+    ensures value { result ≡ (acquire (seen value.entry)).value }
+    ensures faults { faults.new ≡ after faults.old (acquire (seen value.entry)) }
+{
+    check_arity(value, 2, faults);
+    Action::Acquire(index_number(part_of(value, 1), faults))
+}
+
+#[tactic(auto, unfolding(crate::specs::Action::release))]
+fn read_release(value: Option<&Value>, faults: &mut Faults) -> Action
+    ensures value { result ≡ (release (seen value.entry)).value }
+    ensures faults { faults.new ≡ after faults.old (release (seen value.entry)) }
+{
+    check_arity(value, 2, faults);
+    Action::Release(index_number(part_of(value, 1), faults))
+}
+
+#[tactic(auto, unfolding(crate::specs::Action::invoke))]
+fn read_invoke(value: Option<&Value>, faults: &mut Faults) -> Action
+    ensures value { result ≡ (invoke (seen value.entry)).value }
+    ensures faults { faults.new ≡ after faults.old (invoke (seen value.entry)) }
+{
+    check_arity(value, 3, faults);
+    let context = index_number(part_of(value, 1), faults);
+    let proc = index_number(part_of(value, 2), faults);
+    Action::Invoke(context, proc)
 }
 
 #[tactic(auto, unfolding(crate::specs::Action::log))]

@@ -19,6 +19,15 @@ pub(crate) struct Sizes {
     pub procs: usize,
 }
 
+impl Sizes {
+    /// Whether a number is a context's.
+    fn has_context(&self, context: u32) -> bool
+        ensures { result ≡ nat_lt context self.now.contexts }
+    {
+        u64::from(context) < self.contexts
+    }
+}
+
 /// Whether a number that may be absent is below a size.
 fn option_within(index: Option<u32>, size: u64) -> bool
     ensures { result ≡ option_refers size index }
@@ -64,15 +73,15 @@ impl Action {
     {
         match self {
             Action::Attach(context, _, spec) => {
-                u64::from(*context) < sizes.contexts && spec.refers_within(sizes)
+                sizes.has_context(*context) && spec.refers_within(sizes)
             }
             Action::Child(_, _, spec) => spec.refers_within(sizes),
-            Action::Iterate(context) => u64::from(*context) < sizes.contexts,
-            Action::Pending(context) => u64::from(*context) < sizes.contexts,
-            Action::Push(context) => u64::from(*context) < sizes.contexts,
-            Action::Pop(context) => u64::from(*context) < sizes.contexts,
-            Action::Acquire(context) => u64::from(*context) < sizes.contexts,
-            Action::Release(context) => u64::from(*context) < sizes.contexts,
+            Action::Iterate(context) => sizes.has_context(*context),
+            Action::Pending(context) => sizes.has_context(*context),
+            Action::Push(context) => sizes.has_context(*context),
+            Action::Pop(context) => sizes.has_context(*context),
+            Action::Acquire(context) => sizes.has_context(*context),
+            Action::Release(context) => sizes.has_context(*context),
             Action::Run(number) => (*number as usize) < sizes.loops,
             Action::Quit(number) => (*number as usize) < sizes.loops,
             Action::Cancel(c) => *c < sizes.cancellables,
@@ -81,10 +90,10 @@ impl Action {
             }
             Action::Task(spec) => spec.refers_within(sizes),
             Action::Invoke(context, proc) => {
-                u64::from(*context) < sizes.contexts && (*proc as usize) < sizes.procs
+                sizes.has_context(*context) && (*proc as usize) < sizes.procs
             }
             Action::Give(context, lane) => {
-                u64::from(*context) < sizes.contexts && (*lane as usize) < sizes.lanes
+                sizes.has_context(*context) && (*lane as usize) < sizes.lanes
             }
             Action::Destroy(_) => true,
             Action::SetReady(_, _) => true,
@@ -145,9 +154,7 @@ fn procs_refer_within(procs: &[Proc], sizes: &Sizes) -> bool
 fn loops_refer_within(loops: &[u32], sizes: &Sizes) -> bool
     ensures { result ≡ list_all (λ c. nat_lt c sizes.now.contexts) loops.now }
 {
-    loops
-        .iter()
-        .all(|context| u64::from(*context) < sizes.contexts)
+    loops.iter().all(|context| sizes.has_context(*context))
 }
 
 /// How many contexts the lanes have together.

@@ -2,13 +2,13 @@
 ghost use Rattle.std.specs.Prelude.{◌≡◌};
 ghost use Rattle.std.specs.List.{list_all};
 ghost use Rattle.loop_script.specs.Level.{rises as rising};
-ghost use Rattle.loop_script.specs.Rules.{is_plain as is_plain_action, is_handler as is_handler_among, action_rules, plan_rules};
+ghost use Rattle.loop_script.specs.Rules.{is_plain as is_plain_action, is_handler as is_handler_among, goes_at_once as goes_at_once_among, action_rules, plan_rules};
 
 use crate::action::Action;
 use crate::items::Items;
 use crate::level::{Level, rises};
 use crate::plan::{LaneSpec, Plan, Proc};
-use crate::script::proc_actions;
+use crate::script::{is_kept, proc_actions};
 
 impl Plan {
     pub(crate) fn keeps_rules(&self) -> bool
@@ -54,6 +54,7 @@ fn keeps_rules(action: &Action, procs: &[Proc]) -> bool
 {
     match action {
         Action::Connect(_, _, proc) => is_handler(procs, *proc),
+        Action::Invoke(_, proc) => goes_at_once(procs, *proc),
         Action::Task(spec) => spec.check || !spec.return_on_cancel,
         _ => true,
     }
@@ -66,6 +67,16 @@ fn is_handler(procs: &[Proc], proc: u32) -> bool
     proc_actions(procs, proc)
         .iter()
         .all(|action| is_plain(action))
+}
+
+/// Whether a source goes after its first call of a procedure.
+fn goes_at_once(procs: &[Proc], proc: u32) -> bool
+    ensures { result ≡ goes_at_once_among procs.now proc }
+{
+    match procs.get(proc as usize) {
+        Some(found) => !is_kept(found.keep, 1),
+        None => true,
+    }
 }
 
 /// Whether a handler may do this.

@@ -180,8 +180,8 @@ impl Script {
 }
 
 impl Script {
-    /// The actions of a call; none for the number of no lane or procedure. Each names what the script has, and
-    /// connects handlers alone.
+    /// The actions of a call; none for the number of no lane or procedure. Each names what the script has,
+    /// connects handlers alone, and invokes what goes after its one call.
     pub fn actions(&self, body: Body) -> &[Action]
         ensures actions { result.now ≡ actions_of self.now body }
         ensures refer { list_all (action_refers (sizes self.now)) result.now ≡ true }
@@ -227,7 +227,7 @@ pub(crate) fn proc_actions(procs: &[Proc], proc: u32) -> &[Action]
 }
 
 /// Whether a source stays after so many dispatches.
-fn is_kept(keep: Option<u32>, n: u64) -> bool
+pub(crate) fn is_kept(keep: Option<u32>, n: u64) -> bool
     ensures { result ≡ is_kept keep n }
 {
     match keep {
