@@ -1,12 +1,12 @@
 -- What a lane watches: its view of cancellations, and its tasks.
-use Rattle.std.specs.Prelude.{◌≡◌, ℕ, ◌+◌, ◌<◌, ◌≤◌, Bool, false, Option, Some, None, is_some, List, [], ◌∷◌, ◌++◌, slice_set, replicate, filter, map, if◌then◌else◌}
+use Rattle.std.specs.Prelude.{◌≡◌, ℕ, ◌+◌, ◌<◌, ◌≤◌, Bool, true, false, Option, Some, None, is_some, List, [], ◌∷◌, ◌++◌, slice_set, replicate, filter, map, if◌then◌else◌}
 use Rattle.std.specs.List.{AllByRecursion, filter_map}
 use Rattle.loop_script.specs.declared.task.TaskSpec.{TaskSpec}
 use Rattle.cancel_view.specs.Seen.{Seen, has, cancelled}
 use Rattle.task_steps.specs.declared.entry.Reply.{Reply}
 use Rattle.task_steps.specs.Task.{Task}
-use Rattle.task_steps.specs.Book.{Book, IsIn}
-use Rattle.task_steps.specs.Run.{IsUpTo}
+use Rattle.task_steps.specs.Book.{Book, IsIn, OwesNone}
+use Rattle.task_steps.specs.Run.{IsUpTo, IsAfter}
 use Rattle.lane_watch.specs.Tasks.{Started, Tasks, first_seen, reply_at, is_late_at, stays_at}
 
 pub record Watched : Type 0 where
@@ -65,10 +65,6 @@ abbrev pub IsBelow : ℕ → Option ℕ → Type 0
 IsBelow tick None = Unit {0}
 IsBelow tick (Some k) = k < tick
 
-abbrev pub IsFrom : ℕ → Option ℕ → Type 0
-IsFrom tick None = Unit {0}
-IsFrom tick (Some k) = tick ≤ k
-
 -- a cancellable is in the view where it has a tick
 abbrev pub AreDated : List (Option ℕ) → List Bool → Type 0
 AreDated [] [] = Unit {0}
@@ -76,16 +72,19 @@ AreDated [] (m ∷ ms) = ⊥
 AreDated (t ∷ ts) [] = ⊥
 AreDated (t ∷ ts) (m ∷ ms) = (is_some t ≡ m) × AreDated ts ms
 
--- what polls before a tick saw of a task that is first seen as cancelled at c
-abbrev pub SeenAs : ℕ → (clear cancelled c : Option ℕ) → Type 0
-SeenAs tick clear None c = IsFrom tick c
-SeenAs tick clear (Some from) c = (c ≡ Some from) × IsBelow from clear
+-- what polls before a tick saw of a task that is first seen as cancelled at c, where each tick were polled: none before c saw it as
+-- cancelled, none from c on as not cancelled, and one that returns on cancel was polled at c
+abbrev pub SeenAs : ℕ → Bool → (clear cancelled c : Option ℕ) → Type 0
+SeenAs tick returns clear None None = Unit {0}
+SeenAs tick returns clear (Some from) None = ⊥
+SeenAs tick returns clear None (Some k) = IsBelow k clear × (returns ≡ true → tick ≤ k)
+SeenAs tick returns clear (Some from) (Some k) = IsBelow k clear × (k ≤ from) × (returns ≡ true → k ≡ from)
 
 pub record Fits (tick tick_us : ℕ) (view : Seen) (came : List (Option ℕ)) (t : Task) : Type 0 where
   pub ticks : t.tick_us ≡ tick_us
   pub first : t.first ≤ tick
   pub clear : IsBelow tick t.clear
-  pub seen : SeenAs tick t.clear t.cancelled (first_seen came (started_of t))
+  pub seen : SeenAs tick t.return_on_cancel t.clear t.cancelled (first_seen came (started_of t))
   pub known : IsIn view t.cancel
 
 -- the numbers of tasks rise from low, all below next
@@ -93,18 +92,23 @@ abbrev pub Numbered : (low next : ℕ) → List Task → Type 0
 Numbered low next [] = low ≤ next
 Numbered low next (t ∷ ts) = (low ≤ t.number) × Numbered (t.number + 1) next ts
 
--- the last poll or start was in the tick before
+-- before its wake nothing wakes in the book, and no task owes the view a reply
+abbrev pub IsAsleep : (tick : ℕ) (wake : Option ℕ) (view : Seen) → Book → Type 0
+IsAsleep tick wake view book = (later : ℕ) → tick ≤ later → IsAfter later wake → IsAfter later book.wake × OwesNone view book.tasks
+
+-- the last poll, pass or start was in the tick before
 abbrev pub IsLast : ℕ → Option ℕ → Type 0
 IsLast tick None = Unit {0}
 IsLast tick (Some last) = last + 1 ≡ tick
 
-pub record IsJoined (tick tick_us : ℕ) (view : Seen) (came : List (Option ℕ)) (book : Book) : Type 0 where
+pub record IsJoined (tick tick_us : ℕ) (view : Seen) (came : List (Option ℕ)) (book : Book) (until : Option ℕ) : Type 0 where
   pub ticks : book.tick_us ≡ tick_us
   pub some : 0 < tick_us
   pub short : tick_us ≤ 1000000000
   pub sound : book.spent ≡ false
   pub last : IsLast tick book.last
   pub wake : IsUpTo tick book.wake
+  pub asleep : IsAsleep tick until view book
   pub dated : AreDated came view.members
   pub past : AllByRecursion (IsBelow tick) came
   pub fits : AllByRecursion (Fits tick tick_us view came) book.tasks

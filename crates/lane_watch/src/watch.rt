@@ -1,5 +1,6 @@
 //! A lane's view with its ticks, and its tasks.
-ghost use Rattle.std.specs.Prelude.{◌≡◌, [], ◌+◌, ◌<◌, ◌≤◌, ◌^◌, slice_set, Some, None, IsTrue, IsOk, IfOk, OnOk, OnErr, option_map, if◌then◌else◌};
+ghost use Rattle.std.specs.Prelude.{◌≡◌, [], ◌+◌, ◌<◌, ◌≤◌, ◌^◌, slice_set, Some, None, IsTrue, IsOk, IfOk, OnOk, OnErr, option_map, if◌then◌else◌, ◌↔◌};
+ghost use Rattle.task_steps.specs.Run.{IsAfter};
 
 use cancel_view::{Connected, Fired, OutOfMemory, View};
 use loop_script::TaskSpec;
@@ -19,6 +20,9 @@ pub struct Watch {
     tick_us: u64,
     /// The tick in which the tasks are polled next.
     tick: u32,
+    /// A tick before which no poll gives anything while the view stays, so that no task is looked at; none where no poll
+    /// ever does.
+    wake: Option<u64>,
 }
 
 impl Model for Watch {
@@ -36,7 +40,7 @@ impl Model for Watch {
       tasks = record { started = map started_of w.book.tasks; next = w.book.next; tick_us = w.tick_us; came = w.came.items; tick = w.tick };
     } };
 
-    ghost invariant = { λ w. IsJoined w.tick w.tick_us w.view w.came.items w.book };
+    ghost invariant = { λ w. IsJoined w.tick w.tick_us w.view w.came.items w.book w.wake };
 }
 
 /// Notes the tick in which a cancellable came into a view.
@@ -45,6 +49,16 @@ fn note(came: &mut Vec<Option<u32>>, c: u32, tick: u32)
 {
     if let Some(noted) = came.get_mut(c as usize) {
         *noted = Some(tick);
+    }
+}
+
+/// Whether a tick is before a wake, where there is one.
+fn is_before(tick: u32, wake: Option<u64>) -> bool
+    ensures { IsTrue result ↔ IsAfter tick wake }
+{
+    match wake {
+        None => true,
+        Some(wake) => u64::from(tick) < wake,
     }
 }
 
@@ -67,6 +81,7 @@ impl Watch {
             book: TaskBook::new(alloc, tick_us),
             tick_us,
             tick: 0,
+            wake: None,
         })
     }
 
@@ -94,6 +109,7 @@ impl Watch {
         let fired = self.view.cancel(alloc, c)?;
         if fired.is_some() {
             note(&mut self.came, c, tick);
+            self.wake = Some(u64::from(tick) + 1);
         }
         Ok(fired)
     }
@@ -132,11 +148,13 @@ impl Watch {
             self.book = TaskBook::new(self.alloc, self.tick_us);
             return Err(OutOfMemory);
         }
+        self.wake = Some(u64::from(self.tick));
         Ok(())
     }
 
     /// Polls the tasks at a tick: their replies, and the numbers of those whose body ends after its reply or with it,
     /// both in start order. Where there is no task, that takes no memory. After `OutOfMemory` the tasks are forgotten.
+    /// A tick in which none wakes costs the same however many sleep.
     pub fn poll(&mut self, alloc: Global, tick: u32) -> Result<Polled, OutOfMemory>
         requires now { self.old.tasks.tick ≡ tick }
         requires tick { tick < 2 ^ 31 }
@@ -146,8 +164,14 @@ impl Watch {
         ensures err { OnErr result (self.new ≡ forgetful self.old) }
         ensures none { self.old.tasks.started ≡ [] → IsOk result }
     {
+        if is_before(tick, self.wake) {
+            self.book.pass(tick);
+            self.tick = tick + 1;
+            return Ok(Polled::nothing(alloc));
+        }
         match self.book.poll_all(alloc, tick, &self.view) {
             Ok(polled) => {
+                self.wake = self.book.next_wake(tick, &self.view);
                 self.tick = tick + 1;
                 Ok(polled)
             }

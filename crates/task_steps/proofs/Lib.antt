@@ -6,4 +6,5 @@ pub mod PollSteps
 pub mod PollAll
 pub mod Soonest
 pub mod Quiet
+pub mod Passed
 pub mod Once

@@ -126,7 +126,7 @@ waiting-split tick_us last (x ∷ xs) e h = let r = waiting-split tick_us last x
 waits-on : (first tick : ℕ) (stage : Stage) → IsPolledStage first tick stage → not (is_done_stage stage) ≡ true → IsWaitingAt tick first stage
 waits-on first tick Fresh h k = absurd h
 waits-on first tick (Set begun at) h k = absurd h
-waits-on first tick (Polled begun at) h k = h
+waits-on first tick (Polled begun at) h k = (h.0, omega (arith, h.1))
 waits-on first tick Done h k = absurd (cc)
 
 seen-by : (tick : ℕ) (flag : Bool) (c : Option ℕ) → IsBefore tick c → IsBefore (tick + 1) (seen_from tick flag c)

@@ -11,7 +11,7 @@ use Rattle.task_steps.specs.End.{ending, end_of, seen}
 use Rattle.task_steps.specs.Run.{Run, NoneBefore, wakes_later, MayCome, IsAfter, IsLater, seen_from, clear_to}
 use Rattle.task_steps.specs.RunInside.{IsBy}
 use Rattle.task_steps.specs.Task.{Task, task_of, body_end, is_early, is_at, reply_in, is_late_in, IsBefore, IsSeenExactly, MayComeTo}
-use Rattle.task_steps.specs.Book.{sees, noticed_in, all_noticed, MayComeToAll, replies_next, IsIdle}
+use Rattle.task_steps.specs.Book.{sees, noticed_in, all_noticed, MayComeToAll, replies_next, IsIdle, IsNext}
 use Rattle.task_steps.specs.BookInside.{IsWaitingAt, IsWaiting, AreWaiting, AreWaitingAfter, wake_of_stage, wake_of_entry, wake_of_all}
 use Rattle.task_steps.proofs.PollAll.{after_a, after_b}
 use Rattle.task_steps.proofs.Wakes.{may_before}
@@ -65,7 +65,7 @@ before-later last k None n h = tt
 before-later last k (Some from) n h = omega arith
 
 -- ---- no poll of an entry gives anything
-not-next : (rc flag some : Bool) → (rc && (flag && not some)) ≡ false → rc ≡ true → (flag && not some) ≡ false
+pub not-next : (rc flag some : Bool) → (rc && (flag && not some)) ≡ false → rc ≡ true → (flag && not some) ≡ false
 not-next true flag some h r = h
 not-next false flag some h r = absurd (cc)
 
@@ -83,11 +83,11 @@ idle-one tick_us last k view c e w n a s m =
     (no-reply k rc c x.tick x.outcome later at, no-late k rc c x.tick x.outcome later, ap not (above k x.tick later))
 
 -- ---- nor of all
-or-left : (a b : Bool) → (a || b) ≡ false → a ≡ false
+pub or-left : (a b : Bool) → (a || b) ≡ false → a ≡ false
 or-left true b h = absurd (cc)
 or-left false b h = refl
 
-or-right : (a b : Bool) → (a || b) ≡ false → b ≡ false
+pub or-right : (a b : Bool) → (a || b) ≡ false → b ≡ false
 or-right true b h = absurd (cc)
 or-right false b h = h
 
@@ -101,6 +101,13 @@ idle-all tick_us last k view c (e ∷ es) w n a s m =
     (idle-one tick_us last k view (c e.number) e w.0 n (after_a k (wake_of_entry e) (wake_of_all es) a) (or-left (replies_next view (task_of e)) (list_any (replies_next view) (map task_of es)) s) m.0)
     (idle-all tick_us last k view c es w.1 n (after_b k (wake_of_entry e) (wake_of_all es) a) (or-right (replies_next view (task_of e)) (list_any (replies_next view) (map task_of es)) s) m.1)
 
+pub idle_next : (tick_us k : ℕ) (last : Option ℕ) (view : Seen) (c : ℕ → Option ℕ) (es : List Entry) → AreWaitingAfter tick_us last es → IsNext k last → IsAfter k (wake_of_all es) → list_any (replies_next view) (map task_of es) ≡ false → MayComeToAll c (all_noticed k view (map task_of es)) → IsIdle k c (map task_of es)
+idle_next tick_us k None view c es w n a s m = rw w (refl, refl, refl)
+idle_next tick_us k (Some last) view c es w n a s m = idle-all tick_us last k view c es w n a s m
+
+next-after : (tick k : ℕ) (last : Option ℕ) → IsBy tick last → tick < k → IsNext k last
+next-after tick k None b n = tt
+next-after tick k (Some last) b n = omega arith
+
 pub idle_after : (tick_us tick k : ℕ) (last : Option ℕ) (view : Seen) (c : ℕ → Option ℕ) (es : List Entry) → AreWaitingAfter tick_us last es → IsBy tick last → tick < k → IsAfter k (wake_of_all es) → list_any (replies_next view) (map task_of es) ≡ false → MayComeToAll c (all_noticed k view (map task_of es)) → IsIdle k c (map task_of es)
-idle_after tick_us tick k None view c es w b n a s m = rw w (refl, refl, refl)
-idle_after tick_us tick k (Some last) view c es w b n a s m = idle-all tick_us last k view c es w (omega arith) a s m
+idle_after tick_us tick k last view c es w b n a s m = idle_next tick_us k last view c es w (next-after tick k last b n) a s m

@@ -9,7 +9,8 @@ use Rattle.task_steps.specs.Run.{StaysSet, IsAfter}
 use Rattle.task_steps.specs.Rest.{sooner}
 use Rattle.task_steps.specs.Task.{Task, noticed, body_end, reply_in, is_late_in, MayComeTo}
 
--- the tasks whose body has not ended, in start order; the tick of the last poll or start, and a tick that no poll may pass over
+-- the tasks whose body has not ended, in start order; the last tick that was polled, passed over or
+-- started in, and a tick that no poll may pass over
 pub record Book : Type 0 where
   pub tick_us : ℕ
   pub tasks : List Task
@@ -29,7 +30,7 @@ with_task spec ctx tick b = record b { tasks = b.tasks ++ started b.tick_us b.ne
 abbrev pub exhausted : Book → Book
 exhausted b = record b { tasks = []; last = None; wake = None; spent = true }
 
--- a task is started in the tick of the last poll, or before any
+-- a task is started in the last tick that was polled or passed over, or before any
 abbrev pub IsStart : ℕ → Option ℕ → Type 0
 IsStart tick None = Unit {0}
 IsStart tick (Some last) = last ≡ tick
@@ -92,3 +93,18 @@ wake_under tick view b = if list_any (replies_next view) b.tasks then Some (tick
 abbrev pub IsQuietTo : Option ℕ → ℕ → Seen → List Task → Type 0
 IsQuietTo wake tick view ts =
     (later : ℕ) (c : ℕ → Option ℕ) → tick < later → IsAfter later wake → MayComeToAll c (all_noticed later view ts) → IsIdle later c ts
+
+-- a book once a tick is passed over: no task is touched
+abbrev pub passed : ℕ → Book → Book
+passed tick b = record b { last = Some tick }
+
+-- no task owes the view a reply that it is cancelled
+abbrev pub OwesNone : Seen → List Task → Type 0
+OwesNone view ts = list_any (replies_next view) ts ≡ false
+
+-- What may come to the tasks once a poll of the tick has noticed them may come to them as they are, at any later poll: so that poll,
+-- whose answers hold for whatever may come, gives the same.
+abbrev pub IsAsPolled : ℕ → Seen → List Task → Type 0
+IsAsPolled tick view ts =
+    (later : ℕ) (after : Seen) (c : ℕ → Option ℕ) → tick < later → HasGrown after (all_noticed tick view ts)
+    → MayComeToAll c (all_noticed later after (all_noticed tick view ts)) → MayComeToAll c (all_noticed later after ts)

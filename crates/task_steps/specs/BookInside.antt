@@ -8,11 +8,11 @@ use Rattle.task_steps.specs.Run.{Run, NoneBefore, WakesLater}
 use Rattle.task_steps.specs.RunInside.{IsBy}
 use Rattle.task_steps.specs.Task.{IsBefore}
 
--- a task not begun is begun in the tick after the last, and one in progress was polled in the last
+-- a task not begun is begun in the tick after the last, and one in progress was polled in the last or in one before it
 abbrev pub IsWaitingAt : ℕ → ℕ → Stage → Type 0
 IsWaitingAt last first Fresh = first ≡ last + 1
 IsWaitingAt last first (Set begun at) = ⊥
-IsWaitingAt last first (Polled begun at) = (begun ≡ first) × (at ≡ last)
+IsWaitingAt last first (Polled begun at) = (begun ≡ first) × (at ≤ last)
 IsWaitingAt last first Done = ⊥
 
 pub record IsWaiting (length last : ℕ) (e : Entry) : Type 0 where

@@ -29,6 +29,18 @@ pub struct Polled {
     pub late: Items<u64>,
 }
 
+impl Polled {
+    /// What a poll gives in which no task replies or ends; it takes no memory.
+    pub fn nothing(alloc: Global) -> Polled
+        ensures { result ≡ record { replies = []; late = [] } }
+    {
+        Polled {
+            replies: Items::from_vec(Vec::new(alloc)),
+            late: Items::from_vec(Vec::new(alloc)),
+        }
+    }
+}
+
 /// The tasks of a lane whose bodies have not ended. After a refusal of memory it holds none, and answers `Spent`.
 #[derive(Drop)]
 pub struct TaskBook {
@@ -59,7 +71,8 @@ impl Model for TaskBook {
 }
 
 impl TaskBook {
-    ghost use Rattle.task_steps.specs.Book.{with_task, exhausted, IsStart, IsNext, HasGrown, MayComeToAll, all_noticed, replies_in, late_in, goes_on, wake_under, IsQuietTo};
+    ghost use Rattle.task_steps.specs.Book.{with_task, exhausted, IsStart, IsNext, HasGrown, MayComeToAll, all_noticed, replies_in, late_in, goes_on, wake_under, IsQuietTo, IsIdle, passed, OwesNone, IsAsPolled};
+    ghost use Rattle.cancel_view.specs.Seen.{Seen};
     ghost use Rattle.task_steps.specs.Run.{IsUpTo, IsAfter};
     ghost use Rattle.task_steps.specs.RunInside.{IsBy};
 
@@ -165,6 +178,21 @@ impl TaskBook {
             replies: Items::from_vec(replies),
             late: Items::from_vec(late),
         })
+    }
+
+    /// Passes over a tick before the next wake, in place of its poll: no task is looked at, and no memory taken. A poll of
+    /// it would have given no reply and no late number and have ended no task, while the view owes no reply, and polls
+    /// after it give the same without it.
+    pub fn pass(&mut self, tick: u32)
+        requires last { IsNext tick self.old.last }
+        requires wake { IsAfter tick self.old.wake }
+        requires goes_on { self.old.spent ≡ false }
+        ensures passed { self.new ≡ passed tick self.old }
+        ensures idle { (view : Seen) (c : ℕ → Option ℕ) → OwesNone view self.old.tasks → MayComeToAll c (all_noticed tick view self.old.tasks)
+            → IsIdle tick c self.old.tasks }
+        ensures same { (view : Seen) → OwesNone view self.old.tasks → IsAsPolled tick view self.old.tasks }
+    {
+        self.last = Some(tick);
     }
 
     /// A tick above the given one before which no poll gives anything or ends a task, while the view stays; none where no
