@@ -25,3 +25,5 @@ pub mod Timed
 pub mod TimeTree
 pub mod AtTwo
 pub mod Sound
+pub mod Low
+pub mod Heights

@@ -1,6 +1,5 @@
 -- What holds of the rows of a context holds after each edit of them.
-use Rattle.std.proofs.Common.{◌≡◌, ◌≢◌, ℕ, ℤ, ◌<◌, ◌≤◌, ◌+◌, ◌^◌, ◌==◌, ◌||◌, Bool, true, false, cond, Option, Some, None, List, [], map, refl, ap, sym, ◌∙◌, arith, subst}
-use Rattle.std.specs.List.{AllByRecursion, list_any}
+use Rattle.std.proofs.Common.{◌≡◌, ℕ, ℤ, ◌<◌, ◌≤◌, ◌+◌, ◌^◌, ◌==◌, ◌||◌, Bool, true, false, cond, Option, Some, None, map, refl, ap, ◌∙◌, arith, subst}
 use Rattle.loop_script.specs.declared.SourceSpec.{SourceSpec}
 use Rattle.source_rows.specs.declared.row.Row.{Row}
 use Rattle.source_rows.specs.declared.fault.RowsFault.{RowsFault}

@@ -10,7 +10,7 @@ use Rattle.source_rows.specs.declared.row.Row.{Row}
 use Rattle.source_rows.specs.Inserted.{inserted, Rises}
 use Rattle.source_rows.specs.Rows.{row_of}
 use Rattle.source_rows.specs.Slots.{rows_at, IsTable, IsTimed, AllNamed, IsHeld, Names}
-use Rattle.source_rows.specs.Times.{Time, time_cmp, is_sooner, without, time_of, in_time}
+use Rattle.source_rows.specs.Times.{Time, IsLow, time_cmp, is_sooner, without, time_of, in_time}
 use Rattle.source_rows.specs.Tree.{IdsRise}
 use Rattle.source_rows.proofs.Compared.{some_same}
 use Rattle.source_rows.proofs.Lists.{all_of}
@@ -56,7 +56,7 @@ few_before s es ts id h below =
     omega (arith, many, most)
 
 pub pushed_timed : (s t : Slab Row) (r : Row) (es fs : List (ℕ × ℕ)) (ts us : List Time × ℕ) → IsTimed s es ts → AllNamed t fs → Pushed t es fs (rows_at s es ++ r ∷ []) → AllByRecursion (λ q. q.id < r.id) (rows_at s es)
-    → r.id < 2 ^ 63 → us.0 ≡ inserted is_sooner (r.ready, r.id) ts.0 → us.1 ≤ length us.0 → slab_len t ≡ slab_len s + 1 → length fs ≡ length es + 1 → IsTimed t fs us
+    → r.id < 2 ^ 63 → us.0 ≡ inserted is_sooner (r.ready, r.id) ts.0 → IsLow us → slab_len t ≡ slab_len s + 1 → length fs ≡ length es + 1 → IsTimed t fs us
 pushed_timed s t r es fs ts us h b p above small e low more longer = record {
   table = p.table;
   back = b;
@@ -89,7 +89,7 @@ there_timed s key id old es ts h l g =
     ∙ subst (λ (n : ℕ). list_any (λ u. is_eq (time_cmp (old.ready, n) u)) (in_time (rows_at s es)) ≡ true) w.1 (timed id old (rows_at s es) w.0)
 
 pub put_timed : (s : Slab Row) (key : ℕ) (row old : Row) (es : List (ℕ × ℕ)) (ts us : List Time × ℕ) → IsTimed s es ts → lookup (at_id row.id) es ≡ Some key → get s key ≡ Some old
-    → us.0 ≡ inserted is_sooner (row.ready, row.id) (without (old.ready, row.id) ts.0) → us.1 ≤ length us.0 → IsTimed (with_value s key row) es us
+    → us.0 ≡ inserted is_sooner (row.ready, row.id) (without (old.ready, row.id) ts.0) → IsLow us → IsTimed (with_value s key row) es us
 put_timed s key row old es ts us h l g e low =
     let w = in_slot s row.id key old es h.table l g in
     let done = put_done s key row es h.table l in
@@ -122,7 +122,7 @@ kept_timed s key row old es ts h l g e =
 
 -- ---- a row taken away
 
-pub left_timed : (s t : Slab Row) (id key : ℕ) (r : Row) (es fs : List (ℕ × ℕ)) (ts us : List Time × ℕ) → IsTimed s es ts → AllNamed t fs → Left s t id es fs → lookup (at_id id) es ≡ Some key → get s key ≡ Some r → us.0 ≡ without (r.ready, id) ts.0 → us.1 ≤ length us.0 → slab_len t + 1 ≡ slab_len s → length fs + 1 ≡ length es → IsTimed t fs us
+pub left_timed : (s t : Slab Row) (id key : ℕ) (r : Row) (es fs : List (ℕ × ℕ)) (ts us : List Time × ℕ) → IsTimed s es ts → AllNamed t fs → Left s t id es fs → lookup (at_id id) es ≡ Some key → get s key ≡ Some r → us.0 ≡ without (r.ready, id) ts.0 → IsLow us → slab_len t + 1 ≡ slab_len s → length fs + 1 ≡ length es → IsTimed t fs us
 left_timed s t id key r es fs ts us h b k l g e low gone shorter =
     let w = in_slot s id key r es h.table l g in
     let less = ap (λ (l : List Time). length l) e in

@@ -17,3 +17,4 @@ pub mod Times
 pub mod TimeTree
 pub mod TwoLevels
 pub mod Edits
+pub mod Heights

@@ -2,7 +2,7 @@
 use Rattle.std.specs.Prelude.{◌≡◌, ℕ, ◌+◌, ◌^◌, ◌≤◌, max, Bool, true, false, List, [], ◌∷◌, ◌++◌, length}
 use Rattle.source_rows.specs.declared.times.Node.{Node}
 use Rattle.source_rows.specs.declared.times.Node.TheVariants.{Leaf, Fork}
-use Rattle.source_rows.specs.Times.{Time}
+use Rattle.source_rows.specs.Times.{Time, IsLow}
 
 -- the times in order, and the height that the node stores
 abbrev pub seen_of : Node → List Time × ℕ
@@ -12,10 +12,6 @@ seen_of (Fork sooner time height later) = (sooner.value.0 ++ time ∷ later.valu
 -- neither height is more than this above the other
 abbrev pub DifferBy : ℕ → ℕ → ℕ → Type 0
 DifferBy by a b = (a ≤ b + by) × (b ≤ a + by)
-
--- a tree is no higher than it has times
-abbrev pub IsLow : List Time × ℕ → Type 0
-IsLow v = v.1 ≤ length v.0
 
 -- the stored height is right, and the sides differ by at most one
 abbrev pub IsEven : Node → Type 0

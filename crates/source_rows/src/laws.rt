@@ -1,5 +1,6 @@
 //! Laws of the definitions, as functions that do nothing.
 ghost use Rattle.source_rows.specs.Edits.{EditLaws};
+ghost use Rattle.source_rows.specs.Heights.{HeightLaws};
 ghost use Rattle.source_rows.specs.Laws.{OrderLaws, PathLaws, TreeLaws};
 ghost use Rattle.source_rows.specs.TwoLevels.{LevelLaws};
 ghost use Rattle.source_rows.specs.Worked.{WorkedOrders};
@@ -35,4 +36,9 @@ pub fn paths_stand_together()
 /// The orders of small trees, worked out.
 pub fn worked_orders()
     ensures { WorkedOrders }
+{}
+
+/// How many ready times stand above each other at most where they stand in a balanced tree.
+pub fn ready_times_stand_low()
+    ensures { HeightLaws }
 {}

@@ -3,9 +3,9 @@ ghost use Rattle.std.specs.Prelude.{◌≡◌, ◌+◌, ◌≤◌, ◌<◌, ◌^
 ghost use Rattle.std.specs.List.{list_any};
 ghost use Rattle.std.specs.Ordering.{is_eq};
 ghost use Rattle.source_rows.specs.Inserted.{inserted, Rises};
-ghost use Rattle.source_rows.specs.Times.{time_cmp, is_sooner, without, first_above};
+ghost use Rattle.source_rows.specs.Times.{time_cmp, is_sooner, without, first_above, IsLow};
 ghost use Rattle.source_rows.specs.declared.times.Node.TheVariants.{Fork};
-ghost use Rattle.source_rows.specs.TimeTree.{seen_of, is_fork, LosesRoot, IsEven, IsNearlyEven, AreNearlyEven, IsLow, IsHeight, IsLowered, Balances};
+ghost use Rattle.source_rows.specs.TimeTree.{seen_of, is_fork, LosesRoot, IsEven, IsNearlyEven, AreNearlyEven, IsHeight, IsLowered, Balances};
 
 use std::alloc::{AllocError, Global};
 use std::cmp::Ordering;
@@ -79,8 +79,10 @@ impl Times {
     }
 
     /// How many times stand above each other at most.
+    #[tactic(auto, using(crate::proofs::Low::low_even))]
     pub fn height(&self) -> u64
-        ensures { result ≡ self.now.1 }
+        ensures height { result ≡ self.now.1 }
+        ensures low { IsLow self.now }
     {
         match self.node {
             Node::Leaf => 0,
@@ -89,6 +91,7 @@ impl Times {
     }
 
     /// Puts a time into a place.
+    #[tactic(auto, using(crate::proofs::Low::low_even))]
     pub fn insert(&mut self, place: Place, time: (i64, u64))
         requires rises { Rises is_sooner self.old.0 }
         requires few { length self.old.0 < 2 ^ 63 }
@@ -114,6 +117,7 @@ impl Times {
     }
 
     /// Takes the first time out, with its place.
+    #[tactic(auto, using(crate::proofs::Low::low_even))]
     fn remove_first(&mut self) -> Option<((i64, u64), Place)>
         requires few { length self.old.0 ≤ 2 ^ 63 }
         requires low { IsLow self.old }
@@ -141,6 +145,7 @@ impl Times {
     }
 
     /// Takes a time out, with its place; None where it isn't there.
+    #[tactic(auto, using(crate::proofs::Low::low_even))]
     fn take(&mut self, time: (i64, u64)) -> Option<Place>
         requires rises { Rises is_sooner self.old.0 }
         requires few { length self.old.0 ≤ 2 ^ 63 }
@@ -208,6 +213,7 @@ impl Times {
 }
 
 /// Takes the time out that stands at the root, with its place.
+#[tactic(auto, using(crate::proofs::Low::low_even, crate::proofs::Low::low_sides))]
 fn remove_root(node: &mut Node) -> Option<Place>
     requires even { IsEven node.old }
     requires few { length (seen_of node.old).0 ≤ 2 ^ 63 }
@@ -259,6 +265,7 @@ fn balance(node: &mut Node)
 }
 
 /// A node over two sides that differ in height by at most two.
+#[tactic(auto, using(crate::proofs::Low::low_even, crate::proofs::Low::low_sides))]
 fn balanced(sooner: Box<Times>, time: (i64, u64), later: Box<Times>) -> Node
     requires { AreNearlyEven sooner.value later.value }
     ensures even { IsEven result }
@@ -276,6 +283,7 @@ fn balanced(sooner: Box<Times>, time: (i64, u64), later: Box<Times>) -> Node
 }
 
 /// A node over two sides of which the sooner is the higher by two.
+#[tactic(auto, using(crate::proofs::Low::low_even, crate::proofs::Low::low_sides))]
 fn lift_sooner(mut sooner: Box<Times>, time: (i64, u64), later: Box<Times>) -> Node
     requires sides { AreNearlyEven sooner.value later.value }
     requires higher { sooner.value.1 ≡ later.value.1 + 2 }
@@ -299,6 +307,7 @@ fn lift_sooner(mut sooner: Box<Times>, time: (i64, u64), later: Box<Times>) -> N
 }
 
 /// A node over two sides of which the later is the higher by two.
+#[tactic(auto, using(crate::proofs::Low::low_even, crate::proofs::Low::low_sides))]
 fn lift_later(sooner: Box<Times>, time: (i64, u64), mut later: Box<Times>) -> Node
     requires sides { AreNearlyEven sooner.value later.value }
     requires higher { later.value.1 ≡ sooner.value.1 + 2 }

@@ -1,0 +1,55 @@
+-- How low a balanced tree of times is.
+use Rattle.std.proofs.Common.{◌≡◌, ℕ, zero, suc, ◌+◌, ◌≤◌, ◌⊎◌, inl, inr, max, List, ◌∷◌, ◌++◌, length, refl, ap, sym, subst, arith, length-append}
+use Rattle.source_rows.specs.Times.{Time, fewest, IsLow}
+use Rattle.source_rows.specs.TimeTree.{seen_of, DifferBy, IsEven}
+use Rattle.source_rows.specs.declared.times.Node.{Node}
+use Rattle.source_rows.specs.declared.times.Node.TheVariants.{Leaf, Fork}
+
+pub fewest_rises : (h : ℕ) → fewest h ≤ fewest (suc h)
+fewest_rises zero = omega arith
+fewest_rises (suc h) = omega arith
+
+-- as many on one side as on the other, or one level less
+fewest_even : (h : ℕ) → fewest (suc h) ≤ fewest h + fewest h + 1
+fewest_even zero = omega arith
+fewest_even (suc h) = let le = fewest_rises h in omega arith
+
+apart_by : (a b : ℕ) → a ≤ b + 1 → b ≤ a + 1 → (a ≡ b) ⊎ ((a ≡ suc b) ⊎ (b ≡ suc a))
+apart_by zero zero h k = inl refl
+apart_by zero (suc zero) h k = inr (inr refl)
+apart_by zero (suc (suc b)) h k = absurd (omega arith)
+apart_by (suc zero) zero h k = inr (inl refl)
+apart_by (suc (suc a)) zero h k = absurd (omega arith)
+apart_by (suc a) (suc b) h k = more (apart_by a b (omega arith) (omega arith))
+  where
+    more : (a ≡ b) ⊎ ((a ≡ suc b) ⊎ (b ≡ suc a)) → (suc a ≡ suc b) ⊎ ((suc a ≡ suc (suc b)) ⊎ (suc b ≡ suc (suc a)))
+    more (inl e) = inl (ap suc e)
+    more (inr (inl e)) = inr (inl (ap suc e))
+    more (inr (inr e)) = inr (inr (ap suc e))
+
+-- one more time over two sides
+fewest_over : (a b : ℕ) → DifferBy 1 a b → fewest (suc (max a b)) ≤ fewest a + fewest b + 1
+fewest_over a b d = by (apart_by a b d.0 d.1)
+  where
+    to : (h : ℕ) → max a b ≡ h → fewest (suc h) ≤ fewest a + fewest b + 1 → fewest (suc (max a b)) ≤ fewest a + fewest b + 1
+    to h e le = subst (λ n. fewest (suc n) ≤ fewest a + fewest b + 1) (sym e) le
+
+    by : (a ≡ b) ⊎ ((a ≡ suc b) ⊎ (b ≡ suc a)) → fewest (suc (max a b)) ≤ fewest a + fewest b + 1
+    by (inl e) = to a (omega (arith, e)) (subst (λ n. fewest (suc a) ≤ fewest a + fewest n + 1) e (fewest_even a))
+    by (inr (inl e)) = to a (omega (arith, e)) (subst (λ n. fewest (suc n) ≤ fewest n + fewest b + 1) (sym e) (omega arith))
+    by (inr (inr e)) = to b (omega (arith, e)) (subst (λ n. fewest (suc n) ≤ fewest a + fewest n + 1) (sym e) (omega arith))
+
+pub low_sides : (v w : List Time × ℕ) (t : Time) → DifferBy 1 v.1 w.1 → IsLow v → IsLow w → IsLow (v.0 ++ t ∷ w.0, max v.1 w.1 + 1)
+low_sides v w t d l m =
+    let is : max v.1 w.1 + 1 ≡ suc (max v.1 w.1) = omega arith in
+    let long : length (v.0 ++ t ∷ w.0) ≡ length v.0 + length w.0 + 1 = omega (arith, length-append v.0 (t ∷ w.0)) in
+    let over = fewest_over v.1 w.1 d in (
+      omega (arith, long, l.0, m.0),
+      subst (λ n. fewest n ≤ length (v.0 ++ t ∷ w.0)) (sym is) (omega (arith, long, l.1, m.1, over)),
+    )
+
+-- a node in balance is low
+pub low_even : (n : Node) → IsEven n → IsLow (seen_of n)
+low_even Leaf e = (omega arith, omega arith)
+low_even (Fork sooner time height later) e =
+    subst (λ h. IsLow (sooner.value.0 ++ time ∷ later.value.0, h)) (sym e.0) (low_sides sooner.value later.value time e.1 e.2 e.3)
