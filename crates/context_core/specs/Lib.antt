@@ -2,4 +2,5 @@ pub mod Ready
 pub mod Phases
 pub mod Lending
 pub mod Lent
+pub mod Defaults
 pub mod TwoLevels

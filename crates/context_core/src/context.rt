@@ -1,7 +1,8 @@
 //! A context, and its three phases.
-ghost use Rattle.std.specs.Prelude.{◌≡◌, ◌≤◌, ◌^◌, ◌==◌, ◌&&◌, ◌||◌, IfOk, OnOk, ℕ, filter};
+ghost use Rattle.std.specs.Prelude.{◌≡◌, false, ◌≤◌, ◌<◌, ◌^◌, ◌==◌, ◌&&◌, ◌||◌, IfOk, OnOk, ℕ, filter};
 ghost use Rattle.std.specs.Borrow.{sem};
 ghost use Rattle.context_core.specs.Lending.{LendsRows};
+ghost use Rattle.context_core.specs.Defaults.{acquired, released, is_acquired};
 ghost use Rattle.source_rows.specs.Rows.{no_rows, level_count, next_ready, in_order};
 ghost use Rattle.source_rows.specs.Tree.{IsOneTree};
 ghost use Rattle.std.specs.List.{list_any};
@@ -18,20 +19,50 @@ use source_rows::{Levels, Row, Rows};
 use std::alloc::{AllocError, Global};
 use std::collections::BTreeSet;
 
-/// A context: its sources.
+/// A context: its sources, and how often it was acquired and not released.
 #[derive(Drop)]
 pub struct Context {
     rows: Rows,
+    acquires: u64,
 }
 
 impl Context {
     /// A context with no source, whose sources may stand at so many levels.
     pub fn new(alloc: Global, levels: Levels) -> Self
-        ensures { result ≡ record { rows = no_rows (level_count levels) } }
+        ensures { result ≡ record { rows = no_rows (level_count levels); acquires = 0 } }
     {
         Context {
             rows: Rows::new(alloc, levels),
+            acquires: 0,
         }
+    }
+
+    /// Acquires the context, once more where it was acquired (GMainContext: `g_main_context_acquire`).
+    pub fn acquire(&mut self)
+        requires { self.old.acquires < 2 ^ 63 }
+        ensures { self.new ≡ acquired self.old }
+    {
+        self.acquires += 1;
+    }
+
+    /// Takes one `acquire` back. It answers false, and changes nothing, where there is none.
+    pub fn release(&mut self) -> bool
+        ensures answer { result ≡ is_acquired self.old }
+        ensures released { self.new ≡ released self.old }
+        ensures same { result ≡ false → self.new ≡ self.old }
+    {
+        if self.acquires == 0 {
+            return false;
+        }
+        self.acquires -= 1;
+        true
+    }
+
+    /// Whether an `acquire` was not taken back.
+    pub fn is_owned(&self) -> bool
+        ensures { result ≡ is_acquired self.now }
+    {
+        self.acquires > 0
     }
 
     /// The sources.

@@ -1,14 +1,17 @@
 //! Which sources of a context an iteration dispatches, by GLib's three phases.
 //!
-//! A context has sources. `prepare` tells what is ready before any descriptor is asked, `query` what descriptors to ask
+//! A context has sources, and counts how often it was acquired; `DefaultStack` has the contexts that a lane pushed as its
+//! thread-default ones. `prepare` tells what is ready before any descriptor is asked, `query` what descriptors to ask
 //! for what, and `check` the sources that are dispatched next.
 #![tactic(auto)]
 
 mod context;
+mod defaults;
 mod interest;
 mod laws;
 mod ready;
 
 pub use context::Context;
+pub use defaults::DefaultStack;
 pub use interest::{Interest, Prepared};
 pub use laws::blocking_goes_by_parents;

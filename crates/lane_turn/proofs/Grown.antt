@@ -31,7 +31,10 @@ use Rattle.lane_turn.specs.declared.layer.Call.{Call}
 use Rattle.lane_turn.specs.declared.slot.Place.{Place}
 use Rattle.lane_turn.specs.Frames.{Frame, CallOf, IterOf, LoopOf, calls}
 use Rattle.lane_turn.specs.Sources.{tree_levels, no_sources, restarted, restarted_row, restarted_kind, due_after}
-use Rattle.lane_turn.specs.Lane.{Lane, Turn, known, own, with_rows, edited, popped, taken, place_at, handler_at, row_of, row_in, row_at, is_running, written, viewing, noting, iterating}
+use Rattle.lane_turn.specs.Lane.{Lane, Turn, known, own, with_rows, with_context, edited, popped, taken, place_at, handler_at, row_of, row_in, row_at, is_running, written, viewing, noting, iterating}
+use Rattle.context_core.specs.Defaults.{acquired, released, is_on_top}
+use Rattle.lane_turn.specs.declared.line.Invoked.TheVariants.{Posted}
+use Rattle.lane_turn.specs.Owned.{default_context, is_owned, may_release, called_at_once, attaching, invoke_own, invoke, invoke_spec}
 use Rattle.lane_turn.specs.Acted.{acted, sends, born, can_bear, can_bear_in, child_of, on_source, set_priority_of, plain_acted, all_acted, handled, all_handled, cancel, connect, disconnect_of}
 use Rattle.lane_watch.specs.Tasks.{Started}
 use Rattle.post_office.specs.declared.letter.Letter.{Letter}
@@ -45,7 +48,8 @@ use Rattle.lane_turn.specs.Deliver.{reply_spec, received_body, received, receive
 use Rattle.lane_turn.specs.Tick.{posted_at, lanes_at, lane_within}
 use Rattle.lane_turn.specs.Sound.{Bounded, IsSound, IsReady}
 use Rattle.lane_turn.specs.Levels.{IsGrown, Grown, IsOfTwoLevels, OfTwoLevels, OfAllLanes}
-use Rattle.lane_turn.proofs.Mild.{within_weaker, bounded_at}
+use Rattle.lane_turn.proofs.Mild.{within_weaker}
+use Rattle.lane_turn.proofs.Bounds.{bounded_at}
 use Rattle.lane_turn.proofs.Turns.{IsTidy, tidy_on, begun_tidy, kept_finish, kept_finished, Kept}
 use Rattle.lane_turn.proofs.Runs.{most_at, ready_at, posted_fits, AllReady}
 use Rattle.lane_turn.proofs.Turns.{ready-turned}
@@ -80,12 +84,20 @@ set_at levels o (x ∷ contexts) (suc i) g h = (h.0, set_at levels o contexts i 
 grown_edit : (levels : ℕ) (lane : Lane) (context : ℕ) (edit : RowSet → RowSet) → ((c : Context) → own context lane ≡ Some c → IsGrown levels (edit c.rows)) → AllGrown levels lane → AllGrown levels (edited context edit lane)
 grown_edit levels lane context edit f h = set_at levels (option_map (with_rows edit) (own context lane)) lane.contexts context (mapped levels edit (own context lane) f) h
 
+-- a change of one context that leaves its sources alone
+kept : (levels : ℕ) (change : Context → Context) (o : Option Context) → ((c : Context) → (change c).rows ≡ c.rows) → Grown levels o → Grown levels (option_map change o)
+kept levels change None f g = tt
+kept levels change (Some c) f g = subst (IsGrown levels) (sym (f c)) g
+
+grown_change : (levels : ℕ) (lane : Lane) (context : ℕ) (change : Context → Context) → ((c : Context) → (change c).rows ≡ c.rows) → AllGrown levels lane → AllGrown levels (with_context context change lane)
+grown_change levels lane context change f h = set_at levels (option_map change (own context lane)) lane.contexts context (kept levels change (own context lane) f (grown_at levels lane.contexts context h)) h
+
 -- the sources of an own context stand so, and have few numbers
 own_grown : (levels : ℕ) (lane : Lane) (context : ℕ) (c : Context) → own context lane ≡ Some c → AllGrown levels lane → IsGrown levels c.rows
 own_grown levels lane context c e h = subst (Grown levels) e (grown_at levels lane.contexts context h)
 
 few_numbers : (lane : Lane) (context : ℕ) (c : Context) → own context lane ≡ Some c → AllBounded lane → c.rows.next_order < 2 ^ 63
-few_numbers lane context c e b = let at = (subst (Bounded (2 ^ 62)) e (bounded_at (2 ^ 62) lane.contexts context b)).order in omega (arith, at)
+few_numbers lane context c e b = let at = (subst (Bounded (2 ^ 62)) e (bounded_at (2 ^ 62) lane.contexts context b)).sources.order in omega (arith, at)
 
 -- an edit that no sources are refused
 grown_free : (levels : ℕ) (lane : Lane) (context : ℕ) (edit : RowSet → RowSet) → ((s : RowSet) → IsGrown levels s → IsGrown levels (edit s)) → AllGrown levels lane → AllGrown levels (edited context edit lane)
@@ -198,6 +210,19 @@ grown_disconnect : (levels tick : ℕ) (o : Option ℕ) (lane : Lane) → AllGro
 grown_disconnect levels tick None lane h = h
 grown_disconnect levels tick (Some id) lane h = either levels _ _ (may_disconnect id lane.view) (λ _. h) h
 
+grown_at_once : (levels tick context proc : ℕ) (acquires : Option ℕ) (lane : Lane) → AllGrown levels lane → AllGrown levels (called_at_once tick context proc acquires lane)
+grown_at_once levels tick context proc acquires lane h = either levels _ _ (nat_lt (calls lane.frames) 32) (λ _. h) h
+
+grown_invoke : (levels tick now context proc : ℕ) (lane : Lane) → AllBounded lane → AllGrown levels lane → AllGrown levels (invoke tick now context proc lane)
+grown_invoke levels tick now context proc lane b h =
+    let none : Lane = called_at_once tick context proc None lane in
+    let some : Lane = called_at_once tick context proc (Some context) lane in
+    let attached : Lane = attaching tick now context proc lane in
+    either levels (invoke_own tick now context proc lane) (written tick (events.Invoke context Posted) lane) (is_some (own context lane))
+    (λ _. either levels none (cond (default_context lane == context) some attached) (is_owned context lane) (λ _. grown_at_once levels tick context proc None lane h)
+    (either levels some attached (default_context lane == context) (λ _. grown_at_once levels tick context proc (Some context) lane h) (grown_attach levels now context (invoke_spec proc) lane b h)))
+    h
+
 grown_acted : (levels : ℕ) (script : Plan) (tick : ℕ) (action : Action) (lane : Lane) → AllBounded lane → AllGrown levels lane → AllGrown levels (acted script tick action lane)
 grown_acted levels script tick (Attach context slot spec) lane b h = either levels _ _ (is_some (own context lane)) (λ _. grown_attach levels (time_of script tick) context spec lane b h) h
 grown_acted levels script tick (Child parent slot spec) lane b h = grown_child levels tick (time_of script tick) slot spec (place_at parent lane) lane b h
@@ -212,12 +237,12 @@ grown_acted levels script tick (Cancel c) lane b h = grown_cancel levels script 
 grown_acted levels script tick (Connect c slot proc) lane b h = grown_connect levels script tick c slot proc lane h
 grown_acted levels script tick (Disconnect slot) lane b h = grown_disconnect levels tick (handler_at slot lane) lane h
 grown_acted levels script tick (Task spec) lane b h = h
-grown_acted levels script tick (Push context) lane b h = h
-grown_acted levels script tick (Pop context) lane b h = h
+grown_acted levels script tick (Push context) lane b h = either levels _ _ (is_some (own context lane)) (λ _. h) h
+grown_acted levels script tick (Pop context) lane b h = either levels _ _ (is_on_top context lane.defaults) (λ _. h) h
 grown_acted levels script tick ShowDefault lane b h = h
-grown_acted levels script tick (Acquire context) lane b h = h
-grown_acted levels script tick (Release context) lane b h = h
-grown_acted levels script tick (Invoke context proc) lane b h = h
+grown_acted levels script tick (Acquire context) lane b h = either levels _ _ (is_some (own context lane)) (λ _. grown_change levels lane context acquired (λ c. refl) h) h
+grown_acted levels script tick (Release context) lane b h = either levels _ _ (may_release (own context lane)) (λ _. grown_change levels lane context released (λ c. refl) h) h
+grown_acted levels script tick (Invoke context proc) lane b h = grown_invoke levels tick (time_of script tick) context proc lane b h
 grown_acted levels script tick (Give context to) lane b h = h
 grown_acted levels script tick (Log n) lane b h = h
 
@@ -321,6 +346,7 @@ grown_turned levels m script tick lane h r g =
 -- ---- the deliveries
 
 grown_received : (levels : ℕ) (script : Plan) (tick sender : ℕ) (body : Mail) (lane : Lane) → AllBounded lane → AllGrown levels lane → AllGrown levels (received_body script tick sender body lane)
+grown_received levels script tick sender (mails.Attach context spec) lane b h = either levels _ _ (is_some (own context lane)) (λ _. grown_attach levels (time_of script tick) context spec lane b h) h
 grown_received levels script tick sender (mails.Complete reply) lane b h =
     either levels _ _ (is_some (own reply.ctx lane)) (λ _. grown_attach levels (time_of script tick) reply.ctx (reply_spec reply) lane b h) h
 grown_received levels script tick sender (mails.Cancelled c) lane b h = grown_cancel levels script tick c lane h

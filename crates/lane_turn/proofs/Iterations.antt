@@ -7,7 +7,8 @@ use Rattle.loop_script.specs.declared.plan.Plan.{Plan}
 use Rattle.loop_script.specs.declared.action.Action.{Action}
 use Rattle.loop_script.specs.declared.action.Action.TheVariants.{Attach, Child, Destroy, SetReady, SetPriority, Iterate, Pending, Run, Quit, Cancel, Connect, Disconnect, Task, Push, Pop, ShowDefault, Acquire, Release, Invoke, Give, Log}
 use Rattle.loop_script.specs.declared.body.Body.{Body}
-use Rattle.loop_script.specs.Parts.{actions_of, context_of}
+use Rattle.loop_script.specs.declared.body.Body.TheVariants.{Procedure}
+use Rattle.loop_script.specs.Parts.{actions_of, context_of, time_of}
 use Rattle.source_rows.specs.declared.row.Row.{Row}
 use Rattle.source_rows.specs.Rows.{RowSet, has_id}
 use Rattle.context_core.specs.declared.context.Context.{Context}
@@ -25,6 +26,8 @@ use Rattle.lane_turn.specs.Frames.{Frame, CallOf, IterOf, LoopOf, advanced, adva
 use Rattle.lane_turn.specs.Lane.{Lane, Turn, taken, pushed, popped, stopped, set_running, written, iterating, own, place_at, handler_at, row_in, row_of, is_running}
 use Rattle.lane_watch.specs.Tasks.{Started}
 use Rattle.post_office.specs.declared.letter.Body.{Body as Mail}
+use Rattle.lane_turn.specs.declared.line.Invoked.TheVariants.{Posted}
+use Rattle.lane_turn.specs.Owned.{default_context, is_owned, calling, called_at_once, attaching, invoke_own, invoke}
 use Rattle.lane_turn.specs.Acted.{acted, sends, missed, child_of, on_source, set_priority_of, disconnect_of}
 use Rattle.lane_turn.specs.Step.{step, step_polling, step_call, step_id, returned, answered, counted_by, in_lane, dispatched, dispatching}
 use Rattle.lane_turn.proofs.Mild.{Plain, plain_cancel, plain_handled}
@@ -119,6 +122,23 @@ disconnect_on : (tick : ℕ) (o : Option ℕ) (lane : Lane) (fs : List Frame) �
 disconnect_on tick None lane fs h = h
 disconnect_on tick (Some id) lane fs h = by_either fs _ _ _ h h
 
+at_once_on : (tick context proc : ℕ) (acquires : Option ℕ) (lane : Lane) → FramesGoOn lane.frames (called_at_once tick context proc acquires (taken lane)).frames
+at_once_on tick context proc acquires lane =
+    let begun : Begun lane.frames (CallOf (record { origin = origins.Invoke acquires; body = Procedure proc; place = 0 }) ∷ advanced lane.frames) = (each_taken lane.frames, tt) in
+    by_either lane.frames (calling tick context proc acquires (taken lane)) (stopped Halted (written tick events.HaltDepth (taken lane))) (nat_lt (calls (taken lane).frames) 32)
+    (inr (inr begun)) (taken_on lane.frames)
+
+invoke_on : (tick now context proc : ℕ) (lane : Lane) → FramesGoOn lane.frames (invoke tick now context proc (taken lane)).frames
+invoke_on tick now context proc lane =
+    let next : Lane = taken lane in
+    let none : Lane = called_at_once tick context proc None next in
+    let some : Lane = called_at_once tick context proc (Some context) next in
+    let attached : Lane = attaching tick now context proc next in
+    by_either lane.frames (invoke_own tick now context proc next) (written tick (events.Invoke context Posted) next) (is_some (own context next))
+    (by_either lane.frames none (cond (default_context next == context) some attached) (is_owned context next) (at_once_on tick context proc None lane)
+    (by_either lane.frames some attached (default_context next == context) (at_once_on tick context proc (Some context) lane) (taken_on lane.frames)))
+    (taken_on lane.frames)
+
 acted_on : (script : Plan) (tick : ℕ) (action : Action) (lane : Lane) → FramesGoOn lane.frames (acted script tick action (taken lane)).frames
 acted_on script tick (Attach context slot spec) lane = by_either lane.frames _ _ _ (taken_on lane.frames) (taken_on lane.frames)
 acted_on script tick (Child parent slot spec) lane = child_on tick _ slot spec (place_at parent (taken lane)) (taken lane) lane.frames (taken_on lane.frames)
@@ -137,12 +157,12 @@ acted_on script tick (Connect c slot proc) lane =
     by_either lane.frames _ _ _ (plain_on lane.frames (taken lane) _ (plain_handled script tick (record { id = 0; proc = proc }) (taken lane)) (taken_on lane.frames)) (taken_on lane.frames)
 acted_on script tick (Disconnect slot) lane = disconnect_on tick (handler_at slot (taken lane)) (taken lane) lane.frames (taken_on lane.frames)
 acted_on script tick (Task spec) lane = taken_on lane.frames
-acted_on script tick (Push context) lane = taken_on lane.frames
-acted_on script tick (Pop context) lane = taken_on lane.frames
+acted_on script tick (Push context) lane = by_either lane.frames _ _ _ (taken_on lane.frames) (taken_on lane.frames)
+acted_on script tick (Pop context) lane = by_either lane.frames _ _ _ (taken_on lane.frames) (taken_on lane.frames)
 acted_on script tick ShowDefault lane = taken_on lane.frames
-acted_on script tick (Acquire context) lane = taken_on lane.frames
-acted_on script tick (Release context) lane = taken_on lane.frames
-acted_on script tick (Invoke context proc) lane = taken_on lane.frames
+acted_on script tick (Acquire context) lane = by_either lane.frames _ _ _ (taken_on lane.frames) (taken_on lane.frames)
+acted_on script tick (Release context) lane = by_either lane.frames _ _ _ (taken_on lane.frames) (taken_on lane.frames)
+acted_on script tick (Invoke context proc) lane = invoke_on tick (time_of script tick) context proc lane
 acted_on script tick (Give context to) lane = taken_on lane.frames
 acted_on script tick (Log n) lane = taken_on lane.frames
 

@@ -1,10 +1,13 @@
 pub mod Layers
+pub mod Owners
 pub mod Tallies
 pub mod Freely
 pub mod Lists
 pub mod Polled
 pub mod Measure
 pub mod Mild
+pub mod Acts
+pub mod Bounds
 pub mod Edits
 pub mod Steps
 pub mod Steady
@@ -14,6 +17,8 @@ pub mod Turns
 pub mod Polls
 pub mod Behind
 pub mod Delivered
+pub mod Views
+pub mod Arrivals
 pub mod Opening
 pub mod Runs
 pub mod Iterations

@@ -1,6 +1,6 @@
 -- What a counted thing does to a lane stays within what it pays for.
-use Rattle.std.proofs.Common.{◌≡◌, ℕ, ℤ, zero, suc, ◌+◌, ◌^◌, ◌<◌, ◌≤◌, Bool, true, false, not, cond, Option, Some, None, List, [], ◌∷◌, ◌++◌, map, filter, length, slice_set, refl, ap, sym, ◌∙◌, arith, subst, ◌==◌, length-append, option_map, find}
-use Rattle.std.specs.Prelude.{slice_get, nat_lt, IfSome}
+use Rattle.std.proofs.Common.{◌≡◌, ℕ, ℤ, zero, suc, ◌+◌, ◌≤◌, Bool, true, false, not, cond, Option, Some, None, List, [], ◌∷◌, map, length, slice_set, refl, ap, sym, ◌∙◌, arith, subst, ◌==◌, length-append, option_map}
+use Rattle.std.specs.Prelude.{slice_get}
 use Rattle.std.proofs.lemmas.List.{length-map}
 use Rattle.std.proofs.lemmas.List.Sums.{length-filter, count_by-le-length}
 use Rattle.std.specs.List.{AllByRecursion}
@@ -8,31 +8,27 @@ use Rattle.loop_script.specs.declared.plan.Plan.{Plan}
 use Rattle.loop_script.specs.declared.source.SourceSpec.{SourceSpec}
 use Rattle.loop_script.specs.declared.action.Action.{Action}
 use Rattle.loop_script.specs.declared.action.Action.TheVariants.{Attach, Child, Destroy, SetReady, SetPriority, Iterate, Pending, Run, Quit, Cancel, Connect, Disconnect, Task, Push, Pop, ShowDefault, Acquire, Release, Invoke, Give, Log}
-use Rattle.loop_script.specs.Parts.{time_of, actions_of, context_of}
+use Rattle.loop_script.specs.Parts.{actions_of}
 use Rattle.source_rows.specs.declared.row.Row.{Row}
 use Rattle.source_rows.specs.Row.{root_row, child_row}
 use Rattle.source_rows.specs.Rows.{RowSet, attached, child_added, destroyed, counted, ready_set, reprioritised, moved, changed, has_id, is_under, row_of as row_with}
 use Rattle.context_core.specs.declared.context.Context.{Context}
 use Rattle.lane_turn.specs.declared.slot.Place.{Place}
-use Rattle.lane_turn.specs.declared.slot.Held.{Held}
-use Rattle.lane_turn.specs.declared.slot.Held.TheVariants.{Source, Handler}
 use Rattle.cancel_view.specs.declared.handler.Fired.{Fired}
-use Rattle.cancel_view.specs.Seen.{Seen, has, fired, cancelled, connected, has_other_id, without}
+use Rattle.cancel_view.specs.Seen.{Seen, has, fired, cancelled}
 use Rattle.loop_script.specs.declared.body.Body.TheVariants.{Procedure}
 use Rattle.lane_turn.specs.declared.line.Event.{Event}
 use Rattle.lane_turn.specs.declared.line.Event.TheVariants as events
-use Rattle.lane_turn.specs.Frames.{Frame, CallOf, IterOf, LoopOf, advanced, emptied, busy, calls}
+use Rattle.lane_turn.specs.Frames.{Frame, CallOf, IterOf, LoopOf, emptied, busy}
 use Rattle.lane_turn.specs.Sources.{restarted, restarted_row, restarted_kind, due_after, own_ready_at, chosen_in}
 use Rattle.loop_script.specs.declared.source.Kind.{Kind}
 use Rattle.loop_script.specs.declared.source.Kind.TheVariants as kinds
-use Rattle.lane_turn.specs.Lane.{Lane, known, own, with_rows, edited, taken, iterating, row_in, row_of, place_at, handler_at, next_place, named, viewing, noting, stopped, pushed, set_running, written, chosen}
-use Rattle.lane_turn.specs.Acted.{acted, missed, born, child_of, on_source, set_priority_of, plain_acted, all_acted, handled, all_handled, cancel, connect, disconnect_of}
+use Rattle.lane_turn.specs.Lane.{Lane, known, own, with_rows, with_context, edited, iterating, place_at, viewing, noting, set_running, written, chosen}
+use Rattle.lane_turn.specs.Acted.{missed, born, on_source, plain_acted, all_acted, handled, all_handled, cancel}
 use Rattle.lane_turn.specs.declared.line.Word.{Word}
 use Rattle.lane_turn.specs.declared.line.Word.TheVariants as words
-use Rattle.lane_turn.specs.declared.parts.Status.TheVariants.{Halted}
-use Rattle.lane_turn.specs.Step.{dispatched, dispatching}
 use Rattle.lane_turn.specs.Turn.{nest_work, rows_in, row_count}
-use Rattle.lane_turn.specs.Sound.{IsBounded, Bounded, IsWithin}
+use Rattle.lane_turn.specs.Sound.{IsBounded, IsBoundedContext, Bounded, IsWithin}
 use Rattle.lane_turn.proofs.Lists.{each-push, each-filter, each_weaker, length-selected}
 
 -- it adds a row, as many ids as there were rows and two frames, and 2 to each counter.
@@ -44,7 +40,9 @@ pub record Mild (lane after : Lane) : Type 0 where
 -- a larger bound
 bounded_weaker : (m n : ℕ) → m ≤ n → (o : Option Context) → Bounded m o → Bounded n o
 bounded_weaker m n h None b = tt
-bounded_weaker m n h (Some c) b = record { id = omega (arith, b.id); order = omega (arith, b.order); counts = each_weaker _ _ (λ r k. omega arith) c.rows.rows b.counts }
+bounded_weaker m n h (Some c) b =
+    let s = b.sources in
+    record { sources = record { id = omega (arith, s.id); order = omega (arith, s.order); counts = each_weaker _ _ (λ r k. omega arith) c.rows.rows s.counts }; acquires = omega (arith, b.acquires) }
 
 pub each_bounded : (m n : ℕ) → m ≤ n → (contexts : List (Option Context)) → AllByRecursion (Bounded m) contexts → AllByRecursion (Bounded n) contexts
 each_bounded m n h [] b = tt
@@ -65,7 +63,7 @@ quiet lane after c f v = record {
   };
 }
 
-mild_line : (lane : Lane) (tick : ℕ) (event : Event) → Mild lane (written tick event lane)
+pub mild_line : (lane : Lane) (tick : ℕ) (event : Event) → Mild lane (written tick event lane)
 mild_line lane tick event = quiet lane (written tick event lane) refl refl (omega arith)
 
 pub either : (lane x y : Lane) (b : Bool) → Mild lane x → Mild lane y → Mild lane (cond b x y)
@@ -84,28 +82,42 @@ begins_frame lane after c v f l = record {
   };
 }
 
--- An edit of one context: k more rows, and j more on each counter.
+-- A change of one context: k more rows, and j more on each counter.
+pub record MildChange (k j : ℕ) (change : Context → Context) : Type 0 where
+  pub rows : (c : Context) → length (change c).rows.rows ≤ length c.rows.rows + k
+  pub bounded : (m : ℕ) (c : Context) → IsBoundedContext m c → IsBoundedContext (m + j) (change c)
+
+rows_mapped : (k j : ℕ) (change : Context → Context) → MildChange k j change → (o : Option Context) → rows_in (option_map change o) ≤ rows_in o + k
+rows_mapped k j change e None = omega arith
+rows_mapped k j change e (Some c) = e.rows c
+
+bounded_mapped : (k j m : ℕ) (change : Context → Context) → MildChange k j change → (o : Option Context) → Bounded m o → Bounded (m + j) (option_map change o)
+bounded_mapped k j m change e None b = tt
+bounded_mapped k j m change e (Some c) b = e.bounded m c b
+
+rows_changed : (k j : ℕ) (change : Context → Context) → MildChange k j change → (contexts : List (Option Context)) (i : ℕ) → row_count (slice_set contexts i (option_map change (known (slice_get contexts i)))) ≤ row_count contexts + k
+rows_changed k j change e [] i = omega arith
+rows_changed k j change e (o ∷ contexts) zero = omega (arith, rows_mapped k j change e o)
+rows_changed k j change e (o ∷ contexts) (suc i) = omega (arith, rows_changed k j change e contexts i)
+
+bounded_changed : (k j m : ℕ) (change : Context → Context) → MildChange k j change → (contexts : List (Option Context)) (i : ℕ) → AllByRecursion (Bounded m) contexts → AllByRecursion (Bounded (m + j)) (slice_set contexts i (option_map change (known (slice_get contexts i))))
+bounded_changed k j m change e [] i b = tt
+bounded_changed k j m change e (o ∷ contexts) zero b = (bounded_mapped k j m change e o b.0, each_bounded m (m + j) (omega arith) contexts b.1)
+bounded_changed k j m change e (o ∷ contexts) (suc i) b = (bounded_weaker m (m + j) (omega arith) o b.0, bounded_changed k j m change e contexts i b.1)
+
+-- An edit of one context's sources.
 pub record MildEdit (k j : ℕ) (edit : RowSet → RowSet) : Type 0 where
   pub rows : (s : RowSet) → length (edit s).rows ≤ length s.rows + k
   pub bounded : (m : ℕ) (s : RowSet) → IsBounded m s → IsBounded (m + j) (edit s)
 
-rows_mapped : (k j : ℕ) (edit : RowSet → RowSet) → MildEdit k j edit → (o : Option Context) → rows_in (option_map (with_rows edit) o) ≤ rows_in o + k
-rows_mapped k j edit e None = omega arith
-rows_mapped k j edit e (Some c) = e.rows c.rows
-
-bounded_mapped : (k j m : ℕ) (edit : RowSet → RowSet) → MildEdit k j edit → (o : Option Context) → Bounded m o → Bounded (m + j) (option_map (with_rows edit) o)
-bounded_mapped k j m edit e None b = tt
-bounded_mapped k j m edit e (Some c) b = e.bounded m c.rows b
+of_edit : (k j : ℕ) (edit : RowSet → RowSet) → MildEdit k j edit → MildChange k j (with_rows edit)
+of_edit k j edit e = record { rows = λ c. e.rows c.rows; bounded = λ m c b. record { sources = e.bounded m c.rows b.sources; acquires = omega (arith, b.acquires) } }
 
 pub rows_edited : (k j : ℕ) (edit : RowSet → RowSet) → MildEdit k j edit → (contexts : List (Option Context)) (i : ℕ) → row_count (slice_set contexts i (option_map (with_rows edit) (known (slice_get contexts i)))) ≤ row_count contexts + k
-rows_edited k j edit e [] i = omega arith
-rows_edited k j edit e (o ∷ contexts) zero = omega (arith, rows_mapped k j edit e o)
-rows_edited k j edit e (o ∷ contexts) (suc i) = omega (arith, rows_edited k j edit e contexts i)
+rows_edited k j edit e contexts i = rows_changed k j (with_rows edit) (of_edit k j edit e) contexts i
 
 pub bounded_edited : (k j m : ℕ) (edit : RowSet → RowSet) → MildEdit k j edit → (contexts : List (Option Context)) (i : ℕ) → AllByRecursion (Bounded m) contexts → AllByRecursion (Bounded (m + j)) (slice_set contexts i (option_map (with_rows edit) (known (slice_get contexts i))))
-bounded_edited k j m edit e [] i b = tt
-bounded_edited k j m edit e (o ∷ contexts) zero b = (bounded_mapped k j m edit e o b.0, each_bounded m (m + j) (omega arith) contexts b.1)
-bounded_edited k j m edit e (o ∷ contexts) (suc i) b = (bounded_weaker m (m + j) (omega arith) o b.0, bounded_edited k j m edit e contexts i b.1)
+bounded_edited k j m edit e contexts i b = bounded_changed k j m (with_rows edit) (of_edit k j edit e) contexts i b
 
 -- the edits
 pub mild_attached : (spec : SourceSpec) (now : ℕ) → MildEdit 1 2 (attached spec now)
@@ -261,41 +273,19 @@ pub mild_iterating : (lane : Lane) (script : Plan) (tick context : ℕ) (answer 
 mild_iterating lane script tick context answer =
     begins_frame lane _ refl refl (omega (arith, work_emptied context lane.frames, length-chosen script tick context lane)) (omega (arith, length_emptied context lane.frames))
 
-pub mild_edit : (lane : Lane) (context : ℕ) (edit : RowSet → RowSet) (k j : ℕ) → k ≤ 1 → j ≤ 2 → MildEdit k j edit → Mild lane (edited context edit lane)
-mild_edit lane context edit k j a b e = record {
-  rows = omega (arith, rows_edited k j edit e lane.contexts context);
+pub mild_change : (lane : Lane) (context : ℕ) (change : Context → Context) (k j : ℕ) → k ≤ 1 → j ≤ 2 → MildChange k j change → Mild lane (with_context context change lane)
+mild_change lane context change k j a b e = record {
+  rows = omega (arith, rows_changed k j change e lane.contexts context);
   frames = omega arith;
   within = λ m w. record {
-    contexts = each_bounded (m + j) (m + 2) (omega arith) _ (bounded_edited k j m edit e lane.contexts context w.contexts);
+    contexts = each_bounded (m + j) (m + 2) (omega arith) _ (bounded_changed k j m change e lane.contexts context w.contexts);
     frames = omega (arith, w.frames);
     handlers = omega (arith, w.handlers);
   };
 }
 
--- a slot that names a source
-mild_named : (lane after : Lane) (slot : ℕ) (thing : Held) → Mild lane after → Mild lane (named slot thing after)
-mild_named lane after slot thing h = record {
-  rows = h.rows;
-  frames = h.frames;
-  within = λ m w. record { contexts = (h.within m w).contexts; frames = (h.within m w).frames; handlers = (h.within m w).handlers };
-}
-
-mild_child : (tick now slot : ℕ) (spec : SourceSpec) (o : Option Place) (lane : Lane) → Mild lane (child_of tick now slot spec o lane)
-mild_child tick now slot spec None lane = quiet lane _ refl refl (omega arith)
-mild_child tick now slot spec (Some place) lane =
-    either lane _ _ _
-    (mild_named lane _ slot (Source (next_place place.context lane)) (mild_edit lane place.context (born spec now place.id) 1 2 (omega arith) (omega arith) (mild_born spec now place.id)))
-    (mild_line lane tick (events.Miss words.Child))
-
-mild_on_source : (tick : ℕ) (word : Word) (edit : ℕ → RowSet → RowSet) → ((id : ℕ) → MildEdit 0 0 (edit id)) → (o : Option Place) (lane : Lane) → Mild lane (on_source tick word edit o lane)
-mild_on_source tick word edit e None lane = quiet lane _ refl refl (omega arith)
-mild_on_source tick word edit e (Some place) lane =
-    either lane _ _ _ (mild_edit lane place.context (edit place.id) 0 0 (omega arith) (omega arith) (e place.id)) (mild_line lane tick (events.Miss word))
-
-mild_set_priority : (tick : ℕ) (priority : ℤ) (o : Option Place) (lane : Lane) → Mild lane (set_priority_of tick priority o lane)
-mild_set_priority tick priority None lane = quiet lane _ refl refl (omega arith)
-mild_set_priority tick priority (Some place) lane =
-    either lane _ _ _ (mild_edit lane place.context (reprioritised place.id priority) 0 1 (omega arith) (omega arith) (mild_reprioritised place.id priority)) (mild_line lane tick (events.Miss words.SetPriority))
+pub mild_edit : (lane : Lane) (context : ℕ) (edit : RowSet → RowSet) (k j : ℕ) → k ≤ 1 → j ≤ 2 → MildEdit k j edit → Mild lane (edited context edit lane)
+mild_edit lane context edit k j a b e = mild_change lane context (with_rows edit) k j a b (of_edit k j edit e)
 
 -- What a handler does: it adds no row, leaves the frames, and raises no counter.
 pub record Plain (lane after : Lane) : Type 0 where
@@ -384,122 +374,3 @@ mild_plain lane after h = record {
     handlers = omega (arith, h.handlers, w.handlers);
   };
 }
-
-connected_id : (view : Seen) (c proc : ℕ) → (connected c proc view).next_id ≤ view.next_id + 2
-connected_id view c proc = id_by (has c view)
-  where
-    id_by : (b : Bool) → (cond b view (record view { handlers = view.handlers ++ (record { id = view.next_id; cancellable = c; proc = proc }) ∷ []; next_id = view.next_id + 1 })).next_id ≤ view.next_id + 2
-    id_by true = omega arith
-    id_by false = omega arith
-
-without_id : (view : Seen) (id : ℕ) → (without id view).next_id ≡ view.next_id
-without_id view id = id_by (id == 0)
-  where
-    id_by : (b : Bool) → (cond b view (record view { handlers = filter (has_other_id id) view.handlers })).next_id ≡ view.next_id
-    id_by true = refl
-    id_by false = refl
-
-mild_connect : (script : Plan) (tick c slot proc : ℕ) (lane : Lane) → Mild lane (connect script tick c slot proc lane)
-mild_connect script tick c slot proc lane =
-    either lane _ _ _
-    (mild_named lane _ slot (Handler 0) (mild_plain lane _ (plain_handled script tick (record { id = 0; proc = proc }) lane)))
-    (mild_named lane _ slot (Handler lane.view.next_id) (quiet lane (viewing (connected c proc lane.view) lane) refl refl (connected_id lane.view c proc)))
-
-mild_disconnect : (tick : ℕ) (o : Option ℕ) (lane : Lane) → Mild lane (disconnect_of tick o lane)
-mild_disconnect tick None lane = quiet lane _ refl refl (omega arith)
-mild_disconnect tick (Some id) lane =
-    either lane _ _ _ (quiet lane (viewing (without id lane.view) lane) refl refl (omega (arith, without_id lane.view id))) (mild_line lane tick (events.Miss words.Disconnect))
-
--- what each action does is mild
-pub mild_acted : (script : Plan) (tick : ℕ) (action : Action) (lane : Lane) → Mild lane (acted script tick action lane)
-mild_acted script tick (Attach context slot spec) lane =
-    let now = time_of script tick in
-    either lane _ _ _
-    (mild_named lane _ slot (Source (next_place context lane)) (mild_edit lane context (attached spec now) 1 2 (omega arith) (omega arith) (mild_attached spec now)))
-    (mild_line lane tick (events.Miss words.Attach))
-mild_acted script tick (Child parent slot spec) lane = mild_child tick (time_of script tick) slot spec (place_at parent lane) lane
-mild_acted script tick (Destroy slot) lane = mild_on_source tick words.Destroy destroyed mild_destroyed (place_at slot lane) lane
-mild_acted script tick (SetReady slot us) lane = mild_on_source tick words.SetReady (λ id. ready_set id us) (λ id. mild_ready_set id us) (place_at slot lane) lane
-mild_acted script tick (SetPriority slot priority) lane = mild_set_priority tick priority (place_at slot lane) lane
-mild_acted script tick (Iterate context) lane = either lane _ _ _ (mild_iterating lane script tick context _) (mild_line lane tick (events.Iterate context false))
-mild_acted script tick (Pending context) lane = quiet lane _ refl refl (omega arith)
-mild_acted script tick (Run number) lane =
-    let context : ℕ = context_of script number in
-    either lane _ _ _ (begins_frame lane (pushed (LoopOf number context) (set_running number true lane)) refl refl (omega arith) (omega arith)) (mild_line lane tick (events.Miss words.Run))
-mild_acted script tick (Quit number) lane = either lane _ _ _ (quiet lane (set_running number false lane) refl refl (omega arith)) (mild_line lane tick (events.Miss words.Quit))
-mild_acted script tick (Cancel c) lane = mild_plain lane _ (plain_cancel script tick c lane)
-mild_acted script tick (Connect c slot proc) lane = mild_connect script tick c slot proc lane
-mild_acted script tick (Disconnect slot) lane = mild_disconnect tick (handler_at slot lane) lane
-mild_acted script tick (Task spec) lane = quiet lane _ refl refl (omega arith)
-mild_acted script tick (Push context) lane = quiet lane _ refl refl (omega arith)
-mild_acted script tick (Pop context) lane = quiet lane _ refl refl (omega arith)
-mild_acted script tick ShowDefault lane = quiet lane _ refl refl (omega arith)
-mild_acted script tick (Acquire context) lane = quiet lane _ refl refl (omega arith)
-mild_acted script tick (Release context) lane = quiet lane _ refl refl (omega arith)
-mild_acted script tick (Invoke context proc) lane = quiet lane _ refl refl (omega arith)
-mild_acted script tick (Give context to) lane = quiet lane _ refl refl (omega arith)
-mild_acted script tick (Log n) lane = quiet lane _ refl refl (omega arith)
-
--- the innermost call or iteration goes on
-work_taken : (frames : List Frame) → nest_work (advanced frames) ≤ nest_work frames
-work_taken [] = omega arith
-work_taken (CallOf call ∷ frames) = omega arith
-work_taken (IterOf c [] answer ∷ frames) = omega arith
-work_taken (IterOf c (id ∷ ids) answer ∷ frames) = omega arith
-work_taken (LoopOf number context ∷ frames) = omega arith
-
-length_taken : (frames : List Frame) → length (advanced frames) ≡ length frames
-length_taken [] = refl
-length_taken (f ∷ frames) = refl
-
-pub mild_taken : (lane after : Lane) → Mild (taken lane) after → Mild lane after
-mild_taken lane after h = record {
-  rows = h.rows;
-  frames = omega (arith, h.frames, work_taken lane.frames);
-  within = λ m w. h.within m (record { contexts = w.contexts; frames = omega (arith, w.frames, length_taken lane.frames); handlers = w.handlers });
-}
-
--- a dispatch is mild
-pub mild_dispatching : (lane : Lane) (tick context : ℕ) (row : Row) → Mild lane (dispatching tick context row lane)
-mild_dispatching lane tick context row = either lane (dispatched tick context row lane) (stopped Halted (written tick events.HaltDepth lane)) (nat_lt (calls lane.frames) 32)
-    (record {
-      rows = omega (arith, rows_edited 0 1 (counted row.id) (mild_counted row.id) lane.contexts context);
-      frames = omega (arith, work_taken lane.frames);
-      within = λ m w. record {
-        contexts = each_bounded (m + 1) (m + 2) (omega arith) _ (bounded_edited 0 1 m (counted row.id) (mild_counted row.id) lane.contexts context w.contexts);
-        frames = omega (arith, w.frames, length_taken lane.frames);
-        handlers = omega (arith, w.handlers);
-      };
-    })
-    (quiet lane (stopped Halted (written tick events.HaltDepth lane)) refl refl (omega arith))
-
--- a row that is found is within the bound of its lane
-some_row : (a b : Row) → Some a ≡ Some b → a ≡ b
-some_row a b e = cc
-
-found_by : (m : ℕ) (p : Row → Bool) (r : Row) (rows : List Row) (row : Row) (b : Bool) → b ≡ p r → AllByRecursion (λ q. q.count ≤ m) (r ∷ rows) → (Some row ≡ find p rows → row.count ≤ m) → Some row ≡ cond b (Some r) (find p rows) → row.count ≤ m
-found_by m p r rows row true e h f k = let s : row ≡ r = some_row row r k in omega (arith, ap (λ (q : Row). q.count) s, h.0)
-found_by m p r rows row false e h f k = f k
-
-found : (m : ℕ) (p : Row → Bool) (rows : List Row) (row : Row) → AllByRecursion (λ r. r.count ≤ m) rows → Some row ≡ find p rows → row.count ≤ m
-found m p [] row h e = cc
-found m p (r ∷ rows) row h e = found_by m p r rows row (p r) refl h (found m p rows row h.1) e
-
-count_by_bound : (o : Option Row) → ((r : Row) → Some r ≡ o → r.count ≤ 2 ^ 62) → IfSome o (λ r. r.count < 2 ^ 63)
-count_by_bound None h = tt
-count_by_bound (Some r) h = let k = h r refl in omega (arith, k)
-
-pub count_fits : (id : ℕ) (s : RowSet) → IsBounded (2 ^ 62) s → IfSome (row_with id s.rows) (λ r. r.count < 2 ^ 63)
-count_fits id s b = count_by_bound (row_with id s.rows) (λ r e. found (2 ^ 62) (λ q. q.id == id) s.rows r b.counts e)
-
-pub bounded_at : (m : ℕ) (contexts : List (Option Context)) (i : ℕ) → AllByRecursion (Bounded m) contexts → Bounded m (known (slice_get contexts i))
-bounded_at m [] i b = tt
-bounded_at m (o ∷ contexts) zero b = b.0
-bounded_at m (o ∷ contexts) (suc i) b = bounded_at m contexts i b.1
-
-in_bounded : (m id : ℕ) (row : Row) (o : Option Context) → Bounded m o → Some row ≡ row_in id o → row.count ≤ m
-in_bounded m id row None b e = cc
-in_bounded m id row (Some c) b e = found m (λ r. r.id == id) c.rows.rows row b.counts e
-
-pub row_within : (m context id : ℕ) (lane : Lane) (row : Row) → IsWithin m lane → Some row ≡ row_of context id lane → row.count ≤ m
-row_within m context id lane row w e = in_bounded m id row (own context lane) (bounded_at m lane.contexts context w.contexts) e

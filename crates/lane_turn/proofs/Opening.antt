@@ -15,7 +15,7 @@ each_pushed P [] o h p = (p, tt)
 each_pushed P (x ∷ os) o h p = (h.0, each_pushed P os o h.1 p)
 
 open_by : (script : Plan) (b : Bool) → Bounded 1 (cond b (Some (no_sources script)) None)
-open_by script true = record { id = omega arith; order = omega arith; counts = tt }
+open_by script true = record { sources = record { id = omega arith; order = omega arith; counts = tt }; acquires = omega arith }
 open_by script false = tt
 
 open_bounded : (script : Plan) (lane n : ℕ) → AllByRecursion (Bounded 1) (open_contexts_to script lane n)

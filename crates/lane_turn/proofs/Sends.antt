@@ -1,5 +1,5 @@
 -- What a step sends, and how tasks and letters are counted.
-use Rattle.std.proofs.Common.{◌≡◌, ℕ, zero, suc, ◌+◌, ◌≤◌, Bool, true, false, cond, Option, Some, None, List, [], ◌∷◌, ◌++◌, length, refl, ap, sym, ◌∙◌, arith, subst, length-append}
+use Rattle.std.proofs.Common.{◌≡◌, ◌||◌, ◌<◌, ℕ, zero, suc, ◌+◌, ◌≤◌, Bool, true, false, cond, Option, Some, None, List, [], ◌∷◌, ◌++◌, length, refl, ap, sym, ◌∙◌, arith, subst, length-append}
 use Rattle.std.specs.Prelude.{slice_get}
 use Rattle.loop_script.specs.declared.plan.Plan.{Plan}
 use Rattle.loop_script.specs.declared.action.Action.{Action}
@@ -17,8 +17,11 @@ use Rattle.lane_turn.specs.Lane.{Lane, Turn, popped, taken, row_of, iterating, i
 use Rattle.lane_turn.specs.Acted.{acted, sends}
 use Rattle.lane_turn.specs.Step.{step, step_polling, step_call, step_id, counted_by, in_lane, dispatching, polled, letter, sent_with, posted_with, mail_of, one_if}
 use Rattle.lane_turn.specs.Sound.{IsPaced}
+use Rattle.task_steps.specs.declared.entry.Reply.{Reply}
+use Rattle.cancel_view.specs.Seen.{has}
+use Rattle.lane_turn.specs.Arrivals.{held_of}
 use Rattle.lane_turn.specs.Letters.{AreNumbered}
-use Rattle.lane_turn.proofs.Steady.{Steady, still, steady_trans, steady_acted, steady_dispatching, steady_returned, steady_answered}
+use Rattle.lane_turn.proofs.Steady.{Steady, told_by, still, steady_trans, steady_acted, steady_dispatching, steady_returned, steady_answered}
 
 -- a step sends one letter at most, the next of the turn, and starts one task at most where it counts one
 pub record Sends (tick : ℕ) (t u : Turn) : Type 0 where
@@ -29,6 +32,8 @@ pub record Sends (tick : ℕ) (t u : Turn) : Type 0 where
   pub mail : Option Mail
   pub sent : u.sent ≡ sent_with mail t.sent
   pub posted : u.posted ≡ posted_with tick t.lane.number t.sent t.posted mail
+  pub seen : (c : ℕ) → c < length t.lane.view.members → has c u.lane.view ≡ (told_by c mail || has c t.lane.view)
+  pub holds : held_of u.lane.contexts ≡ held_of t.lane.contexts
 
 some_same : (t u : Turn) → Some t ≡ Some u → t ≡ u
 some_same t u e = cc
@@ -38,7 +43,7 @@ sent_most None n = omega arith
 sent_most (Some body) n = omega arith
 
 -- what is counted
-counted_sends : (tick : ℕ) (mail : Option Mail) (f : Lane → Lane) (t : Turn) (left : ℕ) → t.left ≡ left → Steady 1 t.lane (f t.lane) → Sends tick t (counted_by tick mail f t left)
+counted_sends : (tick : ℕ) (mail : Option Mail) (f : Lane → Lane) (t : Turn) (left : ℕ) → t.left ≡ left → Steady 1 mail t.lane (f t.lane) → Sends tick t (counted_by tick mail f t left)
 counted_sends tick mail f t zero e h = record {
   number = refl;
   now = refl;
@@ -47,6 +52,8 @@ counted_sends tick mail f t zero e h = record {
   mail = None;
   sent = refl;
   posted = refl;
+  seen = λ c l. refl;
+  holds = refl;
 }
 counted_sends tick mail f t (suc left) e h = record {
   number = h.number;
@@ -56,10 +63,12 @@ counted_sends tick mail f t (suc left) e h = record {
   mail = mail;
   sent = refl;
   posted = refl;
+  seen = h.seen;
+  holds = h.holds;
 }
 
 -- what is not
-freely_sends : (tick : ℕ) (t : Turn) (after : Lane) (iterated : Bool) → Steady 0 t.lane after → Sends tick t (record t { lane = after; iterated = iterated })
+freely_sends : (tick : ℕ) (t : Turn) (after : Lane) (iterated : Bool) → Steady 0 None t.lane after → Sends tick t (record t { lane = after; iterated = iterated })
 freely_sends tick t after iterated h = record {
   number = h.number;
   now = h.tick;
@@ -68,27 +77,29 @@ freely_sends tick t after iterated h = record {
   mail = None;
   sent = refl;
   posted = refl;
+  seen = h.seen;
+  holds = h.holds;
 }
 
-taken_too : (lane after : Lane) → Steady 1 (taken lane) after → Steady 1 lane after
-taken_too lane after h = steady_trans 1 lane (taken lane) after (still 0 lane (taken lane) refl refl refl) h
+taken_too : (mail : Option Mail) (lane after : Lane) → Steady 1 mail (taken lane) after → Steady 1 mail lane after
+taken_too mail lane after h = steady_trans 1 mail lane (taken lane) after (still 0 lane (taken lane) refl refl refl refl) h
 
-popped_too : (lane after : Lane) → Steady 0 (popped lane) after → Steady 0 lane after
-popped_too lane after h = steady_trans 0 lane (popped lane) after (still 0 lane (popped lane) refl refl refl) h
+popped_too : (lane after : Lane) → Steady 0 None (popped lane) after → Steady 0 None lane after
+popped_too lane after h = steady_trans 0 None lane (popped lane) after (still 0 lane (popped lane) refl refl refl refl) h
 
 call_sends : (script : Plan) (tick : ℕ) (t : Turn) (call : Call) (a : Option Action) → Sends tick t (step_call script tick t call a)
-call_sends script tick t call (Some a) = counted_sends tick (sends a (taken t.lane)) (λ lane. acted script tick a (taken lane)) t t.left refl (taken_too t.lane _ (steady_acted script tick a (taken t.lane)))
+call_sends script tick t call (Some a) = counted_sends tick (sends a (taken t.lane)) (λ lane. acted script tick a (taken lane)) t t.left refl (taken_too (sends a (taken t.lane)) t.lane _ (steady_acted script tick a (taken t.lane)))
 call_sends script tick t call None = freely_sends tick t _ t.iterated (popped_too t.lane _ (steady_returned script tick call.body call.origin (popped t.lane)))
 
 id_sends : (tick : ℕ) (t : Turn) (context : ℕ) (r : Option Row) → Sends tick t (step_id tick t context r)
-id_sends tick t context None = freely_sends tick t (taken t.lane) t.iterated (still 0 t.lane _ refl refl refl)
+id_sends tick t context None = freely_sends tick t (taken t.lane) t.iterated (still 0 t.lane _ refl refl refl refl)
 id_sends tick t context (Some row) = counted_sends tick None (dispatching tick context row) t t.left refl (steady_dispatching tick context row t.lane)
 
 loop_sends : (script : Plan) (tick : ℕ) (t : Turn) (number context : ℕ) (runs iterated : Bool) (u : Turn)
     → cond runs (cond iterated None (Some (record t { lane = iterating script tick context None t.lane; iterated = true }))) (Some (in_lane (λ lane. written tick (events.LoopEnd number) (popped lane)) t)) ≡ Some u → Sends tick t u
 loop_sends script tick t number context true true u e = cc
-loop_sends script tick t number context true false u e = subst (Sends tick t) (some_same _ _ e) (freely_sends tick t (iterating script tick context None t.lane) true (still 0 t.lane _ refl refl refl))
-loop_sends script tick t number context false iterated u e = subst (Sends tick t) (some_same _ _ e) (freely_sends tick t (written tick (events.LoopEnd number) (popped t.lane)) t.iterated (still 0 t.lane _ refl refl refl))
+loop_sends script tick t number context true false u e = subst (Sends tick t) (some_same _ _ e) (freely_sends tick t (iterating script tick context None t.lane) true (still 0 t.lane _ refl refl refl refl))
+loop_sends script tick t number context false iterated u e = subst (Sends tick t) (some_same _ _ e) (freely_sends tick t (written tick (events.LoopEnd number) (popped t.lane)) t.iterated (still 0 t.lane _ refl refl refl refl))
 
 abbrev turn : Turn → List Frame → Status → Turn
 turn t frames status = record t { lane = record t.lane { frames = frames; status = status }; unpolled = [] }
@@ -115,6 +126,11 @@ one_most : (A : Type 0) (b : Bool) (x : A) → length (one_if b x) ≤ 1
 one_most A true x = omega arith
 one_most A false x = omega arith
 
+-- a reply tells of no cancellable
+told_none : (o : Option Reply) (c : ℕ) (b : Bool) → b ≡ (told_by c (mail_of o) || b)
+told_none None c b = refl
+told_none (Some reply) c b = refl
+
 polled_sends : (tick : ℕ) (t : Turn) (task : Started) (tasks : List Started) → Sends tick (record t { unpolled = task ∷ tasks }) (polled tick task (record t { unpolled = tasks }))
 polled_sends tick t task tasks =
     let mail : Option Mail = mail_of (reply_at tick t.lane.tasks task) in
@@ -131,6 +147,8 @@ polled_sends tick t task tasks =
       mail = mail;
       sent = refl;
       posted = refl;
+      seen = λ c l. told_none (reply_at tick t.lane.tasks task) c (has c t.lane.view);
+      holds = refl;
     }
 
 polling_sends : (script : Plan) (tick : ℕ) (t : Turn) (tasks : List Started) (u : Turn) → step_polling script tick (record t { unpolled = tasks }) tasks ≡ Some u → Sends tick (record t { unpolled = tasks }) u

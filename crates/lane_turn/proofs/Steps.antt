@@ -25,7 +25,8 @@ use Rattle.lane_turn.specs.Step.{step, step_polling, polled, step_call, step_id,
 use Rattle.lane_turn.specs.Turn.{work, work_of, while_going, nest_work, row_count}
 use Rattle.lane_turn.specs.Sound.{IsSound, IsWithin, Bounded}
 use Rattle.lane_turn.proofs.Measure.{pays, lessens, begins}
-use Rattle.lane_turn.proofs.Mild.{Mild, mild_acted, mild_taken, mild_dispatching, MildEdit, rows_edited, bounded_edited, mild_destroyed, mild_restarted, work_emptied, each_bounded, length_emptied, length-chosen}
+use Rattle.lane_turn.proofs.Acts.{mild_acted, mild_taken, mild_dispatching}
+use Rattle.lane_turn.proofs.Mild.{Mild, MildEdit, rows_edited, bounded_edited, mild_destroyed, mild_restarted, work_emptied, each_bounded, length_emptied, length-chosen}
 
 -- a turn from t to u leaves less to do, and keeps the counters' bound
 pub record Goes (n : ℕ) (t u : Turn) : Type 0 where

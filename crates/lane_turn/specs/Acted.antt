@@ -17,6 +17,7 @@ use Rattle.loop_script.specs.declared.body.Body.TheVariants.{Procedure}
 use Rattle.source_rows.specs.Rows.{RowSet, attached, child_added, child_fault, destroyed, ready_set, reprioritised, priority_fault, row_of as row_with}
 use Rattle.context_core.specs.declared.context.Context.{Context}
 use Rattle.lane_turn.specs.Frames.{LoopOf}
+use Rattle.lane_turn.specs.Owned.{default_context, push, pop, show_default, acquire, release, invoke, invoke_sends}
 use Rattle.post_office.specs.declared.letter.Body.{Body as Mail}
 use Rattle.post_office.specs.declared.letter.Body.TheVariants as mails
 use Rattle.lane_watch.specs.Watch.{starting}
@@ -133,14 +134,11 @@ disconnect_of tick (Some id) lane = if may_disconnect id lane.view then viewing 
 abbrev pub disconnect : ℕ → ℕ → Lane → Lane
 disconnect tick slot lane = disconnect_of tick (handler_at slot lane) lane
 
--- a task is started, whose reply goes to the thread-default context: the first one, until there is a stack of them
-abbrev pub default_context : Lane → ℕ
-default_context lane = 0
-
+-- a task is started, whose reply goes to the thread-default context
 abbrev pub start_task : ℕ → TaskSpec → Lane → Lane
 start_task tick spec lane = record lane { tasks = starting tick (default_context lane) spec lane.tasks }
 
--- the words that no script may hold yet change nothing
+-- the word that no script may hold yet changes nothing
 abbrev pub acted : Plan → ℕ → Action → Lane → Lane
 acted script tick (Attach context slot spec) lane = attach tick (time_of script tick) context slot spec lane
 acted script tick (Child parent slot spec) lane = child tick (time_of script tick) parent slot spec lane
@@ -155,16 +153,17 @@ acted script tick (Cancel c) lane = cancel script tick c lane
 acted script tick (Connect c slot proc) lane = connect script tick c slot proc lane
 acted script tick (Disconnect slot) lane = disconnect tick slot lane
 acted script tick (Task spec) lane = start_task tick spec lane
-acted script tick (Push context) lane = lane
-acted script tick (Pop context) lane = lane
-acted script tick ShowDefault lane = lane
-acted script tick (Acquire context) lane = lane
-acted script tick (Release context) lane = lane
-acted script tick (Invoke context proc) lane = lane
+acted script tick (Push context) lane = push tick context lane
+acted script tick (Pop context) lane = pop tick context lane
+acted script tick ShowDefault lane = show_default tick lane
+acted script tick (Acquire context) lane = acquire tick context lane
+acted script tick (Release context) lane = release tick context lane
+acted script tick (Invoke context proc) lane = invoke tick (time_of script tick) context proc lane
 acted script tick (Give context to) lane = lane
 acted script tick (Log n) lane = written tick (events.Log n) lane
 
--- what an action sends: a cancellable that the lane has not seen cancelled is cancelled for all
+-- what an action sends: a cancellable that the lane has not seen cancelled is cancelled for all, and a procedure that is
+-- invoked in a context of another lane is attached there
 abbrev pub cancel_sends : ℕ → Lane → Option Mail
 cancel_sends c lane = if has c lane.view then None else Some (mails.Cancelled c)
 
@@ -187,6 +186,6 @@ sends (Pop context) lane = None
 sends ShowDefault lane = None
 sends (Acquire context) lane = None
 sends (Release context) lane = None
-sends (Invoke context proc) lane = None
+sends (Invoke context proc) lane = invoke_sends context proc lane
 sends (Give context to) lane = None
 sends (Log n) lane = None

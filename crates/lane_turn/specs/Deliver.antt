@@ -8,7 +8,7 @@ use Rattle.source_rows.specs.Rows.{attached}
 use Rattle.task_steps.specs.declared.entry.Reply.{Reply}
 use Rattle.post_office.specs.declared.letter.Letter.{Letter}
 use Rattle.post_office.specs.declared.letter.Body.{Body}
-use Rattle.post_office.specs.declared.letter.Body.TheVariants.{Complete, Cancelled}
+use Rattle.post_office.specs.declared.letter.Body.TheVariants.{Attach, Complete, Cancelled}
 use Rattle.lane_turn.specs.declared.line.Event.TheVariants as events
 use Rattle.lane_turn.specs.Lane.{Lane, own, edited, next_id, written}
 use Rattle.lane_turn.specs.Replies.{with_reply}
@@ -30,8 +30,16 @@ arrived script tick sender reply lane =
     (holding reply.ctx (next_id (own reply.ctx lane)) sender reply (edited reply.ctx (attached (reply_spec reply) (time_of script tick)) lane))
     else lane
 
+-- so is the source of an invoked procedure
+abbrev pub arrived_source : (tick now context : ℕ) → SourceSpec → Lane → Lane
+arrived_source tick now context spec lane =
+    if is_some (own context lane)
+    then written tick (events.Arrive context (next_id (own context lane))) (edited context (attached spec now) lane)
+    else lane
+
 -- a cancellation that the lane has not seen is seen; no letter is sent for it
 abbrev pub received_body : Plan → (tick sender : ℕ) → Body → Lane → Lane
+received_body script tick sender (Attach context spec) lane = arrived_source tick (time_of script tick) context spec lane
 received_body script tick sender (Complete reply) lane = arrived script tick sender reply lane
 received_body script tick sender (Cancelled c) lane = cancel script tick c lane
 

@@ -82,6 +82,18 @@ blocked_in context (LoopOf number c) = None
 abbrev pub busy : ℕ → List Frame → List ℕ
 busy context frames = reverse (filter_map (blocked_in context) frames)
 
+-- the frames that own a context: an iteration of it, a run of a loop of it, a call of a direct invoke that acquired it
+abbrev pub is_acquired_by : ℕ → Origin → Bool
+is_acquired_by context Start = false
+is_acquired_by context (Source caller) = false
+is_acquired_by context (Invoke None) = false
+is_acquired_by context (Invoke (Some c)) = c == context
+
+abbrev pub owns : ℕ → Frame → Bool
+owns context (CallOf call) = is_acquired_by context call.origin
+owns context (IterOf c ids answer) = c == context
+owns context (LoopOf number c) = c == context
+
 -- the place of an innermost call can be counted on
 abbrev pub HasRoom : List Frame → Type 0
 HasRoom [] = Unit {0}

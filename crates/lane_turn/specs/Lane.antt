@@ -4,6 +4,7 @@ use Rattle.loop_script.specs.declared.plan.Plan.{Plan}
 use Rattle.source_rows.specs.declared.row.Row.{Row}
 use Rattle.source_rows.specs.Rows.{RowSet, row_of as row_with}
 use Rattle.context_core.specs.declared.context.Context.{Context}
+use Rattle.context_core.specs.Defaults.{Defaults}
 use Rattle.lane_turn.specs.declared.line.Line.{Line}
 use Rattle.lane_turn.specs.declared.line.Event.{Event}
 use Rattle.lane_turn.specs.declared.parts.Status.{Status}
@@ -18,8 +19,8 @@ use Rattle.lane_turn.specs.Replies.{Replies}
 use Rattle.lane_watch.specs.Tasks.{Started, Tasks}
 
 -- a lane: its number; its contexts by number, where those of other lanes are none; what its slots name; its view of
--- cancellations, with its handlers; its tasks; its frames with the innermost first; the loops that run; the replies that its
--- sources hold; what it wrote
+-- cancellations, with its handlers; its tasks; its frames with the innermost first; the loops that run; the stack of its
+-- thread-default contexts; the replies that its sources hold; what it wrote
 pub record Lane : Type 0 where
   pub number : ℕ
   pub contexts : List (Option Context)
@@ -28,6 +29,7 @@ pub record Lane : Type 0 where
   pub tasks : Tasks
   pub frames : List Frame
   pub running : List Bool
+  pub defaults : Defaults
   pub replies : Replies
   pub trace : List Line
   pub status : Status
@@ -78,12 +80,15 @@ known (Some context) = context
 abbrev pub own : ℕ → Lane → Option Context
 own context lane = known (slice_get lane.contexts context)
 
--- an edit of the sources of an own context; with another's nothing changes
+-- an edit of the sources of an own context, or of the context itself; with another's nothing changes
 abbrev pub with_rows : (RowSet → RowSet) → Context → Context
 with_rows edit context = record context { rows = edit context.rows }
 
+abbrev pub with_context : ℕ → (Context → Context) → Lane → Lane
+with_context context change lane = record lane { contexts = slice_set lane.contexts context (option_map change (own context lane)) }
+
 abbrev pub edited : ℕ → (RowSet → RowSet) → Lane → Lane
-edited context edit lane = record lane { contexts = slice_set lane.contexts context (option_map (with_rows edit) (own context lane)) }
+edited context edit lane = with_context context (with_rows edit) lane
 
 abbrev pub row_in : ℕ → Option Context → Option Row
 row_in id None = None

@@ -4,12 +4,15 @@ pub mod Tally
 pub mod Sources
 pub mod Lane
 pub mod Replies
+pub mod Owned
 pub mod Acted
 pub mod Step
 pub mod Turn
 pub mod Deliver
 pub mod Tick
 pub mod Letters
+pub mod Views
+pub mod Arrivals
 pub mod Polls
 pub mod Sound
 pub mod Meaning

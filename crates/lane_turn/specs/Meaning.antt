@@ -14,6 +14,7 @@ lane_of p = record {
   tasks = p.watch.tasks;
   frames = p.frames;
   running = p.running.items;
+  defaults = p.defaults;
   replies = p.replies.entries;
   trace = p.trace.items;
   status = p.status;

@@ -8,7 +8,7 @@ use Rattle.lane_turn.specs.declared.layer.Origin.{Origin}
 use Rattle.lane_turn.specs.declared.layer.Origin.TheVariants.{Start, Source, Invoke}
 use Rattle.lane_turn.specs.declared.layer.Top.{Top}
 use Rattle.lane_turn.specs.declared.layer.Top.TheVariants as tops
-use Rattle.lane_turn.specs.Frames.{Frame, CallOf, IterOf, LoopOf, blocked_by, is_source, is_other, top_of}
+use Rattle.lane_turn.specs.Frames.{Frame, CallOf, IterOf, LoopOf, blocked_by, is_acquired_by, is_source, is_other, top_of}
 
 -- the level of the live iteration of a context
 abbrev pub known_level : Option (Option ℕ) → Option ℕ
@@ -79,6 +79,12 @@ blocked_by_layer context (layers.Loop number c) = None
 -- the sources of a context that calls in progress block
 abbrev pub busy_layers : ℕ → List Layer → List ℕ
 busy_layers context layers = filter_map (blocked_by_layer context) layers
+
+-- what owns a context
+abbrev pub owns_layer : ℕ → Layer → Bool
+owns_layer context (layers.Call call) = is_acquired_by context call.origin
+owns_layer context (layers.Iteration i) = i.context == context
+owns_layer context (layers.Loop number c) = c == context
 
 -- when the next action or id was taken
 abbrev pub advanced_layer : Layer → Layer

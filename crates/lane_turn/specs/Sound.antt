@@ -6,15 +6,20 @@ use Rattle.source_rows.specs.Rows.{RowSet}
 use Rattle.context_core.specs.declared.context.Context.{Context}
 use Rattle.lane_turn.specs.Lane.{Lane, Turn}
 
--- no counter of a context is above m
+-- no counter of a context's sources is above m
 pub record IsBounded (m : ℕ) (s : RowSet) : Type 0 where
   pub id : s.next_id ≤ m
   pub order : s.next_order ≤ m
   pub counts : AllByRecursion (λ r. r.count ≤ m) s.rows
 
+-- nor how often it is acquired
+pub record IsBoundedContext (m : ℕ) (context : Context) : Type 0 where
+  pub sources : IsBounded m context.rows
+  pub acquires : context.acquires ≤ m
+
 abbrev pub Bounded : ℕ → Option Context → Type 0
 Bounded m None = Unit {0}
-Bounded m (Some context) = IsBounded m context.rows
+Bounded m (Some context) = IsBoundedContext m context
 
 -- no counter of a lane is above m
 pub record IsWithin (m : ℕ) (lane : Lane) : Type 0 where

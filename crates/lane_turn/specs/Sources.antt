@@ -14,9 +14,9 @@ use Rattle.context_core.specs.Ready.{Own, in_view, own_ready, selected}
 abbrev pub tree_levels : Plan → ℕ
 tree_levels script = if script.version == 1 then 2 else 4
 
--- a context with no source
+-- a context with no source, which nothing has acquired
 abbrev pub no_sources : Plan → Context
-no_sources script = record { rows = no_rows (tree_levels script) }
+no_sources script = record { rows = no_rows (tree_levels script); acquires = 0 }
 
 -- so many milliseconds after a time in microseconds
 abbrev pub due_after : ℕ → ℕ → ℤ

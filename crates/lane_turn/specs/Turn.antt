@@ -111,6 +111,7 @@ opening script lane = record {
   tasks = no_tasks script.cancellables script.tick_us;
   frames = CallOf (record { origin = origins.Start; body = bodies.Start lane; place = 0 }) ∷ [];
   running = open_loops (length script.loops);
+  defaults = [];
   replies = [];
   trace = [];
   status = GoesOn;

@@ -25,7 +25,7 @@ impl Parts {
         requires now { now ≤ 2 ^ 62 }
         ensures { OnOk result (lane_of self.new ≡ attached_to tick now context slot spec (lane_of self.old)) }
     {
-        if !self.owns(context) {
+        if !self.has(context) {
             return self.miss(tick, Word::Attach);
         }
         let id = self.attach(context, spec, now)?;
@@ -113,7 +113,7 @@ impl Parts {
         requires within { IsWithin (2 ^ 62) (lane_of self.old) }
         ensures { OnOk result (lane_of self.new ≡ iterated script.now tick context (lane_of self.old)) }
     {
-        if !self.owns(context) {
+        if !self.has(context) {
             return self.write(tick, Event::Iterate(context, false));
         }
         let ids = self.choose(alloc, script, tick, context)?;
@@ -137,7 +137,7 @@ impl Parts {
     fn act_run(&mut self, tick: u32, number: u32, context: u32) -> Result<(), AllocError>
         ensures { OnOk result (lane_of self.new ≡ run_to tick number context (lane_of self.old)) }
     {
-        if self.owns(context) {
+        if self.has(context) {
             self.set_running(number, true);
             self.frames.begin_loop(number, context)
         } else {
@@ -153,7 +153,7 @@ impl Parts {
     ) -> Result<(), AllocError>
         ensures { OnOk result (lane_of self.new ≡ quit_to tick number context (lane_of self.old)) }
     {
-        if self.owns(context) {
+        if self.has(context) {
             self.set_running(number, false);
             Ok(())
         } else {
@@ -169,7 +169,8 @@ impl Parts {
         requires known { IsIn (lane_of self.old).view spec.now.cancel }
         ensures { OnOk result (lane_of self.new ≡ start_task tick spec.now (lane_of self.old)) }
     {
-        match self.watch.start(spec, 0, tick) {
+        let context = self.default_context();
+        match self.watch.start(spec, context, tick) {
             Ok(()) => Ok(()),
             Err(_) => Err(AllocError),
         }
@@ -208,6 +209,12 @@ impl Parts {
             Action::Connect(c, slot, proc) => self.act_connect(script, tick, *c, *slot, *proc),
             Action::Disconnect(slot) => self.act_disconnect(tick, *slot),
             Action::Task(spec) => self.act_task(tick, spec),
+            Action::Push(context) => self.act_push(tick, *context),
+            Action::Pop(context) => self.act_pop(tick, *context),
+            Action::ShowDefault => self.act_show_default(tick),
+            Action::Acquire(context) => self.act_acquire(tick, *context),
+            Action::Release(context) => self.act_release(tick, *context),
+            Action::Invoke(context, proc) => self.act_invoke(tick, now, *context, *proc),
             Action::Log(n) => self.write(tick, Event::Log(*n)),
             _ => Ok(()),
         }

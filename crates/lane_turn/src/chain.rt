@@ -1,6 +1,7 @@
 //! What is in progress, counted, and the boxes of what has ended. Contracts see the layers, the innermost first.
 ghost use Rattle.std.specs.Prelude.{◌≡◌, ◌∷◌, ◌≤◌, ◌-◌, [], drop, length, count_by, OnOk, IfOk, slice_get, option_map, reverse};
-ghost use Rattle.lane_turn.specs.Nest.{layers_of, is_dispatch_layer, is_call_layer, busy_layers, advanced_layers, taken_layers, top_of_layers, HasRoomLayers};
+ghost use Rattle.std.specs.List.{list_any};
+ghost use Rattle.lane_turn.specs.Nest.{layers_of, is_dispatch_layer, is_call_layer, busy_layers, owns_layer, advanced_layers, taken_layers, top_of_layers, HasRoomLayers};
 
 use crate::layer::{Layer, Top};
 use crate::nest::Nest;
@@ -90,6 +91,13 @@ impl Chain {
         ids.reserve(self.tally.blocking as usize)?;
         self.nest.add_busy(context, &mut ids)?;
         Ok(ids)
+    }
+
+    /// Whether something in progress owns a context.
+    pub(crate) fn owns(&self, context: u32) -> bool
+        ensures { result ≡ list_any (owns_layer context) self.now }
+    {
+        self.nest.owns(context)
     }
 
     /// A box with nothing in it: that of something that has ended, if there is one.

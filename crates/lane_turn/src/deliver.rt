@@ -1,6 +1,6 @@
 //! What a lane does with the letters of a tick.
 ghost use Rattle.std.specs.Prelude.{◌≡◌, ◌+◌, ◌≤◌, ◌^◌, [], length, IsOk, OnOk};
-ghost use Rattle.lane_turn.specs.Deliver.{reply_spec, arrived, received, received_all};
+ghost use Rattle.lane_turn.specs.Deliver.{reply_spec, arrived, arrived_source, received, received_all};
 ghost use Rattle.lane_turn.specs.Sound.{IsWithin, IsReady};
 ghost use Rattle.lane_turn.specs.Meaning.{lane_of};
 
@@ -36,7 +36,7 @@ impl Parts {
         requires { IsWithin (2 ^ 62) (lane_of self.old) }
         ensures { OnOk result (lane_of self.new ≡ arrived script.now tick sender reply (lane_of self.old)) }
     {
-        if !self.owns(reply.ctx) {
+        if !self.has(reply.ctx) {
             return Ok(());
         }
         let id = self.attach(reply.ctx, reply_spec(&reply), script.now(tick))?;
@@ -48,6 +48,25 @@ impl Parts {
             return Err(AllocError);
         }
         self.write(tick, Event::Arrive(reply.ctx, id))
+    }
+
+    /// Attaches the source of an invoked procedure, where its context is the lane's.
+    fn arrive_source(
+        &mut self,
+        tick: u32,
+        now: u64,
+        context: u32,
+        spec: SourceSpec,
+    ) -> Result<(), AllocError>
+        requires within { IsWithin (2 ^ 62) (lane_of self.old) }
+        requires now { now ≤ 2 ^ 62 }
+        ensures { OnOk result (lane_of self.new ≡ arrived_source tick now context spec (lane_of self.old)) }
+    {
+        if !self.has(context) {
+            return Ok(());
+        }
+        let id = self.attach(context, spec, now)?;
+        self.write(tick, Event::Arrive(context, id))
     }
 
     /// Takes a letter.
@@ -63,6 +82,9 @@ impl Parts {
         ensures { OnOk result (lane_of self.new ≡ received script.now tick letter.now (lane_of self.old)) }
     {
         match letter.body {
+            Body::Attach(context, spec) => {
+                self.arrive_source(tick, script.now(tick), context, spec)
+            }
             Body::Complete(reply) => self.arrive(script, tick, letter.sender, reply),
             Body::Cancelled(c) => self.act_cancel(alloc, script, tick, c),
         }

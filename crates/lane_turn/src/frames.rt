@@ -1,6 +1,7 @@
 //! What a lane is in the middle of. Contracts see a flat list of frames, the innermost first.
 ghost use Rattle.std.specs.Prelude.{◌≡◌, ℕ, ◌∷◌, ◌<◌, ◌≤◌, ◌^◌, ◌==◌, [], Some, drop, length, OnOk, IfOk, if◌then◌else◌};
-ghost use Rattle.lane_turn.specs.Frames.{CallOf, IterOf, LoopOf, top_of, advanced, emptied, depth, calls, busy, HasRoom, IsTaken};
+ghost use Rattle.std.specs.List.{list_any};
+ghost use Rattle.lane_turn.specs.Frames.{CallOf, IterOf, LoopOf, top_of, advanced, emptied, depth, calls, busy, owns, HasRoom, IsTaken};
 ghost use Rattle.lane_turn.specs.Nest.{level_at};
 
 use crate::chain::Chain;
@@ -83,6 +84,13 @@ impl Frames {
         ensures { IfOk result (λ ids. ids.items ≡ busy context self.now) }
     {
         self.chain.busy(context)
+    }
+
+    /// Whether something in progress owns a context.
+    pub fn owns(&self, context: u32) -> bool
+        ensures { result ≡ list_any (owns context) self.now }
+    {
+        self.chain.owns(context)
     }
 
     /// Begins a call in what is innermost.

@@ -3,6 +3,8 @@ ghost use Rattle.lane_turn.specs.Turn.{TurnsEnd};
 ghost use Rattle.lane_turn.specs.Iterations.{IterationsGoOn};
 ghost use Rattle.lane_turn.specs.Levels.{LevelsHold};
 ghost use Rattle.lane_turn.specs.Letters.{LettersTell};
+ghost use Rattle.lane_turn.specs.Views.{ViewsAgree};
+ghost use Rattle.lane_turn.specs.Arrivals.{LettersArrive};
 
 /// A turn leaves a lane with no step left: it rests, has ended or is halted.
 pub fn turns_end()
@@ -28,4 +30,17 @@ pub fn levels_go_by_version()
 /// the number of a lane.
 pub fn letters_tell()
     ensures { LettersTell }
+{}
+
+/// At the beginning of each tick all lanes have seen the same cancellables cancelled: within its turn a lane sees what it
+/// cancels itself, and each other lane sees it by the letter of that, at the delivery.
+pub fn views_agree()
+    ensures { ViewsAgree }
+{}
+
+/// Each context is, at every tick, the lane's to which the script gives it, and no other's. Each letter that attaches, a reply
+/// or an invoke, is attached once, in its tick, by the lane that has its context: with the next id, in the order of the
+/// letters, and with the line `arrive`.
+pub fn letters_arrive()
+    ensures { LettersArrive }
 {}

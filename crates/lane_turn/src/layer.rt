@@ -1,7 +1,7 @@
 //! The things that a lane can be in the middle of: a call, an iteration, a run of a loop.
 ghost use Rattle.std.specs.Prelude.{◌≡◌, [], ◌∷◌, slice_get};
 ghost use Rattle.lane_turn.specs.Frames.{top_of};
-ghost use Rattle.lane_turn.specs.Nest.{frame_of, ids_left, is_live, is_dispatch_layer, is_call_layer, is_blocking_layer, blocked_by_layer, advanced_layer, taken_layer, HasRoomLayer};
+ghost use Rattle.lane_turn.specs.Nest.{frame_of, ids_left, is_live, is_dispatch_layer, is_call_layer, is_blocking_layer, blocked_by_layer, owns_layer, advanced_layer, taken_layer, HasRoomLayer};
 
 use loop_script::Body;
 
@@ -149,6 +149,20 @@ impl Layer {
                 _ => None,
             },
             _ => None,
+        }
+    }
+
+    /// Whether it owns a context.
+    pub(crate) fn owns(&self, context: u32) -> bool
+        ensures { result ≡ owns_layer context self.now }
+    {
+        match self {
+            Layer::Call(call) => match call.origin {
+                Origin::Invoke(Some(acquired)) => acquired == context,
+                _ => false,
+            },
+            Layer::Iteration(iteration) => iteration.context == context,
+            Layer::Loop(_, iterated) => *iterated == context,
         }
     }
 

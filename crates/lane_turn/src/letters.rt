@@ -6,6 +6,7 @@ ghost use Rattle.lane_turn.specs.Step.{sending};
 ghost use Rattle.lane_turn.specs.Sound.{IsWithin};
 ghost use Rattle.lane_turn.specs.Meaning.{lane_of, turn_of};
 
+use crate::owned::invoke_spec;
 use crate::parts::Parts;
 use crate::step::Progress;
 use loop_script::{Action, Script};
@@ -52,6 +53,11 @@ impl Parts {
                 None
             } else {
                 Some(Body::Cancelled(*c))
+            },
+            Action::Invoke(context, proc) => if self.has(*context) {
+                None
+            } else {
+                Some(Body::Attach(*context, invoke_spec(*proc)))
             },
             _ => None,
         }

@@ -14,6 +14,7 @@ mod layer;
 mod letters;
 mod line;
 mod nest;
+mod owned;
 mod parts;
 mod replies;
 mod select;
@@ -24,7 +25,9 @@ mod step;
 mod tally;
 mod turn;
 
-pub use laws::{iterations_go_on, letters_tell, levels_go_by_version, turns_end};
+pub use laws::{
+    iterations_go_on, letters_arrive, letters_tell, levels_go_by_version, turns_end, views_agree,
+};
 pub use line::{Event, Invoked, Line, Word};
 pub use parts::Status;
 pub use state::{LaneFault, LaneState};

@@ -1,6 +1,7 @@
 //! What is in progress in boxes: each call, iteration and loop holds what was begun in it.
 ghost use Rattle.std.specs.Prelude.{◌≡◌, ◌++◌, [], IsTrue, ◌↔◌, drop, take, OnOk, slice_get, option_map, reverse};
-ghost use Rattle.lane_turn.specs.Nest.{layers_of, busy_layers, advanced_layers, taken_layers, top_of_layers, HasRoomLayers};
+ghost use Rattle.std.specs.List.{list_any};
+ghost use Rattle.lane_turn.specs.Nest.{layers_of, busy_layers, owns_layer, advanced_layers, taken_layers, top_of_layers, HasRoomLayers};
 
 use crate::layer::{Layer, Top};
 use std::alloc::AllocError;
@@ -57,6 +58,17 @@ impl Nest {
                     None => inner.add_busy(context, ids),
                 }
             }
+        }
+    }
+
+    /// Whether something in progress owns a context.
+    #[tactic(auto, using(crate::proofs::Owners::own_within))]
+    pub(crate) fn owns(&self, context: u32) -> bool
+        ensures { result ≡ list_any (owns_layer context) (layers_of self.now) }
+    {
+        match self {
+            Nest::Nothing => false,
+            Nest::Begun(layer, inner) => layer.owns(context) || inner.owns(context),
         }
     }
 

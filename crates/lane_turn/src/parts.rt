@@ -16,7 +16,7 @@ use crate::sources::{
     add_child_in, attach_in, count_in, destroy_in, restart_in, row_in, set_priority_in,
     set_ready_in,
 };
-use context_core::Context;
+use context_core::{Context, DefaultStack};
 use lane_watch::Watch;
 use loop_script::{Script, SourceSpec};
 use source_rows::Row;
@@ -46,6 +46,8 @@ pub struct Parts {
     pub frames: Frames,
     /// Which loops run.
     pub running: Vec<bool>,
+    /// The thread-default contexts.
+    pub defaults: DefaultStack,
     /// What the sources of replies hold, by their context and id.
     pub replies: BTreeMap<(u32, u64), Awaited>,
     pub trace: Vec<Line>,
@@ -78,7 +80,7 @@ impl Parts {
     }
 
     /// Whether a context is one of the lane's.
-    pub(crate) fn owns(&self, context: u32) -> bool
+    pub(crate) fn has(&self, context: u32) -> bool
         ensures { result ≡ is_some (own context (lane_of self.now)) }
     {
         match self.contexts.get(context as usize) {

@@ -13,7 +13,7 @@ use crate::layer::{Call, Origin};
 use crate::line::Line;
 use crate::parts::{Parts, Status};
 use crate::slot::Held;
-use context_core::Context;
+use context_core::{Context, DefaultStack};
 use lane_watch::Watch;
 use loop_script::{Body, Script};
 use post_office::{Letter, Post};
@@ -156,6 +156,7 @@ fn open_parts(alloc: Global, script: &Script, lane: u32) -> Result<Parts, AllocE
         watch: open_watch(alloc, script)?,
         frames,
         running: open_loops(alloc, script.loops())?,
+        defaults: DefaultStack::new(alloc),
         replies: BTreeMap::new(alloc),
         trace: Vec::new(alloc),
         status: Status::GoesOn,

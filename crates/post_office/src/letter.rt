@@ -1,4 +1,5 @@
 //! What a lane sends.
+use loop_script::SourceSpec;
 use task_steps::Reply;
 
 /// What one turn of a lane sends. Lanes, contexts and cancellables go by their number in the script.
@@ -16,6 +17,8 @@ pub struct Letter {
 /// What a letter tells.
 #[derive(Clone, Copy, Debug, PartialEq, Eq)]
 pub enum Body {
+    /// A source is attached to a context: the call of a procedure that was invoked there.
+    Attach(u32, SourceSpec),
     /// A task of the sender replies.
     Complete(Reply),
     /// A cancellable is cancelled.

@@ -8,7 +8,7 @@ use Rattle.lane_turn.specs.Lane.{Lane, Turn, taken}
 use Rattle.lane_turn.specs.Acted.{acted, sends}
 use Rattle.lane_turn.specs.Step.{returned, sending, step_loop}
 use Rattle.lane_turn.specs.Meaning.{lane_of, turn_of}
-use Rattle.lane_turn.proofs.Mild.{row_within}
+use Rattle.lane_turn.proofs.Bounds.{row_within}
 use Rattle.lane_turn.proofs.Freely.{call_stepped, counted_one, loop_stepped}
 use Rattle.lane_turn.proofs.Layers.{on_ok}
 use Rattle.lane_turn.proofs.parts.Parts.step_freely.Goals as goal

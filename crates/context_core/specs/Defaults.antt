@@ -1,0 +1,38 @@
+-- Who owns a context, and the stack of thread-default contexts.
+use Rattle.std.specs.Prelude.{ℕ, ◌+◌, ◌-◌, ◌==◌, Bool, false, Option, Some, None, List, [], ◌∷◌, ◌++◌, length, take, slice_get, nat_lt, if◌then◌else◌}
+use Rattle.std.specs.List.{list_any}
+use Rattle.context_core.specs.declared.context.Context.{Context}
+
+-- a context acquired once more, and once less
+abbrev pub acquired : Context → Context
+acquired context = record context { acquires = context.acquires + 1 }
+
+abbrev pub released : Context → Context
+released context = record context { acquires = context.acquires - 1 }
+
+abbrev pub is_acquired : Context → Bool
+is_acquired context = nat_lt 0 context.acquires
+
+-- the contexts that were pushed and not popped, the last one on top
+abbrev pub Defaults : Type 0
+Defaults = List ℕ
+
+abbrev pub top_of : Defaults → Option ℕ
+top_of stack = slice_get stack (length stack - 1)
+
+abbrev pub names : ℕ → Option ℕ → Bool
+names context None = false
+names context (Some top) = top == context
+
+abbrev pub is_on_top : ℕ → Defaults → Bool
+is_on_top context stack = names context (top_of stack)
+
+abbrev pub is_pushed : ℕ → Defaults → Bool
+is_pushed context stack = list_any (λ c. c == context) stack
+
+abbrev pub pushed : ℕ → Defaults → Defaults
+pushed context stack = stack ++ context ∷ []
+
+-- what is not on top is not popped
+abbrev pub popped : ℕ → Defaults → Defaults
+popped context stack = if is_on_top context stack then take (length stack - 1) stack else stack

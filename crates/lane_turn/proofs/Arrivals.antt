@@ -1,0 +1,354 @@
+-- What letters attach, and whose contexts are.
+use Rattle.std.proofs.Common.{◌≡◌, ◌≢◌, ◌⊎◌, inl, inr, ℕ, zero, suc, ◌+◌, ◌<◌, ◌≤◌, ◌==◌, Bool, true, false, cond, Option, Some, None, List, [], ◌∷◌, ◌++◌, map, length, slice_set, refl, ap, sym, ◌∙◌, arith, subst, append-nil, ltb-true, ltb-false}
+use Rattle.std.specs.Prelude.{is_some, slice_get, slice_index_or, option_map, nat_lt}
+use Rattle.std.specs.List.{cons_option, range_with_len}
+use Rattle.std.proofs.lemmas.List.{append_assoc}
+use Rattle.std.proofs.lemmas.List.Elements.{filter_map-append}
+use Rattle.std.proofs.lemmas.Bool.Decides.{eqb_tells}
+use Rattle.loop_script.specs.declared.plan.Plan.{Plan}
+use Rattle.loop_script.specs.declared.source.SourceSpec.{SourceSpec}
+use Rattle.loop_script.specs.declared.action.Action.{Action}
+use Rattle.loop_script.specs.declared.action.Action.TheVariants.{Attach, Child, Destroy, SetReady, SetPriority, Iterate, Pending, Run, Quit, Cancel, Connect, Disconnect, Task, Push, Pop, ShowDefault, Acquire, Release, Invoke, Give, Log}
+use Rattle.loop_script.specs.declared.body.Body.TheVariants.{Procedure}
+use Rattle.loop_script.specs.Parts.{time_of, actions_of, home_of, context_of}
+use Rattle.loop_script.specs.References.{sizes}
+use Rattle.source_rows.specs.Rows.{RowSet, attached, destroyed, ready_set}
+use Rattle.context_core.specs.declared.context.Context.{Context}
+use Rattle.cancel_view.specs.declared.handler.Fired.{Fired}
+use Rattle.cancel_view.specs.Seen.{has, fired, cancelled}
+use Rattle.post_office.specs.declared.letter.Letter.{Letter}
+use Rattle.post_office.specs.declared.letter.Body.{Body as Mail}
+use Rattle.post_office.specs.declared.letter.Body.TheVariants as mails
+use Rattle.task_steps.specs.declared.entry.Reply.{Reply}
+use Rattle.lane_turn.specs.declared.line.Line.{Line}
+use Rattle.lane_turn.specs.declared.line.Event.{Event}
+use Rattle.lane_turn.specs.declared.line.Event.TheVariants as events
+use Rattle.lane_turn.specs.declared.line.Word.{Word}
+use Rattle.lane_turn.specs.declared.line.Word.TheVariants as words
+use Rattle.lane_turn.specs.declared.slot.Place.{Place}
+use Rattle.lane_turn.specs.Sources.{no_sources}
+use Rattle.lane_turn.specs.Lane.{Lane, known, own, next_id, with_rows, edited, written, place_at, row_at, set_running, viewing, noting}
+use Rattle.lane_turn.specs.Acted.{missed, on_source, plain_acted, all_acted, handled, all_handled, cancel}
+use Rattle.lane_turn.specs.Deliver.{reply_spec, holding, received_body, received, received_all}
+use Rattle.lane_turn.specs.Turn.{opening, open_context, open_contexts_to, begun, turned}
+use Rattle.lane_turn.specs.Tick.{lanes_at, posted_at}
+use Rattle.lane_turn.specs.Arrivals.{held_of, is_home, is_for_body, is_for, arrival_of, arrivals, ids_for}
+use Rattle.lane_turn.proofs.Sends.{step_tells}
+use Rattle.lane_turn.proofs.Delivered.{received_steady}
+use Rattle.lane_turn.proofs.Turns.{kept_finished}
+
+-- ---- whose contexts are
+
+own_held : (contexts : List (Option Context)) (i : ℕ) → is_some (known (slice_get contexts i)) ≡ slice_index_or (held_of contexts) i false
+own_held [] i = refl
+own_held (None ∷ contexts) zero = refl
+own_held (Some c ∷ contexts) zero = refl
+own_held (o ∷ contexts) (suc i) = own_held contexts i
+
+held_turned : (script : Plan) (tick : ℕ) (lane : Lane) → held_of (turned script tick lane).contexts ≡ held_of lane.contexts
+held_turned script tick lane =
+    kept_finished script tick (λ t. held_of t.lane.contexts ≡ held_of lane.contexts) (λ t u e h. (step_tells script tick t u e).holds ∙ h) (begun tick lane) refl
+
+held_received : (script : Plan) (tick : ℕ) (letters : List Letter) (lane : Lane) → held_of (received_all script tick letters lane).contexts ≡ held_of lane.contexts
+held_received script tick [] lane = refl
+held_received script tick (l ∷ letters) lane = held_received script tick letters (received script tick l lane) ∙ (received_steady script tick l.sender l.body lane).holds
+
+length_held : (script : Plan) (lane k : ℕ) → length (held_of (open_contexts_to script lane k)) ≡ k
+length_held script lane zero = refl
+length_held script lane (suc k) = length_push (open_contexts_to script lane k) (open_context script lane k) ∙ ap suc (length_held script lane k)
+  where
+    length_push : (os : List (Option Context)) (o : Option Context) → length (held_of (os ++ o ∷ [])) ≡ suc (length (held_of os))
+    length_push [] o = refl
+    length_push (x ∷ os) o = ap suc (length_push os o)
+
+before_push : (os : List (Option Context)) (o : Option Context) (i : ℕ) → i < length (held_of os) → slice_index_or (held_of (os ++ o ∷ [])) i false ≡ slice_index_or (held_of os) i false
+before_push [] o i h = absurd (omega (arith, h))
+before_push (x ∷ os) o zero h = refl
+before_push (x ∷ os) o (suc i) h = before_push os o i (omega (arith, h))
+
+at_push : (os : List (Option Context)) (o : Option Context) (i : ℕ) → i ≡ length (held_of os) → slice_index_or (held_of (os ++ o ∷ [])) i false ≡ is_some o
+at_push [] o zero h = refl
+at_push [] o (suc i) h = absurd (omega (arith, h))
+at_push (x ∷ os) o zero h = absurd (omega (arith, h))
+at_push (x ∷ os) o (suc i) h = at_push os o i (omega (arith, h))
+
+open_held : (script : Plan) (lane k : ℕ) → is_some (open_context script lane k) ≡ (home_of script k == lane)
+open_held script lane k = held_by (home_of script k == lane)
+  where
+    held_by : (b : Bool) → is_some (cond b (Some (no_sources script)) None) ≡ b
+    held_by true = refl
+    held_by false = refl
+
+open_by : (script : Plan) (lane k i : ℕ) (b : Bool) → nat_lt i k ≡ b → i < suc k → (i < k → slice_index_or (held_of (open_contexts_to script lane k)) i false ≡ (home_of script i == lane))
+    → slice_index_or (held_of (open_contexts_to script lane (suc k))) i false ≡ (home_of script i == lane)
+open_by script lane k i true e h f =
+    let lt : i < k = ltb-true i k e in
+    before_push (open_contexts_to script lane k) (open_context script lane k) i (omega (arith, lt, length_held script lane k)) ∙ f lt
+open_by script lane k i false e h f =
+    let le : k ≤ i = ltb-false i k e in
+    let same : i ≡ k = omega (arith, le, h) in
+    at_push (open_contexts_to script lane k) (open_context script lane k) i (omega (arith, same, length_held script lane k))
+    ∙ (open_held script lane k ∙ ap (λ (n : ℕ). home_of script n == lane) (sym same))
+
+open_at : (script : Plan) (lane k i : ℕ) → i < k → slice_index_or (held_of (open_contexts_to script lane k)) i false ≡ (home_of script i == lane)
+open_at script lane zero i h = absurd (omega (arith, h))
+open_at script lane (suc k) i h = open_by script lane k i (nat_lt i k) refl h (λ lt. open_at script lane k i lt)
+
+abbrev has_it : ℕ → Lane → Bool
+has_it context lane = is_some (own context lane)
+
+held_open : (script : Plan) (context : ℕ) (numbers : List ℕ) → context < (sizes script).contexts → map (has_it context) (map (opening script) numbers) ≡ map (is_home script context) numbers
+held_open script context [] h = refl
+held_open script context (n ∷ numbers) h =
+    let lane : Lane = opening script n in
+    let first : has_it context lane ≡ is_home script context n = own_held lane.contexts context ∙ open_at script n (sizes script).contexts context h in
+    ap (λ b. b ∷ map (has_it context) (map (opening script) numbers)) first ∙ ap (λ bs. is_home script context n ∷ bs) (held_open script context numbers h)
+
+held_tick : (script : Plan) (tick context : ℕ) (letters : List Letter) (lanes : List Lane) → map (has_it context) (map (received_all script tick letters) (map (turned script tick) lanes)) ≡ map (has_it context) lanes
+held_tick script tick context letters [] = refl
+held_tick script tick context letters (lane ∷ lanes) =
+    let after : Lane = received_all script tick letters (turned script tick lane) in
+    let same : held_of after.contexts ≡ held_of lane.contexts = held_received script tick letters (turned script tick lane) ∙ held_turned script tick lane in
+    let one : has_it context after ≡ has_it context lane = own_held after.contexts context ∙ (ap (λ bs. slice_index_or bs context false) same ∙ sym (own_held lane.contexts context)) in
+    ap (λ b. b ∷ map (has_it context) (map (received_all script tick letters) (map (turned script tick) lanes))) one
+    ∙ ap (λ bs. has_it context lane ∷ bs) (held_tick script tick context letters lanes)
+
+pub held_at : (script : Plan) (tick context : ℕ) → context < (sizes script).contexts → map (λ lane. is_some (own context lane)) (lanes_at script tick) ≡ map (is_home script context) (range_with_len 0 (length script.lanes))
+held_at script zero context h = held_open script context (range_with_len 0 (length script.lanes)) h
+held_at script (suc tick) context h = held_tick script tick context (posted_at script tick (lanes_at script tick)) (lanes_at script tick) ∙ held_at script tick context h
+
+-- ---- what handlers leave alone
+
+-- no line tells of an arrival, and no id is given
+record Calm (context : ℕ) (lane after : Lane) : Type 0 where
+  pub lines : arrivals context after.trace ≡ arrivals context lane.trace
+  pub next : next_id (own context after) ≡ next_id (own context lane)
+
+calm_line : (context tick : ℕ) (event : Event) (lane : Lane) → arrival_of context event ≡ None → arrivals context (lane.trace ++ (record { tick = tick; event = event }) ∷ []) ≡ arrivals context lane.trace
+calm_line context tick event lane e =
+    filter_map-append (λ (line : Line). arrival_of context line.event) lane.trace ((record { tick = tick; event = event }) ∷ [])
+    ∙ (ap (λ o. arrivals context lane.trace ++ cons_option o []) e ∙ append-nil (arrivals context lane.trace))
+
+calm_written : (context tick : ℕ) (event : Event) (lane : Lane) → arrival_of context event ≡ None → Calm context lane (written tick event lane)
+calm_written context tick event lane e = record { lines = calm_line context tick event lane e; next = refl }
+
+calm_same : (context : ℕ) (lane after : Lane) → after.trace ≡ lane.trace → after.contexts ≡ lane.contexts → Calm context lane after
+calm_same context lane after t c = record { lines = ap (arrivals context) t; next = ap (λ (cs : List (Option Context)). next_id (known (slice_get cs context))) c }
+
+calm_trans : (context : ℕ) (a b c : Lane) → Calm context a b → Calm context b c → Calm context a c
+calm_trans context a b c h k = record { lines = k.lines ∙ h.lines; next = k.next ∙ h.next }
+
+calm_either : (context : ℕ) (lane x y : Lane) (b : Bool) → Calm context lane x → Calm context lane y → Calm context lane (cond b x y)
+calm_either context lane x y true p q = p
+calm_either context lane x y false p q = q
+
+next_kept : (f : Context → Context) → ((c : Context) → (f c).rows.next_id ≡ c.rows.next_id) → (contexts : List (Option Context)) (i j : ℕ) → next_id (known (slice_get (slice_set contexts i (option_map f (known (slice_get contexts i)))) j)) ≡ next_id (known (slice_get contexts j))
+next_kept f e [] i j = refl
+next_kept f e (None ∷ contexts) zero zero = refl
+next_kept f e (Some c ∷ contexts) zero zero = e c
+next_kept f e (o ∷ contexts) zero (suc j) = refl
+next_kept f e (o ∷ contexts) (suc i) zero = refl
+next_kept f e (o ∷ contexts) (suc i) (suc j) = next_kept f e contexts i j
+
+calm_edit : (context d : ℕ) (edit : RowSet → RowSet) (lane : Lane) → ((s : RowSet) → (edit s).next_id ≡ s.next_id) → Calm context lane (edited d edit lane)
+calm_edit context d edit lane e = record { lines = refl; next = next_kept (with_rows edit) (λ c. e c.rows) lane.contexts d context }
+
+calm_source : (context tick : ℕ) (word : Word) (edit : ℕ → RowSet → RowSet) (o : Option Place) (lane : Lane) → ((id : ℕ) (s : RowSet) → (edit id s).next_id ≡ s.next_id) → Calm context lane (on_source tick word edit o lane)
+calm_source context tick word edit None lane e = calm_written context tick (events.Miss word) lane refl
+calm_source context tick word edit (Some place) lane e =
+    calm_either context lane (edited place.context (edit place.id) lane) (missed tick word lane) (is_some (row_at place lane))
+    (calm_edit context place.context (edit place.id) lane (e place.id)) (calm_written context tick (events.Miss word) lane refl)
+
+calm_one : (context : ℕ) (script : Plan) (tick : ℕ) (action : Action) (lane : Lane) → Calm context lane (plain_acted script tick action lane)
+calm_one context script tick (Attach c slot spec) lane = calm_same context lane lane refl refl
+calm_one context script tick (Child parent slot spec) lane = calm_same context lane lane refl refl
+calm_one context script tick (Destroy slot) lane = calm_source context tick words.Destroy destroyed (place_at slot lane) lane (λ id s. refl)
+calm_one context script tick (SetReady slot us) lane = calm_source context tick words.SetReady (λ id. ready_set id us) (place_at slot lane) lane (λ id s. refl)
+calm_one context script tick (SetPriority slot priority) lane = calm_same context lane lane refl refl
+calm_one context script tick (Iterate c) lane = calm_same context lane lane refl refl
+calm_one context script tick (Pending c) lane = calm_same context lane lane refl refl
+calm_one context script tick (Run number) lane = calm_same context lane lane refl refl
+calm_one context script tick (Quit number) lane =
+    calm_either context lane (set_running number false lane) (missed tick words.Quit lane) (is_some (own (context_of script number) lane))
+    (calm_same context lane (set_running number false lane) refl refl) (calm_written context tick (events.Miss words.Quit) lane refl)
+calm_one context script tick (Cancel c) lane = calm_same context lane lane refl refl
+calm_one context script tick (Connect c slot proc) lane = calm_same context lane lane refl refl
+calm_one context script tick (Disconnect slot) lane = calm_same context lane lane refl refl
+calm_one context script tick (Task spec) lane = calm_same context lane lane refl refl
+calm_one context script tick (Push c) lane = calm_same context lane lane refl refl
+calm_one context script tick (Pop c) lane = calm_same context lane lane refl refl
+calm_one context script tick ShowDefault lane = calm_same context lane lane refl refl
+calm_one context script tick (Acquire c) lane = calm_same context lane lane refl refl
+calm_one context script tick (Release c) lane = calm_same context lane lane refl refl
+calm_one context script tick (Invoke c proc) lane = calm_same context lane lane refl refl
+calm_one context script tick (Give c to) lane = calm_same context lane lane refl refl
+calm_one context script tick (Log n) lane = calm_written context tick (events.Log n) lane refl
+
+calm_all : (context : ℕ) (script : Plan) (tick : ℕ) (actions : List Action) (lane : Lane) → Calm context lane (all_acted script tick actions lane)
+calm_all context script tick [] lane = calm_same context lane lane refl refl
+calm_all context script tick (a ∷ actions) lane =
+    let next : Lane = plain_acted script tick a lane in
+    calm_trans context lane next (all_acted script tick actions next) (calm_one context script tick a lane) (calm_all context script tick actions next)
+
+calm_handled : (context : ℕ) (script : Plan) (tick : ℕ) (f : Fired) (lane : Lane) → Calm context lane (handled script tick f lane)
+calm_handled context script tick f lane =
+    let told : Lane = written tick (events.Handler f.id) lane in
+    calm_trans context lane told (handled script tick f lane) (calm_written context tick (events.Handler f.id) lane refl) (calm_all context script tick (actions_of script (Procedure f.proc)) told)
+
+calm_all_handled : (context : ℕ) (script : Plan) (tick : ℕ) (fs : List Fired) (lane : Lane) → Calm context lane (all_handled script tick fs lane)
+calm_all_handled context script tick [] lane = calm_same context lane lane refl refl
+calm_all_handled context script tick (f ∷ fs) lane =
+    let next : Lane = handled script tick f lane in
+    calm_trans context lane next (all_handled script tick fs next) (calm_handled context script tick f lane) (calm_all_handled context script tick fs next)
+
+calm_cancel : (context : ℕ) (script : Plan) (tick c : ℕ) (lane : Lane) → Calm context lane (cancel script tick c lane)
+calm_cancel context script tick c lane =
+    let noted : Lane = noting tick c (viewing (cancelled c lane.view) lane) in
+    let seen : Lane = written tick (events.Cancel c) noted in
+    let after : Lane = all_handled script tick (fired c lane.view) seen in
+    calm_either context lane lane after (has c lane.view) (calm_same context lane lane refl refl)
+    (calm_trans context lane noted after (calm_same context lane noted refl refl)
+    (calm_trans context noted seen after (calm_written context tick (events.Cancel c) noted refl) (calm_all_handled context script tick (fired c lane.view) seen)))
+
+-- ---- what a letter attaches
+
+-- a source in a context: the next id, and no other in another context
+next_other : (f : Context → Context) (contexts : List (Option Context)) (i j : ℕ) → i ≢ j → next_id (known (slice_get (slice_set contexts i (option_map f (known (slice_get contexts i)))) j)) ≡ next_id (known (slice_get contexts j))
+next_other f [] i j h = refl
+next_other f (o ∷ contexts) zero zero h = absurd (h refl)
+next_other f (o ∷ contexts) zero (suc j) h = refl
+next_other f (o ∷ contexts) (suc i) zero h = refl
+next_other f (o ∷ contexts) (suc i) (suc j) h = next_other f contexts i j (λ e. h (ap suc e))
+
+next_more : (f : Context → Context) → ((c : Context) → (f c).rows.next_id ≡ c.rows.next_id + 1) → (contexts : List (Option Context)) (i : ℕ) → is_some (known (slice_get contexts i)) ≡ true
+    → next_id (known (slice_get (slice_set contexts i (option_map f (known (slice_get contexts i)))) i)) ≡ next_id (known (slice_get contexts i)) + 1
+next_more f e [] i h = let no : false ≡ true = h in cc
+next_more f e (None ∷ contexts) zero h = let no : false ≡ true = h in cc
+next_more f e (Some c ∷ contexts) zero h = e c
+next_more f e (o ∷ contexts) (suc i) h = next_more f e contexts i h
+
+abbrev one_id : Bool → ℕ → List ℕ
+one_id true id = id ∷ []
+one_id false id = []
+
+abbrev one_more : Bool → ℕ → ℕ
+one_more true n = n + 1
+one_more false n = n
+
+-- what a letter does, that attaches a source to a context or not
+record Adds (context : ℕ) (attaches : Bool) (lane after : Lane) : Type 0 where
+  pub lines : arrivals context after.trace ≡ arrivals context lane.trace ++ one_id attaches (next_id (own context lane))
+  pub next : next_id (own context after) ≡ one_more attaches (next_id (own context lane))
+
+adds_none : (context : ℕ) (lane after : Lane) → Calm context lane after → Adds context false lane after
+adds_none context lane after h = record { lines = h.lines ∙ sym (append-nil (arrivals context lane.trace)); next = h.next }
+
+-- a source that arrives, beside what is held for it
+abbrev attached_at : (tick now d : ℕ) → SourceSpec → Lane → Lane
+attached_at tick now d spec lane = written tick (events.Arrive d (next_id (own d lane))) (edited d (attached spec now) lane)
+
+arrive_line : (context tick d id : ℕ) (ls : List Line) (b : Bool) → (d == context) ≡ b → arrivals context (ls ++ (record { tick = tick; event = events.Arrive d id }) ∷ []) ≡ arrivals context ls ++ one_id b id
+arrive_line context tick d id ls b e =
+    filter_map-append (λ (line : Line). arrival_of context line.event) ls ((record { tick = tick; event = events.Arrive d id }) ∷ [])
+    ∙ (ap (λ b. arrivals context ls ++ cons_option (cond b (Some id) None) []) e ∙ ap (λ ids. arrivals context ls ++ ids) (by b))
+  where
+    by : (b : Bool) → cons_option (cond b (Some id) None) [] ≡ one_id b id
+    by true = refl
+    by false = refl
+
+adds_one : (context tick now d : ℕ) (spec : SourceSpec) (lane : Lane) → is_some (own d lane) ≡ true → ((d == context) ≡ true × d ≡ context) ⊎ ((d == context) ≡ false × d ≢ context)
+    → Adds context (d == context) lane (attached_at tick now d spec lane)
+adds_one context tick now d spec lane h (inl p) = record {
+  lines = arrive_line context tick d (next_id (own d lane)) lane.trace true p.0 ∙ ap (λ (n : ℕ). arrivals context lane.trace ++ next_id (own n lane) ∷ []) p.1 ∙ ap (λ b. arrivals context lane.trace ++ one_id b (next_id (own context lane))) (sym p.0);
+  next = subst (λ (n : ℕ). next_id (own n (edited d (attached spec now) lane)) ≡ next_id (own n lane) + 1) p.1 (next_more (with_rows (attached spec now)) (λ c. refl) lane.contexts d h) ∙ ap (λ b. one_more b (next_id (own context lane))) (sym p.0);
+}
+adds_one context tick now d spec lane h (inr p) = record {
+  lines = arrive_line context tick d (next_id (own d lane)) lane.trace false p.0 ∙ ap (λ b. arrivals context lane.trace ++ one_id b (next_id (own context lane))) (sym p.0);
+  next = next_other (with_rows (attached spec now)) lane.contexts d context p.1 ∙ ap (λ b. one_more b (next_id (own context lane))) (sym p.0);
+}
+
+abbrev Told : ℕ → ℕ → Type 0
+Told d context = ((d == context) ≡ true × d ≡ context) ⊎ ((d == context) ≡ false × d ≢ context)
+
+-- what is not of the lane is not the context that it has
+adds_elsewhere : (context d : ℕ) (lane : Lane) → is_some (own d lane) ≡ false → is_some (own context lane) ≡ true → Told d context → Adds context (d == context) lane lane
+adds_elsewhere context d lane e h (inl p) = let no : false ≡ true = sym e ∙ (ap (λ (n : ℕ). is_some (own n lane)) p.1 ∙ h) in cc
+adds_elsewhere context d lane e h (inr p) = subst (λ b. Adds context b lane lane) (sym p.0) (adds_none context lane lane (calm_same context lane lane refl refl))
+
+attach_adds : (context tick now d : ℕ) (spec : SourceSpec) (lane : Lane) (b : Bool) → is_some (own d lane) ≡ b → is_some (own context lane) ≡ true → Adds context (d == context) lane (cond b (attached_at tick now d spec lane) lane)
+attach_adds context tick now d spec lane true e h = adds_one context tick now d spec lane e (eqb_tells d context)
+attach_adds context tick now d spec lane false e h = adds_elsewhere context d lane e h (eqb_tells d context)
+
+reply_adds : (context tick now sender : ℕ) (reply : Reply) (lane : Lane) (b : Bool) → is_some (own reply.ctx lane) ≡ b → is_some (own context lane) ≡ true →
+    let id : ℕ = next_id (own reply.ctx lane) in
+    Adds context (reply.ctx == context) lane (cond b (written tick (events.Arrive reply.ctx id) (holding reply.ctx id sender reply (edited reply.ctx (attached (reply_spec reply) now) lane))) lane)
+reply_adds context tick now sender reply lane true e h =
+    let a = adds_one context tick now reply.ctx (reply_spec reply) lane e (eqb_tells reply.ctx context) in
+    record { lines = a.lines; next = a.next }
+reply_adds context tick now sender reply lane false e h = adds_elsewhere context reply.ctx lane e h (eqb_tells reply.ctx context)
+
+letter_adds : (context : ℕ) (script : Plan) (tick sender : ℕ) (body : Mail) (lane : Lane) → is_some (own context lane) ≡ true → Adds context (is_for_body context body) lane (received_body script tick sender body lane)
+letter_adds context script tick sender (mails.Attach d spec) lane h = attach_adds context tick (time_of script tick) d spec lane (is_some (own d lane)) refl h
+letter_adds context script tick sender (mails.Complete reply) lane h = reply_adds context tick (time_of script tick) sender reply lane (is_some (own reply.ctx lane)) refl h
+letter_adds context script tick sender (mails.Cancelled c) lane h = adds_none context lane (cancel script tick c lane) (calm_cancel context script tick c lane)
+
+still_has : (context : ℕ) (script : Plan) (tick sender : ℕ) (body : Mail) (lane : Lane) → is_some (own context (received_body script tick sender body lane)) ≡ is_some (own context lane)
+still_has context script tick sender body lane =
+    let after : Lane = received_body script tick sender body lane in
+    own_held after.contexts context ∙ (ap (λ bs. slice_index_or bs context false) (received_steady script tick sender body lane).holds ∙ sym (own_held lane.contexts context))
+
+ids_step : (context n : ℕ) (letters : List Letter) (b : Bool) → one_id b n ++ ids_for context (one_more b n) letters ≡ cond b (n ∷ ids_for context (n + 1) letters) (ids_for context n letters)
+ids_step context n letters true = refl
+ids_step context n letters false = refl
+
+all_add : (context : ℕ) (script : Plan) (tick : ℕ) (letters : List Letter) (lane : Lane) → is_some (own context lane) ≡ true
+    → arrivals context (received_all script tick letters lane).trace ≡ arrivals context lane.trace ++ ids_for context (next_id (own context lane)) letters
+all_add context script tick [] lane h = sym (append-nil (arrivals context lane.trace))
+all_add context script tick (l ∷ letters) lane h =
+    let next : Lane = received script tick l lane in
+    let n : ℕ = next_id (own context lane) in
+    let b : Bool = is_for context l in
+    let a : Adds context b lane next = letter_adds context script tick l.sender l.body lane h in
+    let before : List ℕ = arrivals context lane.trace in
+    all_add context script tick letters next (still_has context script tick l.sender l.body lane ∙ h)
+    ∙ (ap (λ ids. ids ++ ids_for context (next_id (own context next)) letters) a.lines
+    ∙ (ap (λ (k : ℕ). (before ++ one_id b n) ++ ids_for context k letters) a.next
+    ∙ (append_assoc before (one_id b n) (ids_for context (one_more b n) letters)
+    ∙ ap (λ ids. before ++ ids) (ids_step context n letters b))))
+
+pub arrive_once : (script : Plan) (tick context : ℕ) (letters : List Letter) (lane : Lane) (c : Context) → own context lane ≡ Some c
+    → arrivals context (received_all script tick letters lane).trace ≡ arrivals context lane.trace ++ ids_for context c.rows.next_id letters
+arrive_once script tick context letters lane c e =
+    all_add context script tick letters lane (ap (λ (o : Option Context). is_some o) e)
+    ∙ ap (λ (o : Option Context). arrivals context lane.trace ++ ids_for context (next_id o) letters) e
+
+-- ---- what no letter attaches
+
+line_elsewhere : (context tick now d : ℕ) (spec : SourceSpec) (lane : Lane) → is_some (own d lane) ≡ true → is_some (own context lane) ≡ false → Told d context
+    → arrivals context (attached_at tick now d spec lane).trace ≡ arrivals context lane.trace
+line_elsewhere context tick now d spec lane e h (inl p) = let no : true ≡ false = sym e ∙ (ap (λ (n : ℕ). is_some (own n lane)) p.1 ∙ h) in cc
+line_elsewhere context tick now d spec lane e h (inr p) = arrive_line context tick d (next_id (own d lane)) lane.trace false p.0 ∙ append-nil (arrivals context lane.trace)
+
+attach_elsewhere : (context tick now d : ℕ) (spec : SourceSpec) (lane : Lane) (b : Bool) → is_some (own d lane) ≡ b → is_some (own context lane) ≡ false
+    → arrivals context (cond b (attached_at tick now d spec lane) lane).trace ≡ arrivals context lane.trace
+attach_elsewhere context tick now d spec lane true e h = line_elsewhere context tick now d spec lane e h (eqb_tells d context)
+attach_elsewhere context tick now d spec lane false e h = refl
+
+reply_elsewhere : (context tick now sender : ℕ) (reply : Reply) (lane : Lane) (b : Bool) → is_some (own reply.ctx lane) ≡ b → is_some (own context lane) ≡ false →
+    let id : ℕ = next_id (own reply.ctx lane) in
+    arrivals context (cond b (written tick (events.Arrive reply.ctx id) (holding reply.ctx id sender reply (edited reply.ctx (attached (reply_spec reply) now) lane))) lane).trace ≡ arrivals context lane.trace
+reply_elsewhere context tick now sender reply lane true e h = line_elsewhere context tick now reply.ctx (reply_spec reply) lane e h (eqb_tells reply.ctx context)
+reply_elsewhere context tick now sender reply lane false e h = refl
+
+letter_elsewhere : (context : ℕ) (script : Plan) (tick sender : ℕ) (body : Mail) (lane : Lane) → is_some (own context lane) ≡ false → arrivals context (received_body script tick sender body lane).trace ≡ arrivals context lane.trace
+letter_elsewhere context script tick sender (mails.Attach d spec) lane h = attach_elsewhere context tick (time_of script tick) d spec lane (is_some (own d lane)) refl h
+letter_elsewhere context script tick sender (mails.Complete reply) lane h = reply_elsewhere context tick (time_of script tick) sender reply lane (is_some (own reply.ctx lane)) refl h
+letter_elsewhere context script tick sender (mails.Cancelled c) lane h = (calm_cancel context script tick c lane).lines
+
+all_elsewhere : (context : ℕ) (script : Plan) (tick : ℕ) (letters : List Letter) (lane : Lane) → is_some (own context lane) ≡ false → arrivals context (received_all script tick letters lane).trace ≡ arrivals context lane.trace
+all_elsewhere context script tick [] lane h = refl
+all_elsewhere context script tick (l ∷ letters) lane h =
+    all_elsewhere context script tick letters (received script tick l lane) (still_has context script tick l.sender l.body lane ∙ h) ∙ letter_elsewhere context script tick l.sender l.body lane h
+
+pub arrive_elsewhere : (script : Plan) (tick context : ℕ) (letters : List Letter) (lane : Lane) → own context lane ≡ None → arrivals context (received_all script tick letters lane).trace ≡ arrivals context lane.trace
+arrive_elsewhere script tick context letters lane e = all_elsewhere context script tick letters lane (ap (λ (o : Option Context). is_some o) e)

@@ -1,0 +1,94 @@
+-- Who owns a context, and what is done where it is owned or not.
+use Rattle.std.specs.Prelude.{ℕ, pos, ◌==◌, ◌||◌, Bool, true, false, Option, Some, None, is_some, nat_lt, unwrap_or, if◌then◌else◌}
+use Rattle.std.specs.List.{list_any}
+use Rattle.loop_script.specs.declared.source.SourceSpec.{SourceSpec}
+use Rattle.loop_script.specs.declared.source.Kind.TheVariants.{Idle}
+use Rattle.loop_script.specs.declared.body.Body.TheVariants.{Procedure}
+use Rattle.source_rows.specs.Rows.{attached}
+use Rattle.context_core.specs.declared.context.Context.{Context}
+use Rattle.context_core.specs.Defaults.{acquired, released, is_acquired, top_of, is_on_top, is_pushed, pushed, popped}
+use Rattle.post_office.specs.declared.letter.Body.{Body as Mail}
+use Rattle.post_office.specs.declared.letter.Body.TheVariants.{Attach}
+use Rattle.lane_turn.specs.declared.line.Event.TheVariants as events
+use Rattle.lane_turn.specs.declared.line.Invoked.TheVariants.{Direct, Attached, Posted}
+use Rattle.lane_turn.specs.declared.line.Word.TheVariants as words
+use Rattle.lane_turn.specs.declared.layer.Origin.TheVariants.{Invoke}
+use Rattle.lane_turn.specs.declared.parts.Status.TheVariants.{Halted}
+use Rattle.lane_turn.specs.Frames.{CallOf, owns, calls}
+use Rattle.lane_turn.specs.Lane.{Lane, written, pushed as begun, stopped, own, with_context, edited}
+
+-- the thread-default context: what was pushed last, else the first context of all
+abbrev pub default_context : Lane → ℕ
+default_context lane = unwrap_or (top_of lane.defaults) 0
+
+-- a context of the lane is owned where it was acquired or pushed, or where a frame owns it
+abbrev pub has_ground : ℕ → Option Context → Lane → Bool
+has_ground context None lane = false
+has_ground context (Some c) lane = is_acquired c || is_pushed context lane.defaults || list_any (owns context) lane.frames
+
+abbrev pub is_owned : ℕ → Lane → Bool
+is_owned context lane = has_ground context (own context lane) lane
+
+-- what was acquired can be released
+abbrev pub may_release : Option Context → Bool
+may_release None = false
+may_release (Some context) = is_acquired context
+
+abbrev pub push : ℕ → ℕ → Lane → Lane
+push tick context lane =
+    if is_some (own context lane)
+    then record lane { defaults = pushed context lane.defaults }
+    else written tick (events.Miss words.Push) lane
+
+abbrev pub pop : ℕ → ℕ → Lane → Lane
+pop tick context lane =
+    if is_on_top context lane.defaults
+    then record lane { defaults = popped context lane.defaults }
+    else written tick (events.Miss words.Pop) lane
+
+abbrev pub show_default : ℕ → Lane → Lane
+show_default tick lane = written tick (events.Default (default_context lane)) lane
+
+abbrev pub acquire : ℕ → ℕ → Lane → Lane
+acquire tick context lane =
+    if is_some (own context lane)
+    then written tick (events.Acquire context true) (with_context context acquired lane)
+    else written tick (events.Acquire context false) lane
+
+abbrev pub release : ℕ → ℕ → Lane → Lane
+release tick context lane =
+    if may_release (own context lane) then with_context context released lane else written tick (events.Miss words.Release) lane
+
+-- the source of a procedure that is invoked where it can't be called at once
+abbrev pub invoke_spec : ℕ → SourceSpec
+invoke_spec proc = record { kind = Idle; priority = pos 0; recurse = false; call = Some proc }
+
+-- a procedure is called at once, with the context that is acquired until the call returns; where 32 calls are in progress the
+-- lane is halted
+abbrev pub calling : (tick context proc : ℕ) → Option ℕ → Lane → Lane
+calling tick context proc acquires lane =
+    begun (CallOf (record { origin = Invoke acquires; body = Procedure proc; place = 0 })) (written tick (events.Invoke context Direct) lane)
+
+abbrev pub called_at_once : (tick context proc : ℕ) → Option ℕ → Lane → Lane
+called_at_once tick context proc acquires lane =
+    if nat_lt (calls lane.frames) 32
+    then calling tick context proc acquires lane
+    else stopped Halted (written tick events.HaltDepth lane)
+
+abbrev pub attaching : (tick now context proc : ℕ) → Lane → Lane
+attaching tick now context proc lane = written tick (events.Invoke context Attached) (edited context (attached (invoke_spec proc) now) lane)
+
+-- a context that is owned needs not be acquired; the thread-default one is acquired; any other of the lane gets a source, and one of
+-- another lane is sent it
+abbrev pub invoke_own : (tick now context proc : ℕ) → Lane → Lane
+invoke_own tick now context proc lane =
+    if is_owned context lane then called_at_once tick context proc None lane
+    else if default_context lane == context then called_at_once tick context proc (Some context) lane
+    else attaching tick now context proc lane
+
+abbrev pub invoke : (tick now context proc : ℕ) → Lane → Lane
+invoke tick now context proc lane =
+    if is_some (own context lane) then invoke_own tick now context proc lane else written tick (events.Invoke context Posted) lane
+
+abbrev pub invoke_sends : (context proc : ℕ) → Lane → Option Mail
+invoke_sends context proc lane = if is_some (own context lane) then None else Some (Attach context (invoke_spec proc))

@@ -1,0 +1,185 @@
+//! Who owns a context, and what is done where it is owned or not.
+ghost use Rattle.std.specs.Prelude.{◌≡◌, ◌≤◌, ◌^◌, true, false, None, option_map, OnOk};
+ghost use Rattle.context_core.specs.Defaults.{acquired, released};
+ghost use Rattle.lane_turn.specs.Lane.{own, with_context};
+ghost use Rattle.lane_turn.specs.Owned.{default_context, is_owned, may_release, push as pushed_to, pop as popped_from, show_default, acquire as acquired_at, release as released_at, invoke_spec, called_at_once, invoke as invoked};
+ghost use Rattle.lane_turn.specs.Sound.{Bounded, IsWithin};
+ghost use Rattle.lane_turn.specs.Meaning.{lane_of};
+
+use crate::layer::{Call, Origin};
+use crate::line::{Event, Invoked, Word};
+use crate::parts::Parts;
+use context_core::Context;
+use loop_script::{Body, Kind, SourceSpec};
+use std::alloc::AllocError;
+
+/// The source of a procedure that is invoked where it can't be called at once.
+pub(crate) fn invoke_spec(proc: u32) -> SourceSpec
+    ensures { result ≡ invoke_spec proc }
+{
+    SourceSpec {
+        kind: Kind::Idle,
+        priority: 0,
+        recurse: false,
+        call: Some(proc),
+    }
+}
+
+/// Acquires a context.
+fn acquire_in(context: &mut Option<Context>)
+    requires { Bounded (2 ^ 62) context.old }
+    ensures { context.new ≡ option_map acquired context.old }
+{
+    if let Some(context) = context {
+        context.acquire();
+    }
+}
+
+/// Releases a context, and answers whether it was acquired.
+fn release_in(context: &mut Option<Context>) -> bool
+    ensures may { result ≡ may_release context.old }
+    ensures released { result ≡ true → context.new ≡ option_map released context.old }
+    ensures none { result ≡ false → context.new ≡ context.old }
+{
+    match context {
+        None => false,
+        Some(context) => context.release(),
+    }
+}
+
+impl Parts {
+    /// The thread-default context.
+    pub(crate) fn default_context(&self) -> u32
+        ensures { result ≡ default_context (lane_of self.now) }
+    {
+        self.defaults.top().unwrap_or(0)
+    }
+
+    /// Whether the lane has a context and owns it.
+    fn is_owned(&self, context: u32) -> bool
+        ensures { result ≡ is_owned context (lane_of self.now) }
+    {
+        match self.contexts.get(context as usize) {
+            Some(Some(kept)) => {
+                kept.is_owned() || self.defaults.contains(context) || self.frames.owns(context)
+            }
+            _ => false,
+        }
+    }
+
+    /// Acquires a context of the lane.
+    fn acquire(&mut self, context: u32)
+        requires { IsWithin (2 ^ 62) (lane_of self.old) }
+        ensures { lane_of self.new ≡ with_context context acquired (lane_of self.old) }
+    {
+        if let Some(context) = self.contexts.get_mut(context as usize) {
+            acquire_in(context);
+        }
+    }
+
+    /// Releases a context of the lane, and answers whether it was acquired.
+    fn release(&mut self, context: u32) -> bool
+        ensures may { result ≡ may_release (own context (lane_of self.old)) }
+        ensures released { result ≡ true → lane_of self.new ≡ with_context context released (lane_of self.old) }
+        ensures none { result ≡ false → lane_of self.new ≡ lane_of self.old }
+    {
+        match self.contexts.get_mut(context as usize) {
+            Some(context) => release_in(context),
+            None => false,
+        }
+    }
+
+    pub(crate) fn act_push(&mut self, tick: u32, context: u32) -> Result<(), AllocError>
+        ensures { OnOk result (lane_of self.new ≡ pushed_to tick context (lane_of self.old)) }
+    {
+        if !self.has(context) {
+            return self.write(tick, Event::Miss(Word::Push));
+        }
+        self.defaults.push(context)
+    }
+
+    pub(crate) fn act_pop(&mut self, tick: u32, context: u32) -> Result<(), AllocError>
+        ensures { OnOk result (lane_of self.new ≡ popped_from tick context (lane_of self.old)) }
+    {
+        if self.defaults.pop(context) {
+            Ok(())
+        } else {
+            self.write(tick, Event::Miss(Word::Pop))
+        }
+    }
+
+    pub(crate) fn act_show_default(&mut self, tick: u32) -> Result<(), AllocError>
+        ensures { OnOk result (lane_of self.new ≡ show_default tick (lane_of self.old)) }
+    {
+        let context = self.default_context();
+        self.write(tick, Event::Default(context))
+    }
+
+    pub(crate) fn act_acquire(&mut self, tick: u32, context: u32) -> Result<(), AllocError>
+        requires { IsWithin (2 ^ 62) (lane_of self.old) }
+        ensures { OnOk result (lane_of self.new ≡ acquired_at tick context (lane_of self.old)) }
+    {
+        let has = self.has(context);
+        if has {
+            self.acquire(context);
+        }
+        self.write(tick, Event::Acquire(context, has))
+    }
+
+    pub(crate) fn act_release(&mut self, tick: u32, context: u32) -> Result<(), AllocError>
+        ensures { OnOk result (lane_of self.new ≡ released_at tick context (lane_of self.old)) }
+    {
+        if self.release(context) {
+            Ok(())
+        } else {
+            self.write(tick, Event::Miss(Word::Release))
+        }
+    }
+
+    /// Calls a procedure that is invoked, with the context that it acquires for the call, or halts the lane where too many
+    /// calls are in progress.
+    fn call_at_once(
+        &mut self,
+        tick: u32,
+        context: u32,
+        proc: u32,
+        acquires: Option<u32>,
+    ) -> Result<(), AllocError>
+        requires { IsWithin (2 ^ 62) (lane_of self.old) }
+        ensures { OnOk result (lane_of self.new ≡ called_at_once tick context proc acquires (lane_of self.old)) }
+    {
+        if self.frames.calls() >= 32 {
+            return self.halt(tick, Event::HaltDepth);
+        }
+        self.write(tick, Event::Invoke(context, Invoked::Direct))?;
+        self.frames.begin_call(Call {
+            origin: Origin::Invoke(acquires),
+            body: Body::Procedure(proc),
+            place: 0,
+        })
+    }
+
+    pub(crate) fn act_invoke(
+        &mut self,
+        tick: u32,
+        now: u64,
+        context: u32,
+        proc: u32,
+    ) -> Result<(), AllocError>
+        requires within { IsWithin (2 ^ 62) (lane_of self.old) }
+        requires now { now ≤ 2 ^ 62 }
+        ensures { OnOk result (lane_of self.new ≡ invoked tick now context proc (lane_of self.old)) }
+    {
+        if !self.has(context) {
+            return self.write(tick, Event::Invoke(context, Invoked::Posted));
+        }
+        if self.is_owned(context) {
+            return self.call_at_once(tick, context, proc, None);
+        }
+        if self.default_context() == context {
+            return self.call_at_once(tick, context, proc, Some(context));
+        }
+        self.attach(context, invoke_spec(proc), now)?;
+        self.write(tick, Event::Invoke(context, Invoked::Attached))
+    }
+}
