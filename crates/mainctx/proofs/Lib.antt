@@ -1,10 +1,8 @@
 pub mod Alike
-pub mod Along
 pub mod Arguments
-pub mod Bounds
 pub mod Endings
 pub mod Fronts
 pub mod Inputs
+pub mod Setups
 pub mod Parts
-pub mod Posted
 pub mod Statuses

@@ -1,12 +1,21 @@
 -- What each status tells.
-use Rattle.std.proofs.Common.{◌≡◌, ◌≤◌, ◌⊎◌, inl, inr, ℕ, List, Option, arith, subst, sym}
+use Rattle.std.proofs.Common.{◌≡◌, ◌≤◌, ◌⊎◌, ◌&&◌, inl, inr, ℕ, Bool, true, false, cond, List, Option, Some, None, arith, subst, sym, refl}
 use Rattle.loop_script.specs.declared.fault.ScriptFault.TheVariants as faults
 use Rattle.mainctx.specs.declared.status.Refusal.{Refusal}
-use Rattle.mainctx.specs.declared.status.Refusal.TheVariants.{Usage, Script, Memory, Read, Write}
+use Rattle.mainctx.specs.declared.status.Refusal.TheVariants.{Usage, Script, Setup, Memory, Read, Write}
 use Rattle.mainctx.specs.Run.{IsRunFaultOf}
 use Rattle.mainctx.specs.declared.run.MainFault.TheVariants as run_faults
 use Rattle.loop_script.specs.declared.fault.ScriptFault.{ScriptFault}
-use Rattle.mainctx.specs.Serving.{IsRestOf, Leaves, Refuses, ServesFront, status_of}
+use Rattle.mainctx.specs.Serving.{IsRestOf, Leaves, Refuses, ServesFront, HasNoCrew, status_of}
+use Rattle.mainctx.specs.Arguments.{AskFor}
+use Rattle.std.specs.Prelude.{String, nat_le}
+use Rattle.std.specs.declared.alloc.Global.{Global}
+use Rattle.loop_script.specs.declared.plan.Plan.{Plan}
+use Rattle.tick_stepper.specs.declared.crew.Sharing.{Sharing}
+use Rattle.tick_stepper.specs.declared.crew.Sharing.TheVariants.{Round}
+use Rattle.tick_stepper.specs.declared.fault.StepFault.{StepFault}
+use Rattle.tick_stepper.specs.declared.fault.StepFault.TheVariants.{Workers}
+use Rattle.tick_stepper.specs.Crew.{refusal_of}
 
 pub status_above : (refusal : Refusal) → 1 ≤ status_of refusal
 status_above Usage = omega arith
@@ -16,6 +25,7 @@ status_above (Script faults.Limit) = omega arith
 status_above (Script faults.Reference) = omega arith
 status_above (Script faults.Rule) = omega arith
 status_above (Script faults.OutOfMemory) = omega arith
+status_above Setup = omega arith
 status_above Memory = omega arith
 status_above Read = omega arith
 status_above Write = omega arith
@@ -28,29 +38,52 @@ status_within (Script faults.Limit) = omega arith
 status_within (Script faults.Reference) = omega arith
 status_within (Script faults.Rule) = omega arith
 status_within (Script faults.OutOfMemory) = omega arith
+status_within Setup = omega arith
 status_within Memory = omega arith
 status_within Read = omega arith
 status_within Write = omega arith
 
-pub leaves_nothing : (left : Option (List ℕ)) (refusal : Refusal) (old new : List ℕ) → Leaves left refusal old new → status_of refusal ≤ 3 → new ≡ old
-leaves_nothing left Usage old new leaves low = leaves
-leaves_nothing left (Script fault) old new leaves low = leaves.nothing
-leaves_nothing left Memory old new leaves low = leaves
-leaves_nothing left Read old new leaves low = leaves
-leaves_nothing left Write old new leaves low = absurd (omega (arith, low))
+pub leaves_nothing : (args : List (String Global)) (left : Option (List ℕ)) (refusal : Refusal) (old new : List ℕ) → Leaves args left refusal old new → status_of refusal ≤ 3 → new ≡ old
+leaves_nothing args left Usage old new leaves low = leaves
+leaves_nothing args left (Script fault) old new leaves low = leaves.nothing
+leaves_nothing args left Setup old new leaves low = leaves.1
+leaves_nothing args left Memory old new leaves low = leaves
+leaves_nothing args left Read old new leaves low = leaves
+leaves_nothing args left Write old new leaves low = absurd (omega (arith, low))
 
-pub leaves_front : (left : Option (List ℕ)) (refusal : Refusal) (old new : List ℕ) → Leaves left refusal old new → (new ≡ old) ⊎ ServesFront left old new
-leaves_front left Usage old new leaves = inl leaves
-leaves_front left (Script fault) old new leaves = inl leaves.nothing
-leaves_front left Memory old new leaves = inl leaves
-leaves_front left Read old new leaves = inl leaves
-leaves_front left Write old new leaves = inr leaves
+pub leaves_front : (args : List (String Global)) (left : Option (List ℕ)) (refusal : Refusal) (old new : List ℕ) → Leaves args left refusal old new → (new ≡ old) ⊎ ServesFront left old new
+leaves_front args left Usage old new leaves = inl leaves
+leaves_front args left (Script fault) old new leaves = inl leaves.nothing
+leaves_front args left Setup old new leaves = inl leaves.1
+leaves_front args left Memory old new leaves = inl leaves
+leaves_front args left Read old new leaves = inl leaves
+leaves_front args left Write old new leaves = inr leaves
 
 -- a run of all that is left that found a fault of the script
-pub refuses_by : (left : Option (List ℕ)) (bytes items : List ℕ) (fault : ScriptFault) (old new : List ℕ) → IsRestOf left items → bytes ≡ items → IsRunFaultOf bytes (run_faults.Script fault) → new ≡ old → Refuses left fault old new
-refuses_by left bytes items fault old new whole same class nothing = record {
+pub refuses_by : (left : Option (List ℕ)) (bytes items : List ℕ) (workers : ℕ) (sharing : Sharing) (fault : ScriptFault) (old new : List ℕ) → IsRestOf left items → bytes ≡ items → IsRunFaultOf bytes workers sharing (run_faults.Script fault) → new ≡ old → Refuses left fault old new
+refuses_by left bytes items workers sharing fault old new whole same class nothing = record {
   bytes = bytes;
   input = subst (IsRestOf left) (sym same) whole;
   class = class;
   nothing = nothing;
+}
+
+-- who go round the lanes are refused for their number alone
+round_only : (script : Plan) (workers : ℕ) (fault : StepFault) → refusal_of script workers Round ≡ Some fault → refusal_of script workers Round ≡ Some Workers
+round_only script workers fault e = by (nat_le 1 workers && nat_le workers 64) e
+  where
+    by : (b : Bool) → cond b None (Some Workers) ≡ Some fault → cond b None (Some Workers) ≡ Some Workers
+    by true e = cc
+    by false e = refl
+
+-- a run of all that is left that found that the workers are refused
+pub no_crew_by : (args : List (String Global)) (left : Option (List ℕ)) (bytes items : List ℕ) (workers : ℕ) (fault : StepFault) → AskFor args workers → IsRestOf left items → bytes ≡ items → IsRunFaultOf bytes workers Round (run_faults.Setup fault) → HasNoCrew args left
+no_crew_by args left bytes items workers fault asked whole same class = record {
+  bytes = bytes;
+  input = subst (IsRestOf left) (sym same) whole;
+  script = class.script;
+  read = class.read;
+  workers = workers;
+  asked = asked;
+  refused = round_only class.script workers fault class.refused;
 }

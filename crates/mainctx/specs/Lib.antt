@@ -1,6 +1,5 @@
 pub mod Arguments
 pub mod Text
-pub mod Lanes
 pub mod Writing
 pub mod Run
 pub mod Serving

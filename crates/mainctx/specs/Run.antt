@@ -1,5 +1,5 @@
 -- What running the bytes of a script writes.
-use Rattle.std.specs.Prelude.{◌≡◌, ◌≢◌, ℕ, Option, List, ◌++◌, Ok, Err}
+use Rattle.std.specs.Prelude.{◌≡◌, ◌≢◌, ℕ, Option, Some, None, List, ◌++◌, Ok, Err}
 use Rattle.std.specs.Io.KnownBytes.{Appends}
 use Rattle.loop_script.specs.declared.plan.Plan.{Plan}
 use Rattle.loop_script.specs.declared.fault.ScriptFault.{ScriptFault}
@@ -7,6 +7,10 @@ use Rattle.loop_script.specs.declared.fault.ScriptFault.TheVariants.{OutOfMemory
 use Rattle.loop_script.specs.Script.{Answers}
 use Rattle.mainctx.specs.declared.run.MainFault.{MainFault}
 use Rattle.mainctx.specs.declared.run.MainFault.TheVariants as faults
+use Rattle.tick_stepper.specs.declared.crew.Sharing.{Sharing}
+use Rattle.tick_stepper.specs.declared.fault.StepFault.{StepFault}
+use Rattle.tick_stepper.specs.declared.fault.StepFault.TheVariants as steps
+use Rattle.tick_stepper.specs.Crew.{refusal_of}
 use Rattle.mainctx.specs.Text.{text_of}
 use Rattle.mainctx.specs.Writing.{AddsFront}
 
@@ -18,17 +22,44 @@ IsScriptOf bytes script = Answers bytes (Ok script)
 abbrev pub IsFaultOf : List ℕ → ScriptFault → Type 0
 IsFaultOf bytes fault = (fault ≢ OutOfMemory) × Answers bytes (Err fault)
 
--- a run of the bytes may end with this fault: of a script with `OutOfMemory` or `Write` alone
-abbrev pub IsRunFaultOf : List ℕ → MainFault → Type 0
-IsRunFaultOf bytes (faults.Script fault) = IsFaultOf bytes fault
-IsRunFaultOf bytes faults.OutOfMemory = Unit {0}
-IsRunFaultOf bytes faults.Write = (script : Plan) × IsScriptOf bytes script
+-- the workers can't share the lanes of the script of the bytes, for this cause
+pub record RefusesCrew (bytes : List ℕ) (workers : ℕ) (sharing : Sharing) (fault : StepFault) : Type 0 where
+  pub script : Plan
+  pub read : IsScriptOf bytes script
+  pub refused : refusal_of script workers sharing ≡ Some fault
+
+-- a run of the bytes may end with this fault: of a script with `Setup`, for its cause, `OutOfMemory` or `Write` alone
+abbrev pub IsRunFaultOf : List ℕ → (workers : ℕ) → Sharing → MainFault → Type 0
+IsRunFaultOf bytes workers sharing (faults.Script fault) = IsFaultOf bytes fault
+IsRunFaultOf bytes workers sharing (faults.Setup fault) = RefusesCrew bytes workers sharing fault
+IsRunFaultOf bytes workers sharing faults.OutOfMemory = Unit {0}
+IsRunFaultOf bytes workers sharing faults.Write = (script : Plan) × IsScriptOf bytes script
+
+-- the same of a run of a script: nothing was written yet
+abbrev pub IsSetupFaultOf : Plan → (workers : ℕ) → Sharing → MainFault → Type 0
+IsSetupFaultOf script workers sharing (faults.Script fault) = ⊥
+IsSetupFaultOf script workers sharing (faults.Setup fault) = refusal_of script workers sharing ≡ Some fault
+IsSetupFaultOf script workers sharing faults.OutOfMemory = Unit {0}
+IsSetupFaultOf script workers sharing faults.Write = ⊥
+
+-- what a run answers for a fault of its stepper
+abbrev pub IsSetup : StepFault → MainFault → Type 0
+IsSetup steps.Workers fault = fault ≡ faults.Setup steps.Workers
+IsSetup steps.Table fault = fault ≡ faults.Setup steps.Table
+IsSetup steps.OutOfMemory fault = fault ≡ faults.OutOfMemory
+IsSetup steps.Spent fault = fault ≡ faults.OutOfMemory
 
 -- the text of the script of the bytes
 pub record IsTextOf (bytes text : List ℕ) : Type 0 where
   pub script : Plan
   pub read : IsScriptOf bytes script
   pub made : text ≡ text_of script
+
+-- the workers can share the lanes of the script of the bytes
+pub record IsCrewFor (bytes : List ℕ) (workers : ℕ) (sharing : Sharing) : Type 0 where
+  pub script : Plan
+  pub read : IsScriptOf bytes script
+  pub fits : refusal_of script workers sharing ≡ None
 
 -- what was written gained the text of the script of the bytes
 pub record Writes (bytes old new : List ℕ) : Type 0 where

@@ -1,10 +1,16 @@
 -- What the program does with its input, by its status.
-use Rattle.std.specs.Prelude.{◌≡◌, ℕ, List, Option, IfSome}
+use Rattle.std.specs.Prelude.{◌≡◌, ℕ, List, Option, Some, IfSome, String}
 use Rattle.loop_script.specs.declared.fault.ScriptFault.{ScriptFault}
 use Rattle.loop_script.specs.declared.fault.ScriptFault.TheVariants as faults
-use Rattle.mainctx.specs.Run.{Writes, WritesFront, HoldsText, IsFaultOf}
+use Rattle.mainctx.specs.Run.{Writes, WritesFront, HoldsText, IsFaultOf, IsScriptOf}
+use Rattle.std.specs.declared.alloc.Global.{Global}
+use Rattle.loop_script.specs.declared.plan.Plan.{Plan}
+use Rattle.tick_stepper.specs.declared.crew.Sharing.TheVariants.{Round}
+use Rattle.tick_stepper.specs.declared.fault.StepFault.TheVariants.{Workers}
+use Rattle.tick_stepper.specs.Crew.{refusal_of}
+use Rattle.mainctx.specs.Arguments.{AskFor}
 use Rattle.mainctx.specs.declared.status.Refusal.{Refusal}
-use Rattle.mainctx.specs.declared.status.Refusal.TheVariants.{Usage, Script, Memory, Read, Write}
+use Rattle.mainctx.specs.declared.status.Refusal.TheVariants.{Usage, Script, Setup, Memory, Read, Write}
 
 -- the bytes are all that the input has left, where that is known
 abbrev pub IsRestOf : Option (List ℕ) → List ℕ → Type 0
@@ -40,6 +46,16 @@ pub record Refuses (left : Option (List ℕ)) (fault : ScriptFault) (old new : L
   pub class : IsFaultOf bytes fault
   pub nothing : new ≡ old
 
+-- the input has left a script, and the arguments ask for a number of workers that is refused
+pub record HasNoCrew (args : List (String Global)) (left : Option (List ℕ)) : Type 0 where
+  pub bytes : List ℕ
+  pub input : IsRestOf left bytes
+  pub script : Plan
+  pub read : IsScriptOf bytes script
+  pub workers : ℕ
+  pub asked : AskFor args workers
+  pub refused : refusal_of script workers Round ≡ Some Workers
+
 -- a front of the text was written
 pub record ServesFront (left : Option (List ℕ)) (old new : List ℕ) : Type 0 where
   pub bytes : List ℕ
@@ -55,14 +71,16 @@ status_of (Script faults.Limit) = 2
 status_of (Script faults.Reference) = 2
 status_of (Script faults.Rule) = 2
 status_of (Script faults.OutOfMemory) = 3
+status_of Setup = 2
 status_of Memory = 3
 status_of Read = 4
 status_of Write = 4
 
 -- what a refusal leaves
-abbrev pub Leaves : Option (List ℕ) → Refusal → (old new : List ℕ) → Type 0
-Leaves left Usage old new = new ≡ old
-Leaves left (Script fault) old new = Refuses left fault old new
-Leaves left Memory old new = new ≡ old
-Leaves left Read old new = new ≡ old
-Leaves left Write old new = ServesFront left old new
+abbrev pub Leaves : List (String Global) → Option (List ℕ) → Refusal → (old new : List ℕ) → Type 0
+Leaves args left Usage old new = new ≡ old
+Leaves args left (Script fault) old new = Refuses left fault old new
+Leaves args left Setup old new = HasNoCrew args left × (new ≡ old)
+Leaves args left Memory old new = new ≡ old
+Leaves args left Read old new = new ≡ old
+Leaves args left Write old new = ServesFront left old new

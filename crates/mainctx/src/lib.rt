@@ -3,7 +3,6 @@
 
 mod ending;
 mod input;
-mod lanes;
 mod last_dispatch;
 mod laws;
 mod run;

@@ -3,7 +3,7 @@ ghost use Rattle.std.specs.Prelude.{◌≡◌, ◌≤◌, ◌⊎◌, ◌↔◌, 
 ghost use Rattle.std.specs.List.{list_all};
 ghost use Rattle.std.specs.Char.{is_ascii_digit};
 ghost use Rattle.mainctx.specs.Arguments.{AskFor};
-ghost use Rattle.mainctx.specs.Serving.{Serves, ServesFront, ServesHolder, HasFault, Leaves, status_of};
+ghost use Rattle.mainctx.specs.Serving.{Serves, ServesFront, ServesHolder, HasFault, HasNoCrew, Leaves, status_of};
 ghost use Rattle.mainctx.specs.Writing.{GrowAlike};
 
 use crate::input::{InputFault, read_input};
@@ -12,6 +12,8 @@ use crate::writer::Out;
 use loop_script::ScriptFault;
 use std::alloc::Global;
 use std::io::{Read, Write};
+use std::thread::Threads;
+use tick_stepper::{OpenGate, Sharing};
 
 /// Why the program ended without the whole text.
 #[derive(Clone, Copy, Debug, Drop, PartialEq, Eq)]
@@ -20,6 +22,8 @@ pub enum Refusal {
     Usage,
     /// The input is no script.
     Script(ScriptFault),
+    /// The workers are none, or more than 64.
+    Setup,
     /// A request for memory was refused.
     Memory,
     /// The input could not be read, or is too long.
@@ -36,7 +40,7 @@ impl Refusal {
         match self {
             Refusal::Usage => 1,
             Refusal::Script(ScriptFault::OutOfMemory) | Refusal::Memory => 3,
-            Refusal::Script(_) => 2,
+            Refusal::Script(_) | Refusal::Setup => 2,
             Refusal::Read | Refusal::Write => 4,
         }
     }
@@ -50,6 +54,7 @@ impl Refusal {
             Refusal::Script(ScriptFault::Limit) => "script: limit\n",
             Refusal::Script(ScriptFault::Reference) => "script: reference\n",
             Refusal::Script(ScriptFault::Rule) => "script: rule\n",
+            Refusal::Setup => "setup: workers\n",
             Refusal::Script(ScriptFault::OutOfMemory) | Refusal::Memory => "memory\n",
             Refusal::Read => "read\n",
             Refusal::Write => "write\n",
@@ -91,7 +96,7 @@ fn workers_of(args: &[String]) -> Option<u32>
 }
 
 /// Does what the arguments say.
-fn attempt<X: AllocGlobal, R: Read, W: Out>(
+fn attempt<X: Threads + Sync, R: Read, W: Out>(
     rt: &X,
     alloc: Global,
     args: &[String],
@@ -99,12 +104,12 @@ fn attempt<X: AllocGlobal, R: Read, W: Out>(
     out: &mut W,
 ) -> Result<(), Refusal>
     ensures text { OnOk result (Serves (R.remaining input.old) (W.taken out.old) (W.taken out.new)) }
-    ensures refusal { IfErr result (λ refusal. Leaves (R.remaining input.old) refusal (W.taken out.old) (W.taken out.new)) }
-    ensures usage { (result ≡ Err Refusal.Usage) ↔ ¬ (AskFor args.now 1) }
+    ensures refusal { IfErr result (λ refusal. Leaves args.now (R.remaining input.old) refusal (W.taken out.old) (W.taken out.new)) }
+    ensures usage { (result ≡ Err Refusal.Usage) ↔ ¬ ((n : ℕ) × AskFor args.now n) }
     ensures known { GrowAlike (W.taken out.old) (W.taken out.new) (W.contents out.old) (W.contents out.new) }
     ensures holds { OnOk result (ServesHolder (R.remaining input.old) (W.contents out.old) (W.contents out.new)) }
 {
-    let Some(1) = workers_of(args) else {
+    let Some(workers) = workers_of(args) else {
         return Err(Refusal::Usage);
     };
     let script = match read_input(alloc, input) {
@@ -112,16 +117,25 @@ fn attempt<X: AllocGlobal, R: Read, W: Out>(
         Err(InputFault::Unreadable) => return Err(Refusal::Read),
         Err(InputFault::OutOfMemory) => return Err(Refusal::Memory),
     };
-    match run_bytes(rt, alloc, script.as_slice(), out) {
+    match run_bytes(
+        rt,
+        alloc,
+        script.as_slice(),
+        workers,
+        Sharing::Round,
+        &OpenGate,
+        out,
+    ) {
         Ok(()) => Ok(()),
         Err(MainFault::Script(fault)) => Err(Refusal::Script(fault)),
+        Err(MainFault::Setup(_)) => Err(Refusal::Setup),
         Err(MainFault::OutOfMemory) => Err(Refusal::Memory),
         Err(MainFault::Write) => Err(Refusal::Write),
     }
 }
 
 /// Runs the script of `input` by the arguments, and answers the exit status: 0 where the text was written.
-pub fn serve<X: AllocGlobal, R: Read, W: Out, E: Write>(
+pub fn serve<X: Threads + Sync, R: Read, W: Out, E: Write>(
     rt: &X,
     alloc: Global,
     args: &[String],
@@ -133,8 +147,8 @@ pub fn serve<X: AllocGlobal, R: Read, W: Out, E: Write>(
     ensures nothing { 1 ≤ result → result ≤ 3 → W.taken out.new ≡ W.taken out.old }
     ensures front { result ≡ 4 → (W.taken out.new ≡ W.taken out.old) ⊎ ServesFront (R.remaining input.old) (W.taken out.old) (W.taken out.new) }
     ensures status { result ≤ 4 }
-    ensures usage { (result ≡ 1) ↔ ¬ (AskFor args.now 1) }
-    ensures script { result ≡ 2 → HasFault (R.remaining input.old) }
+    ensures usage { (result ≡ 1) ↔ ¬ ((n : ℕ) × AskFor args.now n) }
+    ensures script { result ≡ 2 → HasFault (R.remaining input.old) ⊎ HasNoCrew args.now (R.remaining input.old) }
     ensures known { GrowAlike (W.taken out.old) (W.taken out.new) (W.contents out.old) (W.contents out.new) }
     ensures holds { result ≡ 0 → ServesHolder (R.remaining input.old) (W.contents out.old) (W.contents out.new) }
 {

@@ -2,7 +2,7 @@
 ghost use Rattle.std.specs.Prelude.{◌≡◌, ◌<◌, ◌+◌, OnOk};
 
 use cancel_view::View;
-use context_core::{Context, Interest, Prepared};
+use context_core::{Context, DefaultStack, Interest, Prepared};
 use loop_script::{Kind, SourceSpec};
 use source_rows::{Levels, RowsFault};
 use std::alloc::{AllocError, Global};
@@ -129,5 +129,29 @@ fn waits_for_a_cancellable(rt: HostRuntime) -> Result<(), Fail> {
     view.cancel(rt.alloc(), 0)?;
     assert_eq!(rt; context.prepare(0, &[], &view).priority, Some(0));
     expect_selected(&rt, rt.alloc(), &context, &view, &[], &[1])?;
+    Ok(())
+}
+
+/// Two pushes: the one below can't be popped before the one on top.
+#[test]
+fn pops_what_is_on_top(rt: HostRuntime) -> Result<(), Fail> {
+    let mut stack = DefaultStack::new(rt.alloc());
+    stack.push(1)?;
+    stack.push(2)?;
+    assert_eq!(rt; stack.pop(1), false);
+    assert_eq!(rt; stack.pop(2), true);
+    assert_eq!(rt; stack.top(), Some(1));
+    assert_eq!(rt; (stack.contains(1), stack.contains(2)), (true, false));
+    Ok(())
+}
+
+/// An acquire that is taken back, and a release too many.
+#[test]
+fn releases_what_was_acquired(rt: HostRuntime) -> Result<(), Fail> {
+    let mut context = Context::new(rt.alloc(), Levels::Two);
+    context.acquire();
+    assert_eq!(rt; context.is_owned(), true);
+    assert_eq!(rt; (context.release(), context.release()), (true, false));
+    assert_eq!(rt; context.is_owned(), false);
     Ok(())
 }

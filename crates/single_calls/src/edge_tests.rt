@@ -4,6 +4,8 @@ use mainctx::{MainFault, OverWrite, run_bytes};
 use std::alloc::Global;
 use std::io;
 use std::io::{ErrorKind, Write};
+use std::thread::Threads;
+use tick_stepper::{OpenGate, Sharing};
 
 /// Takes so many bytes, three at a time, and then does what `then` says.
 #[derive(Drop)]
@@ -52,12 +54,20 @@ impl Write for Short {
 }
 
 /// Runs the first script over a writer with so much room; its answer, and what the writer has got.
-fn ran_over(rt: &HostRuntime, room: usize, then: Then) -> (Result<(), MainFault>, Vec<u8>) {
-    let mut short = Short::new(rt.alloc(), room, then);
+fn ran_over<T: Threads + Sync>(
+    rt: &T,
+    alloc: Global,
+    room: usize,
+    then: Then,
+) -> (Result<(), MainFault>, Vec<u8>) {
+    let mut short = Short::new(alloc, room, then);
     let result = run_bytes(
         rt,
-        rt.alloc(),
+        alloc,
         first_run().as_bytes(),
+        1,
+        Sharing::Round,
+        &OpenGate,
         &mut OverWrite::new(&mut short),
     );
     (result, short.got)
@@ -68,7 +78,7 @@ fn writes_a_front(rt: HostRuntime) {
     let text = first_run_text().as_bytes();
     for then in [Then::Fail, Then::TakeNone] {
         for room in 0..text.len() {
-            let (result, got) = ran_over(&rt, room, then);
+            let (result, got) = ran_over(&rt, rt.alloc(), room, then);
             assert_eq!(rt; result, Err(MainFault::Write), "at {room}");
             assert_eq!(rt; got.as_slice(), &text[..room], "at {room}");
         }
@@ -81,14 +91,14 @@ fn ten_bytes() -> &'static str {
 
 #[test]
 fn takes_ten_bytes(rt: HostRuntime) {
-    let (result, got) = ran_over(&rt, 10, Then::Fail);
+    let (result, got) = ran_over(&rt, rt.alloc(), 10, Then::Fail);
     assert_eq!(rt; result, Err(MainFault::Write));
     assert_eq!(rt; got.as_slice(), ten_bytes().as_bytes());
 }
 
 #[test]
 fn fails_to_flush(rt: HostRuntime) {
-    let (result, got) = ran_over(&rt, 1000, Then::FailFlush);
+    let (result, got) = ran_over(&rt, rt.alloc(), 1000, Then::FailFlush);
     assert_eq!(rt; result, Err(MainFault::Write));
     assert_eq!(rt; got.as_slice(), first_run_text().as_bytes());
 }

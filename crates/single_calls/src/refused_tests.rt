@@ -4,6 +4,8 @@ use mainctx::{MainFault, OverWrite, run_bytes, serve};
 use std::alloc::Global;
 use std::io;
 use std::io::{Cursor, Write};
+use std::thread::Threads;
+use tick_stepper::{OpenGate, Sharing};
 
 /// Compares what it is given with the rest of a text, and keeps nothing.
 #[derive(Drop)]
@@ -43,16 +45,24 @@ fn nothing_came(it: &Compared<'_>, text: &str) -> bool {
 }
 
 /// Runs the first script, and answers what its writer then expects.
-fn ran(rt: &HostRuntime) -> (Result<(), MainFault>, Compared<'static>) {
+fn ran<T: Threads + Sync>(rt: &T, alloc: Global) -> (Result<(), MainFault>, Compared<'static>) {
     let mut out = OverWrite::new(expecting(first_run_text()));
-    let result = run_bytes(rt, rt.alloc(), first_run().as_bytes(), &mut out);
+    let result = run_bytes(
+        rt,
+        alloc,
+        first_run().as_bytes(),
+        1,
+        Sharing::Round,
+        &OpenGate,
+        &mut out,
+    );
     (result, out.into_inner())
 }
 
 /// Where a request for memory was refused: nothing written, or the exact text.
 #[test]
 fn refused_run(rt: HostRuntime) {
-    match ran(&rt) {
+    match ran(&rt, rt.alloc()) {
         (Ok(()), out) => assert!(rt; all_came(&out)),
         (Err(fault), out) => {
             assert_eq!(rt; fault, MainFault::OutOfMemory);
@@ -73,11 +83,15 @@ fn right_arguments(alloc: Global) -> Option<[String; 2]> {
 }
 
 /// Serves the first script, and answers the status and what both writers then expect.
-fn served(rt: &HostRuntime, args: &[String]) -> (u8, Compared<'static>, Compared<'static>) {
+fn served<T: Threads + Sync>(
+    rt: &T,
+    alloc: Global,
+    args: &[String],
+) -> (u8, Compared<'static>, Compared<'static>) {
     let mut out = OverWrite::new(expecting(first_run_text()));
     let mut errors = expecting(memory());
     let mut input = Cursor::new(first_run().as_bytes());
-    let status = serve(rt, rt.alloc(), args, &mut input, &mut out, &mut errors);
+    let status = serve(rt, alloc, args, &mut input, &mut out, &mut errors);
     (status, out.into_inner(), errors)
 }
 
@@ -87,7 +101,7 @@ fn refused_serve(rt: HostRuntime) {
     let Some(args) = right_arguments(rt.alloc()) else {
         return;
     };
-    let (status, out, errors) = served(&rt, &args);
+    let (status, out, errors) = served(&rt, rt.alloc(), &args);
     if status == 0 {
         assert!(rt; all_came(&out));
         assert!(rt; nothing_came(&errors, memory()));

@@ -3,6 +3,7 @@ use lane_turn::{Event, Invoked, Line, Word};
 use loop_script::Outcome;
 use mainctx::{OverWrite, add_text, run_bytes};
 use std::test::Fail;
+use tick_stepper::{OpenGate, Sharing};
 
 // (texts stand in functions of their own: a proof that sees a literal reads it byte by byte)
 
@@ -17,7 +18,15 @@ pub(crate) fn first_run_text() -> &'static str {
 #[test]
 fn writes_the_text(rt: HostRuntime) -> Result<(), Fail> {
     let mut out = OverWrite::new(Vec::new(rt.alloc()));
-    run_bytes(&rt, rt.alloc(), first_run().as_bytes(), &mut out)?;
+    run_bytes(
+        &rt,
+        rt.alloc(),
+        first_run().as_bytes(),
+        1,
+        Sharing::Round,
+        &OpenGate,
+        &mut out,
+    )?;
     assert_eq!(rt; out.into_inner().as_slice(), first_run_text().as_bytes());
     Ok(())
 }

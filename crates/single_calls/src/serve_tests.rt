@@ -7,6 +7,7 @@ use std::io;
 use std::io::{Cursor, ErrorKind, Read};
 use std::process::Abort;
 use std::test::Fail;
+use std::thread::Threads;
 
 // (texts stand in functions of their own: a proof that sees a literal reads it byte by byte)
 
@@ -33,18 +34,19 @@ fn words_of(alloc: Global, line: &str) -> Result<Vec<String>, AllocError> {
 }
 
 /// Serves over a writer with so much room.
-fn served<R: Read>(
-    rt: &HostRuntime,
+fn served<T: Threads + Sync, R: Read>(
+    rt: &T,
+    alloc: Global,
     line: &str,
     input: &mut R,
     room: usize,
 ) -> Result<Ending, AllocError> {
-    let args = words_of(rt.alloc(), line)?;
-    let mut short = Short::new(rt.alloc(), room, Then::Fail);
-    let mut said = Vec::new(rt.alloc());
+    let args = words_of(alloc, line)?;
+    let mut short = Short::new(alloc, room, Then::Fail);
+    let mut said = Vec::new(alloc);
     let status = serve(
         rt,
-        rt.alloc(),
+        alloc,
         args.as_slice(),
         input,
         &mut OverWrite::new(&mut short),
@@ -63,7 +65,7 @@ fn expect(rt: &impl Abort, line: &str, it: &Ending, status: u8, wrote: &str, sai
     assert_eq!(rt; it.said.as_slice(), said.as_bytes());
 }
 
-fn wrong_arguments() -> [&'static str; 13] {
+fn wrong_arguments() -> [&'static str; 10] {
     [
         "",
         "1",
@@ -71,9 +73,6 @@ fn wrong_arguments() -> [&'static str; 13] {
         "1 fixed 1",
         "1 queue",
         "1 Fixed",
-        "0 fixed",
-        "2 fixed",
-        "64 fixed",
         "-1 fixed",
         "+1 fixed",
         "x fixed",
@@ -84,22 +83,69 @@ fn wrong_arguments() -> [&'static str; 13] {
 #[test]
 fn looks_at_arguments_first(rt: HostRuntime) -> Result<(), Fail> {
     for line in wrong_arguments() {
-        let it = served(&rt, line, &mut Failing, 1000)?;
+        let it = served(&rt, rt.alloc(), line, &mut Failing, 1000)?;
         expect(&rt, line, &it, 1, "", usage());
     }
     Ok(())
 }
 
-fn right_arguments() -> [&'static str; 3] {
-    ["1 fixed", "01 fixed", "000000001 fixed"]
+fn right_arguments() -> [&'static str; 4] {
+    ["1 fixed", "01 fixed", "000000001 fixed", "64 fixed"]
 }
 
 #[test]
 fn takes_right_arguments(rt: HostRuntime) -> Result<(), Fail> {
     for line in right_arguments() {
-        let it = served(&rt, line, &mut Cursor::new(first_run().as_bytes()), 1000)?;
+        let it = served(
+            &rt,
+            rt.alloc(),
+            line,
+            &mut Cursor::new(first_run().as_bytes()),
+            1000,
+        )?;
         expect(&rt, line, &it, 0, first_run_text(), "");
     }
+    Ok(())
+}
+
+fn refused_workers() -> [&'static str; 3] {
+    ["0 fixed", "65 fixed", "999999999 fixed"]
+}
+
+fn workers() -> &'static str {
+    "setup: workers\n"
+}
+
+#[test]
+fn refuses_the_workers(rt: HostRuntime) -> Result<(), Fail> {
+    for line in refused_workers() {
+        let it = served(
+            &rt,
+            rt.alloc(),
+            line,
+            &mut Cursor::new(first_run().as_bytes()),
+            1000,
+        )?;
+        expect(&rt, line, &it, 2, "", workers());
+    }
+    Ok(())
+}
+
+fn no_workers() -> &'static str {
+    "0 fixed"
+}
+
+/// The script is looked at before the workers.
+#[test]
+fn looks_at_the_script_before_the_workers(rt: HostRuntime) -> Result<(), Fail> {
+    let it = served(
+        &rt,
+        rt.alloc(),
+        no_workers(),
+        &mut Cursor::new(no_script().as_bytes()),
+        1000,
+    )?;
+    expect(&rt, no_workers(), &it, 2, "", not_json());
     Ok(())
 }
 
@@ -114,7 +160,13 @@ fn no_script() -> &'static str {
 /// A class of script; the other classes are vectors.
 #[test]
 fn says_the_fault(rt: HostRuntime) -> Result<(), Fail> {
-    let it = served(&rt, usual(), &mut Cursor::new(no_script().as_bytes()), 1000)?;
+    let it = served(
+        &rt,
+        rt.alloc(),
+        usual(),
+        &mut Cursor::new(no_script().as_bytes()),
+        1000,
+    )?;
     expect(&rt, usual(), &it, 2, "", not_json());
     Ok(())
 }
@@ -125,7 +177,13 @@ fn ten_bytes() -> &'static str {
 
 #[test]
 fn says_that_a_writer_failed(rt: HostRuntime) -> Result<(), Fail> {
-    let it = served(&rt, usual(), &mut Cursor::new(first_run().as_bytes()), 10)?;
+    let it = served(
+        &rt,
+        rt.alloc(),
+        usual(),
+        &mut Cursor::new(first_run().as_bytes()),
+        10,
+    )?;
     expect(&rt, usual(), &it, 4, ten_bytes(), "write\n");
     Ok(())
 }
@@ -143,23 +201,27 @@ impl Read for Failing {
 #[test]
 fn says_that_a_reader_failed(rt: HostRuntime) -> Result<(), Fail> {
     let mut input = Cursor::new(first_run().as_bytes()).chain(Failing);
-    let it = served(&rt, usual(), &mut input, 1000)?;
+    let it = served(&rt, rt.alloc(), usual(), &mut input, 1000)?;
     expect(&rt, usual(), &it, 4, "", "read\n");
     Ok(())
 }
 
 /// Serves the first run with spaces behind it, as an input of so many bytes.
-fn served_at_length(rt: &HostRuntime, length: u64) -> Result<Ending, AllocError> {
+fn served_at_length<T: Threads + Sync>(
+    rt: &T,
+    alloc: Global,
+    length: u64,
+) -> Result<Ending, AllocError> {
     let spaces = length.saturating_sub(first_run().len() as u64);
     let mut input = Cursor::new(first_run().as_bytes()).chain(io::repeat(b' ').take(spaces));
-    served(rt, usual(), &mut input, 1000)
+    served(rt, alloc, usual(), &mut input, 1000)
 }
 
 #[test]
 fn reads_up_to_the_limit(rt: HostRuntime) -> Result<(), Fail> {
-    let it = served_at_length(&rt, 4_194_304)?;
+    let it = served_at_length(&rt, rt.alloc(), 4_194_304)?;
     expect(&rt, usual(), &it, 0, first_run_text(), "");
-    let it = served_at_length(&rt, 4_194_305)?;
+    let it = served_at_length(&rt, rt.alloc(), 4_194_305)?;
     expect(&rt, usual(), &it, 4, "", "read\n");
     Ok(())
 }

@@ -1,3 +1,11 @@
+pub mod Along
+pub mod Handed
+pub mod Counted
+pub mod Crossing
+pub mod Crews
+pub mod Rounds
+pub mod Ready
+pub mod Steppers
 pub mod Merges
 pub mod Concats
 pub mod Deals

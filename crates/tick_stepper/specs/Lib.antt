@@ -3,3 +3,6 @@ pub mod Parts
 pub mod Order
 pub mod Machine
 pub mod Law
+pub mod Crew
+pub mod Share
+pub mod Stepper

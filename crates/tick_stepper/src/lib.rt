@@ -1,6 +1,20 @@
-//! A tick of several lanes, and what does not depend on the order of their steps.
+//! The lanes of a script through its ticks, with turns that several workers take side by side; and the law that what
+//! they leave does not depend on the order of their steps.
 #![tactic(auto)]
 
+mod crew;
+mod deal;
+mod deliver;
+mod fault;
+mod gate;
 mod laws;
+mod open;
+mod round;
+mod share;
+mod stepper;
 
+pub use crew::Sharing;
+pub use fault::StepFault;
+pub use gate::{Gate, OpenGate};
 pub use laws::lanes_commute;
+pub use stepper::Stepper;

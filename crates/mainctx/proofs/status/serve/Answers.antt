@@ -7,11 +7,11 @@ returns-in-Err-clause-text g c none = absurd (omega (arith, none, c.refuse.ensur
 
 pub returns-in-Err-clause-nothing : goal.returns-in-Err-clause-nothing
 returns-in-Err-clause-nothing g c low high =
-    leaves_nothing (g.R.Read.remaining c.args.input.now) c.in-Err.refusal (g.W.Out.taken c.args.out.now) (g.W.Out.taken c.attempt.new.out) c.in-Err.ensures.refusal (subst (λ n. n ≤ 3) c.refuse.ensures high)
+    leaves_nothing c.args.args.now (g.R.Read.remaining c.args.input.now) c.in-Err.refusal (g.W.Out.taken c.args.out.now) (g.W.Out.taken c.attempt.new.out) c.in-Err.ensures.refusal (subst (λ n. n ≤ 3) c.refuse.ensures high)
 
 pub returns-in-Err-clause-front : goal.returns-in-Err-clause-front
 returns-in-Err-clause-front g c four =
-    leaves_front (g.R.Read.remaining c.args.input.now) c.in-Err.refusal (g.W.Out.taken c.args.out.now) (g.W.Out.taken c.attempt.new.out) c.in-Err.ensures.refusal
+    leaves_front c.args.args.now (g.R.Read.remaining c.args.input.now) c.in-Err.refusal (g.W.Out.taken c.args.out.now) (g.W.Out.taken c.attempt.new.out) c.in-Err.ensures.refusal
 
 pub returns-in-Err-clause-status : goal.returns-in-Err-clause-status
 returns-in-Err-clause-status g c = subst (λ n. n ≤ 4) (sym c.refuse.ensures) (status_within c.in-Err.refusal)

@@ -1,0 +1,55 @@
+-- The lanes of a run stand by number: each at its own place.
+use Rattle.std.proofs.Common.{◌≡◌, ℕ, zero, suc, ◌+◌, ◌<◌, List, [], ◌∷◌, map, length, refl, ◌∙◌, arith}
+use Rattle.std.proofs.lemmas.List.{length-map}
+use Rattle.std.proofs.lemmas.List.FromFn.{length-range_with_len}
+use Rattle.std.specs.List.{AllByRecursion, range_with_len}
+use Rattle.loop_script.specs.declared.plan.Plan.{Plan}
+use Rattle.post_office.specs.declared.letter.Letter.{Letter}
+use Rattle.lane_turn.specs.Lane.{Lane}
+use Rattle.lane_turn.specs.Turn.{opening, turned}
+use Rattle.lane_turn.specs.Deliver.{received_all}
+use Rattle.lane_turn.specs.Tick.{posted_at, lanes_at}
+use Rattle.lane_turn.proofs.Turns.{turned_number}
+use Rattle.lane_turn.proofs.Delivered.{received_number}
+use Rattle.tick_stepper.specs.Order.{ByNumber}
+
+-- numbers from n on
+abbrev pub Counted : ℕ → List Lane → Type 0
+Counted n [] = Unit {0}
+Counted n (lane ∷ lanes) = (lane.number ≡ n) × Counted (n + 1) lanes
+
+counted_openings : (script : Plan) (a n : ℕ) → Counted a (map (opening script) (range_with_len a n))
+counted_openings script a zero = tt
+counted_openings script a (suc n) = (refl, counted_openings script (a + 1) n)
+
+counted_step : (step : Lane → Lane) → ((lane : Lane) → (step lane).number ≡ lane.number) → (n : ℕ) (lanes : List Lane) → Counted n lanes → Counted n (map step lanes)
+counted_step step same n [] h = tt
+counted_step step same n (lane ∷ lanes) h = (same lane ∙ h.0, counted_step step same (n + 1) lanes h.1)
+
+pub counted_at : (script : Plan) (tick : ℕ) → Counted 0 (lanes_at script tick)
+counted_at script zero = counted_openings script 0 (length script.lanes)
+counted_at script (suc tick) =
+    let lanes : List Lane = lanes_at script tick in
+    let letters : List Letter = posted_at script tick lanes in
+    counted_step (received_all script tick letters) (received_number script tick letters) 0 (map (turned script tick) lanes)
+    (counted_step (turned script tick) (turned_number script tick) 0 lanes (counted_at script tick))
+
+pub lane_count : (script : Plan) (tick : ℕ) → length (lanes_at script tick) ≡ length script.lanes
+lane_count script zero = simp (length-map, length-range_with_len)
+lane_count script (suc tick) = let e : length (lanes_at script (suc tick)) ≡ length (lanes_at script tick) = simp length-map in e ∙ lane_count script tick
+
+above : (k n : ℕ) (lanes : List Lane) → k < n → Counted n lanes → AllByRecursion (λ later. k < later.number) lanes
+above k n [] h c = tt
+above k n (lane ∷ lanes) h c = ((let same = c.0 in omega arith), above k (n + 1) lanes (omega arith) c.1)
+
+counted_rises : (n : ℕ) (lanes : List Lane) → Counted n lanes → ByNumber lanes
+counted_rises n [] c = tt
+counted_rises n (lane ∷ lanes) c = (above lane.number (n + 1) lanes (let same = c.0 in omega arith) c.1, counted_rises (n + 1) lanes c.1)
+
+pub by_number_at : (script : Plan) (tick : ℕ) → ByNumber (lanes_at script tick)
+by_number_at script tick = counted_rises 0 (lanes_at script tick) (counted_at script tick)
+
+-- and each is below how many there are
+pub below_count : (n most : ℕ) (lanes : List Lane) → n + length lanes ≡ most → Counted n lanes → AllByRecursion (λ lane. lane.number < most) lanes
+below_count n most [] e c = tt
+below_count n most (lane ∷ lanes) e c = ((let same = c.0 in omega arith), below_count (n + 1) most lanes (omega arith) c.1)

@@ -1,0 +1,104 @@
+-- Lanes may go to another thread, and a script may be read from there.
+use denote.Param.Send.{IsSend, IsSync, sendable}
+use Rattle.std.proofs.Crossing.{crosses}
+use Rattle.std.proofs.MapsCrossing.{BTreeMap-send}
+use Rattle.loop_script.proofs.tree.TaskTree.TheLaws.TheKnot.{crosses as trees}
+use Rattle.loop_script.specs.contracts.tree.TaskTree as Tree
+use Rattle.loop_script.specs.contracts.action.Action as Action
+use Rattle.loop_script.specs.contracts.script.Script as Script
+use Rattle.task_steps.proofs.steps.Steps.TheLaws.TheKnot.{crosses as steps}
+use Rattle.task_steps.specs.contracts.steps.Steps as Steps
+use Rattle.task_steps.specs.contracts.book.TaskBook as Book
+use Rattle.task_steps.specs.contracts.run.TaskRun as Run
+use Rattle.task_steps.specs.contracts.entry.Entry as Entry
+use Rattle.lane_watch.specs.contracts.watch.Watch as Watch
+use Rattle.source_rows.proofs.times.Times.TheLaws.TheKnot.{crosses as times}
+use Rattle.source_rows.specs.contracts.times.Times as Times
+use Rattle.source_rows.specs.contracts.row.Row as Row
+use Rattle.source_rows.specs.contracts.table.Table as Table
+use Rattle.source_rows.specs.contracts.rows.Rows as Rows
+use Rattle.lane_turn.proofs.nest.Nest.TheLaws.TheKnot.{crosses as nests}
+use Rattle.lane_turn.specs.contracts.nest.Nest as Nest
+use Rattle.context_core.specs.contracts.context.Context as Context
+use Rattle.lane_turn.proofs.line.Line.TheSendSync as line
+use Rattle.lane_turn.proofs.slot.Held.TheSendSync as held
+use Rattle.lane_turn.proofs.replies.Awaited.TheSendSync as awaited
+use Rattle.lane_turn.proofs.parts.Status.TheSendSync as status
+use Rattle.std.proofs.option.Option.TheSendSync as option
+use Rattle.lane_turn.specs.contracts.tally.Tally as Tally
+use Rattle.lane_turn.specs.contracts.chain.Chain as Chain
+use Rattle.lane_turn.specs.contracts.parts.Parts as Parts
+use Rattle.lane_turn.specs.contracts.frames.Frames as Frames
+use Rattle.lane_turn.specs.contracts.state.LaneState as LaneState
+use Rattle.tick_stepper.specs.contracts.share.Share as Share
+
+-- ---- tasks
+
+pub tree_send : IsSend Tree.the_row
+tree_send = search (trees, sendable, crosses) depth 40
+
+pub tree_sync : IsSync Tree.the_row
+tree_sync = search (trees, sendable, crosses) depth 40
+
+steps_send : IsSend Steps.the_row
+steps_send = search (steps, sendable, crosses) depth 40
+
+run_send : IsSend Run.the_row
+run_send = search (tree_send, steps_send, steps, sendable, crosses) depth 60 fits 10000
+
+entry_send : IsSend Entry.the_row
+entry_send = search (run_send, sendable, crosses) depth 60 fits 10000
+
+book_send : IsSend Book.the_row
+book_send = search (entry_send, sendable, crosses) depth 60 fits 10000
+
+watch_send : IsSend Watch.the_row
+watch_send = search (book_send, sendable, crosses) depth 60 fits 10000
+
+-- ---- sources
+
+times_send : IsSend Times.the_row
+times_send = search (times, sendable, crosses) depth 40
+
+row_send : IsSend Row.the_row
+row_send = search (sendable, crosses) depth 40
+
+table_send : IsSend Table.the_row
+table_send = search (times_send, row_send, BTreeMap-send, sendable, crosses) depth 60 fits 10000
+
+rows_send : IsSend Rows.the_row
+rows_send = search (table_send, BTreeMap-send, sendable, crosses) depth 60 fits 10000
+
+-- ---- lanes
+
+nest_send : IsSend Nest.the_row
+nest_send = search (nests, sendable, crosses) depth 40
+
+tally_send : IsSend Tally.the_row
+tally_send = search (sendable, crosses) depth 40
+
+chain_send : IsSend Chain.the_row
+chain_send = search (nest_send, nests, tally_send, sendable, crosses) depth 60 fits 10000
+
+frames_send : IsSend Frames.the_row
+frames_send = search (chain_send, sendable, crosses) depth 60 fits 10000
+
+context_send : IsSend Context.the_row
+context_send = search (rows_send, sendable, crosses) depth 60
+
+parts_send : IsSend (Parts.the_field).row
+parts_send = search (context_send, watch_send, frames_send, line.the_send, line.the_field_send, held.the_send, held.the_field_send, awaited.the_send, awaited.the_field_send, status.the_send, status.the_field_send, option.the_field_send, BTreeMap-send, sendable, crosses) depth 60 fits 20000
+
+lane_send : IsSend LaneState.the_row
+lane_send = search (parts_send, sendable, crosses) depth 60
+
+pub share_send : IsSend Share.the_row
+share_send = search (lane_send, sendable, crosses) depth 60 fits 10000
+
+-- ---- scripts
+
+action_sync : IsSync Action.the_row
+action_sync = search (tree_sync, sendable, crosses) depth 60 fits 10000
+
+pub script_sync : IsSync Script.the_row
+script_sync = search (action_sync, sendable, crosses) depth 60 fits 10000

@@ -1,0 +1,87 @@
+-- A round of turns: what comes back, put in order, is what one thread makes of the lanes.
+use Rattle.std.proofs.Common.{◌≡◌, ℕ, zero, suc, ◌+◌, ◌*◌, ◌^◌, ◌<◌, ◌≤◌, false, List, [], ◌∷◌, ◌++◌, map, length, refl, sym, ap, ◌∙◌, subst, arith}
+use Rattle.std.specs.Prelude.{IsPermutation}
+use Rattle.std.specs.List.{All, AllByRecursion, flat_map}
+use Rattle.std.specs.List.Sorted.{IsNonDecreasingBy}
+use Rattle.std.proofs.lemmas.List.Sorted.{IsPermutation-trans, IsPermutation-map}
+use Rattle.loop_script.specs.declared.plan.Plan.{Plan}
+use Rattle.post_office.specs.declared.letter.Letter.{Letter}
+use Rattle.post_office.specs.Order.{InOrder}
+use Rattle.post_office.proofs.Sorted.{order_is_one}
+use Rattle.lane_turn.specs.Lane.{Lane}
+use Rattle.lane_turn.specs.Turn.{turned, out_of}
+use Rattle.lane_turn.specs.Deliver.{received_all}
+use Rattle.lane_turn.specs.Tick.{posted_at, lanes_at}
+use Rattle.lane_turn.specs.Sound.{IsReady}
+use Rattle.lane_turn.proofs.Turns.{ready-turned, turned_number}
+use Rattle.lane_turn.proofs.Delivered.{ready_weaker, received_number}
+use Rattle.lane_turn.proofs.Runs.{most_at, AllReady, ready_at, posted_fits}
+use Rattle.tick_stepper.specs.Order.{RisesBy, ByNumber}
+use Rattle.tick_stepper.specs.declared.share.Numbered.{Numbered}
+use Rattle.tick_stepper.specs.declared.share.Share.{Share}
+use Rattle.tick_stepper.specs.Share.{unspent, numbered, numbered_one, stepped_one, turned_one, out_of_one, handed, IsReadyOne}
+use Rattle.tick_stepper.proofs.Sorted.{sorted_is}
+use Rattle.tick_stepper.proofs.Turns.{turned_in_order}
+use Rattle.tick_stepper.proofs.Posted.{posted_in_order, posted_apart}
+use Rattle.tick_stepper.proofs.Concats.{flat_permuted}
+use Rattle.tick_stepper.proofs.Deals.{all_map}
+use Rattle.tick_stepper.proofs.Counted.{by_number_at}
+use Rattle.tick_stepper.proofs.Handed.{CameBack}
+
+-- ---- lanes with their numbers
+
+pub numbered_step : (step : Lane → Lane) → ((lane : Lane) → (step lane).number ≡ lane.number) → (lanes : List Lane) → map (stepped_one step) (numbered lanes) ≡ numbered (map step lanes)
+numbered_step step same [] = refl
+numbered_step step same (lane ∷ lanes) = λ i. record { number = sym (same lane) i; state = unspent (step lane) } ∷ numbered_step step same lanes i
+
+numbered_rise : (lanes : List Lane) → ByNumber lanes → RisesBy (λ (one : Numbered). one.number) (numbered lanes)
+numbered_rise [] h = tt
+numbered_rise (lane ∷ lanes) h = (all_map numbered_one (λ (one : Numbered). lane.number < one.number) lanes h.0, numbered_rise lanes h.1)
+
+numbered_post : (script : Plan) (tick : ℕ) (lanes : List Lane) → flat_map (out_of_one script tick) (numbered lanes) ≡ posted_at script tick lanes
+numbered_post script tick [] = refl
+numbered_post script tick (lane ∷ lanes) = ap (λ (l : List Letter). out_of script tick lane ++ l) (numbered_post script tick lanes)
+
+-- ---- they may take their turns, and the delivery after them
+
+ready_each : (script : Plan) (tick m : ℕ) (lanes : List Lane) → m ≤ 2 ^ 61 → AllReady script tick m lanes → AllByRecursion (IsReadyOne script tick) (numbered lanes)
+ready_each script tick m [] h r = tt
+ready_each script tick m (lane ∷ lanes) h r = (record { unspent = refl; ready = ready_weaker script tick m (2 ^ 61) lane h r.0 }, ready_each script tick m lanes h r.1)
+
+pub ready_turns : (script : Plan) (tick : ℕ) → length script.lanes ≤ 64 → tick < 4096 → AllByRecursion (IsReadyOne script tick) (numbered (lanes_at script tick))
+ready_turns script tick few low =
+    ready_each script tick (most_at tick) (lanes_at script tick) (omega (arith, posted_fits script tick few (omega arith))) (ready_at script tick few (omega arith))
+
+after_turns : (script : Plan) (tick m : ℕ) (lanes : List Lane) → AllReady script tick m lanes → AllReady script (tick + 1) (m + 20001) (map (turned script tick) lanes)
+after_turns script tick m [] r = tt
+after_turns script tick m (lane ∷ lanes) r = (ready-turned script tick m lane r.0, after_turns script tick m lanes r.1)
+
+pub ready_delivery : (script : Plan) (tick : ℕ) → length script.lanes ≤ 64 → tick < 4096 → AllByRecursion (IsReadyOne script (tick + 1)) (numbered (map (turned script tick) (lanes_at script tick)))
+ready_delivery script tick few low =
+    ready_each script (tick + 1) (most_at tick + 20001) (map (turned script tick) (lanes_at script tick)) (omega (arith, posted_fits script tick few (omega arith)))
+    (after_turns script tick (most_at tick) (lanes_at script tick) (ready_at script tick few (omega arith)))
+
+pub few_posted : (script : Plan) (tick : ℕ) (letters : List Letter) → length script.lanes ≤ 64 → tick < 4096 → letters ≡ posted_at script tick (lanes_at script tick) → length letters ≤ 2 ^ 60
+few_posted script tick letters few low e = omega (arith, posted_fits script tick few (omega arith), ap length e)
+
+-- ---- what comes back, in order
+
+pub turned_by_number : (script : Plan) (tick : ℕ) (old new : List Share) (sorted : List Numbered) → IsPermutation (numbered (lanes_at script tick)) (handed old) → CameBack script tick old new
+    → IsPermutation (handed new) sorted → IsNonDecreasingBy (λ (one : Numbered). one.number) sorted → sorted ≡ numbered (map (turned script tick) (lanes_at script tick))
+turned_by_number script tick old new sorted dealt back p up =
+    let lanes : List Lane = lanes_at script tick in
+    let same = numbered_step (turned script tick) (turned_number script tick) lanes in
+    let all : IsPermutation (map (turned_one script tick) (numbered lanes)) (handed new) = subst (IsPermutation (map (turned_one script tick) (numbered lanes))) (sym back.lanes) (IsPermutation-map (turned_one script tick) (numbered lanes) (handed old) dealt) in
+    let moved : IsPermutation (numbered (map (turned script tick) lanes)) sorted = subst (λ (l : List Numbered). IsPermutation l sorted) same (IsPermutation-trans _ _ _ all p) in
+    sorted_is (λ (one : Numbered). one.number) (numbered (map (turned script tick) lanes)) sorted moved up (numbered_rise (map (turned script tick) lanes) (turned_in_order script tick lanes (by_number_at script tick)))
+
+pub posted_by_sender : (script : Plan) (tick : ℕ) (old new : List Share) (letters merged : List Letter) → IsPermutation (numbered (lanes_at script tick)) (handed old) → CameBack script tick old new
+    → letters ≡ flat_map (λ (share : Share). share.tray) new → IsPermutation letters merged → InOrder merged → merged ≡ posted_at script tick (lanes_at script tick)
+posted_by_sender script tick old new letters merged dealt back e p up =
+    let lanes : List Lane = lanes_at script tick in
+    let now : List Letter = posted_at script tick lanes in
+    let order = by_number_at script tick in
+    let all : IsPermutation now (flat_map (out_of_one script tick) (handed old)) =
+    subst (λ (l : List Letter). IsPermutation l (flat_map (out_of_one script tick) (handed old))) (numbered_post script tick lanes) (flat_permuted (out_of_one script tick) (numbered lanes) (handed old) dealt) in
+    let moved : IsPermutation now merged = IsPermutation-trans _ _ _ (subst (IsPermutation now) (sym (e ∙ back.letters)) all) p in
+    sym (order_is_one now merged (posted_apart script tick lanes order) moved (posted_in_order script tick lanes order) up)

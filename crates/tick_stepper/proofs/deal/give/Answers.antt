@@ -1,0 +1,18 @@
+use Rattle.std.proofs.Common.{◌≡◌, ◌<◌, ◌++◌, [], ◌∷◌, List, length, ap, ◌∙◌, arith}
+use Rattle.std.proofs.lemmas.List.Elements.{All-set}
+use Rattle.tick_stepper.specs.declared.share.Share.{Share}
+use Rattle.tick_stepper.proofs.Handed.{given_more}
+use Rattle.tick_stepper.proofs.deal.give.Goals as goal
+
+pub returns-clause-lanes : goal.returns-clause-lanes
+returns-clause-lanes c =
+    let shares : List Share = c.args.shares.now.items in
+    let old : Share = c.index_mut.result.now in
+    let new : Share = record { worker = old.worker; lanes = c.push.new.self; tray = old.tray } in
+    given_more (λ (share : Share). share.lanes.items) shares c.args.worker new old c.args.lane (omega (arith, c.requires, c.args.shares.now.ok.0)) (c.in_ok-push.ensures.items ∙ ap (λ (share : Share). share.lanes.items ++ c.args.lane ∷ []) c.index_mut.ensures.value)
+
+pub returns-clause-trays : goal.returns-clause-trays
+returns-clause-trays c all =
+    let old : Share = c.index_mut.result.now in
+    let new : Share = record { worker = old.worker; lanes = c.push.new.self; tray = old.tray } in
+    All-set (λ (share : Share). share.tray ≡ []) c.args.shares.now.items c.args.worker new (ap (λ (share : Share). share.tray) c.index_mut.ensures.value ∙ all c.args.worker old (omega (arith, c.requires, c.args.shares.now.ok.0))) all

@@ -1,0 +1,30 @@
+use Rattle.std.proofs.Common.{◌≡◌, ℕ, ◌<◌, ◌≤◌, false, sym, ap, subst, ◌∙◌, arith}
+use Rattle.lane_turn.specs.Tick.{lanes_at}
+use Rattle.tick_stepper.specs.Stepper.{Steps}
+use Rattle.tick_stepper.proofs.Steppers.{lanes_of, lanes_are}
+use Rattle.tick_stepper.proofs.stepper.Stepper.run.Goals as goal
+
+pub loop-tick-init : goal.loop-tick-init
+loop-tick-init g c =
+    let s = c.self.inside in
+    let here : Steps = record { script = s.script; lanes = lanes_of s.lanes.items; tick = s.tick; spent = s.spent } in
+    let is : here ≡ record { script = s.script; lanes = lanes_at s.script s.tick; tick = s.tick; spent = false } =
+    λ i. record { script = s.script; lanes = lanes_are s.lanes.items (lanes_at s.script s.tick) (c.self.invariant.3 c.if-self.false) i; tick = s.tick; spent = c.if-self.false i } in
+    subst (λ (v : Steps). v ≡ record { script = v.script; lanes = lanes_at v.script s.tick; tick = s.tick; spent = false }) c.self.view_is is
+
+pub step-requires-clause-unspent : goal.step-requires-clause-unspent
+step-requires-clause-unspent g c κs _ = ap (λ (v : Steps). v.spent) c.loop-tick.invariant
+
+pub step-requires-clause-left : goal.step-requires-clause-left
+step-requires-clause-left g c κs _ =
+    let most : c.self.inside.script.ticks ≡ c.args.self.now.script.ticks = ap (λ (v : Steps). v.script.ticks) c.self.view_is in
+    let low : c.loop-tick._tick < c.args.self.now.script.ticks = omega (arith, most, c.ticks-tick-end.ensures.ticks, c.loop-tick-test.true) in
+    subst (λ (v : Steps). v.tick < v.script.ticks) (sym c.loop-tick.invariant) low
+
+pub returns-clause-ran : goal.returns-clause-ran
+returns-clause-ran g c =
+    let script = c.args.self.now.script in
+    let most : c.self.inside.script.ticks ≡ script.ticks = ap (λ (v : Steps). v.script.ticks) c.self.view_is in
+    let last = c.loop-tick.auto._tick-end (omega (arith, c.self.invariant.1, c.ticks-tick-end.ensures.ticks)) in
+    let end : c.loop-tick._tick ≡ script.ticks = omega (arith, most, last, c.ticks-tick-end.ensures.ticks, c.loop-tick-test.false) in
+    c.loop-tick.invariant ∙ ap (λ (k : ℕ). record { script = script; lanes = lanes_at script k; tick = k; spent = false }) end

@@ -1,0 +1,65 @@
+-- What a worker is handed, and what it gives back.
+use Rattle.std.specs.Prelude.{◌≡◌, ℕ, ◌^◌, Bool, false, nat_lt, length, Result, Ok, List, [], map}
+use Rattle.std.specs.List.{AllByRecursion, flat_map}
+use Rattle.loop_script.specs.declared.plan.Plan.{Plan}
+use Rattle.post_office.specs.declared.letter.Letter.{Letter}
+use Rattle.lane_turn.specs.Lane.{Lane, Kept}
+use Rattle.lane_turn.specs.Turn.{turned, out_of}
+use Rattle.lane_turn.specs.Sound.{IsReady}
+use Rattle.tick_stepper.specs.declared.share.Numbered.{Numbered}
+use Rattle.tick_stepper.specs.declared.share.Share.{Share}
+use Rattle.lane_turn.specs.declared.state.LaneFault.{LaneFault}
+
+-- a lane of which no call was refused memory
+abbrev pub unspent : Lane → Kept
+unspent lane = record { lane = lane; spent = false }
+
+-- a lane with its number, and lanes with theirs
+abbrev pub numbered_one : Lane → Numbered
+numbered_one lane = record { number = lane.number; state = unspent lane }
+
+abbrev pub numbered : List Lane → List Numbered
+numbered lanes = map numbered_one lanes
+
+-- a lane after a step, its turn among them, and what it posts in its turn
+abbrev pub stepped_one : (Lane → Lane) → Numbered → Numbered
+stepped_one step one = record { number = one.number; state = unspent (step one.state.lane) }
+
+abbrev pub turned_one : Plan → ℕ → Numbered → Numbered
+turned_one script tick one = stepped_one (turned script tick) one
+
+abbrev pub out_of_one : Plan → ℕ → Numbered → List Letter
+out_of_one script tick one = out_of script tick one.state.lane
+
+-- a lane that may take its turn at a tick, or the delivery before it
+pub record IsReadyOne (script : Plan) (tick : ℕ) (one : Numbered) : Type 0 where
+  pub unspent : one.state.spent ≡ false
+  pub ready : IsReady script tick (2 ^ 61) one.state.lane
+
+-- lanes that may take their turns, and an empty tray
+pub record IsFresh (script : Plan) (tick : ℕ) (share : Share) : Type 0 where
+  pub lanes : AllByRecursion (IsReadyOne script tick) share.lanes.items
+  pub tray : share.tray ≡ []
+
+-- the lanes after their turns, in their order, and what they posted
+pub record IsTurned (script : Plan) (tick : ℕ) (old new : Share) : Type 0 where
+  pub lanes : new.lanes.items ≡ map (turned_one script tick) old.lanes.items
+  pub letters : new.tray ≡ flat_map (out_of_one script tick) old.lanes.items
+
+-- whether a worker is started
+abbrev pub has_lanes : Share → Bool
+has_lanes share = nat_lt 0 (length share.lanes.items)
+
+-- the lanes of all shares, and their letters
+abbrev pub handed : List Share → List Numbered
+handed shares = flat_map (λ share. share.lanes.items) shares
+
+abbrev pub carried : List Share → List Letter
+carried shares = flat_map (λ share. share.tray) shares
+
+-- no worker failed, and these are the lanes and the letters of their shares
+pub record IsGathered (hauls : List (Result Share LaneFault)) (lanes : List Numbered) (letters : List Letter) : Type 0 where
+  pub shares : List Share
+  pub all : hauls ≡ map Ok shares
+  pub back : lanes ≡ handed shares
+  pub posted : letters ≡ carried shares

@@ -1,0 +1,95 @@
+//! Lanes go to their workers, and come back.
+ghost use Rattle.std.specs.Prelude.{◌≡◌, ◌<◌, [], ◌∷◌, OnOk, IfOk, true, vec_len, IsPermutation};
+ghost use Rattle.std.specs.List.{All, filter};
+ghost use Rattle.tick_stepper.specs.Crew.{worker_of};
+ghost use Rattle.tick_stepper.specs.Share.{has_lanes, handed, IsGathered};
+
+use crate::crew::Crew;
+use crate::share::{Numbered, Share};
+use lane_turn::LaneFault;
+use post_office::{Letter, Tray};
+use std::alloc::{AllocError, Global};
+
+/// A share for each worker, without a lane.
+fn empty_shares(alloc: Global, workers: u32) -> Result<Vec<Share>, AllocError>
+    ensures one_each { IfOk result (λ shares. vec_len shares ≡ workers) }
+    ensures lanes { IfOk result (λ shares. handed shares.items ≡ []) }
+    ensures trays { IfOk result (λ shares. All (λ share. share.tray ≡ []) shares.items) }
+{
+    let mut shares = Vec::new(alloc);
+    for worker in 0..workers {
+        shares.push(Share {
+            worker,
+            lanes: Vec::new(alloc),
+            tray: Tray::new(alloc),
+        })?;
+    }
+    Ok(shares)
+}
+
+/// Leaves out the shares without a lane, whose workers are not started.
+fn leave_out_idle(shares: &mut Vec<Share>)
+    ensures { shares.new.items ≡ filter has_lanes shares.old.items }
+{
+    shares.retain(|share| !share.lanes.is_empty());
+}
+
+/// Hands a lane to a worker.
+fn give(shares: &mut Vec<Share>, worker: u32, lane: Numbered) -> Result<(), AllocError>
+    requires { worker < vec_len shares.old }
+    ensures lanes { OnOk result (IsPermutation (handed shares.new.items) (lane ∷ handed shares.old.items)) }
+    ensures trays { OnOk result (All (λ share. share.tray ≡ []) shares.old.items → All (λ share. share.tray ≡ []) shares.new.items) }
+    ensures as_many { vec_len shares.new ≡ vec_len shares.old }
+{
+    shares[worker as usize].lanes.push(lane)?;
+    Ok(())
+}
+
+/// Hands each lane to its worker: a share for each worker, with an empty tray.
+fn hand_out(alloc: Global, crew: &Crew, lanes: Vec<Numbered>) -> Result<Vec<Share>, AllocError>
+    requires some { 0 < crew.now.workers }
+    requires named { All (λ one. worker_of crew.now one.number < crew.now.workers) lanes.items }
+    ensures lanes { IfOk result (λ shares. IsPermutation lanes.items (handed shares.items)) }
+    ensures trays { IfOk result (λ shares. All (λ share. share.tray ≡ []) shares.items) }
+{
+    let mut shares = empty_shares(alloc, crew.workers)?;
+    for lane in lanes {
+        let worker = crew.worker_of(lane.number);
+        give(&mut shares, worker, lane)?;
+    }
+    Ok(shares)
+}
+
+/// Deals lanes out to their workers: a share for each that has some, with an empty tray.
+pub(crate) fn deal(
+    alloc: Global,
+    crew: &Crew,
+    lanes: Vec<Numbered>,
+) -> Result<Vec<Share>, AllocError>
+    requires some { 0 < crew.now.workers }
+    requires named { All (λ one. worker_of crew.now one.number < crew.now.workers) lanes.items }
+    ensures lanes { IfOk result (λ shares. IsPermutation lanes.items (handed shares.items)) }
+    ensures trays { IfOk result (λ shares. All (λ share. share.tray ≡ []) shares.items) }
+    ensures busy { IfOk result (λ shares. All (λ share. has_lanes share ≡ true) shares.items) }
+{
+    let mut shares = hand_out(alloc, crew, lanes)?;
+    leave_out_idle(&mut shares);
+    Ok(shares)
+}
+
+/// All lanes and letters that the workers bring back, where none failed.
+pub(crate) fn gather(
+    alloc: Global,
+    hauls: Vec<Result<Share, LaneFault>>,
+) -> Result<(Vec<Numbered>, Vec<Letter>), LaneFault>
+    ensures { IfOk result (λ r. IsGathered hauls.items r.0.items r.1.items) }
+{
+    let mut lanes = Vec::new(alloc);
+    let mut letters = Vec::new(alloc);
+    for haul in hauls {
+        let mut share = haul?;
+        lanes.append(&mut share.lanes)?;
+        letters.append(&mut share.tray.into_letters())?;
+    }
+    Ok((lanes, letters))
+}

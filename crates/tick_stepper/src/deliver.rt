@@ -1,0 +1,28 @@
+//! What a tick's turns posted is delivered.
+ghost use Rattle.std.specs.Prelude.{◌≡◌, ◌+◌, ◌^◌, ◌<◌, ◌≤◌, map, length, OnOk};
+ghost use Rattle.std.specs.List.{AllByRecursion};
+ghost use Rattle.lane_turn.specs.Deliver.{received_all};
+ghost use Rattle.tick_stepper.specs.Share.{stepped_one, IsReadyOne};
+
+use crate::share::Numbered;
+use lane_turn::LaneFault;
+use loop_script::Script;
+use post_office::Letter;
+
+/// Delivers the letters of a tick to all lanes, after their turns.
+pub(crate) fn deliver_all(
+    script: &Script,
+    tick: u32,
+    lanes: &mut [Numbered],
+    letters: &[Letter],
+) -> Result<(), LaneFault>
+    requires tick { tick < 4096 }
+    requires ready { AllByRecursion (IsReadyOne script.now (tick + 1)) lanes.old }
+    requires few { length letters.now ≤ 2 ^ 60 }
+    ensures { OnOk result (lanes.new ≡ map (stepped_one (received_all script.now tick letters.now)) lanes.old) }
+{
+    for lane in lanes.iter_mut() {
+        lane.state.deliver(script, tick, letters)?;
+    }
+    Ok(())
+}

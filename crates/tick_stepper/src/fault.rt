@@ -1,0 +1,55 @@
+//! Why a call of a stepper was refused.
+use lane_turn::LaneFault;
+use std::alloc::AllocError;
+use thiserror::Error;
+
+/// Why a call of a stepper was refused.
+#[derive(Clone, Copy, Debug, PartialEq, Eq, Error)]
+pub enum StepFault {
+    /// The workers are none, or more than 64.
+    #[error("workers")]
+    Workers,
+    /// The table does not name one of the workers for each lane.
+    #[error("table")]
+    Table,
+    /// A request for memory was refused.
+    #[error("memory")]
+    OutOfMemory,
+    /// An earlier call was refused memory, so the lanes are not those of any tick.
+    #[error("spent")]
+    Spent,
+}
+
+/// A request for memory was refused.
+#[derive(Clone, Copy)]
+pub(crate) struct OutOfMemory;
+
+impl From<OutOfMemory> for StepFault {
+    ghost use Rattle.std.specs.Prelude.{◌≡◌};
+    ghost use Rattle.tick_stepper.specs.declared.fault.StepFault.TheVariants as faults;
+
+    ghost from_gives = { λ _ fault. fault ≡ faults.OutOfMemory };
+
+    fn from(_: OutOfMemory) -> Self {
+        StepFault::OutOfMemory
+    }
+}
+
+impl From<AllocError> for OutOfMemory {
+    fn from(_: AllocError) -> Self {
+        OutOfMemory
+    }
+}
+
+/// A lane that was not spent is refused a turn or a delivery for want of memory alone.
+impl From<LaneFault> for OutOfMemory {
+    fn from(_: LaneFault) -> Self {
+        OutOfMemory
+    }
+}
+
+impl From<post_office::OutOfMemory> for OutOfMemory {
+    fn from(_: post_office::OutOfMemory) -> Self {
+        OutOfMemory
+    }
+}

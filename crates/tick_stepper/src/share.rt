@@ -1,0 +1,68 @@
+//! What a worker does in a tick.
+ghost use Rattle.std.specs.Prelude.{◌≡◌, ◌<◌, ◌++◌, map, OnOk, IfOk};
+ghost use Rattle.std.specs.List.{AllByRecursion, flat_map};
+ghost use Rattle.tick_stepper.specs.Share.{turned_one, out_of_one, IsReadyOne, IsFresh, IsTurned};
+
+use crate::gate::Gate;
+use lane_turn::{LaneFault, LaneState};
+use loop_script::Script;
+use post_office::Tray;
+
+/// A lane, and its number.
+#[derive(Drop)]
+pub(crate) struct Numbered {
+    pub(crate) number: u32,
+    pub(crate) state: LaneState,
+}
+
+/// What a worker is handed and gives back: lanes, and a tray for what these post.
+#[derive(Drop)]
+pub(crate) struct Share {
+    pub(crate) worker: u32,
+    pub(crate) lanes: Vec<Numbered>,
+    pub(crate) tray: Tray,
+}
+
+/// Lanes take their turns in order, each by one call of the gate, and post to one tray.
+fn take_turns<G: Gate>(
+    gate: &G,
+    script: &Script,
+    tick: u32,
+    worker: u32,
+    lanes: &mut [Numbered],
+    tray: &mut Tray,
+) -> Result<(), LaneFault>
+    requires tick { tick < 4096 }
+    requires ready { AllByRecursion (IsReadyOne script.now tick) lanes.old }
+    ensures turned { OnOk result (lanes.new ≡ map (turned_one script.now tick) lanes.old) }
+    ensures letters { OnOk result (tray.new ≡ tray.old ++ flat_map (out_of_one script.now tick) lanes.old) }
+{
+    for lane in lanes.iter_mut() {
+        gate.turn(worker, lane.number, &mut lane.state, script, tick, tray)?;
+    }
+    Ok(())
+}
+
+/// The lanes of a share take their turns.
+pub(crate) fn turn_share<G: Gate>(
+    gate: &G,
+    script: &Script,
+    tick: u32,
+    share: Share,
+) -> Result<Share, LaneFault>
+    requires tick { tick < 4096 }
+    requires fresh { IsFresh script.now tick share }
+    ensures { IfOk result (IsTurned script.now tick share) }
+{
+    let Share {
+        worker,
+        mut lanes,
+        mut tray,
+    } = share;
+    take_turns(gate, script, tick, worker, lanes.as_mut_slice(), &mut tray)?;
+    Ok(Share {
+        worker,
+        lanes,
+        tray,
+    })
+}
