@@ -10,6 +10,8 @@ mod oracle;
 #[cfg(test)]
 mod plain;
 #[cfg(test)]
+mod queue_tests;
+#[cfg(test)]
 mod read_tests;
 #[cfg(test)]
 mod rows_tests;
