@@ -39,21 +39,21 @@ use Rattle.lane_turn.proofs.Turns.{kept_finished}
 
 -- ---- whose contexts are
 
-own_held : (contexts : List (Option Context)) (i : ℕ) → is_some (known (slice_get contexts i)) ≡ slice_index_or (held_of contexts) i false
+pub own_held : (contexts : List (Option Context)) (i : ℕ) → is_some (known (slice_get contexts i)) ≡ slice_index_or (held_of contexts) i false
 own_held [] i = refl
 own_held (None ∷ contexts) zero = refl
 own_held (Some c ∷ contexts) zero = refl
 own_held (o ∷ contexts) (suc i) = own_held contexts i
 
-held_turned : (script : Plan) (tick : ℕ) (lane : Lane) → held_of (turned script tick lane).contexts ≡ held_of lane.contexts
+pub held_turned : (script : Plan) (tick : ℕ) (lane : Lane) → held_of (turned script tick lane).contexts ≡ held_of lane.contexts
 held_turned script tick lane =
     kept_finished script tick (λ t. held_of t.lane.contexts ≡ held_of lane.contexts) (λ t u e h. (step_tells script tick t u e).holds ∙ h) (begun tick lane) refl
 
-held_received : (script : Plan) (tick : ℕ) (letters : List Letter) (lane : Lane) → held_of (received_all script tick letters lane).contexts ≡ held_of lane.contexts
+pub held_received : (script : Plan) (tick : ℕ) (letters : List Letter) (lane : Lane) → held_of (received_all script tick letters lane).contexts ≡ held_of lane.contexts
 held_received script tick [] lane = refl
 held_received script tick (l ∷ letters) lane = held_received script tick letters (received script tick l lane) ∙ (received_steady script tick l.sender l.body lane).holds
 
-length_held : (script : Plan) (lane k : ℕ) → length (held_of (open_contexts_to script lane k)) ≡ k
+pub length_held : (script : Plan) (lane k : ℕ) → length (held_of (open_contexts_to script lane k)) ≡ k
 length_held script lane zero = refl
 length_held script lane (suc k) = length_push (open_contexts_to script lane k) (open_context script lane k) ∙ ap suc (length_held script lane k)
   where
@@ -90,7 +90,7 @@ open_by script lane k i false e h f =
     at_push (open_contexts_to script lane k) (open_context script lane k) i (omega (arith, same, length_held script lane k))
     ∙ (open_held script lane k ∙ ap (λ (n : ℕ). home_of script n == lane) (sym same))
 
-open_at : (script : Plan) (lane k i : ℕ) → i < k → slice_index_or (held_of (open_contexts_to script lane k)) i false ≡ (home_of script i == lane)
+pub open_at : (script : Plan) (lane k i : ℕ) → i < k → slice_index_or (held_of (open_contexts_to script lane k)) i false ≡ (home_of script i == lane)
 open_at script lane zero i h = absurd (omega (arith, h))
 open_at script lane (suc k) i h = open_by script lane k i (nat_lt i k) refl h (λ lt. open_at script lane k i lt)
 
@@ -220,7 +220,7 @@ next_other f (o ∷ contexts) zero (suc j) h = refl
 next_other f (o ∷ contexts) (suc i) zero h = refl
 next_other f (o ∷ contexts) (suc i) (suc j) h = next_other f contexts i j (λ e. h (ap suc e))
 
-next_more : (f : Context → Context) → ((c : Context) → (f c).rows.next_id ≡ c.rows.next_id + 1) → (contexts : List (Option Context)) (i : ℕ) → is_some (known (slice_get contexts i)) ≡ true
+pub next_more : (f : Context → Context) → ((c : Context) → (f c).rows.next_id ≡ c.rows.next_id + 1) → (contexts : List (Option Context)) (i : ℕ) → is_some (known (slice_get contexts i)) ≡ true
     → next_id (known (slice_get (slice_set contexts i (option_map f (known (slice_get contexts i)))) i)) ≡ next_id (known (slice_get contexts i)) + 1
 next_more f e [] i h = let no : false ≡ true = h in cc
 next_more f e (None ∷ contexts) zero h = let no : false ≡ true = h in cc
@@ -292,7 +292,7 @@ letter_adds context script tick sender (mails.Attach d spec) lane h = attach_add
 letter_adds context script tick sender (mails.Complete reply) lane h = reply_adds context tick (time_of script tick) sender reply lane (is_some (own reply.ctx lane)) refl h
 letter_adds context script tick sender (mails.Cancelled c) lane h = adds_none context lane (cancel script tick c lane) (calm_cancel context script tick c lane)
 
-still_has : (context : ℕ) (script : Plan) (tick sender : ℕ) (body : Mail) (lane : Lane) → is_some (own context (received_body script tick sender body lane)) ≡ is_some (own context lane)
+pub still_has : (context : ℕ) (script : Plan) (tick sender : ℕ) (body : Mail) (lane : Lane) → is_some (own context (received_body script tick sender body lane)) ≡ is_some (own context lane)
 still_has context script tick sender body lane =
     let after : Lane = received_body script tick sender body lane in
     own_held after.contexts context ∙ (ap (λ bs. slice_index_or bs context false) (received_steady script tick sender body lane).holds ∙ sym (own_held lane.contexts context))

@@ -19,7 +19,17 @@ pub mod Behind
 pub mod Delivered
 pub mod Views
 pub mod Arrivals
+pub mod Ends
+pub mod Keeps
+pub mod Owing
 pub mod Opening
 pub mod Runs
 pub mod Iterations
 pub mod Grown
+pub mod Owed
+pub mod Leaves
+pub mod Taking
+pub mod Moving
+pub mod Brought
+pub mod Taken
+pub mod Lost

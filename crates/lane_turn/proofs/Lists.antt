@@ -16,9 +16,9 @@ pub each-filter : (P : Row → Type 0) (p : Row → Bool) (rows : List Row) → 
 each-filter P p [] h = tt
 each-filter P p (r ∷ rows) h = each_kept P p r rows (p r) h.0 (each-filter P p rows h.1)
 
-pub each-push : (P : Row → Type 0) (rows : List Row) (r : Row) → AllByRecursion P rows → P r → AllByRecursion P (rows ++ r ∷ [])
-each-push P [] r h p = (p, tt)
-each-push P (q ∷ rows) r h p = (h.0, each-push P rows r h.1 p)
+pub each-push : {A : Type 0} (P : A → Type 0) (xs : List A) (x : A) → AllByRecursion P xs → P x → AllByRecursion P (xs ++ x ∷ [])
+each-push P [] x h p = (p, tt)
+each-push P (y ∷ xs) x h p = (h.0, each-push P xs x h.1 p)
 
 pub each_weaker : (P Q : Row → Type 0) (f : (r : Row) → P r → Q r) (rows : List Row) → AllByRecursion P rows → AllByRecursion Q rows
 each_weaker P Q f [] h = tt

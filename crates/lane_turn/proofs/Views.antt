@@ -97,7 +97,7 @@ left_too : (x y : Bool) → x ≡ true → (x || y) ≡ true
 left_too x y e = ap (λ b. b || y) e
 
 -- where no lane has so many cancellables, none is seen
-beyond : (ms : List Bool) (c : ℕ) → length ms ≤ c → slice_index_or ms c false ≡ false
+pub beyond : (ms : List Bool) (c : ℕ) → length ms ≤ c → slice_index_or ms c false ≡ false
 beyond [] c h = refl
 beyond (m ∷ ms) zero h = absurd (omega (arith, h))
 beyond (m ∷ ms) (suc c) h = beyond ms c (omega (arith, h))

@@ -13,6 +13,8 @@ pub mod Tick
 pub mod Letters
 pub mod Views
 pub mod Arrivals
+pub mod Owed
+pub mod Taken
 pub mod Polls
 pub mod Sound
 pub mod Meaning

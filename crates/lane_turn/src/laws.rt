@@ -5,6 +5,8 @@ ghost use Rattle.lane_turn.specs.Levels.{LevelsHold};
 ghost use Rattle.lane_turn.specs.Letters.{LettersTell};
 ghost use Rattle.lane_turn.specs.Views.{ViewsAgree};
 ghost use Rattle.lane_turn.specs.Arrivals.{LettersArrive};
+ghost use Rattle.lane_turn.specs.Owed.{RepliesComeOnce};
+ghost use Rattle.lane_turn.specs.Taken.{RepliesAreTakenOnce};
 
 /// A turn leaves a lane with no step left: it rests, has ended or is halted.
 pub fn turns_end()
@@ -43,4 +45,17 @@ pub fn views_agree()
 /// letters, and with the line `arrive`.
 pub fn letters_arrive()
     ensures { LettersArrive }
+{}
+
+/// Of each task of a lane there is one reply, whatever letters the lane is sent: until it is posted it is owed, by a task that
+/// is still to be started or goes on, and it is posted once. The lanes of a run are such lanes.
+pub fn replies_come_once()
+    ensures { RepliesComeOnce }
+{}
+
+/// What came to a lane of a task's replies it holds still, or it told the result, each once, whatever letters it is sent. So of
+/// each task of a run at most one result is told, in all lanes together, and none as long as a reply of it is held; and no
+/// reply is lost: what a lane posted in earlier ticks is held, or its result was told.
+pub fn replies_are_taken_once()
+    ensures { RepliesAreTakenOnce }
 {}

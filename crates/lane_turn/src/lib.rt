@@ -26,7 +26,8 @@ mod tally;
 mod turn;
 
 pub use laws::{
-    iterations_go_on, letters_arrive, letters_tell, levels_go_by_version, turns_end, views_agree,
+    iterations_go_on, letters_arrive, letters_tell, levels_go_by_version, replies_are_taken_once,
+    replies_come_once, turns_end, views_agree,
 };
 pub use line::{Event, Invoked, Line, Word};
 pub use parts::Status;

@@ -16,7 +16,7 @@ use crate::slot::Held;
 use context_core::{Context, DefaultStack};
 use lane_watch::Watch;
 use loop_script::{Body, Script};
-use post_office::{Letter, Post};
+use post_office::{Letter, Numbered, Post};
 use source_rows::Levels;
 use std::alloc::{AllocError, Global};
 use std::collections::BTreeMap;
@@ -263,5 +263,13 @@ impl LaneState {
         ensures { IsTrue result ↔ (self.now.lane.status ≡ Status.Halted) }
     {
         self.parts.status == Status::Halted
+    }
+}
+
+impl Numbered for LaneState {
+    ghost number_of = { λ s. s.lane.number };
+
+    fn number(&self) -> u32 {
+        self.parts.number
     }
 }

@@ -1,0 +1,323 @@
+-- What tells no result, leaves the replies that are held, and lowers no next id.
+use Rattle.std.proofs.Common.{◌≡◌, ℕ, ℤ, zero, suc, ◌+◌, ◌-◌, ◌<◌, ◌≤◌, ◌==◌, Bool, true, false, cond, Option, Some, None, List, [], ◌∷◌, ◌++◌, slice_set, length, take, refl, ap, sym, ◌∙◌, arith, subst}
+use Rattle.std.specs.Prelude.{nat_lt, is_some, is_none, not, ◌&&◌, slice_get, option_map, unwrap_or}
+use Rattle.std.specs.List.{AllByRecursion}
+use Rattle.std.proofs.lemmas.List.{length-set}
+use Rattle.std.proofs.lemmas.List.Sums.{sum_by_push}
+use Rattle.loop_script.specs.declared.plan.Plan.{Plan}
+use Rattle.loop_script.specs.declared.source.SourceSpec.{SourceSpec}
+use Rattle.loop_script.specs.declared.source.Kind.{Kind}
+use Rattle.loop_script.specs.declared.source.Kind.TheVariants as kinds
+use Rattle.loop_script.specs.declared.task.TaskSpec.{TaskSpec}
+use Rattle.loop_script.specs.declared.action.Action.{Action}
+use Rattle.loop_script.specs.declared.action.Action.TheVariants.{Attach, Child, Destroy, SetReady, SetPriority, Iterate, Pending, Run, Quit, Cancel, Connect, Disconnect, Task, Push, Pop, ShowDefault, Acquire, Release, Invoke, Give, Log}
+use Rattle.loop_script.specs.declared.body.Body.{Body}
+use Rattle.loop_script.specs.declared.body.Body.TheVariants.{Procedure}
+use Rattle.loop_script.specs.Parts.{time_of, actions_of, context_of, stays}
+use Rattle.source_rows.specs.declared.row.Row.{Row}
+use Rattle.source_rows.specs.Rows.{RowSet, attached, child_added, destroyed, ready_set, reprioritised, priority_fault, row_of as row_with}
+use Rattle.context_core.specs.declared.context.Context.{Context}
+use Rattle.context_core.specs.Defaults.{acquired, released, pushed, popped, is_on_top}
+use Rattle.cancel_view.specs.declared.handler.Fired.{Fired}
+use Rattle.cancel_view.specs.Seen.{has, fired, cancelled, may_disconnect}
+use Rattle.lane_watch.specs.Tasks.{Started}
+use Rattle.lane_turn.specs.declared.line.Line.{Line}
+use Rattle.lane_turn.specs.declared.line.Event.{Event}
+use Rattle.lane_turn.specs.declared.line.Event.TheVariants as events
+use Rattle.lane_turn.specs.declared.line.Invoked.TheVariants.{Direct, Attached, Posted}
+use Rattle.lane_turn.specs.declared.line.Word.{Word}
+use Rattle.lane_turn.specs.declared.line.Word.TheVariants as words
+use Rattle.lane_turn.specs.declared.layer.Origin.{Origin}
+use Rattle.lane_turn.specs.declared.layer.Origin.TheVariants.{Start, Source, Invoke as Invoked}
+use Rattle.lane_turn.specs.declared.slot.Place.{Place}
+use Rattle.lane_turn.specs.Frames.{calls}
+use Rattle.lane_turn.specs.Sources.{restarted, restarted_row, restarted_kind}
+use Rattle.lane_turn.specs.Lane.{Lane, known, own, next_id, with_rows, with_context, edited, row_at, place_at, handler_at, written, viewing, noting}
+use Rattle.lane_turn.specs.Owned.{default_context, is_owned, may_release, invoke_spec, calling, called_at_once, attaching, invoke_own, invoke}
+use Rattle.lane_turn.specs.Acted.{attach, acted, start_task, born, can_bear, child_of, on_source, set_priority_of, plain_acted, all_acted, handled, all_handled, cancel, connect, disconnect_of}
+use Rattle.lane_turn.specs.Step.{returned, answered}
+use Rattle.lane_turn.specs.Owed.{one_for}
+use Rattle.lane_turn.specs.Taken.{is_result, results}
+use Rattle.lane_turn.proofs.Lists.{each-push}
+
+-- no context's next id falls
+abbrev pub Rises : (before after : List (Option Context)) → Type 0
+Rises before after = (i : ℕ) → next_id (known (slice_get before i)) ≤ next_id (known (slice_get after i))
+
+-- of m contexts are those that were pushed, and those to which tasks reply
+abbrev pub ArePlaced : ℕ → List Started → Type 0
+ArePlaced m tasks = AllByRecursion (λ t. t.ctx < m) tasks
+
+pub record IsPlaced (m : ℕ) (lane : Lane) : Type 0 where
+  pub all : length lane.contexts ≡ m
+  pub defaults : AllByRecursion (λ c. c < m) lane.defaults
+  pub tasks : ArePlaced m lane.tasks.started
+
+pub record Leaves (s n : ℕ) (lane after : Lane) : Type 0 where
+  pub told : results s n after.trace ≡ results s n lane.trace
+  pub replies : after.replies ≡ lane.replies
+  pub rise : Rises lane.contexts after.contexts
+  pub place : (m : ℕ) → 0 < m → IsPlaced m lane → IsPlaced m after
+
+-- ---- lines
+
+pub results_push : (s n tick : ℕ) (event : Event) (lines : List Line) → results s n (lines ++ (record { tick = tick; event = event }) ∷ []) ≡ results s n lines + one_for (is_result s n event)
+results_push s n tick event lines = sum_by_push (λ (line : Line). cond (is_result s n line.event) 1 0) lines (record { tick = tick; event = event })
+
+pub results_other : (s n tick : ℕ) (event : Event) (lines : List Line) → is_result s n event ≡ false → results s n (lines ++ (record { tick = tick; event = event }) ∷ []) ≡ results s n lines
+results_other s n tick event lines e = results_push s n tick event lines ∙ (ap (λ b. results s n lines + one_for b) e ∙ omega arith)
+
+-- ---- contexts
+
+rises_changed : (f : Context → Context) → ((c : Context) → c.rows.next_id ≤ (f c).rows.next_id) → (contexts : List (Option Context)) (i j : ℕ) → next_id (known (slice_get contexts j)) ≤ next_id (known (slice_get (slice_set contexts i (option_map f (known (slice_get contexts i)))) j))
+rises_changed f e [] i j = omega arith
+rises_changed f e (None ∷ contexts) zero zero = omega arith
+rises_changed f e (Some c ∷ contexts) zero zero = e c
+rises_changed f e (o ∷ contexts) zero (suc j) = omega arith
+rises_changed f e (o ∷ contexts) (suc i) zero = omega arith
+rises_changed f e (o ∷ contexts) (suc i) (suc j) = rises_changed f e contexts i j
+
+-- ---- forms
+
+pub place_same : (m : ℕ) (lane after : Lane) → length after.contexts ≡ length lane.contexts → after.defaults ≡ lane.defaults → after.tasks.started ≡ lane.tasks.started → IsPlaced m lane → IsPlaced m after
+place_same m lane after c d t p = record { all = c ∙ p.all; defaults = subst (AllByRecursion (λ c. c < m)) (sym d) p.defaults; tasks = subst (ArePlaced m) (sym t) p.tasks }
+
+pub same : (s n : ℕ) (lane after : Lane) → after.trace ≡ lane.trace → after.replies ≡ lane.replies → after.contexts ≡ lane.contexts → after.defaults ≡ lane.defaults → after.tasks.started ≡ lane.tasks.started → Leaves s n lane after
+same s n lane after t r c d ts = record {
+  told = ap (results s n) t;
+  replies = r;
+  rise = subst (Rises lane.contexts) (sym c) (λ i. omega arith);
+  place = λ m z p. place_same m lane after (ap (λ (cs : List (Option Context)). length cs) c) d ts p;
+}
+
+pub line : (s n : ℕ) (lane : Lane) (tick : ℕ) (event : Event) → is_result s n event ≡ false → Leaves s n lane (written tick event lane)
+line s n lane tick event e = record { told = results_other s n tick event lane.trace e; replies = refl; rise = λ i. omega arith; place = λ m z p. place_same m lane (written tick event lane) refl refl refl p }
+
+change : (s n : ℕ) (lane : Lane) (context : ℕ) (f : Context → Context) → ((c : Context) → c.rows.next_id ≤ (f c).rows.next_id) → Leaves s n lane (with_context context f lane)
+change s n lane context f e = record {
+  told = refl;
+  replies = refl;
+  rise = rises_changed f e lane.contexts context;
+  place = λ m z p. place_same m lane (with_context context f lane) (let size : length (slice_set lane.contexts context (option_map f (own context lane))) ≡ length lane.contexts = simp length-set in size) refl refl p;
+}
+
+pub edit : (s n : ℕ) (lane : Lane) (context : ℕ) (f : RowSet → RowSet) → ((rows : RowSet) → rows.next_id ≤ (f rows).next_id) → Leaves s n lane (edited context f lane)
+edit s n lane context f e = change s n lane context (with_rows f) (λ c. e c.rows)
+
+pub leaves_trans : (s n : ℕ) (a b c : Lane) → Leaves s n a b → Leaves s n b c → Leaves s n a c
+leaves_trans s n a b c h g = record { told = g.told ∙ h.told; replies = g.replies ∙ h.replies; rise = λ i. omega (arith, h.rise i, g.rise i); place = λ m z p. g.place m z (h.place m z p) }
+
+pub either : (s n : ℕ) (lane x y : Lane) (b : Bool) → Leaves s n lane x → Leaves s n lane y → Leaves s n lane (cond b x y)
+either s n lane x y true p q = p
+either s n lane x y false p q = q
+
+-- ---- handlers
+
+leaves_source : (s n tick : ℕ) (word : Word) (f : ℕ → RowSet → RowSet) (o : Option Place) (lane : Lane) → ((id : ℕ) (rows : RowSet) → rows.next_id ≤ (f id rows).next_id) → Leaves s n lane (on_source tick word f o lane)
+leaves_source s n tick word f None lane e = line s n lane tick (events.Miss word) refl
+leaves_source s n tick word f (Some place) lane e = either s n lane _ _ (is_some (row_at place lane)) (edit s n lane place.context (f place.id) (e place.id)) (line s n lane tick (events.Miss word) refl)
+
+leaves_one : (s n : ℕ) (script : Plan) (tick : ℕ) (action : Action) (lane : Lane) → Leaves s n lane (plain_acted script tick action lane)
+leaves_one s n script tick (Attach context slot spec) lane = same s n lane lane refl refl refl refl refl
+leaves_one s n script tick (Child parent slot spec) lane = same s n lane lane refl refl refl refl refl
+leaves_one s n script tick (Destroy slot) lane = leaves_source s n tick words.Destroy destroyed (place_at slot lane) lane (λ id rows. omega arith)
+leaves_one s n script tick (SetReady slot us) lane = leaves_source s n tick words.SetReady (λ id. ready_set id us) (place_at slot lane) lane (λ id rows. omega arith)
+leaves_one s n script tick (SetPriority slot priority) lane = same s n lane lane refl refl refl refl refl
+leaves_one s n script tick (Iterate context) lane = same s n lane lane refl refl refl refl refl
+leaves_one s n script tick (Pending context) lane = same s n lane lane refl refl refl refl refl
+leaves_one s n script tick (Run number) lane = same s n lane lane refl refl refl refl refl
+leaves_one s n script tick (Quit number) lane = either s n lane _ _ (is_some (own (context_of script number) lane)) (same s n lane _ refl refl refl refl refl) (line s n lane tick (events.Miss words.Quit) refl)
+leaves_one s n script tick (Cancel c) lane = same s n lane lane refl refl refl refl refl
+leaves_one s n script tick (Connect c slot proc) lane = same s n lane lane refl refl refl refl refl
+leaves_one s n script tick (Disconnect slot) lane = same s n lane lane refl refl refl refl refl
+leaves_one s n script tick (Task spec) lane = same s n lane lane refl refl refl refl refl
+leaves_one s n script tick (Push context) lane = same s n lane lane refl refl refl refl refl
+leaves_one s n script tick (Pop context) lane = same s n lane lane refl refl refl refl refl
+leaves_one s n script tick ShowDefault lane = same s n lane lane refl refl refl refl refl
+leaves_one s n script tick (Acquire context) lane = same s n lane lane refl refl refl refl refl
+leaves_one s n script tick (Release context) lane = same s n lane lane refl refl refl refl refl
+leaves_one s n script tick (Invoke context proc) lane = same s n lane lane refl refl refl refl refl
+leaves_one s n script tick (Give context to) lane = same s n lane lane refl refl refl refl refl
+leaves_one s n script tick (Log m) lane = line s n lane tick (events.Log m) refl
+
+leaves_all : (s n : ℕ) (script : Plan) (tick : ℕ) (actions : List Action) (lane : Lane) → Leaves s n lane (all_acted script tick actions lane)
+leaves_all s n script tick [] lane = same s n lane lane refl refl refl refl refl
+leaves_all s n script tick (a ∷ actions) lane = leaves_trans s n lane _ _ (leaves_one s n script tick a lane) (leaves_all s n script tick actions (plain_acted script tick a lane))
+
+leaves_handled : (s n : ℕ) (script : Plan) (tick : ℕ) (f : Fired) (lane : Lane) → Leaves s n lane (handled script tick f lane)
+leaves_handled s n script tick f lane =
+    let told : Lane = written tick (events.Handler f.id) lane in
+    leaves_trans s n lane told _ (line s n lane tick (events.Handler f.id) refl) (leaves_all s n script tick (actions_of script (Procedure f.proc)) told)
+
+leaves_all_handled : (s n : ℕ) (script : Plan) (tick : ℕ) (fs : List Fired) (lane : Lane) → Leaves s n lane (all_handled script tick fs lane)
+leaves_all_handled s n script tick [] lane = same s n lane lane refl refl refl refl refl
+leaves_all_handled s n script tick (f ∷ fs) lane = leaves_trans s n lane _ _ (leaves_handled s n script tick f lane) (leaves_all_handled s n script tick fs (handled script tick f lane))
+
+pub leaves_cancel : (s n : ℕ) (script : Plan) (tick c : ℕ) (lane : Lane) → Leaves s n lane (cancel script tick c lane)
+leaves_cancel s n script tick c lane =
+    let noted : Lane = noting tick c (viewing (cancelled c lane.view) lane) in
+    let seen : Lane = written tick (events.Cancel c) noted in
+    let after : Lane = all_handled script tick (fired c lane.view) seen in
+    either s n lane lane after (has c lane.view) (same s n lane lane refl refl refl refl refl)
+    (leaves_trans s n lane noted after (same s n lane noted refl refl refl refl refl)
+    (leaves_trans s n noted seen after (line s n noted tick (events.Cancel c) refl) (leaves_all_handled s n script tick (fired c lane.view) seen)))
+
+-- ---- actions
+
+leaves_connect : (s n : ℕ) (script : Plan) (tick c slot proc : ℕ) (lane : Lane) → Leaves s n lane (connect script tick c slot proc lane)
+leaves_connect s n script tick c slot proc lane =
+    let after : Lane = handled script tick (record { id = 0; proc = proc }) lane in
+    either s n lane _ _ (has c lane.view)
+    (leaves_trans s n lane after _ (leaves_handled s n script tick (record { id = 0; proc = proc }) lane) (same s n after _ refl refl refl refl refl))
+    (same s n lane _ refl refl refl refl refl)
+
+leaves_disconnect : (s n tick : ℕ) (o : Option ℕ) (lane : Lane) → Leaves s n lane (disconnect_of tick o lane)
+leaves_disconnect s n tick None lane = line s n lane tick (events.Miss words.Disconnect) refl
+leaves_disconnect s n tick (Some id) lane = either s n lane _ _ (may_disconnect id lane.view) (same s n lane _ refl refl refl refl refl) (line s n lane tick (events.Miss words.Disconnect) refl)
+
+child_rises : (spec : SourceSpec) (now : ℕ) (o : Option Row) (rows : RowSet) → rows.next_id ≤ (child_added spec now o rows).next_id
+child_rises spec now None rows = omega arith
+child_rises spec now (Some parent) rows = omega arith
+
+leaves_child : (s n tick now slot : ℕ) (spec : SourceSpec) (o : Option Place) (lane : Lane) → Leaves s n lane (child_of tick now slot spec o lane)
+leaves_child s n tick now slot spec None lane = line s n lane tick (events.Miss words.Child) refl
+leaves_child s n tick now slot spec (Some place) lane =
+    let there : Lane = edited place.context (born spec now place.id) lane in
+    either s n lane _ _ (can_bear place lane)
+    (leaves_trans s n lane there _ (edit s n lane place.context (born spec now place.id) (λ rows. child_rises spec now (row_with place.id rows.rows) rows)) (same s n there _ refl refl refl refl refl))
+    (line s n lane tick (events.Miss words.Child) refl)
+
+leaves_priority : (s n tick : ℕ) (priority : ℤ) (o : Option Place) (lane : Lane) → Leaves s n lane (set_priority_of tick priority o lane)
+leaves_priority s n tick priority None lane = line s n lane tick (events.Miss words.SetPriority) refl
+leaves_priority s n tick priority (Some place) lane =
+    either s n lane _ _ (is_none (priority_fault (row_at place lane))) (edit s n lane place.context (reprioritised place.id priority) (λ rows. omega arith)) (line s n lane tick (events.Miss words.SetPriority) refl)
+
+leaves_at_once : (s n tick context proc : ℕ) (acquires : Option ℕ) (lane : Lane) → Leaves s n lane (called_at_once tick context proc acquires lane)
+leaves_at_once s n tick context proc acquires lane =
+    let told : Lane = written tick (events.Invoke context Direct) lane in
+    let halted : Lane = written tick events.HaltDepth lane in
+    either s n lane (calling tick context proc acquires lane) _ (nat_lt (calls lane.frames) 32)
+    (leaves_trans s n lane told _ (line s n lane tick (events.Invoke context Direct) refl) (same s n told _ refl refl refl refl refl))
+    (leaves_trans s n lane halted _ (line s n lane tick events.HaltDepth refl) (same s n halted _ refl refl refl refl refl))
+
+leaves_attaching : (s n tick now context proc : ℕ) (lane : Lane) → Leaves s n lane (attaching tick now context proc lane)
+leaves_attaching s n tick now context proc lane =
+    let there : Lane = edited context (attached (invoke_spec proc) now) lane in
+    leaves_trans s n lane there _ (edit s n lane context (attached (invoke_spec proc) now) (λ rows. omega arith)) (line s n there tick (events.Invoke context Attached) refl)
+
+leaves_invoke : (s n tick now context proc : ℕ) (lane : Lane) → Leaves s n lane (invoke tick now context proc lane)
+leaves_invoke s n tick now context proc lane =
+    let none : Lane = called_at_once tick context proc None lane in
+    let some : Lane = called_at_once tick context proc (Some context) lane in
+    let there : Lane = attaching tick now context proc lane in
+    either s n lane (invoke_own tick now context proc lane) (written tick (events.Invoke context Posted) lane) (is_some (own context lane))
+    (either s n lane none (cond (default_context lane == context) some there) (is_owned context lane) (leaves_at_once s n tick context proc None lane)
+    (either s n lane some there (default_context lane == context) (leaves_at_once s n tick context proc (Some context) lane) (leaves_attaching s n tick now context proc lane)))
+    (line s n lane tick (events.Invoke context Posted) refl)
+
+leaves_attach : (s n tick now context slot : ℕ) (spec : SourceSpec) (lane : Lane) → Leaves s n lane (attach tick now context slot spec lane)
+leaves_attach s n tick now context slot spec lane =
+    let there : Lane = edited context (attached spec now) lane in
+    either s n lane _ _ (is_some (own context lane))
+    (leaves_trans s n lane there _ (edit s n lane context (attached spec now) (λ rows. omega arith)) (same s n there _ refl refl refl refl refl))
+    (line s n lane tick (events.Miss words.Attach) refl)
+
+own_within : (contexts : List (Option Context)) (c : ℕ) → is_some (known (slice_get contexts c)) ≡ true → c < length contexts
+own_within [] c e = let no : false ≡ true = e in cc
+own_within (o ∷ contexts) zero e = omega arith
+own_within (o ∷ contexts) (suc c) e = omega (arith, own_within contexts c e)
+
+each_front : {A : Type 0} (P : A → Type 0) (k : ℕ) (xs : List A) → AllByRecursion P xs → AllByRecursion P (take k xs)
+each_front P zero [] h = tt
+each_front P zero (x ∷ xs) h = tt
+each_front P (suc k) [] h = tt
+each_front P (suc k) (x ∷ xs) h = (h.0, each_front P k xs h.1)
+
+leaves_push : (s n tick context : ℕ) (lane : Lane) (b : Bool) → is_some (own context lane) ≡ b → Leaves s n lane (cond b (record lane { defaults = pushed context lane.defaults }) (written tick (events.Miss words.Push) lane))
+leaves_push s n tick context lane true e = record {
+  told = refl;
+  replies = refl;
+  rise = λ i. omega arith;
+  place = λ m z p. record { all = p.all; defaults = each-push (λ c. c < m) lane.defaults context p.defaults (omega (arith, own_within lane.contexts context e, p.all)); tasks = p.tasks };
+}
+leaves_push s n tick context lane false e = line s n lane tick (events.Miss words.Push) refl
+
+leaves_popped : (s n context : ℕ) (lane : Lane) → Leaves s n lane (record lane { defaults = popped context lane.defaults })
+leaves_popped s n context lane = record { told = refl; replies = refl; rise = λ i. omega arith; place = λ m z p. record { all = p.all; defaults = by m (is_on_top context lane.defaults) p.defaults; tasks = p.tasks } }
+  where
+    by : (m : ℕ) (b : Bool) → AllByRecursion (λ c. c < m) lane.defaults → AllByRecursion (λ c. c < m) (cond b (take (length lane.defaults - 1) lane.defaults) lane.defaults)
+    by m true h = each_front (λ c. c < m) (length lane.defaults - 1) lane.defaults h
+    by m false h = h
+
+-- the thread-default context is one that was pushed, or the first
+at_place : (m : ℕ) (cs : List ℕ) (i : ℕ) → 0 < m → AllByRecursion (λ c. c < m) cs → unwrap_or (slice_get cs i) 0 < m
+at_place m [] i z h = z
+at_place m (c ∷ cs) zero z h = h.0
+at_place m (c ∷ cs) (suc i) z h = at_place m cs i z h.1
+
+leaves_task : (s n tick : ℕ) (spec : TaskSpec) (lane : Lane) → Leaves s n lane (start_task tick spec lane)
+leaves_task s n tick spec lane = record {
+  told = refl;
+  replies = refl;
+  rise = λ i. omega arith;
+  place = λ m z p. record {
+    all = p.all;
+    defaults = p.defaults;
+    tasks = each-push (λ (t : Started). t.ctx < m) lane.tasks.started (record { number = lane.tasks.next; spec = spec; ctx = default_context lane; first = tick + 1 }) p.tasks (at_place m lane.defaults (length lane.defaults - 1) z p.defaults);
+  };
+}
+
+pub leaves_acted : (s n : ℕ) (script : Plan) (tick : ℕ) (action : Action) (lane : Lane) → Leaves s n lane (acted script tick action lane)
+leaves_acted s n script tick (Attach context slot spec) lane = leaves_attach s n tick (time_of script tick) context slot spec lane
+leaves_acted s n script tick (Child parent slot spec) lane = leaves_child s n tick (time_of script tick) slot spec (place_at parent lane) lane
+leaves_acted s n script tick (Destroy slot) lane = leaves_source s n tick words.Destroy destroyed (place_at slot lane) lane (λ id rows. omega arith)
+leaves_acted s n script tick (SetReady slot us) lane = leaves_source s n tick words.SetReady (λ id. ready_set id us) (place_at slot lane) lane (λ id rows. omega arith)
+leaves_acted s n script tick (SetPriority slot priority) lane = leaves_priority s n tick priority (place_at slot lane) lane
+leaves_acted s n script tick (Iterate context) lane = either s n lane _ _ (is_some (own context lane)) (same s n lane _ refl refl refl refl refl) (line s n lane tick (events.Iterate context false) refl)
+leaves_acted s n script tick (Pending context) lane = line s n lane tick _ refl
+leaves_acted s n script tick (Run number) lane = either s n lane _ _ (is_some (own (context_of script number) lane)) (same s n lane _ refl refl refl refl refl) (line s n lane tick (events.Miss words.Run) refl)
+leaves_acted s n script tick (Quit number) lane = either s n lane _ _ (is_some (own (context_of script number) lane)) (same s n lane _ refl refl refl refl refl) (line s n lane tick (events.Miss words.Quit) refl)
+leaves_acted s n script tick (Cancel c) lane = leaves_cancel s n script tick c lane
+leaves_acted s n script tick (Connect c slot proc) lane = leaves_connect s n script tick c slot proc lane
+leaves_acted s n script tick (Disconnect slot) lane = leaves_disconnect s n tick (handler_at slot lane) lane
+leaves_acted s n script tick (Task spec) lane = leaves_task s n tick spec lane
+leaves_acted s n script tick (Push context) lane = leaves_push s n tick context lane (is_some (own context lane)) refl
+leaves_acted s n script tick (Pop context) lane = either s n lane _ _ (is_on_top context lane.defaults) (leaves_popped s n context lane) (line s n lane tick (events.Miss words.Pop) refl)
+leaves_acted s n script tick ShowDefault lane = line s n lane tick (events.Default (default_context lane)) refl
+leaves_acted s n script tick (Acquire context) lane =
+    let there : Lane = with_context context acquired lane in
+    either s n lane _ _ (is_some (own context lane))
+    (leaves_trans s n lane there _ (change s n lane context acquired (λ c. omega arith)) (line s n there tick (events.Acquire context true) refl))
+    (line s n lane tick (events.Acquire context false) refl)
+leaves_acted s n script tick (Release context) lane = either s n lane _ _ (may_release (own context lane)) (change s n lane context released (λ c. omega arith)) (line s n lane tick (events.Miss words.Release) refl)
+leaves_acted s n script tick (Invoke context proc) lane = leaves_invoke s n tick (time_of script tick) context proc lane
+leaves_acted s n script tick (Give context to) lane = same s n lane lane refl refl refl refl refl
+leaves_acted s n script tick (Log m) lane = line s n lane tick (events.Log m) refl
+
+-- ---- what ends
+
+kind_rises : (now id : ℕ) (kind : Kind) (rows : RowSet) → rows.next_id ≤ (restarted_kind now id kind rows).next_id
+kind_rises now id kinds.Idle rows = omega arith
+kind_rises now id (kinds.Timeout ms) rows = omega arith
+kind_rises now id (kinds.ReadyTime us) rows = omega arith
+kind_rises now id (kinds.Fd fd bits) rows = omega arith
+kind_rises now id (kinds.Cancel c) rows = omega arith
+
+row_rises : (now id : ℕ) (o : Option Row) (rows : RowSet) → rows.next_id ≤ (restarted_row now id o rows).next_id
+row_rises now id None rows = omega arith
+row_rises now id (Some row) rows = kind_rises now id row.kind rows
+
+pub leaves_returned : (s n : ℕ) (script : Plan) (tick : ℕ) (body : Body) (origin : Origin) (lane : Lane) → Leaves s n lane (returned script tick body origin lane)
+leaves_returned s n script tick body Start lane =
+    let told : Lane = written tick events.End lane in
+    leaves_trans s n lane told _ (line s n lane tick events.End refl) (same s n told _ refl refl refl refl refl)
+leaves_returned s n script tick body (Invoked acquired) lane = same s n lane lane refl refl refl refl refl
+leaves_returned s n script tick body (Source caller) lane =
+    let now : ℕ = time_of script tick in
+    either s n lane _ _ (not caller.once && stays script body caller.number)
+    (edit s n lane caller.context (restarted now caller.id) (λ rows. row_rises now caller.id (row_with caller.id rows.rows) rows))
+    (edit s n lane caller.context (destroyed caller.id) (λ rows. omega arith))
+
+pub leaves_answered : (s n tick context : ℕ) (answer : Option Bool) (lane : Lane) → Leaves s n lane (answered tick context answer lane)
+leaves_answered s n tick context None lane = same s n lane lane refl refl refl refl refl
+leaves_answered s n tick context (Some any) lane = line s n lane tick (events.Iterate context any) refl

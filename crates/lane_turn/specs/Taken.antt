@@ -1,0 +1,56 @@
+-- The results of tasks that lanes tell, and the replies that they still hold.
+use Rattle.std.specs.Prelude.{◌≡◌, ℕ, zero, suc, ◌+◌, ◌<◌, ◌≤◌, ◌==◌, ◌&&◌, Bool, false, is_some, List, length, count_by, sum_by}
+use Rattle.loop_script.specs.declared.plan.Plan.{Plan}
+use Rattle.loop_script.specs.References.{sizes}
+use Rattle.post_office.specs.declared.letter.Letter.{Letter}
+use Rattle.post_office.specs.declared.letter.Body.{Body}
+use Rattle.post_office.specs.declared.letter.Body.TheVariants.{Attach, Complete, Cancelled}
+use Rattle.lane_turn.specs.declared.line.Line.{Line}
+use Rattle.lane_turn.specs.declared.line.Event.{Event}
+use Rattle.lane_turn.specs.declared.line.Event.TheVariants as events
+use Rattle.lane_turn.specs.declared.replies.Awaited.{Awaited}
+use Rattle.lane_turn.specs.Replies.{Replies}
+use Rattle.lane_turn.specs.Lane.{Lane, own}
+use Rattle.lane_turn.specs.Tick.{posted_at, lanes_at}
+use Rattle.lane_turn.specs.Owed.{lane_under, posted_before}
+
+-- how many lines tell the result of a task, which goes by its lane, the sender of its reply, and its number there
+abbrev pub is_result : (sender number : ℕ) → Event → Bool
+is_result sender number (events.Task lane task outcome) = (lane == sender) && (task == number)
+is_result sender number _ = false
+
+abbrev pub results : (sender number : ℕ) → List Line → ℕ
+results sender number lines = count_by (λ line. is_result sender number line.event) lines
+
+-- how many replies of the task are held
+abbrev pub is_awaited : (sender number : ℕ) → Awaited → Bool
+is_awaited sender number awaited = (awaited.sender == sender) && (awaited.reply.task == number)
+
+abbrev pub awaited : (sender number : ℕ) → Replies → ℕ
+awaited sender number replies = count_by (λ entry. is_awaited sender number entry.1) replies
+
+-- how many replies of the task a lane accounts for: it holds them still, or it told their results
+abbrev pub accounted : (sender number : ℕ) → Lane → ℕ
+accounted sender number lane = results sender number lane.trace + awaited sender number lane.replies
+
+-- how many letters bring a lane a reply of the task: it goes to a context of the lane
+abbrev pub brings : (number : ℕ) → Lane → Body → Bool
+brings number lane (Attach context spec) = false
+brings number lane (Complete reply) = (reply.task == number) && is_some (own reply.ctx lane)
+brings number lane (Cancelled c) = false
+
+abbrev pub brought : (sender number : ℕ) → Lane → List Letter → ℕ
+brought sender number lane letters = count_by (λ letter. (letter.sender == sender) && brings number lane letter.body) letters
+
+abbrev pub brought_before : Plan → (ℕ → List Letter) → (lane sender number tick : ℕ) → ℕ
+brought_before script mail lane sender number zero = 0
+brought_before script mail lane sender number (suc k) = brought_before script mail lane sender number k + brought sender number (lane_under script mail lane k) (mail k)
+
+pub record RepliesAreTakenOnce : Type 0 where
+  -- each reply that came to a lane is held still, or its result was told, once
+  pub taken : (script : Plan) (mail : ℕ → List Letter) (lane sender number tick : ℕ) → accounted sender number (lane_under script mail lane tick) ≡ brought_before script mail lane sender number tick
+  -- so of each task of a run at most one result is told, in all lanes together, and none as long as a reply of it is held
+  pub once : (script : Plan) (sender number tick : ℕ) → sum_by (accounted sender number) (lanes_at script tick) ≤ 1
+  -- and where the script has a context no reply is lost: what a lane posted before a tick is held at it, or its result was told
+  pub kept : (script : Plan) (sender number tick : ℕ) → 0 < (sizes script).contexts → sender < length script.lanes
+      → sum_by (accounted sender number) (lanes_at script tick) ≡ posted_before script (λ k. posted_at script k (lanes_at script k)) sender number tick
