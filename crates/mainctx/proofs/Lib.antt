@@ -1,5 +1,5 @@
 pub mod Alike
-pub mod Arguments
+pub mod Asking
 pub mod Endings
 pub mod Fronts
 pub mod Inputs

@@ -7,12 +7,13 @@ use Rattle.mainctx.specs.Run.{IsRunFaultOf}
 use Rattle.mainctx.specs.declared.run.MainFault.TheVariants as run_faults
 use Rattle.loop_script.specs.declared.fault.ScriptFault.{ScriptFault}
 use Rattle.mainctx.specs.Serving.{IsRestOf, Leaves, Refuses, ServesFront, HasNoCrew, status_of}
-use Rattle.mainctx.specs.Arguments.{AskFor}
-use Rattle.std.specs.Prelude.{String, nat_le}
+use Rattle.mainctx.specs.declared.arguments.Asked.{Asked}
+use Rattle.mainctx.specs.Arguments.{AskFor, IsWordOf}
+use Rattle.std.specs.Prelude.{String, string_bytes, nat_le}
 use Rattle.std.specs.declared.alloc.Global.{Global}
 use Rattle.loop_script.specs.declared.plan.Plan.{Plan}
 use Rattle.tick_stepper.specs.declared.crew.Sharing.{Sharing}
-use Rattle.tick_stepper.specs.declared.crew.Sharing.TheVariants.{Round}
+use Rattle.tick_stepper.specs.declared.crew.Sharing.TheVariants.{Round, Fixed, Queue}
 use Rattle.tick_stepper.specs.declared.fault.StepFault.{StepFault}
 use Rattle.tick_stepper.specs.declared.fault.StepFault.TheVariants.{Workers}
 use Rattle.tick_stepper.specs.Crew.{refusal_of}
@@ -68,22 +69,28 @@ refuses_by left bytes items workers sharing fault old new whole same class nothi
   nothing = nothing;
 }
 
--- who go round the lanes are refused for their number alone
-round_only : (script : Plan) (workers : ℕ) (fault : StepFault) → refusal_of script workers Round ≡ Some fault → refusal_of script workers Round ≡ Some Workers
-round_only script workers fault e = by (nat_le 1 workers && nat_le workers 64) e
+-- who go round the lanes, or take them from a queue, are refused for their number alone
+number_only : (script : Plan) (workers : ℕ) (word : List ℕ) (sharing : Sharing) (fault : StepFault) → IsWordOf word sharing → refusal_of script workers sharing ≡ Some fault → refusal_of script workers sharing ≡ Some Workers
+number_only script workers word Round fault is e = by (nat_le 1 workers && nat_le workers 64) e
+  where
+    by : (b : Bool) → cond b None (Some Workers) ≡ Some fault → cond b None (Some Workers) ≡ Some Workers
+    by true e = cc
+    by false e = refl
+number_only script workers word (Fixed table) fault is e = absurd is
+number_only script workers word Queue fault is e = by (nat_le 1 workers && nat_le workers 64) e
   where
     by : (b : Bool) → cond b None (Some Workers) ≡ Some fault → cond b None (Some Workers) ≡ Some Workers
     by true e = cc
     by false e = refl
 
 -- a run of all that is left that found that the workers are refused
-pub no_crew_by : (args : List (String Global)) (left : Option (List ℕ)) (bytes items : List ℕ) (workers : ℕ) (fault : StepFault) → AskFor args workers → IsRestOf left items → bytes ≡ items → IsRunFaultOf bytes workers Round (run_faults.Setup fault) → HasNoCrew args left
-no_crew_by args left bytes items workers fault asked whole same class = record {
+pub no_crew_by : (args : List (String Global)) (left : Option (List ℕ)) (bytes items : List ℕ) (asked : Asked) (fault : StepFault) → AskFor args asked → IsRestOf left items → bytes ≡ items → IsRunFaultOf bytes asked.workers asked.sharing (run_faults.Setup fault) → HasNoCrew args left
+no_crew_by args left bytes items asked fault ask whole same class = record {
   bytes = bytes;
   input = subst (IsRestOf left) (sym same) whole;
   script = class.script;
   read = class.read;
-  workers = workers;
   asked = asked;
-  refused = round_only class.script workers fault class.refused;
+  ask = ask;
+  refused = number_only class.script asked.workers (string_bytes ask.word) asked.sharing fault ask.sharing class.refused;
 }

@@ -2,13 +2,26 @@
 use Rattle.std.specs.Prelude.{◌≡◌, ◌≤◌, ℕ, List, [], ◌∷◌, codes, length, String, string_bytes}
 use Rattle.std.specs.Str.Parse.{IsNumeral, digits_value}
 use Rattle.std.specs.declared.alloc.Global.{Global}
+use Rattle.tick_stepper.specs.declared.crew.Sharing.{Sharing}
+use Rattle.tick_stepper.specs.declared.crew.Sharing.TheVariants.{Round, Fixed, Queue}
+use Rattle.mainctx.specs.declared.arguments.Asked.{Asked}
 
--- `WORKERS fixed`, where WORKERS is this number in 1 to 9 decimal digits
-pub record AskFor (args : List (String Global)) (workers : ℕ) : Type 0 where
+-- a number in 1 to 9 decimal digits
+pub record IsNumber (word : List ℕ) (n : ℕ) : Type 0 where
+  pub digits : IsNumeral 10 word
+  pub few : length word ≤ 9
+  pub value : digits_value 10 word ≡ n
+
+-- `fixed` asks for lanes that go round the workers, and `queue` for a queue; no word asks for a table
+abbrev pub IsWordOf : List ℕ → Sharing → Type 0
+IsWordOf word Round = word ≡ codes "fixed"
+IsWordOf word (Fixed table) = ⊥
+IsWordOf word Queue = word ≡ codes "queue"
+
+-- `WORKERS fixed` or `WORKERS queue`
+pub record AskFor (args : List (String Global)) (asked : Asked) : Type 0 where
   pub number : String Global
-  pub sharing : String Global
-  pub two : args ≡ number ∷ sharing ∷ []
-  pub digits : IsNumeral 10 (string_bytes number)
-  pub few : length (string_bytes number) ≤ 9
-  pub value : digits_value 10 (string_bytes number) ≡ workers
-  pub fixed : string_bytes sharing ≡ codes "fixed"
+  pub word : String Global
+  pub two : args ≡ number ∷ word ∷ []
+  pub workers : IsNumber (string_bytes number) asked.workers
+  pub sharing : IsWordOf (string_bytes word) asked.sharing

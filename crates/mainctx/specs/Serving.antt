@@ -5,9 +5,9 @@ use Rattle.loop_script.specs.declared.fault.ScriptFault.TheVariants as faults
 use Rattle.mainctx.specs.Run.{Writes, WritesFront, HoldsText, IsFaultOf, IsScriptOf}
 use Rattle.std.specs.declared.alloc.Global.{Global}
 use Rattle.loop_script.specs.declared.plan.Plan.{Plan}
-use Rattle.tick_stepper.specs.declared.crew.Sharing.TheVariants.{Round}
 use Rattle.tick_stepper.specs.declared.fault.StepFault.TheVariants.{Workers}
 use Rattle.tick_stepper.specs.Crew.{refusal_of}
+use Rattle.mainctx.specs.declared.arguments.Asked.{Asked}
 use Rattle.mainctx.specs.Arguments.{AskFor}
 use Rattle.mainctx.specs.declared.status.Refusal.{Refusal}
 use Rattle.mainctx.specs.declared.status.Refusal.TheVariants.{Usage, Script, Setup, Memory, Read, Write}
@@ -52,9 +52,9 @@ pub record HasNoCrew (args : List (String Global)) (left : Option (List ℕ)) : 
   pub input : IsRestOf left bytes
   pub script : Plan
   pub read : IsScriptOf bytes script
-  pub workers : ℕ
-  pub asked : AskFor args workers
-  pub refused : refusal_of script workers Round ≡ Some Workers
+  pub asked : Asked
+  pub ask : AskFor args asked
+  pub refused : refusal_of script asked.workers asked.sharing ≡ Some Workers
 
 -- a front of the text was written
 pub record ServesFront (left : Option (List ℕ)) (old new : List ℕ) : Type 0 where

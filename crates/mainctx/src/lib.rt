@@ -1,6 +1,7 @@
 //! From the bytes of a script to the bytes of its text, and the program around it.
 #![tactic(auto)]
 
+mod arguments;
 mod ending;
 mod input;
 mod last_dispatch;

@@ -10,6 +10,7 @@ use crate::text::{OutOfMemory, add_text};
 use crate::writer::{Out, OutFault, write_whole};
 use loop_script::{Script, ScriptFault};
 use std::alloc::Global;
+use std::sync::Wait;
 use std::thread::Threads;
 use thiserror::Error;
 use tick_stepper::{Gate, Sharing, StepFault, Stepper};
@@ -69,7 +70,7 @@ fn text_of_lanes(alloc: Global, stepper: &Stepper, lanes: u32) -> Result<Vec<u8>
 }
 
 /// Runs a script to its end, and gives its text.
-fn text_of_script<R: Threads + Sync, G: Gate>(
+fn text_of_script<R: Threads + Wait + Sync, G: Gate>(
     rt: &R,
     alloc: Global,
     script: Script,
@@ -93,7 +94,7 @@ fn text_of_script<R: Threads + Sync, G: Gate>(
 }
 
 /// Reads and runs a script, and gives its text.
-fn text_of_bytes<R: Threads + Sync, G: Gate>(
+fn text_of_bytes<R: Threads + Wait + Sync, G: Gate>(
     rt: &R,
     alloc: Global,
     bytes: &[u8],
@@ -118,7 +119,7 @@ fn text_of_bytes<R: Threads + Sync, G: Gate>(
 /// its text when the run has ended. What the writer itself holds,
 /// where that is known, grows by what it is told to have taken.
 #[tactic(auto, using(crate::proofs::Alike::alike_none))]
-pub fn run_bytes<R: Threads + Sync, G: Gate, W: Out>(
+pub fn run_bytes<R: Threads + Wait + Sync, G: Gate, W: Out>(
     rt: &R,
     alloc: Global,
     bytes: &[u8],

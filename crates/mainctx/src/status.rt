@@ -1,24 +1,25 @@
 //! What the program does with its arguments, input and output.
 ghost use Rattle.std.specs.Prelude.{◌≡◌, ◌≤◌, ◌⊎◌, ◌↔◌, ℕ, OnOk, IfErr, IfSome, Some, Err};
-ghost use Rattle.std.specs.List.{list_all};
-ghost use Rattle.std.specs.Char.{is_ascii_digit};
+ghost use Rattle.mainctx.specs.declared.arguments.Asked.{Asked};
 ghost use Rattle.mainctx.specs.Arguments.{AskFor};
 ghost use Rattle.mainctx.specs.Serving.{Serves, ServesFront, ServesHolder, HasFault, HasNoCrew, Leaves, status_of};
 ghost use Rattle.mainctx.specs.Writing.{GrowAlike};
 
+use crate::arguments::Asked;
 use crate::input::{InputFault, read_input};
 use crate::run::{MainFault, run_bytes};
 use crate::writer::Out;
 use loop_script::ScriptFault;
 use std::alloc::Global;
 use std::io::{Read, Write};
+use std::sync::Wait;
 use std::thread::Threads;
-use tick_stepper::{OpenGate, Sharing};
+use tick_stepper::OpenGate;
 
 /// Why the program ended without the whole text.
 #[derive(Clone, Copy, Debug, Drop, PartialEq, Eq)]
 pub enum Refusal {
-    /// The arguments are not `WORKERS fixed|queue`, or ask for what is not there yet.
+    /// The arguments are not `WORKERS fixed|queue`.
     Usage,
     /// The input is no script.
     Script(ScriptFault),
@@ -70,33 +71,8 @@ pub fn refuse<E: Write>(refusal: Refusal, errors: &mut E) -> u8
     refusal.status()
 }
 
-/// Whether all bytes are decimal digits.
-fn are_digits(bytes: &[u8]) -> bool
-    ensures { result ≡ list_all is_ascii_digit bytes.now }
-{
-    bytes.iter().all(|b| b.is_ascii_digit())
-}
-
-/// The number of workers of the arguments `WORKERS fixed`, WORKERS being 1 to 9 digits.
-fn workers_of(args: &[String]) -> Option<u32>
-    ensures asked { IfSome result (λ n. AskFor args.now n) }
-    ensures exact { (n : ℕ) → AskFor args.now n → result ≡ Some n }
-{
-    let [workers, sharing] = args else {
-        return None;
-    };
-    let digits = workers.as_bytes();
-    if digits.len() > 9 || !are_digits(digits) {
-        return None;
-    }
-    if sharing.as_str() != "fixed" {
-        return None;
-    }
-    workers.parse::<u32>().ok()
-}
-
 /// Does what the arguments say.
-fn attempt<X: Threads + Sync, R: Read, W: Out>(
+fn attempt<X: Threads + Wait + Sync, R: Read, W: Out>(
     rt: &X,
     alloc: Global,
     args: &[String],
@@ -105,11 +81,11 @@ fn attempt<X: Threads + Sync, R: Read, W: Out>(
 ) -> Result<(), Refusal>
     ensures text { OnOk result (Serves (R.remaining input.old) (W.taken out.old) (W.taken out.new)) }
     ensures refusal { IfErr result (λ refusal. Leaves args.now (R.remaining input.old) refusal (W.taken out.old) (W.taken out.new)) }
-    ensures usage { (result ≡ Err Refusal.Usage) ↔ ¬ ((n : ℕ) × AskFor args.now n) }
+    ensures usage { (result ≡ Err Refusal.Usage) ↔ ¬ ((asked : Asked) × AskFor args.now asked) }
     ensures known { GrowAlike (W.taken out.old) (W.taken out.new) (W.contents out.old) (W.contents out.new) }
     ensures holds { OnOk result (ServesHolder (R.remaining input.old) (W.contents out.old) (W.contents out.new)) }
 {
-    let Some(workers) = workers_of(args) else {
+    let Some(Asked { workers, sharing }) = Asked::read(args) else {
         return Err(Refusal::Usage);
     };
     let script = match read_input(alloc, input) {
@@ -122,7 +98,7 @@ fn attempt<X: Threads + Sync, R: Read, W: Out>(
         alloc,
         script.as_slice(),
         workers,
-        Sharing::Round,
+        sharing,
         &OpenGate,
         out,
     ) {
@@ -135,7 +111,7 @@ fn attempt<X: Threads + Sync, R: Read, W: Out>(
 }
 
 /// Runs the script of `input` by the arguments, and answers the exit status: 0 where the text was written.
-pub fn serve<X: Threads + Sync, R: Read, W: Out, E: Write>(
+pub fn serve<X: Threads + Wait + Sync, R: Read, W: Out, E: Write>(
     rt: &X,
     alloc: Global,
     args: &[String],
@@ -147,7 +123,7 @@ pub fn serve<X: Threads + Sync, R: Read, W: Out, E: Write>(
     ensures nothing { 1 ≤ result → result ≤ 3 → W.taken out.new ≡ W.taken out.old }
     ensures front { result ≡ 4 → (W.taken out.new ≡ W.taken out.old) ⊎ ServesFront (R.remaining input.old) (W.taken out.old) (W.taken out.new) }
     ensures status { result ≤ 4 }
-    ensures usage { (result ≡ 1) ↔ ¬ ((n : ℕ) × AskFor args.now n) }
+    ensures usage { (result ≡ 1) ↔ ¬ ((asked : Asked) × AskFor args.now asked) }
     ensures script { result ≡ 2 → HasFault (R.remaining input.old) ⊎ HasNoCrew args.now (R.remaining input.old) }
     ensures known { GrowAlike (W.taken out.old) (W.taken out.new) (W.contents out.old) (W.contents out.new) }
     ensures holds { result ≡ 0 → ServesHolder (R.remaining input.old) (W.contents out.old) (W.contents out.new) }

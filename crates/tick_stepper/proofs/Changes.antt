@@ -7,7 +7,7 @@ use Rattle.post_office.specs.declared.letter.Letter.{Letter}
 use Rattle.lane_turn.specs.Lane.{Lane, Turn}
 use Rattle.lane_turn.specs.Step.{step}
 use Rattle.lane_turn.proofs.Sends.{step_tells}
-use Rattle.tick_stepper.specs.Parts.{without, claim_of, post_of}
+use Rattle.post_office.specs.Parts.{without, claim_of, post_of}
 use Rattle.tick_stepper.specs.Machine.{Worker, Tick, Move, Claim, Step, Done, posted_by, takes, goes_on, lets_go, claimed, gone_on, ended, claim, go_on, end, by_worker, worker_of, taken_of, posted_of, work_of, mail_of}
 use Rattle.tick_stepper.specs.Law.{Changes, ChangesArePartial}
 use Rattle.tick_stepper.proofs.Readings.{same_lists, read_worker}

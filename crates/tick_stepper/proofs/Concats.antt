@@ -5,8 +5,8 @@ use Rattle.std.proofs.lemmas.Grind.{flat_map-append}
 use Rattle.std.proofs.lemmas.List.Sorted.{IsPermutation-map}
 use Rattle.std.specs.Prelude.{IsPermutation}
 use Rattle.std.proofs.lemmas.Bool.Decides.{nat_tests}
-use Rattle.tick_stepper.specs.Merge.{picked, IsMerge, concat}
-use Rattle.tick_stepper.proofs.Merges.{merge_permuted, merge_flat}
+use Rattle.post_office.specs.Merge.{picked, IsMerge, concat}
+use Rattle.post_office.proofs.Merges.{merge_permuted, merge_flat}
 
 length_suc : (ws : List ℕ) → length (map suc ws) ≡ length ws
 length_suc [] = refl

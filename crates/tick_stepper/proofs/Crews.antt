@@ -1,5 +1,5 @@
 -- Each lane of a run has one of the workers.
-use Rattle.std.proofs.Common.{rules, tests, true≢false, ◌≡◌, ◌≢◌, ℕ, zero, suc, ◌+◌, ◌<◌, ◌≤◌, ◌%◌, ◌==◌, ◌&&◌, Bool, true, false, cond, Option, Some, None, List, [], ◌∷◌, map, length, refl, sym, ap, ◌∙◌, subst, arith}
+use Rattle.std.proofs.Common.{rules, tests, true≢false, ◌≡◌, ℕ, zero, suc, ◌<◌, ◌≤◌, ◌==◌, ◌&&◌, Bool, true, false, Some, None, List, [], ◌∷◌, length, refl, sym, subst, arith}
 use Rattle.std.specs.Prelude.{nat_lt, nat_le, slice_get, unwrap_or, if◌then◌else◌}
 use Rattle.std.proofs.Math.Nat.{mod-lt}
 use Rattle.tick_stepper.specs.declared.fault.StepFault.TheVariants.{Workers, Table}
@@ -9,7 +9,7 @@ use Rattle.lane_turn.specs.Lane.{Lane}
 use Rattle.lane_turn.specs.Tick.{lanes_at}
 use Rattle.tick_stepper.specs.declared.crew.Crew.{Crew}
 use Rattle.tick_stepper.specs.declared.crew.Sharing.{Sharing}
-use Rattle.tick_stepper.specs.declared.crew.Sharing.TheVariants.{Round, Fixed}
+use Rattle.tick_stepper.specs.declared.crew.Sharing.TheVariants.{Round, Fixed, Queue}
 use Rattle.tick_stepper.specs.declared.share.Numbered.{Numbered}
 use Rattle.tick_stepper.specs.Crew.{worker_by, worker_of, names_workers, refusal_of}
 use Rattle.tick_stepper.specs.Share.{numbered}
@@ -47,6 +47,7 @@ named_at workers (suc i) (w ∷ table) all h = named_at workers i table (both_tr
 
 named_one : (lanes workers lane : ℕ) (sharing : Sharing) → 0 < workers → names_workers lanes workers sharing ≡ true → lane < lanes → worker_by sharing workers lane < workers
 named_one lanes workers lane Round some named h = mod-lt lane some
+named_one lanes workers lane Queue some named h = some
 named_one lanes workers lane (Fixed table) some named h =
     let tests = both_true (length table.items == lanes) (list_all (λ worker. nat_lt worker workers) table.items) named in
     let long = eq_of (length table.items) lanes tests.0 in

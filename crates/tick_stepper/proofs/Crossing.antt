@@ -1,5 +1,11 @@
 -- Lanes may go to another thread, and a script may be read from there.
-use denote.Param.Send.{IsSend, IsSync, sendable}
+use mathlib.Core.List.{[], ◌∷◌}
+use mir.Syntax.{Sym}
+use denote.RattleType.{RattleType}
+use denote.Struct.Struct.{Struct}
+use denote.Struct.Declared.{shape}
+use denote.Struct.Tuple.{TupleAt, type_at}
+use denote.Param.Send.{IsSend, IsSync, struct_sync, recorded_sync, sendable}
 use Rattle.std.proofs.Crossing.{crosses}
 use Rattle.std.proofs.MapsCrossing.{BTreeMap-send}
 use Rattle.loop_script.proofs.tree.TaskTree.TheLaws.TheKnot.{crosses as trees}
@@ -30,7 +36,16 @@ use Rattle.lane_turn.specs.contracts.chain.Chain as Chain
 use Rattle.lane_turn.specs.contracts.parts.Parts as Parts
 use Rattle.lane_turn.specs.contracts.frames.Frames as Frames
 use Rattle.lane_turn.specs.contracts.state.LaneState as LaneState
+use Rattle.post_office.proofs.work_queue.WorkPass.TheSendSync as work_pass
+use Rattle.post_office.proofs.letter_queue.OfficePass.TheSendSync as office_pass
+use Rattle.post_office.proofs.work_queue.WorkQueue.TheSendSync as work_queue
+use Rattle.post_office.proofs.letter_queue.LetterQueue.TheSendSync as letter_queue
+use Rattle.post_office.specs.contracts.work_queue.WorkQueue as WorkQueue
+use Rattle.post_office.specs.contracts.letter_queue.LetterQueue as LetterQueue
+use Rattle.tick_stepper.specs.contracts.share.Numbered as Numbered
 use Rattle.tick_stepper.specs.contracts.share.Share as Share
+use Rattle.tick_stepper.specs.contracts.work.Hired as Hired
+use Rattle.tick_stepper.specs.contracts.work.Haul as Haul
 
 -- ---- tasks
 
@@ -94,6 +109,30 @@ lane_send = search (parts_send, sendable, crosses) depth 60
 
 pub share_send : IsSend Share.the_row
 share_send = search (lane_send, sendable, crosses) depth 60 fits 10000
+
+pub numbered_send : IsSend Numbered.the_row
+numbered_send = search (lane_send, sendable, crosses) depth 60 fits 10000
+
+-- ---- passes
+
+pub hired_send : IsSend Hired.the_row
+hired_send = search (numbered_send, work_pass.the_send, office_pass.the_send, sendable, crosses) depth 60 fits 10000
+
+pub haul_send : IsSend Haul.the_row
+haul_send = search (numbered_send, work_pass.the_send, office_pass.the_send, sendable, crosses) depth 60 fits 10000
+
+-- ---- queues
+
+pub list_sync : IsSync (WorkQueue.the_row Numbered.the_row)
+list_sync = search (numbered_send, work_queue.the_sync, sendable) depth 20
+
+pub office_sync : IsSync LetterQueue.the_row
+office_sync = search (letter_queue.the_sync, sendable) depth 20
+
+-- ---- what a closure captures
+
+pub captured_sync : (ν : Sym) (T₀ T₁ T₂ T₃ T₄ T₅ T₆ : RattleType) → IsSync T₀ → IsSync T₁ → IsSync T₂ → IsSync T₃ → IsSync T₄ → IsSync T₅ → IsSync T₆ → IsSync (TupleAt ν (T₀ ∷ T₁ ∷ T₂ ∷ T₃ ∷ T₄ ∷ T₅ ∷ T₆ ∷ []))
+captured_sync ν T₀ T₁ T₂ T₃ T₄ T₅ T₆ s₀ s₁ s₂ s₃ s₄ s₅ s₆ = let T = type_at ν (T₀ ∷ T₁ ∷ T₂ ∷ T₃ ∷ T₄ ∷ T₅ ∷ T₆ ∷ []) in recorded_sync (Struct (shape T)) T.D T.to T.to_one (struct_sync (shape T) (s₀, (s₁, (s₂, (s₃, (s₄, (s₅, (s₆, tt))))))))
 
 -- ---- scripts
 

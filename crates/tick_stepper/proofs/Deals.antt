@@ -4,9 +4,9 @@ use Rattle.std.specs.Prelude.{IsPermutation, slice_get}
 use Rattle.std.specs.List.{AllByRecursion}
 use Rattle.std.proofs.lemmas.List.{get_or-set_same, length-set, set-set, set-get_or}
 use Rattle.std.proofs.lemmas.List.Sorted.{IsPermutation-refl, IsPermutation-sym, IsPermutation-trans, IsPermutation-cons, IsPermutation-middle, IsPermutation-append}
-use Rattle.tick_stepper.specs.Merge.{IsMerge, concat}
-use Rattle.tick_stepper.specs.Parts.{without}
-use Rattle.tick_stepper.proofs.Merges.{merge_push}
+use Rattle.post_office.specs.Merge.{IsMerge, concat}
+use Rattle.post_office.specs.Parts.{without}
+use Rattle.post_office.proofs.Merges.{merge_push}
 
 module _ {X : Type 0} where
   pub all_at : (P : X → Type 0) (xs : List X) (i : ℕ) (x : X) → AllByRecursion P xs → slice_get xs i ≡ Some x → P x

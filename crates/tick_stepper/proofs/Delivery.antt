@@ -7,10 +7,10 @@ use Rattle.post_office.proofs.Sorted.{order_is_one}
 use Rattle.lane_turn.specs.Turn.{turned, out_of}
 use Rattle.lane_turn.specs.Deliver.{delivered}
 use Rattle.lane_turn.specs.Tick.{posted_at}
-use Rattle.tick_stepper.specs.Merge.{IsMerge, concat}
+use Rattle.post_office.specs.Merge.{IsMerge, concat}
 use Rattle.tick_stepper.specs.Machine.{Tick, after, opening, taken_of}
 use Rattle.tick_stepper.specs.Law.{sent_by, IsTurned, DeliveryIsOne, TickIsOne}
-use Rattle.tick_stepper.proofs.Merges.{merge_flat}
+use Rattle.post_office.proofs.Merges.{merge_flat}
 use Rattle.tick_stepper.proofs.Concats.{concat_flat, flat_permuted}
 use Rattle.tick_stepper.proofs.Workers.{each_turned_once}
 use Rattle.tick_stepper.proofs.Posted.{posted_in_order, posted_apart}

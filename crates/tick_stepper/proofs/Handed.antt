@@ -1,5 +1,5 @@
 -- Lanes that are dealt out, and that come back.
-use Rattle.std.proofs.Common.{◌≡◌, ◌≢◌, ℕ, zero, suc, ◌+◌, ◌<◌, Bool, true, false, cond, Result, Ok, List, [], ◌∷◌, ◌++◌, map, length, get_or, set, refl, sym, ap, ◌∙◌, subst, arith, append_assoc, append-nil, true≢false, lt-ltb}
+use Rattle.std.proofs.Common.{◌≡◌, ℕ, zero, suc, ◌<◌, Bool, true, false, cond, Result, Ok, List, [], ◌∷◌, ◌++◌, map, length, get_or, set, refl, sym, ap, ◌∙◌, subst, arith, append_assoc, append-nil, true≢false, lt-ltb}
 use Rattle.std.specs.Prelude.{IsPermutation, IfOk, nat_lt}
 use Rattle.std.specs.List.{All, AllByRecursion, flat_map, filter}
 use Rattle.std.proofs.lemmas.Grind.{flat_map-append}

@@ -4,7 +4,7 @@ use Rattle.std.specs.Prelude.{slice_get}
 use Rattle.std.proofs.lemmas.List.{map-set, set-set}
 use Rattle.loop_script.specs.declared.plan.Plan.{Plan}
 use Rattle.post_office.specs.declared.letter.Letter.{Letter}
-use Rattle.tick_stepper.specs.Parts.{Work, claims, claim_of, all_claims}
+use Rattle.post_office.specs.Parts.{Work, claims, claim_of, all_claims}
 use Rattle.lane_turn.specs.Lane.{Lane, Turn}
 use Rattle.lane_turn.specs.Step.{step}
 use Rattle.lane_turn.specs.Turn.{begun, work}

@@ -1,12 +1,13 @@
 pub mod Along
 pub mod Handed
+pub mod Theirs
 pub mod Counted
 pub mod Crossing
 pub mod Crews
 pub mod Rounds
+pub mod Queues
 pub mod Ready
 pub mod Steppers
-pub mod Merges
 pub mod Concats
 pub mod Deals
 pub mod Sorted

@@ -1,5 +1,5 @@
 -- Lanes that may take their turns.
-use Rattle.std.proofs.Common.{◌≡◌, ℕ, zero, suc, ◌+◌, ◌<◌, ◌≤◌, ◌^◌, false, List, [], ◌∷◌, length, get_or, sym, subst, arith}
+use Rattle.std.proofs.Common.{◌≡◌, ℕ, zero, suc, ◌<◌, ◌^◌, false, List, [], ◌∷◌, length, get_or, sym, subst, arith}
 use Rattle.std.specs.List.{AllByRecursion}
 use Rattle.loop_script.specs.declared.plan.Plan.{Plan}
 use Rattle.lane_turn.specs.Lane.{Lane, Kept}
@@ -18,6 +18,11 @@ pub ready_here : (script : Plan) (tick i : ℕ) (step : Numbered → Numbered) (
 ready_here script tick i step old now d ready e h =
     let there : IsReadyOne script tick (get_or old i d) = each_at (IsReadyOne script tick) i old d ready h in
     subst (λ (one : Numbered). IsReady script tick (2 ^ 61) one.state.lane) (sym (one_is step i old now d e h)) there.ready
+
+pub named_here : (script : Plan) (tick i : ℕ) (step : Numbered → Numbered) (old now : List Numbered) (d : Numbered) → AllByRecursion (IsReadyOne script tick) old → now ≡ stepped_to step i old → i < length old → (get_or now i d).number ≡ (get_or now i d).state.lane.number
+named_here script tick i step old now d ready e h =
+    let there : IsReadyOne script tick (get_or old i d) = each_at (IsReadyOne script tick) i old d ready h in
+    subst (λ (one : Numbered). one.number ≡ one.state.lane.number) (sym (one_is step i old now d e h)) there.named
 
 pub kept_is : (kept : Kept) (lane : Lane) → kept.lane ≡ lane → kept.spent ≡ false → kept ≡ unspent lane
 kept_is kept lane e f = λ i. record { lane = e i; spent = f i }

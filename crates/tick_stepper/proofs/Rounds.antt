@@ -1,7 +1,7 @@
 -- A round of turns: what comes back, put in order, is what one thread makes of the lanes.
-use Rattle.std.proofs.Common.{◌≡◌, ℕ, zero, suc, ◌+◌, ◌*◌, ◌^◌, ◌<◌, ◌≤◌, false, List, [], ◌∷◌, ◌++◌, map, length, refl, sym, ap, ◌∙◌, subst, arith}
+use Rattle.std.proofs.Common.{◌≡◌, ℕ, ◌+◌, ◌^◌, ◌<◌, ◌≤◌, List, [], ◌∷◌, ◌++◌, map, length, refl, sym, ap, subst, arith}
 use Rattle.std.specs.Prelude.{IsPermutation}
-use Rattle.std.specs.List.{All, AllByRecursion, flat_map}
+use Rattle.std.specs.List.{AllByRecursion, flat_map}
 use Rattle.std.specs.List.Sorted.{IsNonDecreasingBy}
 use Rattle.std.proofs.lemmas.List.Sorted.{IsPermutation-trans, IsPermutation-map}
 use Rattle.loop_script.specs.declared.plan.Plan.{Plan}
@@ -10,23 +10,19 @@ use Rattle.post_office.specs.Order.{InOrder}
 use Rattle.post_office.proofs.Sorted.{order_is_one}
 use Rattle.lane_turn.specs.Lane.{Lane}
 use Rattle.lane_turn.specs.Turn.{turned, out_of}
-use Rattle.lane_turn.specs.Deliver.{received_all}
 use Rattle.lane_turn.specs.Tick.{posted_at, lanes_at}
-use Rattle.lane_turn.specs.Sound.{IsReady}
 use Rattle.lane_turn.proofs.Turns.{ready-turned, turned_number}
-use Rattle.lane_turn.proofs.Delivered.{ready_weaker, received_number}
+use Rattle.lane_turn.proofs.Delivered.{ready_weaker}
 use Rattle.lane_turn.proofs.Runs.{most_at, AllReady, ready_at, posted_fits}
 use Rattle.tick_stepper.specs.Order.{RisesBy, ByNumber}
 use Rattle.tick_stepper.specs.declared.share.Numbered.{Numbered}
-use Rattle.tick_stepper.specs.declared.share.Share.{Share}
-use Rattle.tick_stepper.specs.Share.{unspent, numbered, numbered_one, stepped_one, turned_one, out_of_one, handed, IsReadyOne}
+use Rattle.tick_stepper.specs.Share.{unspent, numbered, numbered_one, stepped_one, turned_one, out_of_one, IsReadyOne}
 use Rattle.tick_stepper.proofs.Sorted.{sorted_is}
 use Rattle.tick_stepper.proofs.Turns.{turned_in_order}
 use Rattle.tick_stepper.proofs.Posted.{posted_in_order, posted_apart}
 use Rattle.tick_stepper.proofs.Concats.{flat_permuted}
 use Rattle.tick_stepper.proofs.Deals.{all_map}
 use Rattle.tick_stepper.proofs.Counted.{by_number_at}
-use Rattle.tick_stepper.proofs.Handed.{CameBack}
 
 -- ---- lanes with their numbers
 
@@ -46,7 +42,7 @@ numbered_post script tick (lane ∷ lanes) = ap (λ (l : List Letter). out_of sc
 
 ready_each : (script : Plan) (tick m : ℕ) (lanes : List Lane) → m ≤ 2 ^ 61 → AllReady script tick m lanes → AllByRecursion (IsReadyOne script tick) (numbered lanes)
 ready_each script tick m [] h r = tt
-ready_each script tick m (lane ∷ lanes) h r = (record { unspent = refl; ready = ready_weaker script tick m (2 ^ 61) lane h r.0 }, ready_each script tick m lanes h r.1)
+ready_each script tick m (lane ∷ lanes) h r = (record { named = refl; unspent = refl; ready = ready_weaker script tick m (2 ^ 61) lane h r.0 }, ready_each script tick m lanes h r.1)
 
 pub ready_turns : (script : Plan) (tick : ℕ) → length script.lanes ≤ 64 → tick < 4096 → AllByRecursion (IsReadyOne script tick) (numbered (lanes_at script tick))
 ready_turns script tick few low =
@@ -66,22 +62,22 @@ few_posted script tick letters few low e = omega (arith, posted_fits script tick
 
 -- ---- what comes back, in order
 
-pub turned_by_number : (script : Plan) (tick : ℕ) (old new : List Share) (sorted : List Numbered) → IsPermutation (numbered (lanes_at script tick)) (handed old) → CameBack script tick old new
-    → IsPermutation (handed new) sorted → IsNonDecreasingBy (λ (one : Numbered). one.number) sorted → sorted ≡ numbered (map (turned script tick) (lanes_at script tick))
-turned_by_number script tick old new sorted dealt back p up =
+pub turned_by_number : (script : Plan) (tick : ℕ) (taken turns sorted : List Numbered) → IsPermutation (numbered (lanes_at script tick)) taken → turns ≡ map (turned_one script tick) taken
+    → IsPermutation turns sorted → IsNonDecreasingBy (λ (one : Numbered). one.number) sorted → sorted ≡ numbered (map (turned script tick) (lanes_at script tick))
+turned_by_number script tick taken turns sorted split back p up =
     let lanes : List Lane = lanes_at script tick in
     let same = numbered_step (turned script tick) (turned_number script tick) lanes in
-    let all : IsPermutation (map (turned_one script tick) (numbered lanes)) (handed new) = subst (IsPermutation (map (turned_one script tick) (numbered lanes))) (sym back.lanes) (IsPermutation-map (turned_one script tick) (numbered lanes) (handed old) dealt) in
+    let all : IsPermutation (map (turned_one script tick) (numbered lanes)) turns = subst (IsPermutation (map (turned_one script tick) (numbered lanes))) (sym back) (IsPermutation-map (turned_one script tick) (numbered lanes) taken split) in
     let moved : IsPermutation (numbered (map (turned script tick) lanes)) sorted = subst (λ (l : List Numbered). IsPermutation l sorted) same (IsPermutation-trans _ _ _ all p) in
     sorted_is (λ (one : Numbered). one.number) (numbered (map (turned script tick) lanes)) sorted moved up (numbered_rise (map (turned script tick) lanes) (turned_in_order script tick lanes (by_number_at script tick)))
 
-pub posted_by_sender : (script : Plan) (tick : ℕ) (old new : List Share) (letters merged : List Letter) → IsPermutation (numbered (lanes_at script tick)) (handed old) → CameBack script tick old new
-    → letters ≡ flat_map (λ (share : Share). share.tray) new → IsPermutation letters merged → InOrder merged → merged ≡ posted_at script tick (lanes_at script tick)
-posted_by_sender script tick old new letters merged dealt back e p up =
+pub posted_by_sender : (script : Plan) (tick : ℕ) (taken : List Numbered) (letters merged : List Letter) → IsPermutation (numbered (lanes_at script tick)) taken → IsPermutation (flat_map (out_of_one script tick) taken) letters
+    → IsPermutation letters merged → InOrder merged → merged ≡ posted_at script tick (lanes_at script tick)
+posted_by_sender script tick taken letters merged split sent p up =
     let lanes : List Lane = lanes_at script tick in
     let now : List Letter = posted_at script tick lanes in
     let order = by_number_at script tick in
-    let all : IsPermutation now (flat_map (out_of_one script tick) (handed old)) =
-    subst (λ (l : List Letter). IsPermutation l (flat_map (out_of_one script tick) (handed old))) (numbered_post script tick lanes) (flat_permuted (out_of_one script tick) (numbered lanes) (handed old) dealt) in
-    let moved : IsPermutation now merged = IsPermutation-trans _ _ _ (subst (IsPermutation now) (sym (e ∙ back.letters)) all) p in
+    let all : IsPermutation now (flat_map (out_of_one script tick) taken) =
+    subst (λ (l : List Letter). IsPermutation l (flat_map (out_of_one script tick) taken)) (numbered_post script tick lanes) (flat_permuted (out_of_one script tick) (numbered lanes) taken split) in
+    let moved : IsPermutation now merged = IsPermutation-trans _ _ _ all (IsPermutation-trans _ _ _ sent p) in
     sym (order_is_one now merged (posted_apart script tick lanes order) moved (posted_in_order script tick lanes order) up)

@@ -10,8 +10,8 @@ use Rattle.lane_turn.specs.Step.{step}
 use Rattle.lane_turn.specs.Turn.{begun, turned, finished, out_of}
 use Rattle.lane_turn.specs.Tick.{posted_at}
 use Rattle.lane_turn.proofs.Sends.{step_tells}
-use Rattle.tick_stepper.specs.Merge.{IsMerge, concat}
-use Rattle.tick_stepper.specs.Parts.{without}
+use Rattle.post_office.specs.Merge.{IsMerge, concat}
+use Rattle.post_office.specs.Parts.{without}
 use Rattle.tick_stepper.specs.Machine.{Worker, Tick, Move, Claim, Step, Done, posted_by, takes, goes_on, lets_go, claimed, gone_on, ended, claim, go_on, end, by_worker, worker_of, moved, after, idle, opening, AreFree, IsFull, taken_of, over_of, posted_of}
 use Rattle.tick_stepper.specs.Law.{sent_by, IsTurned, EachTurnedOnce}
 use Rattle.tick_stepper.proofs.Concats.{map_snoc, map_concat, flat_snoc}

@@ -7,8 +7,8 @@ use Rattle.lane_turn.specs.Lane.{Lane}
 use Rattle.lane_turn.specs.Turn.{turned}
 use Rattle.lane_turn.specs.Deliver.{delivered}
 use Rattle.lane_turn.specs.Tick.{posted_at, ticked}
-use Rattle.tick_stepper.specs.Merge.{IsMerge, concat}
-use Rattle.tick_stepper.specs.Parts.{claims, posts, all_claims, unclaimed}
+use Rattle.post_office.specs.Merge.{IsMerge, concat}
+use Rattle.post_office.specs.Parts.{claims, posts, all_claims, unclaimed}
 use Rattle.tick_stepper.specs.Order.{ByNumber}
 use Rattle.tick_stepper.specs.Machine.{Tick, Move, Claim, Step, Done, moved, after, opening, AreFree, IsFull, taken_of, over_of, posted_of, work_of, mail_of}
 

@@ -1,8 +1,7 @@
-pub mod Merge
-pub mod Parts
 pub mod Order
 pub mod Machine
 pub mod Law
 pub mod Crew
 pub mod Share
+pub mod Queue
 pub mod Stepper

@@ -6,7 +6,7 @@ use Rattle.post_office.specs.declared.letter.Letter.{Letter}
 use Rattle.lane_turn.specs.Lane.{Lane, Turn}
 use Rattle.lane_turn.specs.Step.{step}
 use Rattle.lane_turn.specs.Turn.{begun}
-use Rattle.tick_stepper.specs.Parts.{Work, Mail, without}
+use Rattle.post_office.specs.Parts.{Work, Mail, without}
 
 -- a worker: the turn that it is in the middle of, the lanes that it took, those whose turn it ended, and what it posted
 pub record Worker : Type 0 where

@@ -1,11 +1,13 @@
 -- What a worker is handed, and what it gives back.
-use Rattle.std.specs.Prelude.{◌≡◌, ℕ, ◌^◌, Bool, false, nat_lt, length, Result, Ok, List, [], map}
-use Rattle.std.specs.List.{AllByRecursion, flat_map}
+use Rattle.std.specs.Prelude.{◌≡◌, ℕ, ◌+◌, ◌^◌, ◌==◌, Bool, false, nat_lt, length, Result, Ok, List, [], ◌∷◌, map}
+use Rattle.std.specs.List.{AllByRecursion, filter, flat_map}
 use Rattle.loop_script.specs.declared.plan.Plan.{Plan}
 use Rattle.post_office.specs.declared.letter.Letter.{Letter}
 use Rattle.lane_turn.specs.Lane.{Lane, Kept}
 use Rattle.lane_turn.specs.Turn.{turned, out_of}
 use Rattle.lane_turn.specs.Sound.{IsReady}
+use Rattle.tick_stepper.specs.Crew.{worker_of}
+use Rattle.tick_stepper.specs.declared.crew.Crew.{Crew}
 use Rattle.tick_stepper.specs.declared.share.Numbered.{Numbered}
 use Rattle.tick_stepper.specs.declared.share.Share.{Share}
 use Rattle.lane_turn.specs.declared.state.LaneFault.{LaneFault}
@@ -31,8 +33,9 @@ turned_one script tick one = stepped_one (turned script tick) one
 abbrev pub out_of_one : Plan → ℕ → Numbered → List Letter
 out_of_one script tick one = out_of script tick one.state.lane
 
--- a lane that may take its turn at a tick, or the delivery before it
+-- a lane by its own number that may take its turn at a tick, or the delivery before it
 pub record IsReadyOne (script : Plan) (tick : ℕ) (one : Numbered) : Type 0 where
+  pub named : one.number ≡ one.state.lane.number
   pub unspent : one.state.spent ≡ false
   pub ready : IsReady script tick (2 ^ 61) one.state.lane
 
@@ -63,3 +66,16 @@ pub record IsGathered (hauls : List (Result Share LaneFault)) (lanes : List Numb
   pub all : hauls ≡ map Ok shares
   pub back : lanes ≡ handed shares
   pub posted : letters ≡ carried shares
+
+-- shares stand by their workers' numbers, from n on
+abbrev pub AreWorkers : ℕ → List Share → Type 0
+AreWorkers n [] = Unit {0}
+AreWorkers n (share ∷ shares) = (share.worker ≡ n) × AreWorkers (n + 1) shares
+
+-- the lanes of a worker, in their order
+abbrev pub lanes_of : Crew → ℕ → List Numbered → List Numbered
+lanes_of crew worker lanes = filter (λ one. worker_of crew one.number == worker) lanes
+
+-- of the lanes that were dealt, a share has those of its worker
+abbrev pub HasTheirs : Crew → List Numbered → Share → Type 0
+HasTheirs crew lanes share = share.lanes.items ≡ lanes_of crew share.worker lanes

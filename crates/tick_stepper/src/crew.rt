@@ -16,6 +16,8 @@ pub enum Sharing {
     Round,
     /// The worker of each lane.
     Fixed(Vec<u32>),
+    /// Each worker takes the next lane that waits, until none does: which worker takes which lane is not determined.
+    Queue,
 }
 
 impl Sharing {
@@ -24,7 +26,7 @@ impl Sharing {
         ensures { result ≡ names_workers lanes workers self.now }
     {
         match self {
-            Sharing::Round => true,
+            Sharing::Round | Sharing::Queue => true,
             Sharing::Fixed(table) => {
                 table.len() == lanes as usize && are_below(table.as_slice(), workers)
             }
@@ -47,7 +49,7 @@ pub(crate) struct Crew {
 }
 
 impl Crew {
-    /// The worker of a lane.
+    /// The worker of a lane, where lanes are dealt out.
     pub(crate) fn worker_of(&self, lane: u32) -> u32
         requires { 0 < self.now.workers }
         ensures { result ≡ worker_of self.now lane }
@@ -55,6 +57,7 @@ impl Crew {
         match &self.sharing {
             Sharing::Round => lane % self.workers,
             Sharing::Fixed(table) => table.get(lane as usize).copied().unwrap_or(0),
+            Sharing::Queue => 0,
         }
     }
 

@@ -1,8 +1,10 @@
 //! Lanes go to their workers, and come back.
-ghost use Rattle.std.specs.Prelude.{◌≡◌, ◌<◌, [], ◌∷◌, OnOk, IfOk, true, vec_len, IsPermutation};
+ghost use Rattle.std.specs.Prelude.{◌≡◌, ◌<◌, [], ◌∷◌, ◌++◌, List, OnOk, IfOk, true, vec_len, IsPermutation};
 ghost use Rattle.std.specs.List.{All, filter};
 ghost use Rattle.tick_stepper.specs.Crew.{worker_of};
-ghost use Rattle.tick_stepper.specs.Share.{has_lanes, handed, IsGathered};
+ghost use Rattle.tick_stepper.specs.Share.{has_lanes, handed, AreWorkers, HasTheirs, IsGathered};
+ghost use Rattle.tick_stepper.specs.declared.crew.Crew.{Crew};
+ghost use Rattle.tick_stepper.specs.declared.share.Numbered.{Numbered};
 
 use crate::crew::Crew;
 use crate::share::{Numbered, Share};
@@ -15,6 +17,8 @@ fn empty_shares(alloc: Global, workers: u32) -> Result<Vec<Share>, AllocError>
     ensures one_each { IfOk result (λ shares. vec_len shares ≡ workers) }
     ensures lanes { IfOk result (λ shares. handed shares.items ≡ []) }
     ensures trays { IfOk result (λ shares. All (λ share. share.tray ≡ []) shares.items) }
+    ensures workers { IfOk result (λ shares. AreWorkers 0 shares.items) }
+    ensures none { IfOk result (λ shares. All (λ share. share.lanes.items ≡ []) shares.items) }
 {
     let mut shares = Vec::new(alloc);
     for worker in 0..workers {
@@ -40,6 +44,8 @@ fn give(shares: &mut Vec<Share>, worker: u32, lane: Numbered) -> Result<(), Allo
     ensures lanes { OnOk result (IsPermutation (handed shares.new.items) (lane ∷ handed shares.old.items)) }
     ensures trays { OnOk result (All (λ share. share.tray ≡ []) shares.old.items → All (λ share. share.tray ≡ []) shares.new.items) }
     ensures as_many { vec_len shares.new ≡ vec_len shares.old }
+    ensures workers { OnOk result (AreWorkers 0 shares.old.items → AreWorkers 0 shares.new.items) }
+    ensures theirs { OnOk result ((crew : Crew) (dealt : List Numbered) → worker_of crew lane.number ≡ worker → AreWorkers 0 shares.old.items → All (HasTheirs crew dealt) shares.old.items → All (HasTheirs crew (dealt ++ lane ∷ [])) shares.new.items) }
 {
     shares[worker as usize].lanes.push(lane)?;
     Ok(())
@@ -51,6 +57,7 @@ fn hand_out(alloc: Global, crew: &Crew, lanes: Vec<Numbered>) -> Result<Vec<Shar
     requires named { All (λ one. worker_of crew.now one.number < crew.now.workers) lanes.items }
     ensures lanes { IfOk result (λ shares. IsPermutation lanes.items (handed shares.items)) }
     ensures trays { IfOk result (λ shares. All (λ share. share.tray ≡ []) shares.items) }
+    ensures theirs { IfOk result (λ shares. All (HasTheirs crew.now lanes.items) shares.items) }
 {
     let mut shares = empty_shares(alloc, crew.workers)?;
     for lane in lanes {
@@ -70,6 +77,7 @@ pub(crate) fn deal(
     requires named { All (λ one. worker_of crew.now one.number < crew.now.workers) lanes.items }
     ensures lanes { IfOk result (λ shares. IsPermutation lanes.items (handed shares.items)) }
     ensures trays { IfOk result (λ shares. All (λ share. share.tray ≡ []) shares.items) }
+    ensures theirs { IfOk result (λ shares. All (HasTheirs crew.now lanes.items) shares.items) }
     ensures busy { IfOk result (λ shares. All (λ share. has_lanes share ≡ true) shares.items) }
 {
     let mut shares = hand_out(alloc, crew, lanes)?;

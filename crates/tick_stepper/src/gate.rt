@@ -22,6 +22,7 @@ pub trait Gate: Sync {
     ) -> Result<(), LaneFault>
         requires ready { state.old.spent ≡ false → IsReady script.now tick (2 ^ 61) state.old.lane }
         requires tick { tick < 2 ^ 31 }
+        requires number { lane ≡ state.old.lane.number }
         ensures turned { OnOk result (state.new.lane ≡ turned script.now tick state.old.lane) }
         ensures letters { OnOk result (P.letters post.new ≡ P.letters post.old ++ out_of script.now tick state.old.lane) }
         ensures home { P.home post.new ≡ P.home post.old }

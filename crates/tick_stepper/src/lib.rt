@@ -9,9 +9,11 @@ mod fault;
 mod gate;
 mod laws;
 mod open;
+mod queue;
 mod round;
 mod share;
 mod stepper;
+mod work;
 
 pub use crew::Sharing;
 pub use fault::StepFault;

@@ -1,23 +1,23 @@
 //! One tick of all lanes.
-ghost use Rattle.std.specs.Prelude.{◌≡◌, ℕ, ◌+◌, ◌<◌, ◌≤◌, None, map, length, IfOk, vec_len, slice_index_or, IsPermutation};
+ghost use Rattle.std.specs.Prelude.{◌≡◌, ℕ, ◌+◌, ◌<◌, ◌≤◌, None, map, length, IfOk, vec_len, slice_index_or};
 ghost use Rattle.std.specs.List.{All};
-ghost use Rattle.std.specs.List.Sorted.{IsNonDecreasingBy};
 ghost use Rattle.lane_turn.specs.Turn.{turned};
 ghost use Rattle.lane_turn.specs.Tick.{posted_at, lanes_at};
 ghost use Rattle.tick_stepper.specs.Crew.{refusal_of};
 ghost use Rattle.tick_stepper.specs.Share.{numbered, IsFresh, IsTurned};
-ghost use Rattle.tick_stepper.specs.declared.share.Numbered.{Numbered};
 
-use crate::crew::Crew;
+use crate::crew::{Crew, Sharing};
 use crate::deal::{deal, gather};
 use crate::deliver::deliver_all;
 use crate::fault::OutOfMemory;
 use crate::gate::Gate;
-use crate::share::{Numbered, Share, turn_share};
+use crate::queue::turn_by_queue;
+use crate::share::{Numbered, Share, in_order, turn_share};
 use lane_turn::LaneFault;
 use loop_script::Script;
 use post_office::{Letter, merge};
 use std::alloc::{AllocError, Global};
+use std::sync::Wait;
 use std::thread;
 use std::thread::Threads;
 
@@ -44,18 +44,9 @@ fn turn_shares<R: Threads + Sync, G: Gate>(
     )
 }
 
-/// Lanes by their numbers.
-fn in_order(mut lanes: Vec<Numbered>) -> Result<Vec<Numbered>, AllocError>
-    ensures same { IfOk result (λ sorted. IsPermutation lanes.items sorted.items) }
-    ensures order { IfOk result (λ sorted. IsNonDecreasingBy (λ (one : Numbered). one.number) sorted.items) }
-{
-    lanes.sort_by_key(|lane| lane.number)?;
-    Ok(lanes)
-}
-
-/// The lanes of a run after their turns at a tick, by number, and what they posted, by sender and number. Each worker
-/// that has lanes turns them; a tick goes on when all are back.
-fn turn_all<R: Threads + Sync, G: Gate>(
+/// The lanes of a run after their turns at a tick, by number, and what they posted, by sender and number. Each lane
+/// is dealt to its worker, and each worker that has some turns them; the tick goes on when all are back.
+fn turn_by_deal<R: Threads + Sync, G: Gate>(
     rt: &R,
     alloc: Global,
     gate: &G,
@@ -79,8 +70,34 @@ fn turn_all<R: Threads + Sync, G: Gate>(
     Ok((lanes, letters))
 }
 
+/// The lanes of a run after their turns at a tick, by number, and what they posted, by sender and number. They
+/// are dealt out to workers, or these take them from a queue.
+fn turn_all<R: Threads + Wait + Sync, G: Gate>(
+    rt: &R,
+    alloc: Global,
+    gate: &G,
+    script: &Script,
+    tick: u32,
+    crew: &Crew,
+    lanes: Vec<Numbered>,
+) -> Result<(Vec<Numbered>, Vec<Letter>), OutOfMemory>
+    requires few { length script.now.lanes ≤ 64 }
+    requires tick { tick < 4096 }
+    requires crew { refusal_of script.now crew.now.workers crew.now.sharing ≡ None }
+    requires lanes { lanes.items ≡ numbered (lanes_at script.now tick) }
+    ensures lanes { IfOk result (λ r. r.0.items ≡ numbered (map (turned script.now tick) (lanes_at script.now tick))) }
+    ensures letters { IfOk result (λ r. r.1.items ≡ posted_at script.now tick (lanes_at script.now tick)) }
+{
+    match crew.sharing {
+        Sharing::Queue => turn_by_queue(rt, alloc, gate, script, tick, crew.workers, lanes),
+        Sharing::Round | Sharing::Fixed(_) => turn_by_deal(
+            rt, alloc, gate, script, tick, crew, lanes,
+        ),
+    }
+}
+
 /// A tick of the lanes of a run: their turns, and then the delivery of what those posted.
-pub(crate) fn run_tick<R: Threads + Sync, G: Gate>(
+pub(crate) fn run_tick<R: Threads + Wait + Sync, G: Gate>(
     rt: &R,
     alloc: Global,
     gate: &G,

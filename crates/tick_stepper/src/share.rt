@@ -1,18 +1,29 @@
 //! What a worker does in a tick.
-ghost use Rattle.std.specs.Prelude.{◌≡◌, ◌<◌, ◌++◌, map, OnOk, IfOk};
+ghost use Rattle.std.specs.Prelude.{◌≡◌, ◌<◌, ◌++◌, map, OnOk, IfOk, IsPermutation};
 ghost use Rattle.std.specs.List.{AllByRecursion, flat_map};
+ghost use Rattle.std.specs.List.Sorted.{IsNonDecreasingBy};
 ghost use Rattle.tick_stepper.specs.Share.{turned_one, out_of_one, IsReadyOne, IsFresh, IsTurned};
+ghost use Rattle.tick_stepper.specs.declared.share.Numbered.{Numbered};
 
 use crate::gate::Gate;
 use lane_turn::{LaneFault, LaneState};
 use loop_script::Script;
 use post_office::Tray;
+use std::alloc::AllocError;
 
 /// A lane, and its number.
 #[derive(Drop)]
 pub(crate) struct Numbered {
     pub(crate) number: u32,
     pub(crate) state: LaneState,
+}
+
+impl post_office::Numbered for Numbered {
+    ghost number_of = { λ one. one.number };
+
+    fn number(&self) -> u32 {
+        self.number
+    }
 }
 
 /// What a worker is handed and gives back: lanes, and a tray for what these post.
@@ -65,4 +76,13 @@ pub(crate) fn turn_share<G: Gate>(
         lanes,
         tray,
     })
+}
+
+/// Lanes by their numbers.
+pub(crate) fn in_order(mut lanes: Vec<Numbered>) -> Result<Vec<Numbered>, AllocError>
+    ensures same { IfOk result (λ sorted. IsPermutation lanes.items sorted.items) }
+    ensures order { IfOk result (λ sorted. IsNonDecreasingBy (λ (one : Numbered). one.number) sorted.items) }
+{
+    lanes.sort_by_key(|lane| lane.number)?;
+    Ok(lanes)
 }

@@ -14,6 +14,7 @@ use loop_script::Script;
 use std::alloc::Global;
 use std::marker::Model;
 use std::mem;
+use std::sync::Wait;
 use std::thread::Threads;
 
 /// Steps the lanes of a script through its ticks. Contracts see the script, its lanes by number, how many ticks were
@@ -80,7 +81,11 @@ impl Stepper {
     /// It answers true; where all ticks were stepped, false, and then nothing is changed.
     ///
     /// After `OutOfMemory` the stepper is spent: each later call answers `Spent`, and changes nothing.
-    pub fn tick<R: Threads + Sync, G: Gate>(&mut self, rt: &R, gate: &G) -> Result<bool, StepFault>
+    pub fn tick<R: Threads + Wait + Sync, G: Gate>(
+        &mut self,
+        rt: &R,
+        gate: &G,
+    ) -> Result<bool, StepFault>
         ensures ticked { result ≡ Ok true → self.new ≡ record { script = self.old.script; lanes = ticked self.old.script self.old.tick self.old.lanes; tick = self.old.tick + 1; spent = false } }
         ensures before { result ≡ Ok true → self.old.tick < self.old.script.ticks }
         ensures over { result ≡ Ok false → self.new ≡ self.old }
@@ -102,7 +107,11 @@ impl Stepper {
     }
 
     /// Steps all ticks that are left. After `OutOfMemory` the stepper is spent, as after `tick`.
-    pub fn run<R: Threads + Sync, G: Gate>(&mut self, rt: &R, gate: &G) -> Result<(), StepFault>
+    pub fn run<R: Threads + Wait + Sync, G: Gate>(
+        &mut self,
+        rt: &R,
+        gate: &G,
+    ) -> Result<(), StepFault>
         ensures ran { OnOk result (self.new ≡ record { script = self.old.script; lanes = lanes_at self.old.script self.old.script.ticks; tick = self.old.script.ticks; spent = false }) }
         ensures spent { (result ≡ Err StepFault.Spent) ↔ IsTrue self.old.spent }
         ensures memory { result ≡ Err StepFault.OutOfMemory → IsTrue self.new.spent }
@@ -119,7 +128,11 @@ impl Stepper {
     }
 
     /// Steps one tick of those that are left, and is spent where memory was refused.
-    fn step<R: Threads + Sync, G: Gate>(&mut self, rt: &R, gate: &G) -> Result<(), OutOfMemory>
+    fn step<R: Threads + Wait + Sync, G: Gate>(
+        &mut self,
+        rt: &R,
+        gate: &G,
+    ) -> Result<(), OutOfMemory>
         requires unspent { self.old.spent ≡ false }
         requires left { self.old.tick < self.old.script.ticks }
         ensures stepped { OnOk result (self.new ≡ record { script = self.old.script; lanes = lanes_at self.old.script (self.old.tick + 1); tick = self.old.tick + 1; spent = false }) }

@@ -2,7 +2,7 @@ use Rattle.std.proofs.Common.{◌≡◌, [], true, List, ap, ◌∙◌, subst, s
 use Rattle.std.proofs.lemmas.List.Elements.{All-filter}
 use Rattle.std.specs.Prelude.{IsPermutation}
 use Rattle.std.specs.List.{All}
-use Rattle.tick_stepper.specs.Share.{has_lanes, handed}
+use Rattle.tick_stepper.specs.Share.{has_lanes, handed, HasTheirs}
 use Rattle.tick_stepper.specs.declared.share.Numbered.{Numbered}
 use Rattle.tick_stepper.specs.declared.share.Share.{Share}
 use Rattle.tick_stepper.proofs.Handed.{filtered_same, none_there, kept_have}
@@ -21,3 +21,8 @@ returns-clause-trays c =
 
 pub returns-clause-busy : goal.returns-clause-busy
 returns-clause-busy c = subst (λ (l : List Share). All (λ share. has_lanes share ≡ true) l) (sym c.leave_out_idle.ensures) (kept_have has_lanes c.in_ok-shares.shares.items)
+
+pub returns-clause-theirs : goal.returns-clause-theirs
+returns-clause-theirs c =
+    let P : Share → Type 0 = HasTheirs c.args.crew.now c.args.lanes.items in
+    subst (λ (l : List Share). All P l) (sym c.leave_out_idle.ensures) (All-filter has_lanes P c.in_ok-shares.shares.items c.in_ok-shares.ensures.theirs)

@@ -1,5 +1,5 @@
-use Rattle.std.proofs.Common.{rules, ◌≡◌, ◌++◌, ◌∙◌, ap}
-use Rattle.tick_stepper.proofs.Handed.{gathered_none, gathered_more}
+use Rattle.std.proofs.Common.{rules}
+use Rattle.tick_stepper.proofs.Handed.{gathered_more}
 use Rattle.tick_stepper.proofs.deal.gather.Goals as goal
 
 pub loop-haul-preserved : goal.loop-haul-preserved

@@ -1,4 +1,4 @@
-use Rattle.std.proofs.Common.{◌≡◌, ◌+◌, ◌<◌, ap, ◌∙◌, arith, get_or}
+use Rattle.std.proofs.Common.{◌≡◌, ◌+◌, ap, ◌∙◌, arith, get_or}
 use Rattle.lane_turn.specs.Lane.{Kept}
 use Rattle.lane_turn.specs.Deliver.{received_all}
 use Rattle.tick_stepper.specs.Share.{stepped_one, unspent}

@@ -1,17 +1,19 @@
-use Rattle.std.proofs.Common.{◌≡◌, ◌<◌, ◌≤◌, ◌++◌, false, ap, ◌∙◌, arith, get_or}
-use Rattle.std.proofs.lemmas.List.{take_all}
-use Rattle.std.specs.List.{flat_map}
-use Rattle.lane_turn.specs.Lane.{Lane, Kept}
+use Rattle.std.proofs.Common.{◌≡◌, ap, ◌∙◌, arith, get_or}
+use Rattle.lane_turn.specs.Lane.{Kept}
 use Rattle.lane_turn.specs.Turn.{turned}
-use Rattle.tick_stepper.specs.Share.{turned_one, out_of_one, unspent, IsReadyOne}
+use Rattle.tick_stepper.specs.Share.{turned_one, out_of_one, unspent}
 use Rattle.tick_stepper.specs.declared.share.Numbered.{Numbered}
 use Rattle.tick_stepper.proofs.Along.{one_is, one_more, stepped_all, gives_on}
-use Rattle.tick_stepper.proofs.Ready.{ready_here, kept_is}
+use Rattle.tick_stepper.proofs.Ready.{ready_here, named_here, kept_is}
 use Rattle.tick_stepper.proofs.share.take_turns.Goals as goal
 
 pub turn-requires-clause-ready : goal.turn-requires-clause-ready
 turn-requires-clause-ready g c _ =
     ready_here c.args.script.now c.args.tick c.loop-lane.lane-index (turned_one c.args.script.now c.args.tick) c.args.lanes.now c.loop-lane.lanes c.lane-item.result c.requires.ready c.loop-lane.invariant.lanes (omega arith)
+
+pub turn-requires-clause-number : goal.turn-requires-clause-number
+turn-requires-clause-number g c =
+    named_here c.args.script.now c.args.tick c.loop-lane.lane-index (turned_one c.args.script.now c.args.tick) c.args.lanes.now c.loop-lane.lanes c.lane-item.result c.requires.ready c.loop-lane.invariant.lanes (omega arith)
 
 pub loop-lane-preserved : goal.loop-lane-preserved
 loop-lane-preserved g c =

@@ -1,5 +1,4 @@
-use Rattle.std.proofs.Common.{List, false}
-use Rattle.lane_turn.specs.Lane.{Lane}
+use Rattle.std.proofs.Common.{false}
 use Rattle.lane_turn.specs.Tick.{opened}
 use Rattle.tick_stepper.proofs.Steppers.{lanes_are}
 use Rattle.tick_stepper.proofs.stepper.Stepper.new.Goals as goal
