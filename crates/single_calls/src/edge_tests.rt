@@ -4,6 +4,7 @@ use mainctx::{MainFault, OverWrite, run_bytes};
 use std::alloc::Global;
 use std::io;
 use std::io::{ErrorKind, Write};
+use std::sync::Wait;
 use std::thread::Threads;
 use tick_stepper::{OpenGate, Sharing};
 
@@ -54,7 +55,7 @@ impl Write for Short {
 }
 
 /// Runs the first script over a writer with so much room; its answer, and what the writer has got.
-fn ran_over<T: Threads + Sync>(
+fn ran_over<T: Threads + Wait + Sync>(
     rt: &T,
     alloc: Global,
     room: usize,

@@ -6,13 +6,15 @@ mod context_tests;
 #[cfg(test)]
 mod edge_tests;
 #[cfg(test)]
+mod gate_tests;
+#[cfg(test)]
 mod lane_tests;
 #[cfg(test)]
 mod refused_tests;
 #[cfg(test)]
 mod script_tests;
 #[cfg(test)]
-mod serve_tests;
+mod stepper_tests;
 #[cfg(test)]
 mod view_tests;
 #[cfg(test)]
