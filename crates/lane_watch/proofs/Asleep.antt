@@ -1,15 +1,15 @@
 -- A tick that is passed over, beside the tick in which each cancellable came into the view.
-use Rattle.std.proofs.Common.{◌≡◌, ℕ, ◌+◌, ◌<◌, ◌==◌, ◌&&◌, ◌||◌, not, Bool, true, false, cond, length, Option, Some, None, is_some, List, [], ◌∷◌, ◌++◌, map, filter, refl, ap, sym, subst, arith}
+use Rattle.std.proofs.Common.{◌≡◌, ℕ, zero, suc, ◌+◌, ◌<◌, ◌≤◌, ◌==◌, ◌&&◌, ◌||◌, not, Bool, true, false, cond, length, Option, Some, None, is_some, List, [], ◌∷◌, ◌++◌, map, filter, refl, ap, sym, subst, arith}
 use Rattle.std.specs.Prelude.{option_map, option_to_list}
 use Rattle.std.specs.List.{AllByRecursion, list_any}
 use Rattle.cancel_view.specs.Seen.{Seen, has, has_other_id, connected, without}
 use Rattle.task_steps.specs.Run.{IsAfter, IsUpTo}
 use Rattle.task_steps.specs.Reply.{reply_of_task}
 use Rattle.task_steps.specs.Task.{Task, reply_in, is_late_in, body_end}
-use Rattle.task_steps.specs.Book.{Book, passed, noticed_in, all_noticed, replies_in, late_in, goes_on, replies_next, wake_under, OwesNone, IsIn}
+use Rattle.task_steps.specs.Book.{Book, passed, noticed_in, all_noticed, replies_in, late_in, goes_on, replies_next, wake_under, OwesNone, IsIn, IsNext, IsQuietTo}
 use Rattle.task_steps.proofs.Passed.{may_pass}
 use Rattle.lane_watch.specs.Tasks.{came_in}
-use Rattle.lane_watch.specs.Watch.{AreDated, SeenAs, Fits, IsJoined, IsAsleep, started_of}
+use Rattle.lane_watch.specs.Watch.{AreDated, SeenAs, Fits, IsJoined, IsAsleep, IsIdleUnder, IsLast, started_of}
 use Rattle.lane_watch.proofs.Dated.{sees_dated, later_all}
 use Rattle.lane_watch.proofs.Noticed.{seen_by, below_more}
 
@@ -19,8 +19,8 @@ use Rattle.lane_watch.proofs.Noticed.{seen_by, below_more}
 pub awake : (tick : ℕ) (view : Seen) (book : Book) → IsAsleep tick (Some tick) view book
 awake tick view book = λ later le a. absurd (omega arith)
 
-pub asleep_to : (tick : ℕ) (view : Seen) (book : Book) → IsAsleep (tick + 1) (wake_under tick view book) view book
-asleep_to tick view book = λ later le a. may_pass tick later view book (omega arith) a
+pub asleep_to : (tick : ℕ) (view : Seen) (book : Book) → IsQuietTo (wake_under tick view book) tick view book.tasks → IsAsleep (tick + 1) (wake_under tick view book) view book
+asleep_to tick view book quiet = λ later le a. let may = may_pass tick later view book (omega arith) a in (may.0, may.1, λ c m. quiet later c (omega arith) a m)
 
 -- ---- a task that was passed over fits the next tick
 seen_passed : (tick first : ℕ) (returns : Bool) (s clear cancelled : Option ℕ) → (returns && (is_some s && not (is_some cancelled))) ≡ false → SeenAs tick returns clear cancelled (seen_by first s) → SeenAs (tick + 1) returns clear cancelled (seen_by first s)
@@ -76,6 +76,23 @@ joined_passed tick us view came book wake a j =
       numbered = j.numbered;
     }
 
+pub after_less : (k later : ℕ) (wake : Option ℕ) → k ≤ later → IsAfter later wake → IsAfter k wake
+after_less k later None le a = tt
+after_less k later (Some w) le a = omega arith
+
+-- the last poll or pass was before
+pub after_last : (tick k : ℕ) (last : Option ℕ) → tick ≤ k → IsLast tick last → IsNext k last
+after_last tick k None le h = tt
+after_last tick k (Some last) le h = omega arith
+
+-- so does each after it, before the wake
+pub joined_skipped : (n tick last us : ℕ) (view : Seen) (came : List (Option ℕ)) (book : Book) (wake : Option ℕ) → last ≡ tick + n → IsAfter last wake → IsJoined tick us view came book wake → IsJoined (last + 1) us view came (passed last book) wake
+joined_skipped zero tick last us view came book wake e a j =
+    let is : tick ≡ last = omega arith in
+    subst (λ (k : ℕ). IsJoined (k + 1) us view came (passed k book) wake) is (joined_passed tick us view came book wake (after_less tick last wake (omega arith) a) j)
+joined_skipped (suc n) tick last us view came book wake e a j =
+    joined_skipped n (tick + 1) last us view came (passed tick book) wake (omega arith) a (joined_passed tick us view came book wake (after_less tick last wake (omega arith) a) j)
+
 -- ---- another view of the same cancellables
 fits_viewed : (tick us : ℕ) (v w : Seen) (came : List (Option ℕ)) (ts : List Task) → w.members ≡ v.members → AllByRecursion (Fits tick us v came) ts → AllByRecursion (Fits tick us w came) ts
 fits_viewed tick us v w came [] e h = tt
@@ -95,7 +112,7 @@ joined_viewed tick us v w came book until e j = record {
   sound = j.sound;
   last = j.last;
   wake = j.wake;
-  asleep = λ later le a. let s = j.asleep later le a in (s.0, owes s.1);
+  asleep = λ later le a. let s = j.asleep later le a in (s.0, owes s.1, idle later s.2);
   dated = subst (λ (ms : List Bool). AreDated came ms) (sym e) j.dated;
   past = j.past;
   fits = fits_viewed tick us v w came book.tasks e j.fits;
@@ -104,6 +121,9 @@ joined_viewed tick us v w came book until e j = record {
   where
     owes : OwesNone v book.tasks → OwesNone w book.tasks
     owes o = subst (λ (ms : List Bool). OwesNone (record v { members = ms }) book.tasks) (sym e) o
+
+    idle : (later : ℕ) → IsIdleUnder later v book.tasks → IsIdleUnder later w book.tasks
+    idle later o = subst (λ (ms : List Bool). IsIdleUnder later (record v { members = ms }) book.tasks) (sym e) o
 
 pub connected_members : (c proc : ℕ) (v : Seen) → (connected c proc v).members ≡ v.members
 connected_members c proc v = elim (has c v) as (λ b. (cond b v (record v { handlers = v.handlers ++ record { id = v.next_id; cancellable = c; proc = proc } ∷ []; next_id = v.next_id + 1 })).members ≡ v.members) [ true ↦ refl | false ↦ refl ]

@@ -1,11 +1,12 @@
 -- What a poll gives, beside what the book's poll gives, or its pass.
-use Rattle.std.proofs.Common.{◌≡◌, ℕ, Option, List, [], map, filter, ap, sym, ◌∙◌}
+use Rattle.std.proofs.Common.{◌≡◌, ℕ, zero, suc, ◌+◌, arith, subst, Option, List, [], map, filter, ap, sym, ◌∙◌}
 use Rattle.cancel_view.specs.Seen.{Seen}
-use Rattle.task_steps.specs.Book.{Book, goes_on, all_noticed, replies_in, late_in, MayComeToAll, IsIdle}
+use Rattle.task_steps.specs.Book.{Book, goes_on, all_noticed, replies_in, late_in, MayComeToAll, IsIdle, passed}
+use Rattle.task_steps.specs.Run.{IsAfter}
 use Rattle.lane_watch.specs.Tasks.{Tasks}
-use Rattle.lane_watch.specs.Watch.{IsJoined, started_of, replies_of, late_of, polled}
+use Rattle.lane_watch.specs.Watch.{IsJoined, GivesNothing, started_of, replies_of, late_of, polled}
 use Rattle.lane_watch.proofs.Polled.{c_of, tells, may_come_all, all_of_ticks, replies_same, late_same, stays_same}
-use Rattle.lane_watch.proofs.Asleep.{replies_unnoticed, late_unnoticed, kept_unnoticed}
+use Rattle.lane_watch.proofs.Asleep.{after_less, joined_passed, replies_unnoticed, late_unnoticed, kept_unnoticed}
 
 -- the tasks that a lane has, by its book
 abbrev pub tasks_of : (tick us : ℕ) → List (Option ℕ) → Book → Tasks
@@ -37,3 +38,20 @@ module _ (tick us : ℕ) (view : Seen) (came : List (Option ℕ)) (book : Book) 
 
   pub all_stay : IsIdle tick (first came book) book.tasks → map started_of book.tasks ≡ (polled tick (tasks_of tick us came book)).started
   all_stay i = sym (ap (map started_of) i.2) ∙ (sym (kept_unnoticed tick view (first came book) book.tasks) ∙ kept_given)
+
+  -- before the wake a poll gives nothing
+  gives_now : IsAfter tick until → GivesNothing tick (tasks_of tick us came book)
+  gives_now a =
+      let idle : IsIdle tick (first came book) book.tasks = (j.asleep tick (omega arith) a).2 (first came book) may in
+      record { replies = sym (replies_none idle); late = sym (late_none idle); stay = sym (all_stay idle) }
+
+-- nor does a later one
+gives_on : (at to us : ℕ) (came : List (Option ℕ)) (book : Book) (k : ℕ) → GivesNothing k (tasks_of to us came book) → GivesNothing k (tasks_of at us came book)
+gives_on at to us came book k g = record { replies = g.replies; late = g.late; stay = g.stay }
+
+pub gives_later : (n tick k us : ℕ) (view : Seen) (came : List (Option ℕ)) (book : Book) (wake : Option ℕ) → k ≡ tick + n → IsAfter k wake → IsJoined tick us view came book wake → GivesNothing k (tasks_of tick us came book)
+gives_later zero tick k us view came book wake e a j =
+    let is : tick ≡ k = omega arith in
+    subst (λ (m : ℕ). GivesNothing m (tasks_of tick us came book)) is (gives_now tick us view came book wake j (after_less tick k wake (omega arith) a))
+gives_later (suc n) tick k us view came book wake e a j =
+    gives_on tick (tick + 1) us came book k (gives_later n (tick + 1) k us view came (passed tick book) wake (omega arith) a (joined_passed tick us view came book wake (after_less tick k wake (omega arith) a) j))

@@ -7,7 +7,7 @@ use Rattle.loop_script.specs.declared.task.TaskSpec.{TaskSpec}
 use Rattle.cancel_view.specs.declared.handler.Fired.{Fired}
 use Rattle.cancel_view.specs.Seen.{Seen, has, cancelled}
 use Rattle.task_steps.specs.Task.{Task}
-use Rattle.task_steps.specs.Book.{Book, started, with_task, all_noticed, wake_under, IsIn}
+use Rattle.task_steps.specs.Book.{Book, started, with_task, all_noticed, wake_under, IsIn, IsQuietTo}
 use Rattle.task_steps.specs.Run.{IsUpTo, IsAfter}
 use Rattle.task_steps.specs.Rest.{sooner}
 use Rattle.lane_watch.specs.Tasks.{came_in}
@@ -21,7 +21,7 @@ abbrev pub new_book : ℕ → Book
 new_book us = record { tick_us = us; tasks = []; next = 0; last = None; wake = None; spent = false }
 
 pub joined_empty : (tick us : ℕ) (view : Seen) (came : List (Option ℕ)) (wake : Option ℕ) → 0 < us → us ≤ 1000000000 → AreDated came view.members → AllByRecursion (IsBelow tick) came → IsJoined tick us view came (new_book us) wake
-joined_empty tick us view came wake some short dated past = record { ticks = refl; some = some; short = short; sound = refl; last = tt; wake = tt; asleep = λ later le a. (tt, refl); dated = dated; past = past; fits = tt; numbered = omega arith }
+joined_empty tick us view came wake some short dated past = record { ticks = refl; some = some; short = short; sound = refl; last = tt; wake = tt; asleep = λ later le a. (tt, refl, λ c m. (refl, refl, refl)); dated = dated; past = past; fits = tt; numbered = omega arith }
 
 pub joined_new : (n us : ℕ) → 0 < us → us ≤ 1000000000 → IsJoined 0 us (nothing_seen n) (replicate n None) (new_book us) None
 joined_new n us some short = joined_empty 0 us (nothing_seen n) (replicate n None) None some short (dated_none n) (past_none n 0)
@@ -30,15 +30,15 @@ joined_new n us some short = joined_empty 0 us (nothing_seen n) (replicate n Non
 
 pub joined_polled : (tick us : ℕ) (view : Seen) (came : List (Option ℕ)) (book : Book) (old wake : Option ℕ) (keeps : Task → Bool) → IsJoined tick us view came book old → IsAfter tick wake
     → let after = record book { tasks = filter keeps (all_noticed tick view book.tasks); last = Some tick; wake = wake } in
-    IsJoined (tick + 1) us view came after (wake_under tick view after)
-joined_polled tick us view came book old wake keeps j later = record {
+    IsQuietTo (wake_under tick view after) tick view after.tasks → IsJoined (tick + 1) us view came after (wake_under tick view after)
+joined_polled tick us view came book old wake keeps j later quiet = record {
   ticks = j.ticks;
   some = j.some;
   short = j.short;
   sound = j.sound;
   last = refl;
   wake = up_to_next tick wake later;
-  asleep = asleep_to tick view (record book { tasks = filter keeps (all_noticed tick view book.tasks); last = Some tick; wake = wake });
+  asleep = asleep_to tick view (record book { tasks = filter keeps (all_noticed tick view book.tasks); last = Some tick; wake = wake }) quiet;
   dated = j.dated;
   past = later_all came tick j.past;
   fits = fits_all tick us view came keeps book.tasks j.dated j.past j.fits;

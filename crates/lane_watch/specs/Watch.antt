@@ -5,7 +5,7 @@ use Rattle.loop_script.specs.declared.task.TaskSpec.{TaskSpec}
 use Rattle.cancel_view.specs.Seen.{Seen, has, cancelled}
 use Rattle.task_steps.specs.declared.entry.Reply.{Reply}
 use Rattle.task_steps.specs.Task.{Task}
-use Rattle.task_steps.specs.Book.{Book, IsIn, OwesNone}
+use Rattle.task_steps.specs.Book.{Book, IsIn, IsIdle, MayComeToAll, OwesNone, all_noticed}
 use Rattle.task_steps.specs.Run.{IsUpTo, IsAfter}
 use Rattle.lane_watch.specs.Tasks.{Started, Tasks, first_seen, reply_at, is_late_at, stays_at}
 
@@ -45,6 +45,16 @@ late_of tick tasks = map (λ t. t.number) (filter (is_late_at tick tasks) tasks.
 
 abbrev pub polled : ℕ → Tasks → Tasks
 polled tick tasks = record tasks { started = filter (stays_at tick tasks) tasks.started; tick = tick + 1 }
+
+-- the tasks when they are polled next at a tick
+abbrev pub at_tick : ℕ → Tasks → Tasks
+at_tick tick tasks = record tasks { tick = tick }
+
+-- a poll in a tick gives nothing: no reply, no late number, and each task goes on
+pub record GivesNothing (tick : ℕ) (tasks : Tasks) : Type 0 where
+  pub replies : replies_of tick tasks ≡ []
+  pub late : late_of tick tasks ≡ []
+  pub stay : filter (stays_at tick tasks) tasks.started ≡ tasks.started
 
 -- a watch that has forgotten its tasks, once memory was refused
 abbrev pub forgetful : Watched → Watched
@@ -92,9 +102,13 @@ abbrev pub Numbered : (low next : ℕ) → List Task → Type 0
 Numbered low next [] = low ≤ next
 Numbered low next (t ∷ ts) = (low ≤ t.number) × Numbered (t.number + 1) next ts
 
--- before its wake nothing wakes in the book, and no task owes the view a reply
+-- whatever may come, no poll in a tick replies, is late or ends a task
+abbrev pub IsIdleUnder : ℕ → Seen → List Task → Type 0
+IsIdleUnder tick view ts = (c : ℕ → Option ℕ) → MayComeToAll c (all_noticed tick view ts) → IsIdle tick c ts
+
+-- before its wake nothing wakes in the book, no task owes the view a reply, and polls are idle
 abbrev pub IsAsleep : (tick : ℕ) (wake : Option ℕ) (view : Seen) → Book → Type 0
-IsAsleep tick wake view book = (later : ℕ) → tick ≤ later → IsAfter later wake → IsAfter later book.wake × OwesNone view book.tasks
+IsAsleep tick wake view book = (later : ℕ) → tick ≤ later → IsAfter later wake → IsAfter later book.wake × OwesNone view book.tasks × IsIdleUnder later view book.tasks
 
 -- the last poll, pass or start was in the tick before
 abbrev pub IsLast : ℕ → Option ℕ → Type 0

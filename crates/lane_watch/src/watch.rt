@@ -1,5 +1,5 @@
 //! A lane's view with its ticks, and its tasks.
-ghost use Rattle.std.specs.Prelude.{◌≡◌, [], ◌+◌, ◌<◌, ◌≤◌, ◌^◌, slice_set, Some, None, IsTrue, IsOk, IfOk, OnOk, OnErr, option_map, if◌then◌else◌, ◌↔◌};
+ghost use Rattle.std.specs.Prelude.{◌≡◌, ℕ, [], ◌+◌, ◌<◌, ◌≤◌, ◌^◌, slice_set, Some, None, true, false, IsTrue, IsOk, IfOk, OnOk, OnErr, option_map, if◌then◌else◌, ◌↔◌};
 ghost use Rattle.task_steps.specs.Run.{IsAfter};
 
 use cancel_view::{Connected, Fired, OutOfMemory, View};
@@ -65,7 +65,7 @@ fn is_before(tick: u32, wake: Option<u64>) -> bool
 impl Watch {
     ghost use Rattle.cancel_view.specs.Seen.{has, fired, connected, connecting, may_disconnect, without};
     ghost use Rattle.task_steps.specs.Book.{IsIn};
-    ghost use Rattle.lane_watch.specs.Watch.{nothing_seen, no_tasks, cancelled_at, viewing, starting, replies_of, late_of, polled, forgetful};
+    ghost use Rattle.lane_watch.specs.Watch.{nothing_seen, no_tasks, cancelled_at, viewing, starting, replies_of, late_of, polled, at_tick, forgetful, GivesNothing};
 
     /// What a lane watches at first: none of n cancellables is cancelled, and no task was started. Ticks are so many
     /// microseconds long.
@@ -180,5 +180,47 @@ impl Watch {
                 Err(OutOfMemory)
             }
         }
+    }
+
+    /// A tick before which no poll gives anything, while nothing is cancelled and no task is started; none where no poll
+    /// ever does. A poll may give nothing in that tick itself.
+    pub fn next_wake(&self) -> Option<u64>
+        ensures { (tick : ℕ) → self.now.tasks.tick ≤ tick → IsAfter tick result → GivesNothing tick self.now.tasks }
+    {
+        self.wake
+    }
+
+    /// Passes over the ticks before one, where no task wakes in them; false, and nothing is changed, where one does.
+    fn skip(&mut self, tick: u32) -> bool
+        requires { self.old.tasks.tick < tick }
+        ensures skipped { result ≡ true → self.new ≡ record self.old { tasks = at_tick tick self.old.tasks } }
+        ensures same { result ≡ false → self.new ≡ self.old }
+    {
+        let last = tick - 1;
+        if !is_before(last, self.wake) {
+            return false;
+        }
+        self.book.pass(last);
+        self.tick = tick;
+        true
+    }
+
+    /// Passes over the ticks before one, in place of their polls, which give nothing. Ticks that are before `next_wake`
+    /// cost the same however many they are, and take no memory. After `OutOfMemory` the tasks are forgotten.
+    pub fn pass_to(&mut self, alloc: Global, tick: u32) -> Result<(), OutOfMemory>
+        requires tick { tick < 2 ^ 31 }
+        requires past { self.old.tasks.tick ≤ tick }
+        requires nothing { (k : ℕ) → self.old.tasks.tick ≤ k → k < tick → GivesNothing k self.old.tasks }
+        ensures ok { OnOk result (self.new ≡ record self.old { tasks = at_tick tick self.old.tasks }) }
+        ensures err { OnErr result (self.new ≡ forgetful (record self.old { tasks = at_tick self.new.tasks.tick self.old.tasks })) }
+        ensures none { self.old.tasks.started ≡ [] → IsOk result }
+    {
+        if self.tick == tick || self.skip(tick) {
+            return Ok(());
+        }
+        for at in self.tick..tick {
+            let _ = self.poll(alloc, at)?;
+        }
+        Ok(())
     }
 }

@@ -1,7 +1,7 @@
 use Rattle.std.proofs.Common.{◌≡◌, ℕ, ◌+◌, arith, Option, Some, List, [], ◌∷◌, refl, map, filter, ap, sym, ◌∙◌, subst}
 use Rattle.task_steps.specs.Task.{Task}
 use Rattle.task_steps.specs.declared.book.Polled.{Polled}
-use Rattle.task_steps.specs.Book.{Book, goes_on, all_noticed, wake_under, IsIdle, MayComeToAll}
+use Rattle.task_steps.specs.Book.{Book, goes_on, all_noticed, wake_under, IsIdle, IsQuietTo, MayComeToAll}
 use Rattle.task_steps.specs.Run.{IsAfter}
 use Rattle.cancel_view.specs.Seen.{Seen}
 use Rattle.lane_watch.specs.Tasks.{stays_at}
@@ -73,7 +73,9 @@ pub invariant_of-self-in-Ok : goal.invariant_of-self-in-Ok
 invariant_of-self-in-Ok c =
     let P : Book → Type 0 = λ b. IsJoined (c.args.tick + 1) c.self.inside.tick_us c.self.inside.view c.self.inside.came.items b (wake_under c.args.tick c.self.inside.view b) in
     let is = c.in-Ok.ensures.rest ∙ ap (λ (ts : List Task). record c.self.inside.book { tasks = ts; last = Some c.args.tick; wake = c.poll_all.new.self.wake }) (c.in-Ok.ensures.tasks (whens c) (comes c)) in
-    let polled_to = subst P (sym is) (joined_polled c.args.tick c.self.inside.tick_us c.self.inside.view c.self.inside.came.items c.self.inside.book c.self.inside.wake c.poll_all.new.self.wake (goes_on c.args.tick (whens c)) (joined c) c.in-Ok.ensures.wake) in
+    let quiet = subst (λ (b : Book). IsQuietTo (wake_under c.args.tick c.self.inside.view b) c.args.tick c.self.inside.view b.tasks) is
+    (subst (λ (w : Option ℕ). IsQuietTo w c.args.tick c.self.inside.view c.poll_all.new.self.tasks) c.next_wake-self-inside.ensures.wake c.next_wake-self-inside.ensures.quiet) in
+    let polled_to = subst P (sym is) (joined_polled c.args.tick c.self.inside.tick_us c.self.inside.view c.self.inside.came.items c.self.inside.book c.self.inside.wake c.poll_all.new.self.wake (goes_on c.args.tick (whens c)) (joined c) c.in-Ok.ensures.wake quiet) in
     subst (λ (w : Option ℕ). IsJoined (c.args.tick + 1) c.self.inside.tick_us c.self.inside.view c.self.inside.came.items c.poll_all.new.self w) (sym c.next_wake-self-inside.ensures.wake) polled_to
 
 pub returns-in-Ok-clause-replies : goal.returns-in-Ok-clause-replies
