@@ -1,5 +1,6 @@
 pub mod Layers
 pub mod Owners
+pub mod Resting
 pub mod Tallies
 pub mod Freely
 pub mod Lists
@@ -16,6 +17,8 @@ pub mod Finish
 pub mod Turns
 pub mod Polls
 pub mod Behind
+pub mod Waking
+pub mod Quiet
 pub mod Delivered
 pub mod Views
 pub mod Arrivals

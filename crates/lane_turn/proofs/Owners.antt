@@ -6,7 +6,7 @@ use Rattle.lane_turn.specs.declared.layer.Layer.TheVariants as layers
 use Rattle.lane_turn.specs.Frames.{owns}
 use Rattle.lane_turn.specs.Nest.{owns_layer, frame_of, frames_of}
 
-either_first : (a b c : Bool) → (a || (b || c)) ≡ (b || (a || c))
+pub either_first : (a b c : Bool) → (a || (b || c)) ≡ (b || (a || c))
 either_first true true c = refl
 either_first true false c = refl
 either_first false b c = refl

@@ -10,6 +10,7 @@ pub mod Step
 pub mod Turn
 pub mod Deliver
 pub mod Tick
+pub mod Quiet
 pub mod Letters
 pub mod Views
 pub mod Arrivals

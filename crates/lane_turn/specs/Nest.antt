@@ -45,6 +45,11 @@ abbrev pub frames_of : List (Option ℕ) → List Layer → List Frame
 frames_of live [] = []
 frames_of live (layer ∷ outer) = frame_of live (length outer) layer ∷ frames_of live outer
 
+-- the same where the outermost stands at a level
+abbrev pub frames_from : ℕ → List (Option ℕ) → List Layer → List Frame
+frames_from level live [] = []
+frames_from level live (layer ∷ outer) = frame_of live (level + length outer) layer ∷ frames_from level live outer
+
 -- what the innermost takes next, at its level
 abbrev pub top_of_layers : List (Option ℕ) → ℕ → List Layer → Top
 top_of_layers live level [] = tops.Nothing

@@ -1,7 +1,8 @@
 //! What is in progress, counted, and the boxes of what has ended. Contracts see the layers, the innermost first.
-ghost use Rattle.std.specs.Prelude.{◌≡◌, ◌∷◌, ◌≤◌, ◌-◌, [], drop, length, count_by, OnOk, IfOk, slice_get, option_map, reverse};
+ghost use Rattle.std.specs.Prelude.{◌≡◌, ◌∷◌, ◌≤◌, ◌<◌, ◌^◌, ◌==◌, ◌-◌, [], drop, length, count_by, OnOk, IfOk, slice_get, option_map, reverse};
 ghost use Rattle.std.specs.List.{list_any};
-ghost use Rattle.lane_turn.specs.Nest.{layers_of, is_dispatch_layer, is_call_layer, busy_layers, owns_layer, advanced_layers, taken_layers, top_of_layers, HasRoomLayers};
+ghost use Rattle.lane_turn.specs.Quiet.{has_rest};
+ghost use Rattle.lane_turn.specs.Nest.{layers_of, frames_of, is_dispatch_layer, is_call_layer, busy_layers, owns_layer, advanced_layers, taken_layers, top_of_layers, HasRoomLayers};
 
 use crate::layer::{Layer, Top};
 use crate::nest::Nest;
@@ -91,6 +92,22 @@ impl Chain {
         ids.reserve(self.tally.blocking as usize)?;
         self.nest.add_busy(context, &mut ids)?;
         Ok(ids)
+    }
+
+    /// Whether a call in progress blocks a source of a context.
+    pub(crate) fn blocks(&self, context: u32, id: u64) -> bool
+        ensures { result ≡ list_any (λ b. b == id) (busy_layers context self.now) }
+    {
+        self.nest.blocks(context, id)
+    }
+
+    /// Whether an iteration of a context has ids left.
+    #[tactic(auto, using(crate::proofs::Resting::from_outermost))]
+    pub(crate) fn has_rest(&self, live: &[Option<usize>], context: u32) -> bool
+        requires { length self.now < 2 ^ 63 }
+        ensures { result ≡ list_any (has_rest context) (frames_of live.now self.now) }
+    {
+        self.nest.has_rest(live, 0, context)
     }
 
     /// Whether something in progress owns a context.

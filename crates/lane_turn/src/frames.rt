@@ -3,6 +3,7 @@ ghost use Rattle.std.specs.Prelude.{◌≡◌, ℕ, ◌∷◌, ◌<◌, ◌≤�
 ghost use Rattle.std.specs.List.{list_any};
 ghost use Rattle.lane_turn.specs.Frames.{CallOf, IterOf, LoopOf, top_of, advanced, emptied, depth, calls, busy, owns, HasRoom, IsTaken};
 ghost use Rattle.lane_turn.specs.Nest.{level_at};
+ghost use Rattle.lane_turn.specs.Quiet.{has_rest};
 
 use crate::chain::Chain;
 use crate::layer::{Call, Iteration, Layer, Top};
@@ -84,6 +85,23 @@ impl Frames {
         ensures { IfOk result (λ ids. ids.items ≡ busy context self.now) }
     {
         self.chain.busy(context)
+    }
+
+    /// Whether a call in progress blocks a source of a context.
+    #[tactic(auto, using(crate::proofs::Resting::blocks_frames))]
+    pub fn blocks(&self, context: u32, id: u64) -> bool
+        ensures { result ≡ list_any (λ b. b == id) (busy context self.now) }
+    {
+        self.chain.blocks(context, id)
+    }
+
+    /// Whether an iteration of a context has ids left.
+    #[tactic(auto, using(crate::proofs::Layers::length_frames))]
+    pub fn has_rest(&self, context: u32) -> bool
+        requires { length self.now < 2 ^ 63 }
+        ensures { result ≡ list_any (has_rest context) self.now }
+    {
+        self.chain.has_rest(&self.live, context)
     }
 
     /// Whether something in progress owns a context.

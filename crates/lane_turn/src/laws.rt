@@ -55,7 +55,7 @@ pub fn replies_come_once()
 
 /// What came to a lane of a task's replies it holds still, or it told the result, each once, whatever letters it is sent. So of
 /// each task of a run at most one result is told, in all lanes together, and none as long as a reply of it is held; and no
-/// reply is lost: what a lane posted in earlier ticks is held, or its result was told.
+/// reply is lost where the script has a context: what a lane posted in earlier ticks is then held, or its result was told.
 pub fn replies_are_taken_once()
     ensures { RepliesAreTakenOnce }
 {}

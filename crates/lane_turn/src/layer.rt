@@ -2,6 +2,7 @@
 ghost use Rattle.std.specs.Prelude.{◌≡◌, [], ◌∷◌, slice_get};
 ghost use Rattle.lane_turn.specs.Frames.{top_of};
 ghost use Rattle.lane_turn.specs.Nest.{frame_of, ids_left, is_live, is_dispatch_layer, is_call_layer, is_blocking_layer, blocked_by_layer, owns_layer, advanced_layer, taken_layer, HasRoomLayer};
+ghost use Rattle.lane_turn.specs.Quiet.{has_rest};
 
 use loop_script::Body;
 
@@ -163,6 +164,18 @@ impl Layer {
             },
             Layer::Iteration(iteration) => iteration.context == context,
             Layer::Loop(_, iterated) => *iterated == context,
+        }
+    }
+
+    /// Whether it is an iteration of a context that has ids left.
+    pub(crate) fn has_rest(&self, live: &[Option<usize>], level: usize, context: u32) -> bool
+        ensures { result ≡ has_rest context (frame_of live.now level self.now) }
+    {
+        match self {
+            Layer::Iteration(iteration) => {
+                iteration.context == context && next_id(iteration, live, level).is_some()
+            }
+            _ => false,
         }
     }
 

@@ -24,6 +24,7 @@ mod state;
 mod step;
 mod tally;
 mod turn;
+mod wakes;
 
 pub use laws::{
     iterations_go_on, letters_arrive, letters_tell, levels_go_by_version, replies_are_taken_once,

@@ -1,7 +1,8 @@
 //! What is in progress in boxes: each call, iteration and loop holds what was begun in it.
-ghost use Rattle.std.specs.Prelude.{◌≡◌, ◌++◌, [], IsTrue, ◌↔◌, drop, take, OnOk, slice_get, option_map, reverse};
+ghost use Rattle.std.specs.Prelude.{◌≡◌, ◌+◌, ◌<◌, ◌^◌, ◌==◌, ◌++◌, [], length, IsTrue, ◌↔◌, drop, take, OnOk, slice_get, option_map, reverse};
 ghost use Rattle.std.specs.List.{list_any};
-ghost use Rattle.lane_turn.specs.Nest.{layers_of, busy_layers, owns_layer, advanced_layers, taken_layers, top_of_layers, HasRoomLayers};
+ghost use Rattle.lane_turn.specs.Quiet.{has_rest};
+ghost use Rattle.lane_turn.specs.Nest.{layers_of, frames_from, busy_layers, owns_layer, advanced_layers, taken_layers, top_of_layers, HasRoomLayers};
 
 use crate::layer::{Layer, Top};
 use std::alloc::AllocError;
@@ -69,6 +70,33 @@ impl Nest {
         match self {
             Nest::Nothing => false,
             Nest::Begun(layer, inner) => layer.owns(context) || inner.owns(context),
+        }
+    }
+
+    /// Whether a call in progress blocks a source of a context.
+    #[tactic(auto, using(crate::proofs::Resting::blocks_none, crate::proofs::Resting::blocks_some))]
+    pub(crate) fn blocks(&self, context: u32, id: u64) -> bool
+        ensures { result ≡ list_any (λ b. b == id) (busy_layers context (layers_of self.now)) }
+    {
+        match self {
+            Nest::Nothing => false,
+            Nest::Begun(layer, inner) => match layer.blocks(context) {
+                Some(blocked) => blocked == id || inner.blocks(context, id),
+                None => inner.blocks(context, id),
+            },
+        }
+    }
+
+    /// Whether an iteration of a context has ids left, where the outermost is at a level.
+    #[tactic(auto, using(crate::proofs::Resting::rest_within))]
+    pub(crate) fn has_rest(&self, live: &[Option<usize>], level: usize, context: u32) -> bool
+        requires { level + length (layers_of self.now) < 2 ^ 63 }
+        ensures { result ≡ list_any (has_rest context) (frames_from level live.now (layers_of self.now)) }
+    {
+        match self {
+            Nest::Nothing => false,
+            Nest::Begun(layer, inner) => layer.has_rest(live, level, context)
+                || inner.has_rest(live, level + 1, context),
         }
     }
 

@@ -1,7 +1,9 @@
 //! A lane between its turns.
-ghost use Rattle.std.specs.Prelude.{◌≡◌, ℕ, ◌+◌, ◌*◌, ◌^◌, ◌<◌, ◌≤◌, ◌++◌, ◌↔◌, ◌≢◌, [], false, length, IsTrue, IsOk, OnOk, IfOk, Err};
+ghost use Rattle.std.specs.Prelude.{◌≡◌, ℕ, ◌+◌, ◌*◌, ◌^◌, ◌<◌, ◌≤◌, ◌++◌, ◌↔◌, ◌≢◌, [], false, length, IsTrue, IsOk, OnOk, IfOk, IfSome, Err};
 ghost use Rattle.lane_turn.specs.Turn.{turned, out_of, opening, open_context, open_contexts, open_slots, open_loops};
 ghost use Rattle.lane_turn.specs.Deliver.{received_all};
+ghost use Rattle.lane_turn.specs.Quiet.{at_tick, IsQuietUntil};
+ghost use Rattle.lane_watch.specs.Watch.{GivesNothing};
 ghost use Rattle.lane_watch.specs.Watch.{nothing_seen, no_tasks};
 ghost use Rattle.source_rows.specs.Rows.{level_count};
 ghost use Rattle.lane_turn.specs.Sources.{tree_levels};
@@ -13,6 +15,7 @@ use crate::layer::{Call, Origin};
 use crate::line::Line;
 use crate::parts::{Parts, Status};
 use crate::slot::Held;
+use crate::wakes::{sooner, tick_of};
 use context_core::{Context, DefaultStack};
 use lane_watch::Watch;
 use loop_script::{Body, Script};
@@ -53,7 +56,8 @@ impl From<AllocError> for LaneFault {
 #[derive(Drop)]
 pub struct LaneState {
     alloc: Global,
-    parts: Parts,
+    /// In a box, so that a lane that is handed on is not copied.
+    parts: Box<Parts>,
     spent: bool,
 }
 
@@ -67,7 +71,7 @@ impl Model for LaneState {
 
     ghost coded = { Prim.hlevel (codes, task_tree.the_row.coded) };
 
-    ghost view = { λ s. record { lane = lane_of s.parts; spent = s.spent } };
+    ghost view = { λ s. record { lane = lane_of s.parts.value; spent = s.spent } };
 }
 
 /// The contexts of a script, of which those of the lane have no source yet.
@@ -163,6 +167,14 @@ fn open_parts(alloc: Global, script: &Script, lane: u32) -> Result<Parts, AllocE
     })
 }
 
+/// The same in a box.
+fn boxed_parts(alloc: Global, script: &Script, lane: u32) -> Result<Box<Parts>, AllocError>
+    ensures { IfOk result (λ parts. lane_of parts.value ≡ opening script.now lane) }
+{
+    let parts = open_parts(alloc, script, lane)?;
+    Ok(Box::new(alloc, parts)?)
+}
+
 impl LaneState {
     /// A lane of a script that holds its start call.
     pub fn new(alloc: Global, script: &Script, lane: u32) -> Result<Self, LaneFault>
@@ -170,7 +182,7 @@ impl LaneState {
         ensures ready { IfOk result (λ s. IsReady script.now 0 1 s.lane) }
         ensures memory { result ≢ Err LaneFault.Spent }
     {
-        match open_parts(alloc, script, lane) {
+        match boxed_parts(alloc, script, lane) {
             Err(_) => Err(LaneFault::OutOfMemory),
             Ok(parts) => Ok(LaneState {
                 alloc,
@@ -182,7 +194,8 @@ impl LaneState {
 
     /// The lane's turn at a tick: its tasks are polled, and unless it has ended or is halted its steps are taken. What it
     /// sends goes to `post`. Turns come at each tick from 0 on, each with the script of `new`, and after each the delivery
-    /// of the tick's letters. That of a lane that has ended or is halted, and has no task, takes no memory.
+    /// of the tick's letters; ticks before the one that `next_tick` answers may be passed over, by `pass_to`. The turn of a
+    /// lane that has ended or is halted, and has no task, takes no memory.
     ///
     /// After `OutOfMemory` the lane is spent: each later call answers `Spent`, and nothing is promised of its trace, nor of
     /// the letters that `post` took in this call.
@@ -249,6 +262,55 @@ impl LaneState {
                 Ok(())
             }
         }
+    }
+
+    /// The first tick after one at which the lane's turn may do anything, as long as no letter reaches it: each turn between
+    /// them would write nothing, send nothing, and leave the lane as it was. None where no later turn of the script would
+    /// do anything. The tick is that of the last turn, whose letters were delivered. It takes no memory.
+    ///
+    /// Ticks that are passed over are told to the lane by `pass_to`.
+    pub fn next_tick(&self, script: &Script, tick: u32) -> Option<u32>
+        requires ready { self.now.spent ≡ false → IsReady script.now (tick + 1) (2 ^ 61) self.now.lane }
+        requires tick { tick < 2 ^ 31 }
+        ensures later { IfSome result (λ next. tick < next) }
+        ensures within { IfSome result (λ next. next < script.now.ticks) }
+        ensures quiet { self.now.spent ≡ false → IsQuietUntil script.now tick result self.now.lane }
+    {
+        if self.spent {
+            return None;
+        }
+        let from = tick + 1;
+        let wake = sooner(
+            self.parts.watch.next_wake(),
+            self.parts.step_wake(script, from),
+        );
+        tick_of(wake, from, script.ticks())
+    }
+
+    /// Passes over the ticks before one, in which the lane's tasks tell nothing: its turn comes at that tick, or, where
+    /// that is the tick after one whose letters are delivered, its delivery.
+    ///
+    /// After `OutOfMemory` the lane is spent, as after `turn`.
+    pub fn pass_to(&mut self, tick: u32) -> Result<(), LaneFault>
+        requires tick { tick < 2 ^ 31 }
+        requires past { self.old.spent ≡ false → self.old.lane.tasks.tick ≤ tick }
+        requires nothing { self.old.spent ≡ false → (k : ℕ) → self.old.lane.tasks.tick ≤ k → k < tick → GivesNothing k self.old.lane.tasks }
+        ensures passed { OnOk result (self.new.lane ≡ at_tick tick self.old.lane) }
+        ensures lasts { OnOk result (self.new.spent ≡ false) }
+        ensures spent { (result ≡ Err LaneFault.Spent) ↔ IsTrue self.old.spent }
+        ensures memory { result ≡ Err LaneFault.OutOfMemory → IsTrue self.new.spent }
+        ensures stays { result ≡ Err LaneFault.Spent → self.new ≡ self.old }
+        ensures rests { self.old.spent ≡ false → self.old.lane.tasks.started ≡ [] → IsOk result }
+    {
+        if self.spent {
+            return Err(LaneFault::Spent);
+        }
+        self.spent = true;
+        if self.parts.watch.pass_to(self.alloc, tick).is_err() {
+            return Err(LaneFault::OutOfMemory);
+        }
+        self.spent = false;
+        Ok(())
     }
 
     /// What the lane wrote.

@@ -1,0 +1,215 @@
+//! When a lane has something to do next.
+ghost use Rattle.std.specs.Prelude.{◌≡◌, ℕ, ◌<◌, ◌≤◌, ◌^◌, [], Some, true, false, length, IfSome};
+ghost use Rattle.task_steps.specs.Run.{IsAfter};
+ghost use Rattle.loop_script.specs.Parts.{level_of, time_of};
+ghost use Rattle.context_core.specs.Ready.{in_view, is_due, has_bit, kind_ready, is_blocked};
+ghost use Rattle.lane_turn.specs.Sources.{own_ready_at, chosen_in};
+ghost use Rattle.lane_turn.specs.Frames.{busy};
+ghost use Rattle.lane_turn.specs.Lane.{chosen};
+ghost use Rattle.lane_turn.specs.Quiet.{IsIdle};
+ghost use Rattle.lane_turn.specs.Meaning.{lane_of};
+
+use crate::frames::Frames;
+use crate::layer::Top;
+use crate::parts::{Parts, Status};
+use cancel_view::View;
+use context_core::Context;
+use loop_script::{Kind, Script};
+use source_rows::Row;
+
+/// The sooner of two ticks, where none is never.
+pub(crate) fn sooner(a: Option<u64>, b: Option<u64>) -> Option<u64>
+    ensures { (k : ℕ) → IsAfter k result → IsAfter k a × IsAfter k b }
+{
+    match (a, b) {
+        (None, b) => b,
+        (a, None) => a,
+        (Some(a), Some(b)) => Some(a.min(b)),
+    }
+}
+
+/// The tick of a wake, or a later one from which on it is asked for; none where it is not below so many.
+pub(crate) fn tick_of(wake: Option<u64>, from: u32, ticks: u32) -> Option<u32>
+    ensures later { IfSome result (λ next. from ≤ next) }
+    ensures within { IfSome result (λ next. next < ticks) }
+    ensures before { (k : ℕ) → from ≤ k → k < ticks → IsAfter k result → IsAfter k wake }
+{
+    match wake {
+        None => None,
+        Some(wake) => {
+            let next = wake.max(u64::from(from));
+            if next < u64::from(ticks) {
+                Some(next as u32)
+            } else {
+                None
+            }
+        }
+    }
+}
+
+/// Whether a tick has come by another.
+fn is_by(wake: Option<u64>, tick: u32) -> bool
+    ensures { result ≡ true → (k : ℕ) → tick ≤ k → IsAfter k wake → ⊥ }
+{
+    match wake {
+        Some(wake) => wake <= u64::from(tick),
+        None => false,
+    }
+}
+
+/// Whether a level has a bit that is asked for, or that of an error, a hang-up or an invalid descriptor.
+fn has_bit(level: u8, bits: u8) -> bool
+    ensures { result ≡ has_bit level bits }
+{
+    level & (bits | 56) != 0
+}
+
+/// When a descriptor may show a bit that is asked for: at once, or when it shows something else next.
+fn fd_wake(script: &Script, fd: u32, bits: u8, from: u32) -> Option<u64>
+    ensures { (k : ℕ) → from ≤ k → IsAfter k result → has_bit (level_of script.now fd k) bits ≡ false }
+{
+    if has_bit(script.level(fd, from), bits) {
+        return Some(u64::from(from));
+    }
+    match script.next_change(fd, from) {
+        Some(change) => Some(u64::from(change)),
+        None => None,
+    }
+}
+
+/// When a kind of source may be ready, from a tick on.
+fn kind_wake(script: &Script, kind: Kind, from: u32, view: &View) -> Option<u64>
+    ensures { (k : ℕ) → from ≤ k → IsAfter k result → kind_ready (λ fd. level_of script.now fd k) (in_view view.now) kind ≡ false }
+{
+    match kind {
+        Kind::Idle => Some(u64::from(from)),
+        Kind::Timeout(_) | Kind::ReadyTime(_) => None,
+        Kind::Fd(fd, bits) => fd_wake(script, fd, bits, from),
+        Kind::Cancel(c) => {
+            if view.is_cancelled(c) {
+                Some(u64::from(from))
+            } else {
+                None
+            }
+        }
+    }
+}
+
+/// The first tick at which a ready time in microseconds has come: never for -1.
+fn due_wake(script: &Script, ready: i64) -> Option<u64>
+    ensures { (k : ℕ) → IsAfter k result → is_due (time_of script.now k) ready ≡ false }
+{
+    if ready < 0 {
+        return None;
+    }
+    Some((ready as u64).div_ceil(script.tick_us()))
+}
+
+/// When a source may be ready by itself, from a tick on.
+fn row_wake(script: &Script, row: &Row, from: u32, view: &View) -> Option<u64>
+    ensures { (k : ℕ) → from ≤ k → IsAfter k result → own_ready_at script.now k view.now row.now ≡ false }
+{
+    sooner(
+        kind_wake(script, row.kind, from, view),
+        due_wake(script, row.ready),
+    )
+}
+
+/// Whether a call in progress blocks a source of a context.
+fn is_blocked(frames: &Frames, context: u32, row: &Row) -> bool
+    ensures { result ≡ is_blocked (busy context frames.now) row.now }
+{
+    row.line.iter().any(|id| frames.blocks(context, *id))
+}
+
+/// Whether a ready time of a context comes at a tick, and had not come a tick before.
+fn is_due_soon(script: &Script, context: &Context, tick: u32) -> bool {
+    let before = script.now(tick.saturating_sub(1));
+    match context.rows().next_ready(before) {
+        Some(ready) => ready <= script.now(tick) as i64,
+        None => false,
+    }
+}
+
+/// When an iteration of a context may select something, from a tick on, while calls in progress stay as they are.
+fn context_wake(
+    script: &Script,
+    frames: &Frames,
+    number: u32,
+    context: &Context,
+    from: u32,
+    view: &View,
+) -> Option<u64>
+    ensures { (k : ℕ) → from ≤ k → IsAfter k result → chosen_in script.now k view.now (busy number frames.now) (Some context.now) ≡ [] }
+{
+    if is_due_soon(script, context, from) {
+        return Some(u64::from(from));
+    }
+    let mut wake = None;
+    'rows: for row in context.rows().in_order() {
+        if !is_blocked(frames, number, row) {
+            wake = sooner(wake, row_wake(script, row, from, view));
+            if is_by(wake, from) {
+                return wake;
+            }
+        }
+    }
+    wake
+}
+
+/// The same, where a lane may not have the context: then nothing is selected.
+fn wake_in(
+    script: &Script,
+    frames: &Frames,
+    number: u32,
+    context: &Option<Context>,
+    from: u32,
+    view: &View,
+) -> Option<u64>
+    ensures { (k : ℕ) → from ≤ k → IsAfter k result → chosen_in script.now k view.now (busy number frames.now) context.now ≡ [] }
+{
+    match context {
+        None => None,
+        Some(context) => context_wake(script, frames, number, context, from, view),
+    }
+}
+
+impl Parts {
+    /// When an iteration of a context may select something, from a tick on.
+    fn select_wake(&self, script: &Script, number: u32, from: u32) -> Option<u64>
+        ensures { (k : ℕ) → from ≤ k → IsAfter k result → chosen script.now k number (lane_of self.now) ≡ [] }
+    {
+        match self.contexts.get(number as usize) {
+            Some(context) => wake_in(
+                script,
+                &self.frames,
+                number,
+                context,
+                from,
+                self.watch.view(),
+            ),
+            None => None,
+        }
+    }
+
+    /// When a step may do something, from a tick on, while tasks tell nothing.
+    pub(crate) fn step_wake(&self, script: &Script, from: u32) -> Option<u64>
+        requires { length (lane_of self.now).frames < 2 ^ 63 }
+        ensures { (k : ℕ) → from ≤ k → IsAfter k result → IsIdle script.now k (lane_of self.now) }
+    {
+        if self.status != Status::GoesOn {
+            return None;
+        }
+        match self.frames.top() {
+            Top::Nothing => None,
+            Top::Loop(number, context) => {
+                if self.is_running(number) && !self.frames.has_rest(context) {
+                    self.select_wake(script, context, from)
+                } else {
+                    Some(u64::from(from))
+                }
+            }
+            _ => Some(u64::from(from)),
+        }
+    }
+}
