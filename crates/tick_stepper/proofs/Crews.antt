@@ -1,19 +1,15 @@
 -- Each lane of a run has one of the workers.
-use Rattle.std.proofs.Common.{rules, tests, true≢false, ◌≡◌, ℕ, zero, suc, ◌<◌, ◌≤◌, ◌==◌, ◌&&◌, Bool, true, false, Some, None, List, [], ◌∷◌, length, refl, sym, subst, arith}
+use Rattle.std.proofs.Common.{rules, tests, true≢false, ◌≡◌, ℕ, zero, suc, ◌<◌, ◌≤◌, ◌==◌, ◌&&◌, Bool, true, false, Some, None, List, [], ◌∷◌, length, refl, sym, arith}
 use Rattle.std.specs.Prelude.{nat_lt, nat_le, slice_get, unwrap_or, if◌then◌else◌}
 use Rattle.std.proofs.Math.Nat.{mod-lt}
 use Rattle.tick_stepper.specs.declared.fault.StepFault.TheVariants.{Workers, Table}
 use Rattle.std.specs.List.{All, AllByRecursion, list_all}
 use Rattle.loop_script.specs.declared.plan.Plan.{Plan}
-use Rattle.lane_turn.specs.Lane.{Lane}
-use Rattle.lane_turn.specs.Tick.{lanes_at}
 use Rattle.tick_stepper.specs.declared.crew.Crew.{Crew}
 use Rattle.tick_stepper.specs.declared.crew.Sharing.{Sharing}
 use Rattle.tick_stepper.specs.declared.crew.Sharing.TheVariants.{Round, Fixed, Queue}
 use Rattle.tick_stepper.specs.declared.share.Numbered.{Numbered}
 use Rattle.tick_stepper.specs.Crew.{worker_by, worker_of, names_workers, refusal_of}
-use Rattle.tick_stepper.specs.Share.{numbered}
-use Rattle.tick_stepper.proofs.Counted.{counted_at, below_count, lane_count}
 use Rattle.tick_stepper.proofs.Handed.{of_rec}
 
 lt_of : (a b : ℕ) → nat_lt a b ≡ true → a < b
@@ -53,14 +49,13 @@ named_one lanes workers lane (Fixed table) some named h =
     let long = eq_of (length table.items) lanes tests.0 in
     named_at workers lane table.items tests.1 (omega arith)
 
-each_named : (most : ℕ) (crew : Crew) (lanes : List Lane) → 0 < crew.workers → names_workers most crew.workers crew.sharing ≡ true → AllByRecursion (λ lane. lane.number < most) lanes
-    → AllByRecursion (λ (one : Numbered). worker_of crew one.number < crew.workers) (numbered lanes)
+each_named : (most : ℕ) (crew : Crew) (ones : List Numbered) → 0 < crew.workers → names_workers most crew.workers crew.sharing ≡ true → AllByRecursion (λ (one : Numbered). one.number < most) ones
+    → AllByRecursion (λ (one : Numbered). worker_of crew one.number < crew.workers) ones
 each_named most crew [] some named h = tt
-each_named most crew (lane ∷ lanes) some named h = (named_one most crew.workers lane.number crew.sharing some named h.0, each_named most crew lanes some named h.1)
+each_named most crew (one ∷ ones) some named h = (named_one most crew.workers one.number crew.sharing some named h.0, each_named most crew ones some named h.1)
 
-pub all_named : (script : Plan) (tick : ℕ) (crew : Crew) (ones : List Numbered) → refusal_of script crew.workers crew.sharing ≡ None → ones ≡ numbered (lanes_at script tick) → All (λ one. worker_of crew one.number < crew.workers) ones
-all_named script tick crew ones e is =
-    let P : Numbered → Type 0 = λ one. worker_of crew one.number < crew.workers in
+pub all_named : (script : Plan) (crew : Crew) (ones : List Numbered) → refusal_of script crew.workers crew.sharing ≡ None → AllByRecursion (λ (one : Numbered). one.number < length script.lanes) ones
+    → All (λ one. worker_of crew one.number < crew.workers) ones
+all_named script crew ones e below =
     let named = (passed (nat_le 1 crew.workers && nat_le crew.workers 64) (names_workers (length script.lanes) crew.workers crew.sharing) e).1 in
-    let below = below_count 0 (length script.lanes) (lanes_at script tick) (let e = lane_count script tick in omega arith) (counted_at script tick) in
-    subst (λ (l : List Numbered). All P l) (sym is) (of_rec P (numbered (lanes_at script tick)) (each_named (length script.lanes) crew (lanes_at script tick) (some_workers script crew.workers crew.sharing e) named below))
+    of_rec (λ (one : Numbered). worker_of crew one.number < crew.workers) ones (each_named (length script.lanes) crew ones (some_workers script crew.workers crew.sharing e) named below)

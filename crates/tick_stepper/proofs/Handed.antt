@@ -47,7 +47,7 @@ module _ {X : Type 0} (P : X → Type 0) where
   of_rec (x ∷ xs) a zero d h = a.0
   of_rec (x ∷ xs) a (suc k) d h = of_rec xs a.1 k d (omega arith)
 
-  front_of : (xs ys : List X) → AllByRecursion P (xs ++ ys) → AllByRecursion P xs
+  pub front_of : (xs ys : List X) → AllByRecursion P (xs ++ ys) → AllByRecursion P xs
   front_of [] ys a = tt
   front_of (x ∷ xs) ys a = (a.0, front_of xs ys a.1)
 

@@ -5,6 +5,8 @@ pub mod Counted
 pub mod Crossing
 pub mod Crews
 pub mod Rounds
+pub mod Resting
+pub mod Sparse
 pub mod Queues
 pub mod Ready
 pub mod Steppers

@@ -4,4 +4,6 @@ pub mod Law
 pub mod Crew
 pub mod Share
 pub mod Queue
+pub mod Rest
+pub mod Sparse
 pub mod Stepper

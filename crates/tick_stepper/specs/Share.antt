@@ -1,5 +1,5 @@
 -- What a worker is handed, and what it gives back.
-use Rattle.std.specs.Prelude.{◌≡◌, ℕ, ◌+◌, ◌^◌, ◌==◌, Bool, false, nat_lt, length, Result, Ok, List, [], ◌∷◌, map}
+use Rattle.std.specs.Prelude.{◌≡◌, ℕ, ◌+◌, ◌^◌, ◌<◌, ◌==◌, Bool, false, nat_lt, length, Result, Ok, List, [], ◌∷◌, map}
 use Rattle.std.specs.List.{AllByRecursion, filter, flat_map}
 use Rattle.loop_script.specs.declared.plan.Plan.{Plan}
 use Rattle.post_office.specs.declared.letter.Letter.{Letter}
@@ -7,6 +7,7 @@ use Rattle.lane_turn.specs.Lane.{Lane, Kept}
 use Rattle.lane_turn.specs.Turn.{turned, out_of}
 use Rattle.lane_turn.specs.Sound.{IsReady}
 use Rattle.tick_stepper.specs.Crew.{worker_of}
+use Rattle.tick_stepper.specs.Order.{RisesBy}
 use Rattle.tick_stepper.specs.declared.crew.Crew.{Crew}
 use Rattle.tick_stepper.specs.declared.share.Numbered.{Numbered}
 use Rattle.tick_stepper.specs.declared.share.Share.{Share}
@@ -38,6 +39,12 @@ pub record IsReadyOne (script : Plan) (tick : ℕ) (one : Numbered) : Type 0 whe
   pub named : one.number ≡ one.state.lane.number
   pub unspent : one.state.spent ≡ false
   pub ready : IsReady script tick (2 ^ 61) one.state.lane
+
+-- lanes of a script by their rising numbers, each of which may take its turn at a tick
+pub record IsRound (script : Plan) (tick : ℕ) (ones : List Numbered) : Type 0 where
+  pub ready : AllByRecursion (IsReadyOne script tick) ones
+  pub order : RisesBy (λ (one : Numbered). one.number) ones
+  pub below : AllByRecursion (λ one. one.number < length script.lanes) ones
 
 -- lanes that may take their turns, and an empty tray
 pub record IsFresh (script : Plan) (tick : ℕ) (share : Share) : Type 0 where

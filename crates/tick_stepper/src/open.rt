@@ -1,23 +1,28 @@
 //! The lanes of a script at first.
-ghost use Rattle.std.specs.Prelude.{◌≡◌, ◌≤◌, length, IfOk};
+ghost use Rattle.std.specs.Prelude.{◌≡◌, ◌≤◌, Some, map, length, IfOk};
+ghost use Rattle.std.specs.List.{AllByRecursion};
 ghost use Rattle.lane_turn.specs.Tick.{opened};
 ghost use Rattle.tick_stepper.specs.Share.{numbered};
 
 use crate::fault::OutOfMemory;
+use crate::rest::Resting;
 use crate::share::Numbered;
 use lane_turn::LaneState;
 use loop_script::Script;
 use std::alloc::Global;
 
-/// The lanes of a script at first, by number.
-pub(crate) fn open_lanes(alloc: Global, script: &Script) -> Result<Vec<Numbered>, OutOfMemory>
-    ensures lanes { IfOk result (λ lanes. lanes.items ≡ numbered (opened script.now)) }
+/// The lanes of a script at first, by number. Each takes its turn in the first tick.
+pub(crate) fn open_lanes(alloc: Global, script: &Script) -> Result<Vec<Resting>, OutOfMemory>
+    ensures lanes { IfOk result (λ ones. map (λ one. one.lane) ones.items ≡ numbered (opened script.now)) }
+    ensures due { IfOk result (λ ones. AllByRecursion (λ one. one.next ≡ Some 0) ones.items) }
     ensures few { length script.now.lanes ≤ 64 }
 {
     let mut lanes = Vec::new(alloc);
     for number in 0..script.lanes() {
         let state = LaneState::new(alloc, script, number)?;
-        if lanes.push(Numbered { number, state }).is_err() {
+        let lane = Numbered { number, state };
+        let next = Some(0);
+        if lanes.push(Resting { lane, next }).is_err() {
             return Err(OutOfMemory);
         }
     }

@@ -3,9 +3,7 @@ ghost use Rattle.std.specs.Prelude.{◌≡◌, ◌+◌, ◌<◌, ◌≤◌, ◌+
 ghost use Rattle.std.specs.List.{All, AllByRecursion, flat_map};
 ghost use Rattle.post_office.specs.Merge.{concat};
 ghost use Rattle.post_office.specs.Passes.{takes_in, closes};
-ghost use Rattle.lane_turn.specs.Turn.{turned};
-ghost use Rattle.lane_turn.specs.Tick.{posted_at, lanes_at};
-ghost use Rattle.tick_stepper.specs.Share.{numbered, turned_one, out_of_one, IsReadyOne};
+ghost use Rattle.tick_stepper.specs.Share.{turned_one, out_of_one, IsReadyOne, IsRound};
 ghost use Rattle.tick_stepper.specs.Queue.{filled, IsHired, MayWork, IsHaul, IsOf, IsTakenIn};
 
 use crate::fault::OutOfMemory;
@@ -156,7 +154,16 @@ fn finish<R: Wait, G: Gate>(
     unreachable!()
 }
 
-/// The lanes of a run after their turns at a tick, by number, and what they posted, by sender and number. Each worker
+/// So many workers, or as many as there are lanes where these are fewer.
+fn least(workers: u32, lanes: usize) -> u32 {
+    if lanes < workers as usize {
+        lanes as u32
+    } else {
+        workers
+    }
+}
+
+/// Lanes after their turns at a tick, by number, and what they posted, by sender and number. Each worker
 /// takes a lane that waits and turns it, until none does; the tick goes on when all are back.
 pub(crate) fn turn_by_queue<R: Threads + Wait + Sync, G: Gate>(
     rt: &R,
@@ -167,13 +174,12 @@ pub(crate) fn turn_by_queue<R: Threads + Wait + Sync, G: Gate>(
     workers: u32,
     lanes: Vec<Numbered>,
 ) -> Result<(Vec<Numbered>, Vec<Letter>), OutOfMemory>
-    requires few { length script.now.lanes ≤ 64 }
     requires tick { tick < 4096 }
-    requires lanes { lanes.items ≡ numbered (lanes_at script.now tick) }
-    ensures lanes { IfOk result (λ r. r.0.items ≡ numbered (map (turned script.now tick) (lanes_at script.now tick))) }
-    ensures letters { IfOk result (λ r. r.1.items ≡ posted_at script.now tick (lanes_at script.now tick)) }
+    requires lanes { IsRound script.now tick lanes.items }
+    ensures lanes { IfOk result (λ r. r.0.items ≡ map (turned_one script.now tick) lanes.items) }
+    ensures letters { IfOk result (λ r. r.1.items ≡ flat_map (out_of_one script.now tick) lanes.items) }
 {
-    let workers = workers.min(script.lanes());
+    let workers = least(workers, lanes.len());
     let mut list = fill(rt, alloc, lanes)?;
     let mut office = Office::new(alloc)?;
     let all = hire(alloc, workers, &mut list, &mut office)?;

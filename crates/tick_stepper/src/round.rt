@@ -1,10 +1,11 @@
 //! One tick of all lanes.
-ghost use Rattle.std.specs.Prelude.{◌≡◌, ℕ, ◌+◌, ◌<◌, ◌≤◌, None, map, length, IfOk, vec_len, slice_index_or};
-ghost use Rattle.std.specs.List.{All};
+ghost use Rattle.std.specs.Prelude.{◌≡◌, ℕ, ◌+◌, ◌<◌, ◌≤◌, ◌++◌, [], None, map, length, IfOk, IsPermutation, vec_len, slice_index_or};
+ghost use Rattle.std.specs.List.{All, AllByRecursion, flat_map};
 ghost use Rattle.lane_turn.specs.Turn.{turned};
 ghost use Rattle.lane_turn.specs.Tick.{posted_at, lanes_at};
 ghost use Rattle.tick_stepper.specs.Crew.{refusal_of};
-ghost use Rattle.tick_stepper.specs.Share.{numbered, IsFresh, IsTurned};
+ghost use Rattle.tick_stepper.specs.Rest.{all_woken, HasPassed, Rests, AreAt};
+ghost use Rattle.tick_stepper.specs.Share.{numbered, turned_one, out_of_one, IsFresh, IsTurned, IsRound};
 
 use crate::crew::{Crew, Sharing};
 use crate::deal::{deal, gather};
@@ -12,6 +13,7 @@ use crate::deliver::deliver_all;
 use crate::fault::OutOfMemory;
 use crate::gate::Gate;
 use crate::queue::turn_by_queue;
+use crate::rest::{Resting, by_number, part, settle, wake_all};
 use crate::share::{Numbered, Share, in_order, turn_share};
 use lane_turn::LaneFault;
 use loop_script::Script;
@@ -44,7 +46,7 @@ fn turn_shares<R: Threads + Sync, G: Gate>(
     )
 }
 
-/// The lanes of a run after their turns at a tick, by number, and what they posted, by sender and number. Each lane
+/// Lanes after their turns at a tick, by number, and what they posted, by sender and number. Each lane
 /// is dealt to its worker, and each worker that has some turns them; the tick goes on when all are back.
 fn turn_by_deal<R: Threads + Sync, G: Gate>(
     rt: &R,
@@ -55,12 +57,11 @@ fn turn_by_deal<R: Threads + Sync, G: Gate>(
     crew: &Crew,
     lanes: Vec<Numbered>,
 ) -> Result<(Vec<Numbered>, Vec<Letter>), OutOfMemory>
-    requires few { length script.now.lanes ≤ 64 }
     requires tick { tick < 4096 }
     requires crew { refusal_of script.now crew.now.workers crew.now.sharing ≡ None }
-    requires lanes { lanes.items ≡ numbered (lanes_at script.now tick) }
-    ensures lanes { IfOk result (λ r. r.0.items ≡ numbered (map (turned script.now tick) (lanes_at script.now tick))) }
-    ensures letters { IfOk result (λ r. r.1.items ≡ posted_at script.now tick (lanes_at script.now tick)) }
+    requires lanes { IsRound script.now tick lanes.items }
+    ensures lanes { IfOk result (λ r. r.0.items ≡ map (turned_one script.now tick) lanes.items) }
+    ensures letters { IfOk result (λ r. r.1.items ≡ flat_map (out_of_one script.now tick) lanes.items) }
 {
     let shares = deal(alloc, crew, lanes)?;
     let hauls = turn_shares(rt, gate, script, tick, shares)?;
@@ -70,7 +71,7 @@ fn turn_by_deal<R: Threads + Sync, G: Gate>(
     Ok((lanes, letters))
 }
 
-/// The lanes of a run after their turns at a tick, by number, and what they posted, by sender and number. They
+/// Lanes after their turns at a tick, by number, and what they posted, by sender and number. They
 /// are dealt out to workers, or these take them from a queue.
 fn turn_all<R: Threads + Wait + Sync, G: Gate>(
     rt: &R,
@@ -81,12 +82,11 @@ fn turn_all<R: Threads + Wait + Sync, G: Gate>(
     crew: &Crew,
     lanes: Vec<Numbered>,
 ) -> Result<(Vec<Numbered>, Vec<Letter>), OutOfMemory>
-    requires few { length script.now.lanes ≤ 64 }
     requires tick { tick < 4096 }
     requires crew { refusal_of script.now crew.now.workers crew.now.sharing ≡ None }
-    requires lanes { lanes.items ≡ numbered (lanes_at script.now tick) }
-    ensures lanes { IfOk result (λ r. r.0.items ≡ numbered (map (turned script.now tick) (lanes_at script.now tick))) }
-    ensures letters { IfOk result (λ r. r.1.items ≡ posted_at script.now tick (lanes_at script.now tick)) }
+    requires lanes { IsRound script.now tick lanes.items }
+    ensures lanes { IfOk result (λ r. r.0.items ≡ map (turned_one script.now tick) lanes.items) }
+    ensures letters { IfOk result (λ r. r.1.items ≡ flat_map (out_of_one script.now tick) lanes.items) }
 {
     match crew.sharing {
         Sharing::Queue => turn_by_queue(rt, alloc, gate, script, tick, crew.workers, lanes),
@@ -96,7 +96,51 @@ fn turn_all<R: Threads + Wait + Sync, G: Gate>(
     }
 }
 
-/// A tick of the lanes of a run: their turns, and then the delivery of what those posted.
+/// Lanes after their turns, where these posted letters: they are delivered to all lanes, those that rested too.
+fn deliver_to_all(
+    alloc: Global,
+    script: &Script,
+    tick: u32,
+    done: Vec<Numbered>,
+    resting: Vec<Resting>,
+    letters: &[Letter],
+) -> Result<Vec<Resting>, OutOfMemory>
+    requires tick { tick < 4096 }
+    requires passed { All (HasPassed (tick + 1)) resting.items }
+    requires lanes { IsPermutation (numbered (map (turned script.now tick) (lanes_at script.now tick))) (done.items ++ all_woken (tick + 1) resting.items) }
+    requires letters { letters.now ≡ posted_at script.now tick (lanes_at script.now tick) }
+    requires few { length script.now.lanes ≤ 64 }
+    ensures { IfOk result (λ ones. AreAt script.now (tick + 1) ones.items) }
+{
+    let lanes = wake_all(tick + 1, done, resting)?;
+    let mut lanes = in_order(lanes)?;
+    deliver_all(script, tick, lanes.as_mut_slice(), letters)?;
+    Ok(settle(alloc, script, tick, lanes)?)
+}
+
+/// Lanes after their turns, where these posted no letter, among those that rested.
+fn put_back(
+    alloc: Global,
+    script: &Script,
+    tick: u32,
+    done: Vec<Numbered>,
+    resting: Vec<Resting>,
+) -> Result<Vec<Resting>, OutOfMemory>
+    requires tick { tick < 4096 }
+    requires rest { AllByRecursion (Rests script.now (tick + 1)) resting.items }
+    requires lanes { IsPermutation (numbered (map (turned script.now tick) (lanes_at script.now tick))) (done.items ++ all_woken (tick + 1) resting.items) }
+    requires none { posted_at script.now tick (lanes_at script.now tick) ≡ [] }
+    requires few { length script.now.lanes ≤ 64 }
+    ensures { IfOk result (λ ones. AreAt script.now (tick + 1) ones.items) }
+{
+    let mut resting = resting;
+    let mut ones = settle(alloc, script, tick, done)?;
+    ones.append(&mut resting)?;
+    Ok(by_number(ones)?)
+}
+
+/// A tick of the lanes of a run: the turns of those whose turn comes, and then the delivery of what these posted. Every
+/// other lane's turn would do nothing, and without a letter its delivery neither.
 pub(crate) fn run_tick<R: Threads + Wait + Sync, G: Gate>(
     rt: &R,
     alloc: Global,
@@ -104,15 +148,21 @@ pub(crate) fn run_tick<R: Threads + Wait + Sync, G: Gate>(
     script: &Script,
     tick: u32,
     crew: &Crew,
-    lanes: Vec<Numbered>,
-) -> Result<Vec<Numbered>, OutOfMemory>
+    lanes: Vec<Resting>,
+) -> Result<Vec<Resting>, OutOfMemory>
     requires few { length script.now.lanes ≤ 64 }
     requires tick { tick < 4096 }
+    requires left { tick < script.now.ticks }
     requires crew { refusal_of script.now crew.now.workers crew.now.sharing ≡ None }
-    requires lanes { lanes.items ≡ numbered (lanes_at script.now tick) }
-    ensures { IfOk result (λ lanes. lanes.items ≡ numbered (lanes_at script.now (tick + 1))) }
+    requires lanes { AreAt script.now tick lanes.items }
+    ensures { IfOk result (λ lanes. AreAt script.now (tick + 1) lanes.items) }
 {
-    let (mut lanes, letters) = turn_all(rt, alloc, gate, script, tick, crew, lanes)?;
-    deliver_all(script, tick, lanes.as_mut_slice(), letters.as_slice())?;
-    Ok(lanes)
+    let (due, resting) = part(alloc, tick, lanes)?;
+    let due = wake_all(tick, Vec::new(alloc), due)?;
+    let (done, letters) = turn_all(rt, alloc, gate, script, tick, crew, due)?;
+    if letters.is_empty() {
+        put_back(alloc, script, tick, done, resting)
+    } else {
+        deliver_to_all(alloc, script, tick, done, resting, letters.as_slice())
+    }
 }

@@ -7,8 +7,8 @@ use crate::crew::{Crew, Sharing};
 use crate::fault::{OutOfMemory, StepFault};
 use crate::gate::Gate;
 use crate::open::open_lanes;
+use crate::rest::{Resting, any_due};
 use crate::round::run_tick;
-use crate::share::Numbered;
 use lane_turn::Line;
 use loop_script::Script;
 use std::alloc::Global;
@@ -24,7 +24,7 @@ pub struct Stepper {
     alloc: Global,
     script: Script,
     crew: Crew,
-    lanes: Vec<Numbered>,
+    lanes: Vec<Resting>,
     tick: u32,
     spent: bool,
 }
@@ -33,18 +33,17 @@ impl Model for Stepper {
     ghost use Rattle.std.specs.Prelude.{◌≡◌, ◌≤◌, false, None, length, map};
     ghost use Rattle.std.specs.Coded.{codes};
     ghost use Rattle.loop_script.specs.contracts.tree.TaskTree as task_tree;
-    ghost use Rattle.lane_turn.specs.Tick.{lanes_at};
     ghost use Rattle.tick_stepper.specs.Crew.{refusal_of};
-    ghost use Rattle.tick_stepper.specs.Share.{numbered};
+    ghost use Rattle.tick_stepper.specs.Rest.{all_at, AreAt};
     ghost use Rattle.tick_stepper.specs.Stepper.{Steps};
 
     ghost Value = { Steps };
 
     ghost coded = { Prim.hlevel (codes, task_tree.the_row.coded) };
 
-    ghost view = { λ s. record { script = s.script; lanes = map (λ one. one.state.lane) s.lanes.items; tick = s.tick; spent = s.spent } };
+    ghost view = { λ s. record { script = s.script; lanes = all_at s.tick s.lanes.items; tick = s.tick; spent = s.spent } };
 
-    ghost invariant = { λ s. (refusal_of s.script s.crew.workers s.crew.sharing ≡ None) × (s.tick ≤ s.script.ticks) × (length s.script.lanes ≤ 64) × (s.spent ≡ false → s.lanes.items ≡ numbered (lanes_at s.script s.tick)) };
+    ghost invariant = { λ s. (refusal_of s.script s.crew.workers s.crew.sharing ≡ None) × (s.tick ≤ s.script.ticks) × (length s.script.lanes ≤ 64) × (s.spent ≡ false → AreAt s.script s.tick s.lanes.items) };
 }
 
 impl Stepper {
@@ -77,8 +76,9 @@ impl Stepper {
         })
     }
 
-    /// Steps one tick: each lane takes its turn through the gate, and when all are back, what they posted is delivered.
-    /// It answers true; where all ticks were stepped, false, and then nothing is changed.
+    /// Steps one tick: each lane whose turn may do anything takes it through the gate, and when all are back, what they
+    /// posted is delivered. In a tick without such a lane nothing is done, and no memory is taken. It answers true; where
+    /// all ticks were stepped, false, and then nothing is changed.
     ///
     /// After `OutOfMemory` the stepper is spent: each later call answers `Spent`, and changes nothing.
     pub fn tick<R: Threads + Wait + Sync, G: Gate>(
@@ -139,10 +139,15 @@ impl Stepper {
         ensures memory { OnErr result (IsTrue self.new.spent) }
     {
         let _most = self.script.ticks();
+        let tick = self.tick;
+        if !any_due(self.lanes.as_slice(), tick) {
+            self.tick += 1;
+            return Ok(());
+        }
         let alloc = self.alloc;
         self.spent = true;
         let lanes = mem::replace(&mut self.lanes, Vec::new(alloc));
-        self.lanes = run_tick(rt, alloc, gate, &self.script, self.tick, &self.crew, lanes)?;
+        self.lanes = run_tick(rt, alloc, gate, &self.script, tick, &self.crew, lanes)?;
         self.tick += 1;
         self.spent = false;
         Ok(())
@@ -158,6 +163,6 @@ impl Stepper {
         if self.spent {
             return Err(StepFault::Spent);
         }
-        Ok(self.lanes[lane as usize].state.trace())
+        Ok(self.lanes[lane as usize].lane.state.trace())
     }
 }

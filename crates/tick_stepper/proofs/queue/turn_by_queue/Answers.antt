@@ -1,20 +1,18 @@
 use Rattle.std.proofs.Common.{◌≡◌, ◌∙◌, ◌++◌, List, length, sym, ap, subst, arith}
-use Rattle.std.specs.Prelude.{IsPermutation}
 use Rattle.std.specs.List.{AllByRecursion}
 use Rattle.post_office.specs.Merge.{IsMerge, concat}
 use Rattle.post_office.specs.Passes.{WorkState, OfficeState}
-use Rattle.lane_turn.specs.Tick.{lanes_at}
-use Rattle.tick_stepper.specs.Share.{numbered, IsReadyOne}
+use Rattle.tick_stepper.specs.Share.{IsReadyOne}
 use Rattle.tick_stepper.specs.declared.share.Numbered.{Numbered}
-use Rattle.tick_stepper.proofs.Rounds.{ready_turns, turned_by_number, posted_by_sender}
+use Rattle.tick_stepper.proofs.Rounds.{turned_by_number, posted_by_sender}
 use Rattle.tick_stepper.proofs.Queues.{taken_by, posted_by, may_work, hauls_of, as_many, gathered_list, gathered_office, office_at_last, split_at_last, turns_all, letters_all}
 use Rattle.tick_stepper.proofs.queue.turn_by_queue.Goals as goal
 
 pub run_hired-requires-clause-hired : goal.run_hired-requires-clause-hired
 run_hired-requires-clause-hired g c κs _ =
     let script = c.args.script.now in
-    let put : c.in_ok-list.list.put ≡ numbered (lanes_at script c.args.tick) = ap (λ (s : WorkState Numbered). s.put) c.in_ok-list.ensures ∙ c.requires.lanes in
-    let ready = subst (λ (l : List Numbered). AllByRecursion (IsReadyOne script c.args.tick) l) (sym put) (ready_turns script c.args.tick c.requires.few c.requires.tick) in
+    let put : c.in_ok-list.list.put ≡ c.args.lanes.items = ap (λ (s : WorkState Numbered). s.put) c.in_ok-list.ensures in
+    let ready = subst (λ (l : List Numbered). AllByRecursion (IsReadyOne script c.args.tick) l) (sym put) c.requires.lanes.ready in
     may_work script c.args.tick _ _ _ _ _ _ (c.queue.ensures.home ∙ ap (λ (s : WorkState Numbered). s.home) c.in_ok-all.ensures.list) (c.queue-2.ensures.home ∙ ap (λ (s : OfficeState). s.home) c.in_ok-all.ensures.office) ready c.in_ok-all.ensures.hired
 
 pub gather-requires : goal.gather-requires
@@ -23,9 +21,9 @@ gather-requires g c = hauls_of c.args.script.now c.args.tick _ _ _ _ _ c.queue.e
 pub finish-requires-clause-ready : goal.finish-requires-clause-ready
 finish-requires-clause-ready g c κs _ =
     let script = c.args.script.now in
-    let put : c.gather.new.list.put ≡ numbered (lanes_at script c.args.tick) =
-    ap (λ (s : WorkState Numbered). s.put) (c.in_ok-lanes.ensures.taken) ∙ ap (λ (s : WorkState Numbered). s.put) c.in_ok-all.ensures.list ∙ ap (λ (s : WorkState Numbered). s.put) c.in_ok-list.ensures ∙ c.requires.lanes in
-    subst (λ (l : List Numbered). AllByRecursion (IsReadyOne script c.args.tick) l) (sym put) (ready_turns script c.args.tick c.requires.few c.requires.tick)
+    let put : c.gather.new.list.put ≡ c.args.lanes.items =
+    ap (λ (s : WorkState Numbered). s.put) (c.in_ok-lanes.ensures.taken) ∙ ap (λ (s : WorkState Numbered). s.put) c.in_ok-all.ensures.list ∙ ap (λ (s : WorkState Numbered). s.put) c.in_ok-list.ensures in
+    subst (λ (l : List Numbered). AllByRecursion (IsReadyOne script c.args.tick) l) (sym put) c.requires.lanes.ready
 
 pub returns-clause-lanes : goal.returns-clause-lanes
 returns-clause-lanes g c =
@@ -33,12 +31,11 @@ returns-clause-lanes g c =
     let back = c.in_ok-lanes.ensures in
     let hauls = c.in_ok-hauls.hauls in
     let own : List Numbered = c.finish.new.list.taken in
-    let lanes : List Numbered = numbered (lanes_at script c.args.tick) in
-    let long : length back.each ≡ c.min-workers.result = omega (arith, as_many hauls.items back.each back.all, c.in_ok-hauls.ensures.all, c.in_ok-all.ensures.as_many, hauls.ok.0) in
-    let list = gathered_list c.in_ok-list.list c.hire.new.list c.gather.new.list c.args.lanes.items c.min-workers.result back.each c.in_ok-list.ensures c.in_ok-all.ensures.list back.taken long in
+    let long : length back.each ≡ c.least-workers.result = omega (arith, as_many hauls.items back.each back.all, c.in_ok-hauls.ensures.all, c.in_ok-all.ensures.as_many, hauls.ok.0) in
+    let list = gathered_list c.in_ok-list.list c.hire.new.list c.gather.new.list c.args.lanes.items c.least-workers.result back.each c.in_ok-list.ensures c.in_ok-all.ensures.list back.taken long in
     let split = split_at_last c.gather.new.list c.in_ok-list.list.home c.args.lanes.items own back.each list c.in_ok-lanes-2.ensures.all in
     let turns = turns_all script c.args.tick c.queue.result.now c.queue-2.result.now hauls.items back.each own c.in_ok-lanes.lanes.items c.in_ok-lanes-2.lanes.items back.all c.in_ok-hauls.ensures.hauls back.back c.in_ok-lanes-2.ensures.lanes in
-    turned_by_number script c.args.tick (concat (taken_by back.each) ++ own) c.in_ok-lanes-2.lanes.items c.in_ok-lanes-3.lanes.items (subst (λ (l : List Numbered). IsPermutation l (concat (taken_by back.each) ++ own)) c.requires.lanes split) turns
+    turned_by_number script c.args.tick c.args.lanes.items (concat (taken_by back.each) ++ own) c.in_ok-lanes-2.lanes.items c.in_ok-lanes-3.lanes.items c.requires.lanes.order split turns
     c.in_ok-lanes-3.ensures.same c.in_ok-lanes-3.ensures.order
 
 pub returns-clause-letters : goal.returns-clause-letters
@@ -47,12 +44,12 @@ returns-clause-letters g c =
     let back = c.in_ok-lanes.ensures in
     let hauls = c.in_ok-hauls.hauls in
     let own : List Numbered = c.finish.new.list.taken in
-    let long : length back.each ≡ c.min-workers.result = omega (arith, as_many hauls.items back.each back.all, c.in_ok-hauls.ensures.all, c.in_ok-all.ensures.as_many, hauls.ok.0) in
-    let list = gathered_list c.in_ok-list.list c.hire.new.list c.gather.new.list c.args.lanes.items c.min-workers.result back.each c.in_ok-list.ensures c.in_ok-all.ensures.list back.taken long in
+    let long : length back.each ≡ c.least-workers.result = omega (arith, as_many hauls.items back.each back.all, c.in_ok-hauls.ensures.all, c.in_ok-all.ensures.as_many, hauls.ok.0) in
+    let list = gathered_list c.in_ok-list.list c.hire.new.list c.gather.new.list c.args.lanes.items c.least-workers.result back.each c.in_ok-list.ensures c.in_ok-all.ensures.list back.taken long in
     let split = split_at_last c.gather.new.list c.in_ok-list.list.home c.args.lanes.items own back.each list c.in_ok-lanes-2.ensures.all in
-    let office = gathered_office c.in_ok-office.office c.hire.new.office c.gather.new.office c.min-workers.result back.each c.in_ok-office.ensures.office c.in_ok-all.ensures.office back.posted long in
+    let office = gathered_office c.in_ok-office.office c.hire.new.office c.gather.new.office c.least-workers.result back.each c.in_ok-office.ensures.office c.in_ok-all.ensures.office back.posted long in
     let last = office_at_last c.gather.new.office c.pass.new.self c.take_back.new.self c.in_ok-lanes-2.pass _ _ (posted_by back.each) _ office c.in_ok-pass.ensures.office c.take_back.ensures.recorded c.in_ok-lanes-2.ensures.letters in
     let merge = subst (λ (s : OfficeState). IsMerge s.recorded (s.drained ++ c.in_ok-letters.letters.items)) last c.in_ok-letters.ensures.each in
     let sent = letters_all script c.args.tick c.queue.result.now c.queue-2.result.now hauls.items back.each own c.in_ok-letters.letters.items back.all c.in_ok-hauls.ensures.hauls merge in
-    posted_by_sender script c.args.tick (concat (taken_by back.each) ++ own) c.in_ok-letters.letters.items c.in_ok-letters-2.letters.items (subst (λ (l : List Numbered). IsPermutation l (concat (taken_by back.each) ++ own)) c.requires.lanes split) sent
+    posted_by_sender script c.args.tick c.args.lanes.items (concat (taken_by back.each) ++ own) c.in_ok-letters.letters.items c.in_ok-letters-2.letters.items c.requires.lanes split sent
     c.in_ok-letters-2.ensures.letters c.in_ok-letters-2.ensures.order

@@ -1,31 +1,64 @@
-use Rattle.std.proofs.Common.{◌≡◌, ◌+◌, ◌∙◌, sym, ap, subst, List, add-one, map, arith, take_at}
-use Rattle.std.specs.List.{AllByRecursion}
-use Rattle.post_office.specs.declared.letter.Letter.{Letter}
+use Rattle.std.proofs.Common.{◌≡◌, ◌+◌, ◌++◌, ◌∙◌, ◌==◌, true, length, sym, ap, subst, map, not, rules}
+use Rattle.std.specs.Prelude.{IsPermutation}
+use Rattle.std.specs.List.{AllByRecursion, flat_map, filter}
 use Rattle.lane_turn.specs.Turn.{turned}
-use Rattle.lane_turn.specs.Deliver.{received_all}
-use Rattle.lane_turn.specs.Tick.{posted_at, lanes_at}
-use Rattle.lane_turn.proofs.Delivered.{received_number}
-use Rattle.tick_stepper.specs.Share.{numbered, stepped_one, IsReadyOne}
-use Rattle.tick_stepper.specs.declared.share.Numbered.{Numbered}
-use Rattle.tick_stepper.proofs.Rounds.{ready_delivery, few_posted, numbered_step}
+use Rattle.lane_turn.specs.Tick.{lanes_at}
+use Rattle.tick_stepper.specs.Share.{numbered, turned_one, out_of_one, IsRound}
+use Rattle.tick_stepper.specs.Rest.{is_due, all_woken, HasPassed, Rests}
+use Rattle.tick_stepper.specs.declared.rest.Resting.{Resting}
+use Rattle.tick_stepper.proofs.Handed.{of_rec}
+use Rattle.tick_stepper.proofs.Resting.{none_long, all_kept, all_passed, round_due, sent_at, turns_at, others_rest}
 use Rattle.tick_stepper.proofs.round.run_tick.Goals as goal
 
-pub deliver_all-requires-clause-ready : goal.deliver_all-requires-clause-ready
-deliver_all-requires-clause-ready g c =
-    let script = c.args.script.now in
-    subst (λ (l : List Numbered). AllByRecursion (IsReadyOne script (c.args.tick + 1)) l) (sym (c.as_mut_slice.ensures.value ∙ c.in_ok-lanes.ensures.lanes)) (ready_delivery script c.args.tick c.requires.few c.requires.tick)
+pub wake_all-requires-clause-passed : goal.wake_all-requires-clause-passed
+wake_all-requires-clause-passed g c =
+    let P : Resting → Type 0 = HasPassed c.args.tick in
+    of_rec P _ (subst (AllByRecursion P) (sym c.in_ok-due.ensures.due) (all_kept (is_due c.args.tick) P c.args.lanes.items (all_passed c.args.script.now c.args.tick c.args.lanes.items c.requires.lanes.rest)))
 
-pub deliver_all-requires-clause-few : goal.deliver_all-requires-clause-few
-deliver_all-requires-clause-few g c = few_posted c.args.script.now c.args.tick c.as_slice.result.now c.requires.few c.requires.tick (c.as_slice.ensures.value ∙ c.in_ok-lanes.ensures.letters)
+pub turn_all-requires-clause-lanes : goal.turn_all-requires-clause-lanes
+turn_all-requires-clause-lanes g c κs _ =
+    let woken : c.in_ok-due-2.due.items ≡ all_woken c.args.tick c.in_ok-due.due.items = search rules in
+    subst (IsRound c.args.script.now c.args.tick) (sym (woken ∙ ap (all_woken c.args.tick) c.in_ok-due.ensures.due)) (round_due c.args.script.now c.args.tick c.args.lanes.items c.requires.lanes c.requires.few c.requires.tick)
 
-pub returns : goal.returns
-returns g c =
+pub put_back-requires-clause-rest : goal.put_back-requires-clause-rest
+put_back-requires-clause-rest g c =
+    subst (AllByRecursion (Rests c.args.script.now (c.args.tick + 1))) (sym c.in_ok-due.ensures.rest) (others_rest c.args.script.now c.args.tick c.args.lanes.items c.requires.left c.requires.lanes.rest)
+
+pub put_back-requires-clause-lanes : goal.put_back-requires-clause-lanes
+put_back-requires-clause-lanes g c =
     let script = c.args.script.now in
     let tick = c.args.tick in
-    let turns = map (turned script tick) (lanes_at script tick) in
-    let letters = posted_at script tick (lanes_at script tick) in
-    let took : c.deliver_all.new.lanes ≡ numbered (lanes_at script (tick + 1)) =
-    c.in_ok-deliver_all.ensures ∙ ap (λ (l : List Letter). map (stepped_one (received_all script tick l)) c.as_mut_slice.result.now) (c.as_slice.ensures.value ∙ c.in_ok-lanes.ensures.letters)
-    ∙ ap (map (stepped_one (received_all script tick letters))) (c.as_mut_slice.ensures.value ∙ c.in_ok-lanes.ensures.lanes)
-    ∙ numbered_step (received_all script tick letters) (received_number script tick letters) turns ∙ ap (λ k. numbered (lanes_at script k)) (sym (add-one tick)) in
-    take_at c.deliver_all.new.lanes _ c.in_ok-lanes.lanes.len (omega (arith, c.deliver_all.auto.lanes, c.as_mut_slice.ensures.len)) ∙ took
+    let woken : c.in_ok-due-2.due.items ≡ all_woken tick c.in_ok-due.due.items = search rules in
+    let done = c.in_ok-done.ensures.lanes ∙ ap (map (turned_one script tick)) (woken ∙ ap (all_woken tick) c.in_ok-due.ensures.due) in
+    subst (IsPermutation (numbered (map (turned script tick) (lanes_at script tick)))) (λ i. sym done i ++ all_woken (tick + 1) (sym c.in_ok-due.ensures.rest i)) (turns_at script tick c.args.lanes.items c.requires.left c.requires.lanes)
+
+pub put_back-requires-clause-none : goal.put_back-requires-clause-none
+put_back-requires-clause-none g c =
+    let script = c.args.script.now in
+    let tick = c.args.tick in
+    let woken : c.in_ok-due-2.due.items ≡ all_woken tick c.in_ok-due.due.items = search rules in
+    let zero : (length c.in_ok-done.letters.items == 0) ≡ true = search rules in
+    let none = none_long c.in_ok-done.letters.items zero in
+    sym (c.in_ok-done.ensures.letters ∙ (ap (flat_map (out_of_one script tick)) (woken ∙ ap (all_woken tick) c.in_ok-due.ensures.due) ∙ sent_at script tick c.args.lanes.items c.requires.left c.requires.lanes)) ∙ none
+
+pub deliver_to_all-requires-clause-passed : goal.deliver_to_all-requires-clause-passed
+deliver_to_all-requires-clause-passed g c =
+    let script = c.args.script.now in
+    let P : Resting → Type 0 = HasPassed (c.args.tick + 1) in
+    let rest = filter (λ (one : Resting). not (is_due c.args.tick one)) c.args.lanes.items in
+    of_rec P _ (subst (AllByRecursion P) (sym c.in_ok-due.ensures.rest) (all_passed script (c.args.tick + 1) rest (others_rest script c.args.tick c.args.lanes.items c.requires.left c.requires.lanes.rest)))
+
+pub deliver_to_all-requires-clause-lanes : goal.deliver_to_all-requires-clause-lanes
+deliver_to_all-requires-clause-lanes g c =
+    let script = c.args.script.now in
+    let tick = c.args.tick in
+    let woken : c.in_ok-due-2.due.items ≡ all_woken tick c.in_ok-due.due.items = search rules in
+    let done = c.in_ok-done.ensures.lanes ∙ ap (map (turned_one script tick)) (woken ∙ ap (all_woken tick) c.in_ok-due.ensures.due) in
+    subst (IsPermutation (numbered (map (turned script tick) (lanes_at script tick)))) (λ i. sym done i ++ all_woken (tick + 1) (sym c.in_ok-due.ensures.rest i)) (turns_at script tick c.args.lanes.items c.requires.left c.requires.lanes)
+
+pub deliver_to_all-requires-clause-letters : goal.deliver_to_all-requires-clause-letters
+deliver_to_all-requires-clause-letters g c =
+    let script = c.args.script.now in
+    let tick = c.args.tick in
+    let woken : c.in_ok-due-2.due.items ≡ all_woken tick c.in_ok-due.due.items = search rules in
+    c.as_slice.ensures.value ∙ (c.in_ok-done.ensures.letters ∙ (ap (flat_map (out_of_one script tick)) (woken ∙ ap (all_woken tick) c.in_ok-due.ensures.due) ∙ sent_at script tick c.args.lanes.items c.requires.left c.requires.lanes))

@@ -1,15 +1,15 @@
 use Rattle.std.proofs.Common.{◌≡◌, ℕ, ◌<◌, false, sym, ap, subst, ◌∙◌, arith}
 use Rattle.lane_turn.specs.Tick.{lanes_at}
 use Rattle.tick_stepper.specs.Stepper.{Steps}
-use Rattle.tick_stepper.proofs.Steppers.{lanes_of, lanes_are}
+use Rattle.tick_stepper.specs.Rest.{all_at}
 use Rattle.tick_stepper.proofs.stepper.Stepper.run.Goals as goal
 
 pub loop-tick-init : goal.loop-tick-init
 loop-tick-init g c =
     let s = c.self.inside in
-    let here : Steps = record { script = s.script; lanes = lanes_of s.lanes.items; tick = s.tick; spent = s.spent } in
+    let here : Steps = record { script = s.script; lanes = all_at s.tick s.lanes.items; tick = s.tick; spent = s.spent } in
     let is : here ≡ record { script = s.script; lanes = lanes_at s.script s.tick; tick = s.tick; spent = false } =
-    λ i. record { script = s.script; lanes = lanes_are s.lanes.items (lanes_at s.script s.tick) (c.self.invariant.3 c.if-self.false) i; tick = s.tick; spent = c.if-self.false i } in
+    λ i. record { script = s.script; lanes = (c.self.invariant.3 c.if-self.false).lanes i; tick = s.tick; spent = c.if-self.false i } in
     subst (λ (v : Steps). v ≡ record { script = v.script; lanes = lanes_at v.script s.tick; tick = s.tick; spent = false }) c.self.view_is is
 
 pub step-requires-clause-unspent : goal.step-requires-clause-unspent

@@ -2,13 +2,13 @@ use Rattle.std.proofs.Common.{◌≡◌, ◌+◌, false, ap, subst, ◌∙◌, L
 use Rattle.lane_turn.specs.Lane.{Lane}
 use Rattle.lane_turn.specs.Tick.{ticked, lanes_at}
 use Rattle.tick_stepper.specs.Stepper.{Steps}
-use Rattle.tick_stepper.proofs.Steppers.{lanes_are, next_is}
+use Rattle.tick_stepper.proofs.Steppers.{next_is}
 use Rattle.tick_stepper.proofs.stepper.Stepper.tick.Goals as goal
 
 pub returns-then-self-ticks-clause-lanes : goal.returns-then-self-ticks-clause-lanes
 returns-then-self-ticks-clause-lanes g c =
     let s = c.self.inside in
-    subst (λ (v : Steps). v.lanes ≡ lanes_at v.script v.tick) c.self.view_is (lanes_are s.lanes.items (lanes_at s.script s.tick) (c.self.invariant.3 c.if-self.false))
+    subst (λ (v : Steps). v.lanes ≡ lanes_at v.script v.tick) c.self.view_is (c.self.invariant.3 c.if-self.false).lanes
 
 pub returns-clause-ticked : goal.returns-clause-ticked
 returns-clause-ticked g c _ =
