@@ -14,6 +14,8 @@ mod refused_tests;
 #[cfg(test)]
 mod script_tests;
 #[cfg(test)]
+mod sparse_tests;
+#[cfg(test)]
 mod stepper_tests;
 #[cfg(test)]
 mod view_tests;
