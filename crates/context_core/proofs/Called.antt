@@ -40,7 +40,7 @@ under_self rows r (Some id) h =
     let p = h.0 in
     ap (list_any (λ i. i == r.id)) h.2.line ∙ line_by 0 0 r.id (p.level == 1) (p.level == 2) p.line
 
-each_under_self : (whole rows : List Row) → AllByRecursion (λ r. HasPlace whole r.parent r) rows → AllByRecursion (λ r. is_under r.id r ≡ true) rows
+pub each_under_self : (whole rows : List Row) → AllByRecursion (λ r. HasPlace whole r.parent r) rows → AllByRecursion (λ r. is_under r.id r ≡ true) rows
 each_under_self whole [] h = tt
 each_under_self whole (r ∷ rows) h = (under_self whole r r.parent h.0, each_under_self whole rows h.1)
 
@@ -68,7 +68,7 @@ ready_each own busy whole [] h u = tt
 ready_each own busy whole (r ∷ xs) h u =
     (λ c. and_both (is_free busy r) _ (and_first (is_free busy r) (own r) c) (h.0 (and_both (is_under r.id r) (calls own busy r) u.0 c)), ready_each own busy whole xs h.1 u.1)
 
-called_ready : (own : Own) (busy : List ℕ) (rows : List Row) → IsForest rows → AllByRecursion (λ r. calls own busy r ≡ true → is_ready own busy rows r ≡ true) rows
+pub called_ready : (own : Own) (busy : List ℕ) (rows : List Row) → IsForest rows → AllByRecursion (λ r. calls own busy r ≡ true → is_ready own busy rows r ≡ true) rows
 called_ready own busy rows forest =
     ready_each own busy rows rows (each_any (λ r q. is_under r.id q && calls own busy q) rows rows (λ r h. h)) (each_under_self rows rows forest.placed)
 

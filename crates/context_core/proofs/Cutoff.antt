@@ -281,11 +281,11 @@ any_by : (p q : Row → Bool) (r : Row) (rows : List Row) (b : Bool) → p r ≡
 any_by p q r rows true f h ih e = rw (h f) refl
 any_by p q r rows false f h ih e = or_right (q r) (list_any q rows) (ih e)
 
-any_more : (p q : Row → Bool) → ((r : Row) → p r ≡ true → q r ≡ true) → (rows : List Row) → list_any p rows ≡ true → list_any q rows ≡ true
+pub any_more : (p q : Row → Bool) → ((r : Row) → p r ≡ true → q r ≡ true) → (rows : List Row) → list_any p rows ≡ true → list_any q rows ≡ true
 any_more p q h [] e = e
 any_more p q h (r ∷ rows) e = any_by p q r rows (p r) refl (h r) (any_more p q h rows) e
 
-and_more : (a b c : Bool) → (b ≡ true → c ≡ true) → (a && b) ≡ true → (a && c) ≡ true
+pub and_more : (a b c : Bool) → (b ≡ true → c ≡ true) → (a && b) ≡ true → (a && c) ≡ true
 and_more true b c f h = f h
 and_more false b c f h = h
 

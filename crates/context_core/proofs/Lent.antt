@@ -1,5 +1,5 @@
 -- When a row's turn comes in a pass over the rows, all that lend to it were seen.
-use Rattle.std.proofs.Common.{◌≡◌, ℕ, ◌<◌, ◌&&◌, ◌||◌, Bool, true, false, Option, Some, None, List, [], ◌∷◌, ◌++◌, inl, inr, refl, ap, sym, ◌∙◌, arith, subst}
+use Rattle.std.proofs.Common.{◌≡◌, ℕ, ◌<◌, ◌&&◌, ◌||◌, Bool, true, false, Option, Some, None, List, [], ◌∷◌, ◌++◌, filter, inl, inr, refl, ap, sym, ◌∙◌, arith, subst}
 use Rattle.std.proofs.lemmas.List.{append_assoc}
 use Rattle.std.proofs.lemmas.List.Folds.{list_any-append}
 use Rattle.std.specs.List.{AllByRecursion, list_any}
@@ -8,7 +8,8 @@ use Rattle.source_rows.specs.declared.row.Row.{Row}
 use Rattle.source_rows.specs.Rows.{in_order, stands_before, is_under}
 use Rattle.source_rows.specs.Lists.{Pairs}
 use Rattle.source_rows.specs.Tree.{IsForest, HasPlace}
-use Rattle.source_rows.proofs.Lists.{all_of, all_back, pairs_with, pairs_and}
+use Rattle.source_rows.proofs.Lists.{all_of, all_back, all_filter, pairs_with, pairs_and, pairs_filter}
+use Rattle.source_rows.proofs.Compared.{and_both}
 use Rattle.source_rows.proofs.Order.{all_in_order, pairs_in_order, sorted_in_order}
 use Rattle.source_rows.proofs.Forest.{InForest, members, shaped, found, under_root, under_down, under_self}
 use Rattle.source_rows.proofs.Paths.{under}
@@ -17,6 +18,7 @@ use Rattle.source_rows.proofs.Band.{any_in_order}
 use Rattle.context_core.specs.Ready.{Own, is_free, calls, is_ready}
 use Rattle.context_core.specs.Lent.{lends}
 use Rattle.context_core.proofs.Cutoff.{any_same}
+use Rattle.context_core.proofs.Candidates.{Keeps, any_kept}
 
 -- ---- what a row and a later one have to do with each other
 
@@ -76,40 +78,41 @@ or_last false true = refl
 or_last false false = refl
 
 -- the rows that were seen, and what they lend
-pub record Passed (own : Own) (busy : List ℕ) (rows rest : List Row) (lent : ℕ → Bool) : Type 0 where
+pub record Passed (own : Own) (busy : List ℕ) (keep : Row → Bool) (rows rest : List Row) (lent : ℕ → Bool) : Type 0 where
   pub seen : List Row
-  pub split : in_order rows ≡ seen ++ rest
+  pub split : filter keep (in_order rows) ≡ seen ++ rest
   pub lends : (id : ℕ) → lent id ≡ list_any (lends own busy id) seen
 
-passed_more : (own : Own) (busy : List ℕ) (rows it rest : List Row) (r : Row) (lent more : ℕ → Bool) → it ≡ r ∷ rest → ((id : ℕ) → more id ≡ (lends own busy id r || lent id))
-    → Passed own busy rows it lent → Passed own busy rows rest more
-passed_more own busy rows it rest r lent more e h p = record {
+passed_more : (own : Own) (busy : List ℕ) (keep : Row → Bool) (rows it rest : List Row) (r : Row) (lent more : ℕ → Bool) → it ≡ r ∷ rest → ((id : ℕ) → more id ≡ (lends own busy id r || lent id))
+    → Passed own busy keep rows it lent → Passed own busy keep rows rest more
+passed_more own busy keep rows it rest r lent more e h p = record {
   seen = p.seen ++ r ∷ [];
   split = p.split ∙ (ap (λ (l : List Row). p.seen ++ l) e ∙ sym (append_assoc p.seen (r ∷ []) rest));
   lends = λ id. h id ∙ (ap (λ (b : Bool). lends own busy id r || b) (p.lends id) ∙ (or_last (lends own busy id r) (list_any (lends own busy id) p.seen) ∙ sym (list_any-append (lends own busy id) p.seen (r ∷ []))));
 }
 
 -- a row whose turn has come is ready where it calls, or where those that were seen lend to it
-ready_here : (own : Own) (busy : List ℕ) (rows it rest : List Row) (r : Row) (lent : ℕ → Bool) → IsForest rows → it ≡ r ∷ rest → Passed own busy rows it lent
+ready_here : (own : Own) (busy : List ℕ) (keep : Row → Bool) (rows it rest : List Row) (r : Row) (lent : ℕ → Bool) → IsForest rows → Keeps (calls own busy) keep rows → it ≡ r ∷ rest → Passed own busy keep rows it lent
     → (is_free busy r && (calls own busy r || lent r.id)) ≡ is_ready own busy rows r
-ready_here own busy rows it rest r lent forest e p =
+ready_here own busy keep rows it rest r lent forest kept e p =
     let all = members rows forest in
     let calling : Row → Bool = λ q. is_under r.id q && calls own busy q in
-    let whole : in_order rows ≡ p.seen ++ r ∷ rest = p.split ∙ ap (λ (l : List Row). p.seen ++ l) e in
-    let f : InForest rows r = (all_back (InForest rows) p.seen (r ∷ rest) (subst (AllByRecursion (InForest rows)) whole (all_in_order (InForest rows) rows all))).0 in
-    let t = split_at Turn p.seen r rest (subst (Pairs Turn) whole (turns rows forest)) in
+    let whole : filter keep (in_order rows) ≡ p.seen ++ r ∷ rest = p.split ∙ ap (λ (l : List Row). p.seen ++ l) e in
+    let f : InForest rows r = (all_back (InForest rows) p.seen (r ∷ rest) (subst (AllByRecursion (InForest rows)) whole (all_filter (InForest rows) keep (in_order rows) (all_in_order (InForest rows) rows all)))).0 in
+    let t = split_at Turn p.seen r rest (subst (Pairs Turn) whole (pairs_filter Turn keep (in_order rows) (turns rows forest))) in
     let before : list_any calling p.seen ≡ list_any (lends own busy r.id) p.seen
     = any_same calling (lends own busy r.id) p.seen (all_of (λ q. Turn q r) (λ q. calling q ≡ lends own busy r.id q) (λ q h. ap (λ (b : Bool). b && calls own busy q) h.1) p.seen t.0) in
     let after : list_any calling rest ≡ false = any_none calling rest (all_of (Turn r) (λ q. calling q ≡ false) (λ q h. ap (λ (b : Bool). b && calls own busy q) h.0) rest t.1) in
     let here : calling r ≡ calls own busy r = ap (λ (b : Bool). b && calls own busy r) (under_self r (shaped rows all r f)) in
     let parts : list_any calling rows ≡ (list_any calling p.seen || (calling r || list_any calling rest))
-    = sym (any_in_order calling rows) ∙ (ap (list_any calling) whole ∙ list_any-append calling p.seen (r ∷ rest)) in
+    = sym (any_in_order calling rows) ∙ (sym (any_kept calling keep (in_order rows) (all_in_order (λ q. calling q ≡ true → keep q ≡ true) rows
+    (all_of (λ q. calls own busy q ≡ true → keep q ≡ true) (λ q. calling q ≡ true → keep q ≡ true) (λ q h e. h ((and_both (is_under r.id q) (calls own busy q) e).1)) rows kept))) ∙ ap (list_any calling) whole ∙ list_any-append calling p.seen (r ∷ rest)) in
     ap (λ (b : Bool). is_free busy r && b)
     (ap (λ (b : Bool). calls own busy r || b) (p.lends r.id ∙ sym before)
     ∙ (or_last (calls own busy r) (list_any calling p.seen)
     ∙ sym (parts ∙ (ap (λ (b : Bool). list_any calling p.seen || (b || list_any calling rest)) here ∙ ap (λ (b : Bool). list_any calling p.seen || (calls own busy r || b)) after))))
 
 -- one row further
-pub stepped : (own : Own) (busy : List ℕ) (rows it rest : List Row) (r : Row) (lent more : ℕ → Bool) (ready : Bool) → IsForest rows → it ≡ r ∷ rest → ((id : ℕ) → more id ≡ (lends own busy id r || lent id))
-    → ready ≡ (is_free busy r && (calls own busy r || lent r.id)) → Passed own busy rows it lent → Passed own busy rows rest more × (is_ready own busy rows r ≡ ready)
-stepped own busy rows it rest r lent more ready forest e h k p = (passed_more own busy rows it rest r lent more e h p, sym (k ∙ ready_here own busy rows it rest r lent forest e p))
+pub stepped : (own : Own) (busy : List ℕ) (keep : Row → Bool) (rows it rest : List Row) (r : Row) (lent more : ℕ → Bool) (ready : Bool) → IsForest rows → Keeps (calls own busy) keep rows → it ≡ r ∷ rest → ((id : ℕ) → more id ≡ (lends own busy id r || lent id))
+    → ready ≡ (is_free busy r && (calls own busy r || lent r.id)) → Passed own busy keep rows it lent → Passed own busy keep rows rest more × (is_ready own busy rows r ≡ ready)
+stepped own busy keep rows it rest r lent more ready forest kept e h k p = (passed_more own busy keep rows it rest r lent more e h p, sym (k ∙ ready_here own busy keep rows it rest r lent forest kept e p))

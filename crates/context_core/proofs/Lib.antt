@@ -5,3 +5,4 @@ pub mod Called
 pub mod Lent
 pub mod Phased
 pub mod AtTwo
+pub mod Candidates

@@ -104,7 +104,7 @@ impl Context {
         ensures priority { result.priority ≡ least_ready (in_view view.now) now busy.now self.now.rows.rows }
         ensures timeout { result.timeout_ms ≡ wait_of now busy.now self.now.rows.rows result.priority }
     {
-        'rows: for row in self.rows.in_order() {
+        'rows: for row in self.rows.candidates(now) {
             if calls(row, &[], now, busy, view) {
                 return Prepared {
                     priority: Some(row.priority),
@@ -131,7 +131,7 @@ impl Context {
         if !self.rows.may_ask() {
             return Ok(list);
         }
-        'rows: for row in self.rows.in_order() {
+        'rows: for row in self.rows.candidates(0) {
             if let Some(interest) = interest(row, prepared.priority, busy) {
                 list.push(interest)?;
             }
@@ -153,7 +153,7 @@ impl Context {
         if levels.is_empty() {
             return Ok(list);
         }
-        'rows: for row in self.rows.in_order() {
+        'rows: for row in self.rows.candidates(0) {
             if let Some(interest) = interest(row, least, busy) {
                 if let Some(level) = level_at(levels, list.len()) {
                     list.push(Shown {
@@ -184,7 +184,7 @@ impl Context {
         let mut bound = least;
         let mut ids = Vec::new(alloc);
         let mut lent = BTreeSet::new(alloc);
-        'rows: for row in self.rows.in_order() {
+        'rows: for row in self.rows.candidates(now) {
             if is_beyond(bound, row.priority) {
                 break;
             }

@@ -27,3 +27,9 @@ pub mod AtTwo
 pub mod Sound
 pub mod Low
 pub mod Heights
+pub mod SeatTree
+pub mod Ahead
+pub mod InSeats
+pub mod Seated
+pub mod Steps
+pub mod Walked

@@ -12,7 +12,7 @@ use Rattle.source_rows.proofs.Order.{all_in_order}
 is_there : (o : Option Row) (r : Row) → o ≡ Some r → IsSome o
 is_there o r e = rw e refl
 
-each_there : (rows qs : List Row) → AllByRecursion (λ r. row_of r.id rows ≡ Some r) qs → AllFound rows (map (λ (r : Row). r.id) qs)
+pub each_there : (rows qs : List Row) → AllByRecursion (λ r. row_of r.id rows ≡ Some r) qs → AllFound rows (map (λ (r : Row). r.id) qs)
 each_there rows [] h = tt
 each_there rows (q ∷ qs) h = (is_there (row_of q.id rows) q h.0, each_there rows qs h.1)
 

@@ -11,6 +11,7 @@ use Rattle.source_rows.specs.Inserted.{inserted, Rises}
 use Rattle.source_rows.specs.Rows.{row_of}
 use Rattle.source_rows.specs.Slots.{rows_at, IsTable, IsTimed, AllNamed, IsHeld, Names}
 use Rattle.source_rows.specs.Times.{Time, IsLow, time_cmp, is_sooner, without, time_of, in_time}
+use Rattle.source_rows.specs.Seats.{Seat, IsSeated}
 use Rattle.source_rows.specs.Tree.{IdsRise}
 use Rattle.source_rows.proofs.Compared.{some_same}
 use Rattle.source_rows.proofs.Lists.{all_of}
@@ -37,7 +38,7 @@ rising_length from to (r ∷ rows) h above below le =
     let rest = rising_length (r.id + 1) to rows h.1 (all_of (λ q. r.id < q.id) (λ q. r.id + 1 ≤ q.id) (λ q k. omega (arith, k)) rows h.0) below.1 (omega (arith, next)) in
     omega (arith, here, rest)
 
-length_in_time : (rows : List Row) → length (in_time rows) ≡ length rows
+pub length_in_time : (rows : List Row) → length (in_time rows) ≡ length rows
 length_in_time [] = refl
 length_in_time (r ∷ rows) =
     let one : length (in_time (r ∷ rows)) ≡ length (in_time rows) + 1 = length_inserted {A = Time} is_sooner (time_of r) (in_time rows) in
@@ -143,8 +144,9 @@ left_timed s t id key r es fs ts us h b k l g e low gone shorter =
 rows_same : (s t : Slab Row) (es : List (ℕ × ℕ)) → t.slots ≡ s.slots → rows_at t es ≡ rows_at s es
 rows_same s t es e = ap (λ (xs : List (Option Row)). filter_map (λ (p : ℕ × ℕ). slice_index_or xs p.1 None) es) e
 
-pub held_same : (s t : Slab Row) (es : List (ℕ × ℕ)) (ts : List Time × ℕ) (may : Bool) → t.slots ≡ s.slots → IsHeld s es ts may → IsHeld t es ts may
-held_same s t es ts may e h = record {
+pub held_same : (s t : Slab Row) (es : List (ℕ × ℕ)) (ts : List Time × ℕ) (ss : List Seat × ℕ) (may : Bool) → t.slots ≡ s.slots → IsHeld s es ts ss may → IsHeld t es ts ss may
+held_same s t es ts ss may e h = record {
+  seated = subst (λ (rows : List Row). IsSeated rows ss) (sym (rows_same s t es e)) h.seated;
   timed = record {
     table = record { named = all_of (Names s) (Names t) (λ p n. ap (option_map id_of) (same_get s t e p.1) ∙ n) es h.timed.table.named; rising = h.timed.table.rising };
     back = back-same s t es es h.timed.back (same_get s t e) refl;

@@ -18,3 +18,7 @@ pub mod TimeTree
 pub mod TwoLevels
 pub mod Edits
 pub mod Heights
+pub mod Candidates
+pub mod Seats
+pub mod SeatTree
+pub mod Steps

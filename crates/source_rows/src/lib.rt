@@ -4,6 +4,7 @@
 //! iteration dispatches them: by priority, and in each tree the children before their parent.
 #![tactic(auto)]
 
+mod candidates;
 mod fault;
 mod guesses;
 mod in_order;
@@ -13,9 +14,11 @@ mod moves;
 mod removal;
 mod row;
 mod rows;
+mod seats;
 mod table;
 mod times;
 
+pub use candidates::Candidates;
 pub use fault::RowsFault;
 pub use in_order::InOrder;
 pub use laws::{

@@ -1,12 +1,16 @@
 //! What is kept of a source.
 ghost use Rattle.std.specs.Prelude.{◌≡◌, ◌<◌, ◌≤◌, ◌^◌, length};
-ghost use Rattle.source_rows.specs.Rows.{key_of};
+ghost use Rattle.source_rows.specs.Rows.{key_of, stands_before};
 ghost use Rattle.source_rows.specs.Band.{first_key, last_key};
 ghost use Rattle.source_rows.specs.Moves.{moved_row};
 ghost use Rattle.source_rows.specs.Slots.{asks};
+ghost use Rattle.source_rows.specs.Seats.{seat_of};
+ghost use Rattle.source_rows.specs.Candidates.{is_awake, or_last, wakes_at};
 ghost use Rattle.source_rows.specs.Row.{ready_at, root_row, child_row, line_under, path_under};
 
+use crate::seats::Seat;
 use loop_script::{Kind, SourceSpec};
+use std::cmp::Ordering;
 
 /// What is kept of a source.
 #[derive(Clone, Copy, Debug, PartialEq, Eq)]
@@ -56,6 +60,30 @@ impl Row {
         (self.priority, path)
     }
 
+    /// Whether the row stands before another.
+    pub(crate) fn stands_before(&self, other: &Row) -> bool
+        ensures { result ≡ stands_before self.now other.now }
+    {
+        match self.key().cmp(&other.key()) {
+            Ordering::Less => true,
+            _ => false,
+        }
+    }
+
+    /// Where the row stands, its id, and from when on it may be ready.
+    pub(crate) fn seat(&self) -> Seat
+        ensures { result ≡ seat_of self.now }
+    {
+        (self.key(), (self.id, wakes_at(self.kind, self.ready)))
+    }
+
+    /// Whether the source may be ready at a time, as far as its kind and its ready time tell.
+    pub(crate) fn is_awake(&self, now: u64) -> bool
+        ensures { result ≡ is_awake now self.now }
+    {
+        wakes_at(self.kind, self.ready) <= now
+    }
+
     /// The least and the greatest key of a row in the tree of a root.
     pub(crate) fn tree_keys(&self) -> ((i32, [u64; 4]), (i32, [u64; 4]))
         ensures { result ≡ (first_key self.now, last_key self.now) }
@@ -78,6 +106,28 @@ impl Row {
             path,
             ..*self
         }
+    }
+}
+
+/// A ready time, or the last time of all for never.
+fn or_last(ready: i64) -> u64
+    ensures { result ≡ or_last ready }
+{
+    if ready < 0 {
+        9_223_372_036_854_775_807
+    } else {
+        ready as u64
+    }
+}
+
+/// From when on a source may be ready.
+fn wakes_at(kind: Kind, ready: i64) -> u64
+    ensures { result ≡ wakes_at kind ready }
+{
+    match kind {
+        Kind::Timeout(_) => or_last(ready),
+        Kind::ReadyTime(_) => or_last(ready),
+        _ => 0,
     }
 }
 

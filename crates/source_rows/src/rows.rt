@@ -4,12 +4,14 @@ ghost use Rattle.std.specs.List.{AllByRecursion};
 ghost use Rattle.std.specs.Option.{option_copied};
 ghost use Rattle.std.specs.Borrow.{Bor};
 ghost use Rattle.std.specs.Map.Iter.{ShowsInOrder};
+ghost use Rattle.source_rows.specs.Candidates.{candidates};
 ghost use Rattle.source_rows.specs.New.{IsNew};
 ghost use Rattle.source_rows.specs.Slots.{MayAsk};
 ghost use Rattle.source_rows.specs.declared.row.Row.{Row};
 ghost use Rattle.source_rows.specs.Tree.{IsForest, IsOneTree, HasPlace};
 ghost use Rattle.source_rows.specs.Rows.{no_rows, level_count, added, attached, child_added, child_fault, reprioritised, priority_fault, row_of, ready_set, counted, destroyed, in_order, next_ready};
 
+use crate::candidates::Candidates;
 use crate::fault::RowsFault;
 use crate::in_order::InOrder;
 use crate::levels::Levels;
@@ -276,6 +278,17 @@ impl Rows {
         ensures runs { ShowsInOrder (λ (r : Bor Row). r.now) }
     {
         InOrder::new(self.order.values(), &self.table)
+    }
+
+    /// The rows that may be ready at a time, as far as kinds and ready times tell, and those above them, in the order in
+    /// which an iteration dispatches them. It takes no memory.
+    pub fn candidates(&self, now: u64) -> Candidates<'_>
+        ensures rows { result ≡ candidates now self.now.rows }
+        ensures forest { IsForest self.now.rows }
+        ensures one_tree { IsOneTree self.now.rows }
+        ensures runs { ShowsInOrder (λ (r : Bor Row). r.now) }
+    {
+        Candidates::new(&self.table, &self.order, now)
     }
 
     /// The ids in the order in which an iteration dispatches their rows.

@@ -6,10 +6,12 @@ ghost use Rattle.std.specs.Option.{option_copied};
 ghost use Rattle.std.specs.Ordering.{nat_cmp};
 ghost use Rattle.std.specs.BTreeMap.{is_at};
 ghost use Rattle.source_rows.specs.Rows.{row_of, has_id, changed, next_ready};
+ghost use Rattle.source_rows.specs.Seats.{first_awake, in_seats};
 ghost use Rattle.source_rows.specs.Slots.{AllNamed, MayAsk, asks};
 
 use crate::guesses::Guesses;
 use crate::row::Row;
+use crate::seats::{Room, Seats};
 use crate::times::{Place, Times};
 use slab::Slab;
 use std::alloc::{AllocError, Global};
@@ -23,6 +25,7 @@ pub(crate) struct Table {
     keys: BTreeMap<u64, usize>,
     guesses: Guesses,
     times: Times,
+    seats: Seats,
     /// Whether a row may be one of a descriptor.
     may_ask: bool,
     alloc: Global,
@@ -38,7 +41,7 @@ impl Model for Table {
 
     ghost view = { λ t. rows_at t.slots t.keys.entries };
 
-    ghost invariant = { λ t. IsHeld t.slots t.keys.entries t.times t.may_ask };
+    ghost invariant = { λ t. IsHeld t.slots t.keys.entries t.times t.seats t.may_ask };
 }
 
 /// The slot of an id, from a guess where that is right.
@@ -77,6 +80,7 @@ impl Table {
             keys: BTreeMap::new(alloc),
             guesses: Guesses::new(alloc),
             times: Times::new(),
+            seats: Seats::new(),
             may_ask: false,
             alloc,
         }
@@ -114,6 +118,13 @@ impl Table {
         self.times.first_above(now as i64)
     }
 
+    /// The id of the first row behind a key that may be ready at `now`.
+    pub fn first_awake(&self, after: Option<(i32, [u64; 4])>, now: u64) -> Option<u64>
+        ensures { result ≡ first_awake after now (in_seats self.now) }
+    {
+        self.seats.first_awake(after, now)
+    }
+
     /// Puts a row behind the others.
     pub fn push(&mut self, row: Row) -> Result<(), AllocError>
         requires last { AllByRecursion (λ r. r.id < row.id) self.old }
@@ -122,6 +133,7 @@ impl Table {
         ensures err { OnErr result (self.new ≡ self.old) }
     {
         let place = Place::new(self.alloc)?;
+        let room = Room::new(self.alloc)?;
         self.slots.reserve(1)?;
         self.guesses.make_room(self.alloc, &self.slots)?;
         let key = self.slots.insert_reserved(row);
@@ -131,6 +143,7 @@ impl Table {
                 let may_ask = may_ask_with(self.may_ask, &row);
                 self.may_ask = may_ask;
                 self.times.insert(place, (row.ready, row.id));
+                self.seats.insert(room, row.seat());
                 Ok(())
             }
             Err(_) => {
@@ -149,7 +162,9 @@ impl Table {
             if let Some(slot) = self.slots.get_mut(key) {
                 let may_ask = may_ask_with(self.may_ask, &row);
                 let before = slot.ready;
+                let seat = slot.seat();
                 *slot = row;
+                self.seats.replace(seat, row.seat());
                 self.may_ask = may_ask;
                 if before != row.ready {
                     self.times.change(row.id, before, row.ready);
@@ -166,6 +181,7 @@ impl Table {
         if let Some(key) = self.keys.remove(&id) {
             if let Some(row) = self.slots.try_remove(key) {
                 self.times.remove((row.ready, id));
+                self.seats.remove(row.seat());
             }
         }
     }

@@ -1,8 +1,11 @@
-use Rattle.std.proofs.Common.{◌≡◌, ℕ, ◌++◌, ℤ, Some, ap, sym, ◌∙◌, rules, w32}
+use Rattle.std.proofs.Common.{◌≡◌, ℕ, ◌++◌, [], List, false, ℤ, Some, ap, sym, ◌∙◌, rules, w32}
 use Rattle.std.proofs.lemmas.Int.{to_z-of_z}
 use mir.Val.{SFits, to_z, of_z}
 use Rattle.std.specs.Ordering.{nat_cmp}
 use Rattle.std.specs.BTreeSet.{contains}
+use Rattle.source_rows.specs.Candidates.{may_call, candidates}
+use Rattle.context_core.proofs.Candidates.{each_calls_may, walk_candidates}
+use Rattle.source_rows.specs.declared.row.Row.{Row}
 use Rattle.context_core.specs.Ready.{in_view, own_ready, is_ready}
 use Rattle.context_core.specs.Phases.{shown, walk, less_urgent}
 use Rattle.context_core.proofs.Lent.{stepped}
@@ -16,8 +19,8 @@ rows-preserved-in-Continue-branch-2 c =
     let row = c.in-Some.row.now in
     let fits : SFits w32 row.priority = search rules in
     let same : to_z w32 (of_z w32 row.priority) ≡ row.priority = simp to_z-of_z in
-    let step = stepped own c.args.busy.now rows c.rows.row-iterator c.next.new.self row (λ (id : ℕ). contains nat_cmp c.rows.lent id) (λ (id : ℕ). contains nat_cmp c.take_turn.new.lent id) _
-    c.in_order-row-items.ensures.forest c.in-Some.ensures.steps c.in_ok-take_turn.ensures.lent c.in_ok-take_turn.ensures.ready c.rows.invariant.passed in
+    let step = stepped own c.args.busy.now (may_call c.args.now rows) rows c.rows.row-iterator c.next.new.self row (λ (id : ℕ). contains nat_cmp c.rows.lent id) (λ (id : ℕ). contains nat_cmp c.take_turn.new.lent id) _
+    c.candidates-row-items.ensures.forest (each_calls_may (shown c.args.polled.now) (in_view c.args.view.now) c.args.now c.args.busy.now rows c.candidates-row-items.ensures.forest) c.in-Some.ensures.steps c.in_ok-take_turn.ensures.lent c.in_ok-take_turn.ensures.ready c.rows.invariant.passed in
     record {
       passed = step.0;
       ids = ap (λ (p : ℤ). c.push.new.self.items ++ walk (is_ready own c.args.busy.now rows) (Some p) c.next.new.self) same
@@ -32,10 +35,21 @@ rows-preserved c =
     let row = c.in-Some.row.now in
     let fits : SFits w32 row.priority = search rules in
     let same : to_z w32 (of_z w32 row.priority) ≡ row.priority = simp to_z-of_z in
-    let step = stepped own c.args.busy.now rows c.rows.row-iterator c.next.new.self row (λ (id : ℕ). contains nat_cmp c.rows.lent id) (λ (id : ℕ). contains nat_cmp c.take_turn.new.lent id) _
-    c.in_order-row-items.ensures.forest c.in-Some.ensures.steps c.in_ok-take_turn.ensures.lent c.in_ok-take_turn.ensures.ready c.rows.invariant.passed in
+    let step = stepped own c.args.busy.now (may_call c.args.now rows) rows c.rows.row-iterator c.next.new.self row (λ (id : ℕ). contains nat_cmp c.rows.lent id) (λ (id : ℕ). contains nat_cmp c.take_turn.new.lent id) _
+    c.candidates-row-items.ensures.forest (each_calls_may (shown c.args.polled.now) (in_view c.args.view.now) c.args.now c.args.busy.now rows c.candidates-row-items.ensures.forest) c.in-Some.ensures.steps c.in_ok-take_turn.ensures.lent c.in_ok-take_turn.ensures.ready c.rows.invariant.passed in
     record {
       passed = step.0;
       ids = walk_passed (is_ready own c.args.busy.now rows) c.rows.bound row c.next.new.self c.rows.row-iterator c.rows.ids.items _
           (ap (less_urgent c.rows.bound) (sym same) ∙ (sym c.is_beyond.ensures ∙ c.if-is_beyond.false)) (step.1 ∙ c.if-branch.false) c.in-Some.ensures.steps c.rows.invariant.ids;
+    }
+
+pub rows-init : goal.rows-init
+rows-init c =
+    let rows = c.args.self.now.rows.rows in
+    let own = own_ready (shown c.args.polled.now) (in_view c.args.view.now) c.args.now in
+    let it : c.into_iter-row-iterator.result ≡ candidates c.args.now rows = search rules in
+    let none : c.new-ids.result.items ≡ [] = c.new-ids.ensures.items in
+    record {
+      passed = record { seen = []; split = sym it; lends = λ id. search rules };
+      ids = rw none (ap (λ (l : List Row). walk (is_ready own c.args.busy.now rows) c.args.least l) it ∙ walk_candidates (shown c.args.polled.now) (in_view c.args.view.now) c.args.now c.args.busy.now c.args.least rows);
     }

@@ -1,0 +1,43 @@
+use Rattle.std.proofs.Common.{◌≡◌, ◌∷◌, [], Some, None, sym, ◌∙◌, subst, rules}
+use Rattle.std.specs.List.{find}
+use Rattle.std.specs.Option.{option_copied}
+use Rattle.source_rows.specs.Rows.{in_order}
+use Rattle.source_rows.specs.Steps.{HasLeft, IsStep, comes, left_of, ready_in}
+use Rattle.source_rows.proofs.Steps.{left_more, left_none, stepped}
+use Rattle.source_rows.proofs.Walked.{advanced, entered}
+use Rattle.source_rows.proofs.candidates.advance.Goals as goal
+
+pub returns-in_err-row-in-Sleep-clause-none : goal.returns-in_err-row-in-Sleep-clause-none
+returns-in_err-row-in-Sleep-clause-none c =
+    let e : find (comes c.args.now c.args.table.now (option_copied c.args.last)) (in_order c.args.table.now) ≡ None = search rules in
+    let none : left_of c.args.now c.args.table.now (option_copied c.args.last) ≡ [] = left_none (comes c.args.now c.args.table.now (option_copied c.args.last)) (in_order c.args.table.now) e in
+    search rules
+
+came : (c : goal.In-Came) → HasLeft c.args.table.now c.args.now (Some c.in-Came.row.now) c.look.new.ids × IsStep c.args.table.now c.args.now (Some c.in-Came.row.now)
+came c =
+    advanced c.args.table.now c.args.now (option_copied c.args.last) c.requires.step c.in-Came.row.now c.args.ids.now c.look.new.ids c.requires.left c.in-Came.ensures.tells c.in-Came.ensures.found
+
+pub returns-in-Came-clause-some : goal.returns-in-Came-clause-some
+returns-in-Came-clause-some c =
+    let more : ready_in c.args.now c.args.table.now c.args.ids.now ≡ c.in-Came.row.now ∷ ready_in c.args.now c.args.table.now c.look.new.ids = c.in-Came.ensures.tells in
+    let rest : ready_in c.args.now c.args.table.now c.look.new.ids ≡ left_of c.args.now c.args.table.now (Some c.in-Came.row.now) = (came c).0.ready in
+    sym c.requires.left.ready ∙ rw (sym rest) more
+
+pub returns-in-Came-clause-walks : goal.returns-in-Came-clause-walks
+returns-in-Came-clause-walks c = record { step = (came c).1; ordered = c.requires.ordered; left = (came c).0 }
+
+pub returns-in_ok-row-in-Sleep-clause-some : goal.returns-in_ok-row-in-Sleep-clause-some
+returns-in_ok-row-in-Sleep-clause-some c =
+    let e : find (comes c.args.now c.args.table.now (option_copied c.args.last)) (in_order c.args.table.now) ≡ Some c.in_ok-row-in-Sleep.row.now = search rules in
+    left_more c.args.table.now c.args.now (option_copied c.args.last) c.in_ok-row-in-Sleep.row.now c.requires.step.apart e
+
+pub returns-in_ok-row-in-Sleep-clause-walks : goal.returns-in_ok-row-in-Sleep-clause-walks
+returns-in_ok-row-in-Sleep-clause-walks c =
+    let row = c.in_ok-row-in-Sleep.row.now in
+    let e : find (comes c.args.now c.args.table.now (option_copied c.args.last)) (in_order c.args.table.now) ≡ Some row = search rules in
+    let step = stepped c.args.table.now c.args.now (option_copied c.args.last) row c.requires.step e in
+    record {
+      step = step;
+      ordered = c.requires.ordered;
+      left = subst (HasLeft c.args.table.now c.args.now (Some row)) (sym c.behind.ensures) (entered c.args.table.now c.args.now (Some row) c.args.order.now.entries step c.requires.ordered);
+    }

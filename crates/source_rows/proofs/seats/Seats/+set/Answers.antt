@@ -1,0 +1,49 @@
+use Rattle.std.proofs.Common.{◌≡◌, ◌∙◌, ◌<◌, List, [], ◌∷◌, ◌++◌, length, sym, ap, arith, rules}
+use Rattle.std.specs.declared.cmp.Ordering.TheVariants.{Less, Equal, Greater}
+use Rattle.source_rows.specs.declared.seats.Node.{Node}
+use Rattle.source_rows.specs.SeatTree.{seen_of}
+use Rattle.source_rows.specs.Seats.{Seat, seat_cmp, swapped}
+use Rattle.source_rows.proofs.SeatTree.{at_Fork}
+use Rattle.source_rows.proofs.Ahead.{less_sooner, greater_back, same_from_equal, swapped_left, swapped_right, swapped_here}
+use Rattle.source_rows.proofs.seats.Seats.+set.Goals as goal
+use Rattle.source_rows.proofs.seats.Seats.+set.Goals.{in-Leaf, in-Fork, in-Less, in-Greater, in-Equal}
+
+pub set-requires : goal.set-requires
+set-requires t c =
+    let f = at_Fork c.self.view_is c.requires c.in-Fork.is in
+    let fewer : length c.in-Fork.sooner.value.0 < length c.args.self.now.0 = omega (arith, f.parts) in
+    search rules
+
+pub set-requires-in-Greater : goal.set-requires-in-Greater
+set-requires-in-Greater t c =
+    let f = at_Fork c.self.view_is c.requires c.in-Fork.is in
+    let fewer : length c.in-Fork.later.value.0 < length c.args.self.now.0 = omega (arith, f.parts) in
+    search rules
+
+pub returns-clause-seats : goal.returns-clause-seats
+returns-clause-seats t c =
+    elim c.match-self.branch [
+      | in-Leaf w ↦
+          let none : c.args.self.now.0 ≡ [] = search rules in
+          rw (w.self-inside-is, none) (ap (λ (n : Node). (seen_of n).0) w.in-Leaf.is)
+      | in-Fork w ↦
+          let f = at_Fork c.self.view_is c.requires w.in-Fork.is in
+          let a = c.args.before in
+          let b = c.args.after in
+          let l = w.in-Fork.sooner.value.0 in
+          let k = w.in-Fork.seat in
+          let r = w.in-Fork.later.value.0 in
+          elim w.match-cmp.branch [
+            | in-Less v ↦
+                let o : seat_cmp a k ≡ Less = search rules in
+                let is : v.set.new.self.0 ≡ swapped a b l = search rules in
+                rw (w.self-inside-is, v.sooner-is, v.seat-is, v.later-is) (ap (λ (x : List Seat). x ++ k ∷ r) is ∙ sym (ap (swapped a b) f.is ∙ swapped_left a b l k r f.rises (less_sooner a k o)))
+            | in-Greater v ↦
+                let o : seat_cmp a k ≡ Greater = search rules in
+                let is : v.set-in-Greater.new.self.0 ≡ swapped a b r = search rules in
+                rw (w.self-inside-is, v.sooner-is, v.seat-is, v.later-is) (ap (λ (x : List Seat). l ++ k ∷ x) is ∙ sym (ap (swapped a b) f.is ∙ swapped_right a b l k r f.rises (greater_back a k o)))
+            | in-Equal v ↦
+                let o : seat_cmp a k ≡ Equal = search rules in
+                rw (w.self-inside-is, v.sooner-is, v.seat-is, v.later-is) (sym (ap (swapped a b) f.is ∙ swapped_here a b l k r f.rises (same_from_equal a k o)))
+          ]
+    ]

@@ -1,0 +1,34 @@
+-- The rows that may be ready at a time, as far as kinds and ready times tell.
+use Rattle.std.specs.Prelude.{ℕ, nat_lt, ◌&&◌, ◌-◌, ◌^◌, Bool, true, false, not, ℤ, pos, negsuc, List, filter, if◌then◌else◌}
+use Rattle.std.specs.List.{list_any}
+use Rattle.loop_script.specs.declared.Kind.{Kind}
+use Rattle.loop_script.specs.declared.Kind.TheVariants.{Idle, Timeout, ReadyTime, Fd, Cancel}
+use Rattle.source_rows.specs.declared.row.Row.{Row}
+use Rattle.source_rows.specs.Rows.{in_order, is_under}
+
+-- a source that may be ready whatever its ready time
+abbrev pub is_open : Kind → Bool
+is_open Idle = true
+is_open (Timeout ms) = false
+is_open (ReadyTime us) = false
+is_open (Fd fd bits) = true
+is_open (Cancel c) = true
+
+-- a ready time, or the last time of all for never
+abbrev pub or_last : ℤ → ℕ
+or_last (pos n) = n
+or_last (negsuc n) = 2 ^ 63 - 1
+
+-- from when on a source may be ready
+abbrev pub wakes_at : Kind → ℤ → ℕ
+wakes_at kind ready = if is_open kind then 0 else or_last ready
+
+abbrev pub is_awake : ℕ → Row → Bool
+is_awake now r = not (nat_lt now (wakes_at r.kind r.ready))
+
+-- the row itself, or one under it, may be ready
+abbrev pub may_call : ℕ → List Row → Row → Bool
+may_call now rows r = list_any (λ q. is_under r.id q && is_awake now q) rows
+
+abbrev pub candidates : ℕ → List Row → List Row
+candidates now rows = filter (may_call now rows) (in_order rows)

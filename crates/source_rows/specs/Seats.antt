@@ -1,0 +1,74 @@
+-- The seats of rows in their order: where a row stands, its id, and from when on it may be ready.
+use Rattle.std.specs.Prelude.{ℕ, nat_lt, ◌||◌, length, ◌≡◌, ◌≤◌, ◌-◌, ◌^◌, Bool, false, not, Option, Some, None, List, [], ◌∷◌, map, filter, if◌then◌else◌}
+use Rattle.std.specs.Ordering.{is_lt, is_eq, ordering_then, nat_cmp}
+use Rattle.std.specs.declared.cmp.Ordering.{Ordering}
+use Rattle.source_rows.specs.declared.row.Row.{Row}
+use Rattle.source_rows.specs.Inserted.{inserted}
+use Rattle.source_rows.specs.Rows.{Key, key_cmp, key_of}
+use Rattle.source_rows.specs.Candidates.{wakes_at}
+
+-- a key, an id, and from when on its row may be ready
+abbrev pub Seat : Type 0
+Seat = Key × (ℕ × ℕ)
+
+abbrev pub seat_cmp : Seat → Seat → Ordering
+seat_cmp a b = ordering_then (key_cmp a.0 b.0) (ordering_then (nat_cmp a.1.0 b.1.0) (nat_cmp a.1.1 b.1.1))
+
+abbrev pub is_ahead : Seat → Seat → Bool
+is_ahead a b = is_lt (seat_cmp a b)
+
+-- the seats without one of them
+abbrev pub without : Seat → List Seat → List Seat
+without t seats = filter (λ u. not (is_eq (seat_cmp t u))) seats
+
+-- one of the two stands before the other
+abbrev pub is_other : Seat → Seat → Bool
+is_other a b = is_ahead a b || is_ahead b a
+
+-- the seats with another where one stands
+abbrev pub swap : Seat → Seat → Seat → Seat
+swap a b u = if is_eq (seat_cmp a u) then b else u
+
+abbrev pub swapped : Seat → Seat → List Seat → List Seat
+swapped a b seats = map (swap a b) seats
+
+-- both have one key
+abbrev pub stays : Seat → Seat → Bool
+stays a b = is_eq (key_cmp a.0 b.0)
+
+-- the seats with another in the place of one
+abbrev pub replaced : Seat → Seat → List Seat → List Seat
+replaced a b seats = if is_other a b then (if stays a b then swapped a b seats else inserted is_ahead b (without a seats)) else seats
+
+abbrev pub lesser : ℕ → ℕ → ℕ
+lesser a b = if nat_lt a b then a else b
+
+-- the least time of the seats, the greatest that there is for none
+abbrev pub least_of : List Seat → ℕ
+least_of [] = 2 ^ 63 - 1
+least_of (s ∷ seats) = lesser s.1.1 (least_of seats)
+
+-- the key does not stand behind the other
+abbrev pub is_passed : Option Key → Key → Bool
+is_passed None k = false
+is_passed (Some a) k = not (is_lt (key_cmp a k))
+
+-- the id of the first seat behind a key that wakes by a time
+abbrev pub first_awake : Option Key → ℕ → List Seat → Option ℕ
+first_awake after now [] = None
+first_awake after now (s ∷ seats) = if is_passed after s.0 then first_awake after now seats
+    else if nat_lt now s.1.1 then first_awake after now seats
+    else Some s.1.0
+
+abbrev pub seat_of : Row → Seat
+seat_of r = (key_of r, (r.id, wakes_at r.kind r.ready))
+
+-- the seats of rows
+abbrev pub in_seats : List Row → List Seat
+in_seats [] = []
+in_seats (r ∷ rows) = inserted is_ahead (seat_of r) (in_seats rows)
+
+-- the seats of rows, in a tree of some height
+pub record IsSeated (rows : List Row) (seats : List Seat × ℕ) : Type 0 where
+  pub are : seats.0 ≡ in_seats rows
+  pub low : seats.1 ≤ length seats.0

@@ -1,0 +1,237 @@
+//! The rows that may be ready at a time, in order.
+//!
+//! Rows are taken one after another from the order, and looked at. After some that sleep the next one that is awake is
+//! searched for in the tree of seats, and the order is entered again behind it: so a context whose rows are all awake costs
+//! a walk, and one in which few are costs a search for each of them.
+ghost use Rattle.std.specs.Prelude.{◌≡◌, ◌∷◌, [], map, Some, None, IfSome, IfNone, length};
+ghost use Rattle.std.specs.Iterator.{at_most};
+ghost use Rattle.std.specs.List.{find};
+ghost use Rattle.std.specs.Map.{values_of};
+ghost use Rattle.std.specs.Map.Iter.{TakesFirst};
+ghost use Rattle.std.specs.Option.{option_copied, option_map};
+ghost use Rattle.source_rows.specs.InOrder.{AllFound};
+ghost use Rattle.source_rows.specs.Rows.{in_order, key_of};
+ghost use Rattle.source_rows.specs.Kept.{AllApart, entry_of};
+ghost use Rattle.source_rows.specs.Tree.{IsForest, parent_of};
+ghost use Rattle.source_rows.specs.Candidates.{is_awake};
+ghost use Rattle.source_rows.specs.Steps.{IsStep, IsWalk, HasLeft, Looks, left_of, comes, wakes, nearer, parent_at, is_above_last, behind};
+
+use crate::row::Row;
+use crate::table::Table;
+use std::collections::BTreeMap;
+use std::collections::btree_map::Range;
+use std::iter::Iterator;
+use std::marker::Model;
+use std::ops::Bound;
+
+/// After how many rows that sleep the next one that is awake is searched for.
+const NEAR: u32 = 4;
+
+/// An iterator over the rows that may be ready at a time, and over those above them, in order.
+#[derive(Drop)]
+pub struct Candidates<'a> {
+    table: &'a Table,
+    order: &'a BTreeMap<(i32, [u64; 4]), u64>,
+    /// What of the order is left.
+    ids: Range<'a, (i32, [u64; 4]), u64>,
+    now: u64,
+    last: Option<&'a Row>,
+}
+
+/// What a look at the next few rows of an order tells.
+pub(crate) enum Near<'a> {
+    /// This one may be ready.
+    Came(&'a Row),
+    /// None of them may.
+    Sleep,
+    /// There are no more rows.
+    Ended,
+}
+
+impl<'a> Model for Candidates<'a> {
+    ghost use Rattle.std.specs.Prelude.{List};
+    ghost use Rattle.std.specs.Option.{option_copied};
+    ghost use Rattle.source_rows.specs.declared.row.Row.{Row};
+    ghost use Rattle.source_rows.specs.Steps.{IsWalk, left_of};
+
+    ghost Value = { List Row };
+
+    ghost view = { λ a. left_of a.now a.table.now (option_copied a.last) };
+
+    ghost invariant = { λ a. IsWalk a.table.now a.order.now.entries a.now (option_copied a.last) a.ids };
+}
+
+impl<'a> Candidates<'a> {
+    /// All that may be ready at a time.
+    pub(crate) fn new(
+        table: &'a Table,
+        order: &'a BTreeMap<(i32, [u64; 4]), u64>,
+        now: u64,
+    ) -> Candidates<'a>
+        requires step { IsStep table.now now None }
+        requires ordered { order.now.entries ≡ map entry_of (in_order table.now) }
+        ensures { result ≡ left_of now table.now None }
+    {
+        Candidates {
+            table,
+            order,
+            ids: behind(order, None),
+            now,
+            last: None,
+        }
+    }
+}
+
+impl<'a> Iterator for Candidates<'a> {
+    type Item = &'a Row;
+
+    ghost next_gives = { TakesFirst (λ r. r.now) };
+
+    ghost remaining = { λ s. at_most (length s) };
+
+    fn next(&mut self) -> Option<&'a Row> {
+        let row = advance(&mut self.ids, self.table, self.order, self.last, self.now)?;
+        self.last = Some(row);
+        Some(row)
+    }
+}
+
+/// The part of an order that stands behind the last row.
+fn behind<'a>(
+    order: &'a BTreeMap<(i32, [u64; 4]), u64>,
+    last: Option<&Row>,
+) -> Range<'a, (i32, [u64; 4]), u64>
+    ensures { result ≡ behind (option_copied last.entry) order.now.entries }
+{
+    match last {
+        None => order.range(..),
+        Some(row) => order.range((Bound::Excluded(row.key()), Bound::Unbounded)),
+    }
+}
+
+/// Whether the last row is a child of this one.
+fn is_above_last(last: Option<&Row>, row: &Row) -> bool
+    ensures { result ≡ is_above_last (option_copied last.entry) row.now }
+{
+    match last {
+        None => false,
+        Some(last) => match last.parent {
+            None => false,
+            Some(id) => id == row.id,
+        },
+    }
+}
+
+/// Looks at the next few rows of a part of the order.
+fn look<'a>(
+    ids: &mut Range<'a, (i32, [u64; 4]), u64>,
+    table: &'a Table,
+    last: Option<&'a Row>,
+    now: u64,
+) -> Near<'a>
+    requires step { IsStep table.now now (option_copied last) }
+    requires left { HasLeft table.now now (option_copied last) ids.old }
+    ensures tells { Looks now table.now ids.old ids.new result }
+    ensures found { AllFound table.now (values_of ids.new) }
+{
+    let mut tries = NEAR;
+    'near: while 0 < tries {
+        tries -= 1;
+        let Some((_, id)) = ids.next() else {
+            return Near::Ended;
+        };
+        if let Some(row) = table.found(*id) {
+            if row.is_awake(now) || is_above_last(last, row) {
+                return Near::Came(row);
+            }
+        }
+    }
+    Near::Sleep
+}
+
+/// Where the last row stands.
+fn last_key(last: Option<&Row>) -> Option<(i32, [u64; 4])>
+    ensures { result ≡ option_map key_of (option_copied last.entry) }
+{
+    match last {
+        None => None,
+        Some(row) => Some(row.key()),
+    }
+}
+
+/// The first row behind the last that may be ready by itself.
+fn awake_row<'a>(table: &'a Table, last: Option<&'a Row>, now: u64) -> Option<&'a Row>
+    requires forest { IsForest table.now }
+    requires apart { AllApart table.now }
+    ensures { option_copied result ≡ find (wakes now (option_copied last.entry)) (in_order table.now) }
+{
+    match table.first_awake(last_key(last), now) {
+        None => None,
+        Some(id) => table.found(id),
+    }
+}
+
+/// The parent of the last row.
+fn parent_row<'a>(table: &'a Table, last: Option<&'a Row>) -> Option<&'a Row>
+    ensures { option_copied result ≡ parent_at table.now (option_copied last.entry) }
+{
+    match last {
+        None => None,
+        Some(row) => match row.parent {
+            None => None,
+            Some(id) => table.found(id),
+        },
+    }
+}
+
+/// Which of two rows stands first.
+fn nearer<'a>(a: Option<&'a Row>, b: Option<&'a Row>) -> Option<&'a Row>
+    ensures { option_copied result ≡ nearer (option_copied a.entry) (option_copied b.entry) }
+{
+    match a {
+        None => b,
+        Some(first) => match b {
+            None => a,
+            Some(second) => {
+                if second.stands_before(first) {
+                    b
+                } else {
+                    a
+                }
+            }
+        },
+    }
+}
+
+/// The next row that may be ready, it or one under it.
+fn next_row<'a>(table: &'a Table, last: Option<&'a Row>, now: u64) -> Option<&'a Row>
+    requires { IsStep table.now now (option_copied last) }
+    ensures { option_copied result ≡ find (comes now table.now (option_copied last.entry)) (in_order table.now) }
+{
+    nearer(awake_row(table, last, now), parent_row(table, last))
+}
+
+/// The next row that may be ready, with the part of the order that stands behind it.
+fn advance<'a>(
+    ids: &mut Range<'a, (i32, [u64; 4]), u64>,
+    table: &'a Table,
+    order: &'a BTreeMap<(i32, [u64; 4]), u64>,
+    last: Option<&'a Row>,
+    now: u64,
+) -> Option<&'a Row>
+    requires { IsWalk table.now order.now.entries now (option_copied last) ids.old }
+    ensures some { IfSome result (λ row. left_of now table.now (option_copied last.entry) ≡ row.now ∷ left_of now table.now (Some row.now)) }
+    ensures walks { IfSome result (λ row. IsWalk table.now order.now.entries now (Some row.now) ids.new) }
+    ensures none { IfNone result (left_of now table.now (option_copied last.entry) ≡ []) }
+    ensures stays { IfNone result (IsWalk table.now order.now.entries now (option_copied last.entry) ids.new) }
+{
+    match look(ids, table, last, now) {
+        Near::Came(row) => Some(row),
+        Near::Ended => None,
+        Near::Sleep => {
+            let row = next_row(table, last, now)?;
+            *ids = behind(order, Some(row));
+            Some(row)
+        }
+    }
+}

@@ -1,0 +1,442 @@
+//! The seats of rows in order: key, id, and from when on the row may be ready, in a search tree whose nodes are taken beforehand: so a time is changed without memory.
+ghost use Rattle.std.specs.Prelude.{◌≡◌, ◌+◌, ◌≤◌, ◌<◌, ◌^◌, max, length, [], ◌∷◌, ◌++◌, true, is_some, IfSome, IfNone};
+ghost use Rattle.std.specs.List.{list_any};
+ghost use Rattle.std.specs.Ordering.{is_eq};
+ghost use Rattle.source_rows.specs.Inserted.{inserted, Rises};
+ghost use Rattle.source_rows.specs.Seats.{seat_cmp, is_ahead, without, first_awake, least_of, lesser, is_passed, is_other, stays, swapped, replaced};
+ghost use Rattle.source_rows.specs.declared.seats.Node.TheVariants.{Fork};
+ghost use Rattle.source_rows.specs.SeatTree.{seen_of, is_fork, LosesRoot, IsEven, IsNearlyEven, AreNearlyEven, IsLow, IsHeight, IsLowered, Balances};
+
+use std::alloc::{AllocError, Global};
+use std::cmp::Ordering;
+use std::marker::Model;
+use std::mem;
+
+/// The key of a row, its id, and from when on it may be ready.
+pub(crate) type Seat = ((i32, [u64; 4]), (u64, u64));
+
+/// Ready times, each beside the id of its row, seen as a list. The tree is balanced: no time stands deep in it.
+#[cycle(seats)]
+#[derive(Drop)]
+pub(crate) struct Seats {
+    node: Node,
+}
+
+/// What is sooner, a time, how high the tree is from here, and what is later.
+#[cycle(seats)]
+#[derive(Drop)]
+enum Node {
+    Leaf,
+    Fork(Box<Seats>, Seat, u64, u64, Box<Seats>),
+}
+
+/// Room for one time.
+#[derive(Drop)]
+pub(crate) struct Room {
+    sooner: Box<Seats>,
+    later: Box<Seats>,
+}
+
+impl Model for Seats {
+    ghost use Rattle.std.specs.Prelude.{ℕ, List, length};
+    ghost use Rattle.source_rows.specs.Seats.{Seat};
+
+    ghost Value = { List Seat × ℕ };
+
+    ghost use Rattle.source_rows.specs.SeatTree.{seen_of, IsEven};
+
+    ghost view = { λ a. seen_of a.node };
+
+    ghost invariant = { λ a. IsEven a.node };
+
+    ghost size = { λ d. length d.0 };
+
+    ghost use Rattle.std.proofs.Common.{arith, length-append};
+
+    ghost size_decreases = { λ a h. Prim.grind (arith, length-append) };
+}
+
+impl Room {
+    pub fn new(alloc: Global) -> Result<Room, AllocError> {
+        let sooner = Box::new(alloc, Seats::new())?;
+        let later = Box::new(alloc, Seats::new())?;
+        Ok(Room { sooner, later })
+    }
+
+    /// A node with a time and nothing else.
+    fn fill(mut self, time: Seat) -> Node
+        ensures times { seen_of result ≡ (time ∷ [], 1) }
+        ensures even { IsEven result }
+    {
+        *self.sooner = Seats::new();
+        *self.later = Seats::new();
+        let least = lesser(time.1.1, 9_223_372_036_854_775_807);
+        Node::Fork(self.sooner, time, 1, least, self.later)
+    }
+}
+
+impl Seats {
+    pub fn new() -> Seats
+        ensures { result ≡ ([], 0) }
+    {
+        Seats { node: Node::Leaf }
+    }
+
+    /// How many times stand above each other at most.
+    pub fn height(&self) -> u64
+        ensures { result ≡ self.now.1 }
+    {
+        match self.node {
+            Node::Leaf => 0,
+            Node::Fork(_, _, height, _, _) => height,
+        }
+    }
+
+    /// Puts a time into a place.
+    pub fn insert(&mut self, place: Room, time: Seat)
+        requires rises { Rises is_ahead self.old.0 }
+        requires few { length self.old.0 < 2 ^ 63 }
+        requires low { IsLow self.old }
+        ensures times { self.new.0 ≡ inserted is_ahead time self.old.0 }
+        ensures low { IsLow self.new }
+        ensures height { IsLowered self.new.1 self.old.1 }
+    {
+        match &mut self.node {
+            Node::Leaf => {
+                self.node = place.fill(time);
+                return;
+            }
+            Node::Fork(sooner, other, _, _, later) => {
+                if is_ahead(&time, other) {
+                    sooner.insert(place, time);
+                } else {
+                    later.insert(place, time);
+                }
+            }
+        }
+        balance(&mut self.node);
+    }
+
+    /// Takes the first time out, with its place.
+    fn remove_first(&mut self) -> Option<(Seat, Room)>
+        requires few { length self.old.0 ≤ 2 ^ 63 }
+        requires low { IsLow self.old }
+        ensures some { IfSome result (λ f. self.old.0 ≡ f.0 ∷ self.new.0) }
+        ensures none { IfNone result (self.old ≡ ([], 0)) }
+        ensures low { IsLow self.new }
+        ensures height { IsLowered self.old.1 self.new.1 }
+    {
+        match &mut self.node {
+            Node::Leaf => return None,
+            Node::Fork(sooner, _, _, _, _) => {
+                if let Some(first) = sooner.remove_first() {
+                    balance(&mut self.node);
+                    return Some(first);
+                }
+            }
+        }
+        match mem::replace(&mut self.node, Node::Leaf) {
+            Node::Leaf => None,
+            Node::Fork(sooner, time, _, _, mut later) => {
+                self.node = mem::replace(&mut *later, Seats::new()).node;
+                Some((time, Room { sooner, later }))
+            }
+        }
+    }
+
+    /// Takes a time out, with its place; None where it isn't there.
+    fn take(&mut self, time: Seat) -> Option<Room>
+        requires rises { Rises is_ahead self.old.0 }
+        requires few { length self.old.0 ≤ 2 ^ 63 }
+        requires low { IsLow self.old }
+        ensures there { is_some result ≡ list_any (λ u. is_eq (seat_cmp time u)) self.old.0 }
+        ensures times { self.new.0 ≡ without time self.old.0 }
+        ensures low { IsLow self.new }
+        ensures height { IsLowered self.old.1 self.new.1 }
+    {
+        let place = match &mut self.node {
+            Node::Leaf => return None,
+            Node::Fork(sooner, other, _, _, later) => match time.cmp(other) {
+                Ordering::Less => sooner.take(time),
+                Ordering::Greater => later.take(time),
+                Ordering::Equal => return remove_root(&mut self.node),
+            },
+        };
+        balance(&mut self.node);
+        place
+    }
+
+    /// Gives a time up, and its place.
+    pub fn remove(&mut self, time: Seat)
+        requires rises { Rises is_ahead self.old.0 }
+        requires few { length self.old.0 ≤ 2 ^ 63 }
+        requires low { IsLow self.old }
+        ensures times { self.new.0 ≡ without time self.old.0 }
+        ensures low { IsLow self.new }
+    {
+        drop(self.take(time));
+    }
+
+    /// Puts another seat into the place of one.
+    pub fn change(&mut self, before: Seat, after: Seat)
+        requires rises { Rises is_ahead self.old.0 }
+        requires few { length self.old.0 ≤ 2 ^ 63 }
+        requires low { IsLow self.old }
+        requires there { list_any (λ u. is_eq (seat_cmp before u)) self.old.0 ≡ true }
+        ensures times { self.new.0 ≡ inserted is_ahead after (without before self.old.0) }
+        ensures low { IsLow self.new }
+    {
+        if let Some(place) = self.take(before) {
+            self.insert(place, after);
+        }
+    }
+
+    /// Puts another seat where one stands.
+    fn set(&mut self, before: Seat, after: Seat)
+        requires { Rises is_ahead self.old.0 }
+        ensures seats { self.new.0 ≡ swapped before after self.old.0 }
+        ensures height { self.new.1 ≡ self.old.1 }
+    {
+        match &mut self.node {
+            Node::Leaf => (),
+            Node::Fork(sooner, seat, _, least, later) => {
+                match before.cmp(seat) {
+                    Ordering::Less => sooner.set(before, after),
+                    Ordering::Greater => later.set(before, after),
+                    Ordering::Equal => *seat = after,
+                }
+                *least = least_over(sooner, *seat, later);
+            }
+        }
+    }
+
+    /// Puts another seat into the place of one, where it is another.
+    pub fn replace(&mut self, before: Seat, after: Seat)
+        requires rises { Rises is_ahead self.old.0 }
+        requires few { length self.old.0 ≤ 2 ^ 63 }
+        requires low { IsLow self.old }
+        requires there { list_any (λ u. is_eq (seat_cmp before u)) self.old.0 ≡ true }
+        ensures times { self.new.0 ≡ replaced before after self.old.0 }
+        ensures low { IsLow self.new }
+    {
+        if is_other(&before, &after) {
+            if stays(&before, &after) {
+                self.set(before, after);
+            } else {
+                self.change(before, after);
+            }
+        }
+    }
+
+    /// No seat wakes before this time.
+    fn least(&self) -> u64
+        ensures { result ≡ least_of self.now.0 }
+    {
+        match self.node {
+            Node::Leaf => 9_223_372_036_854_775_807,
+            Node::Fork(_, _, _, least, _) => least,
+        }
+    }
+
+    /// The id of the first seat behind a key that wakes by a time.
+    pub fn first_awake(&self, after: Option<(i32, [u64; 4])>, now: u64) -> Option<u64>
+        requires { Rises is_ahead self.now.0 }
+        ensures { result ≡ first_awake after now self.now.0 }
+    {
+        match &self.node {
+            Node::Leaf => None,
+            Node::Fork(sooner, time, _, least, later) => {
+                if now < *least {
+                    return None;
+                }
+                if is_passed(after, time.0) {
+                    return later.first_awake(after, now);
+                }
+                match sooner.first_awake(after, now) {
+                    None => {
+                        if time.1.1 <= now {
+                            Some(time.1.0)
+                        } else {
+                            later.first_awake(after, now)
+                        }
+                    }
+                    first => first,
+                }
+            }
+        }
+    }
+}
+
+/// Whether a seat stands before another.
+fn is_ahead(a: &Seat, b: &Seat) -> bool
+    ensures { result ≡ is_ahead a.now b.now }
+{
+    match a.cmp(b) {
+        Ordering::Less => true,
+        _ => false,
+    }
+}
+
+/// Whether two seats are not the same.
+fn is_other(a: &Seat, b: &Seat) -> bool
+    ensures { result ≡ is_other a.now b.now }
+{
+    is_ahead(a, b) || is_ahead(b, a)
+}
+
+/// Whether two seats have one key.
+fn stays(a: &Seat, b: &Seat) -> bool
+    ensures { result ≡ stays a.now b.now }
+{
+    match a.0.cmp(&b.0) {
+        Ordering::Equal => true,
+        _ => false,
+    }
+}
+
+/// The lesser of two times.
+fn lesser(a: u64, b: u64) -> u64
+    ensures { result ≡ lesser a b }
+{
+    if a < b {
+        a
+    } else {
+        b
+    }
+}
+
+/// The least time of a seat and of those on its sides.
+fn least_over(sooner: &Seats, time: Seat, later: &Seats) -> u64
+    ensures { result ≡ least_of (sooner.now.0 ++ time ∷ later.now.0) }
+{
+    lesser(sooner.least(), lesser(time.1.1, later.least()))
+}
+
+/// Whether a key does not stand behind another.
+fn is_passed(after: Option<(i32, [u64; 4])>, key: (i32, [u64; 4])) -> bool
+    ensures { result ≡ is_passed after key }
+{
+    match after {
+        None => false,
+        Some(last) => match last.cmp(&key) {
+            Ordering::Less => false,
+            _ => true,
+        },
+    }
+}
+
+/// Takes the time out that stands at the root, with its place.
+fn remove_root(node: &mut Node) -> Option<Room>
+    requires even { IsEven node.old }
+    requires few { length (seen_of node.old).0 ≤ 2 ^ 63 }
+    ensures place { is_some result ≡ is_fork node.old }
+    ensures times { LosesRoot node.old node.new }
+    ensures even { IsEven node.new }
+    ensures height { IsLowered (seen_of node.old).1 (seen_of node.new).1 }
+{
+    match mem::replace(node, Node::Leaf) {
+        Node::Leaf => None,
+        Node::Fork(mut sooner, _, _, _, mut later) => match later.remove_first() {
+            Some((next, place)) => {
+                *node = balanced(sooner, next, later);
+                Some(place)
+            }
+            None => {
+                *node = mem::replace(&mut *sooner, Seats::new()).node;
+                Some(Room { sooner, later })
+            }
+        },
+    }
+}
+
+/// A node over two sides.
+fn fork(sooner: Box<Seats>, time: Seat, later: Box<Seats>) -> Node
+    requires { max sooner.value.1 later.value.1 + 1 < 2 ^ 64 }
+    ensures { result ≡ Fork sooner time (max sooner.value.1 later.value.1 + 1) (least_of (sooner.value.0 ++ time ∷ later.value.0)) later }
+{
+    let height = sooner.height().max(later.height()) + 1;
+    let least = least_over(&sooner, time, &later);
+    Node::Fork(sooner, time, height, least, later)
+}
+
+/// Brings a node into balance after a change of one side.
+fn balance(node: &mut Node)
+    requires { IsNearlyEven node.old }
+    ensures { Balances node.old node.new }
+{
+    if let Node::Fork(sooner, time, height, least, later) = node {
+        let (low, high) = (sooner.height(), later.height());
+        if low.abs_diff(high) <= 1 {
+            *height = low.max(high) + 1;
+            *least = least_over(sooner, *time, later);
+            return;
+        }
+    }
+    *node = match mem::replace(node, Node::Leaf) {
+        Node::Leaf => Node::Leaf,
+        Node::Fork(sooner, time, _, _, later) => balanced(sooner, time, later),
+    };
+}
+
+/// A node over two sides that differ in height by at most two.
+fn balanced(sooner: Box<Seats>, time: Seat, later: Box<Seats>) -> Node
+    requires { AreNearlyEven sooner.value later.value }
+    ensures even { IsEven result }
+    ensures times { (seen_of result).0 ≡ sooner.value.0 ++ time ∷ later.value.0 }
+    ensures height { IsHeight sooner.value.1 later.value.1 (seen_of result).1 }
+{
+    let (low, high) = (sooner.height(), later.height());
+    if low > high + 1 {
+        lift_sooner(sooner, time, later)
+    } else if high > low + 1 {
+        lift_later(sooner, time, later)
+    } else {
+        fork(sooner, time, later)
+    }
+}
+
+/// A node over two sides of which the sooner is the higher by two.
+fn lift_sooner(mut sooner: Box<Seats>, time: Seat, later: Box<Seats>) -> Node
+    requires sides { AreNearlyEven sooner.value later.value }
+    requires higher { sooner.value.1 ≡ later.value.1 + 2 }
+    ensures even { IsEven result }
+    ensures times { (seen_of result).0 ≡ sooner.value.0 ++ time ∷ later.value.0 }
+    ensures height { IsHeight sooner.value.1 later.value.1 (seen_of result).1 }
+{
+    let Node::Fork(first, low, _, _, mut inner) = mem::replace(&mut *sooner, Seats::new()).node else {
+        unreachable!()
+    };
+    if first.height() >= inner.height() {
+        sooner.node = fork(inner, time, later);
+        return fork(first, low, sooner);
+    }
+    let Node::Fork(before, middle, _, _, after) = mem::replace(&mut *inner, Seats::new()).node else {
+        unreachable!()
+    };
+    inner.node = fork(first, low, before);
+    sooner.node = fork(after, time, later);
+    fork(inner, middle, sooner)
+}
+
+/// A node over two sides of which the later is the higher by two.
+fn lift_later(sooner: Box<Seats>, time: Seat, mut later: Box<Seats>) -> Node
+    requires sides { AreNearlyEven sooner.value later.value }
+    requires higher { later.value.1 ≡ sooner.value.1 + 2 }
+    ensures even { IsEven result }
+    ensures times { (seen_of result).0 ≡ sooner.value.0 ++ time ∷ later.value.0 }
+    ensures height { IsHeight sooner.value.1 later.value.1 (seen_of result).1 }
+{
+    let Node::Fork(mut inner, high, _, _, last) = mem::replace(&mut *later, Seats::new()).node else {
+        unreachable!()
+    };
+    if last.height() >= inner.height() {
+        later.node = fork(sooner, time, inner);
+        return fork(later, high, last);
+    }
+    let Node::Fork(before, middle, _, _, after) = mem::replace(&mut *inner, Seats::new()).node else {
+        unreachable!()
+    };
+    later.node = fork(sooner, time, before);
+    inner.node = fork(after, high, last);
+    fork(later, middle, inner)
+}
