@@ -1,5 +1,5 @@
 -- Only rows that may be ready have to be looked at.
-use Rattle.std.proofs.Common.{◌≡◌, ℕ, ◌&&◌, ◌||◌, ◌-◌, ◌^◌, Bool, true, false, cond, not, nat_lt, ℤ, pos, negsuc, Option, Some, None, List, [], ◌∷◌, filter, refl, ap, sym, ◌∙◌, arith}
+use Rattle.std.proofs.Common.{◌≡◌, ℕ, ◌&&◌, ◌||◌, Bool, true, false, cond, not, nat_lt, ℤ, pos, negsuc, Option, Some, None, List, [], ◌∷◌, filter, refl, ap, sym, ◌∙◌, arith}
 use Rattle.std.proofs.lemmas.Int.{ints}
 use Rattle.std.proofs.lemmas.Bool.Decides.{nat_tests}
 use Rattle.std.specs.Prelude.{int_le, int_lt}
@@ -10,11 +10,11 @@ use Rattle.source_rows.specs.declared.row.Row.{Row}
 use Rattle.source_rows.specs.Rows.{in_order, stands_before, is_under}
 use Rattle.source_rows.specs.Order.{IsInOrder}
 use Rattle.source_rows.specs.Tree.{IsForest}
-use Rattle.source_rows.specs.Candidates.{is_open, or_last, wakes_at, is_awake, may_call, candidates}
+use Rattle.source_rows.specs.Candidates.{due_at, wakes_at, is_awake, may_call, candidates}
 use Rattle.source_rows.proofs.Compared.{and_both}
 use Rattle.source_rows.proofs.Lists.{all_of, all_true}
 use Rattle.source_rows.proofs.Order.{all_in_order, sorted_in_order}
-use Rattle.context_core.specs.Ready.{Own, own_ready, kind_ready, is_due, is_free, calls, is_ready}
+use Rattle.context_core.specs.Ready.{own_ready, kind_ready, is_due, is_free, calls, is_ready}
 use Rattle.context_core.specs.Phases.{less_urgent, walk, is_asked, is_fd}
 use Rattle.context_core.proofs.Walk.{not_more}
 use Rattle.context_core.proofs.Cutoff.{any_more, and_more}
@@ -85,7 +85,7 @@ walk_kept ready keep bound (r ∷ rs) s h = walk_by ready keep bound r rs h.0 s.
 
 -- ---- what is ready may be
 
-due_awake : (now : ℕ) (t : ℤ) → is_due now t ≡ true → not (nat_lt now (or_last t)) ≡ true
+due_awake : (now : ℕ) (t : ℤ) → is_due now t ≡ true → not (nat_lt now (due_at t)) ≡ true
 due_awake now (pos n) h =
     let e = (and_both (int_le (pos 0) (pos n)) (int_le (pos n) (pos now)) h).1 in
     let g : nat_lt now n ≡ false = grind (arith, nat_tests, ints) in

@@ -1,5 +1,5 @@
--- What follows for seats: their order, one among them, and the first above now.
-use Rattle.std.proofs.Common.{◌≡◌, length, ◌-◌, ◌^◌, nat_lt, Option, ◌≢◌, ◌⊎◌, ℕ, ℤ, int_lt, Bool, true, false, not, cond, ◌||◌, Some, None, List, [], ◌∷◌, ◌++◌, inl, inr, filter, refl, ap, sym, ◌∙◌, ap₂, arith}
+-- What follows for seats: their order, one among them, and the least times.
+use Rattle.std.proofs.Common.{◌≡◌, length, nat_lt, Option, ◌≢◌, ◌⊎◌, ℕ, ℤ, int_lt, Bool, true, false, not, cond, ◌||◌, Some, None, List, [], ◌∷◌, ◌++◌, inl, inr, filter, refl, ap, sym, ◌∙◌, ap₂, arith}
 use Rattle.std.proofs.lemmas.Bool.Decides.{nat_tests}
 use Rattle.std.proofs.lemmas.Int.{ints}
 use Rattle.std.proofs.lemmas.List.Sorted.{ranks_by}
@@ -8,8 +8,9 @@ use Rattle.std.specs.List.{AllByRecursion, list_any}
 use Rattle.std.specs.Ordering.{is_lt, is_eq, ordering_then, ordering_reverse, int_cmp, nat_cmp}
 use Rattle.std.specs.declared.cmp.Ordering.{Ordering}
 use Rattle.std.specs.declared.cmp.Ordering.TheVariants.{Less, Equal, Greater}
-use Rattle.source_rows.specs.Inserted.{Rises}
-use Rattle.source_rows.specs.Seats.{Seat, seat_cmp, is_ahead, without, lesser, least_of, is_passed, first_awake, swap, swapped}
+use Rattle.source_rows.specs.Candidates.{never}
+use Rattle.source_rows.specs.Inserted.{inserted, Rises}
+use Rattle.source_rows.specs.Seats.{Seat, wake_of, due_of, seat_cmp, is_ahead, without, lesser, least_by, is_passed, first_awake, due_after, next_due, swap, swapped}
 use Rattle.std.specs.Cmp.Lexicographic.{slice_cmp}
 use Rattle.std.proofs.lemmas.Map.Lookups.{exact_bytes}
 use Rattle.source_rows.specs.Rows.{Key, key_cmp}
@@ -21,7 +22,9 @@ use Rattle.source_rows.proofs.Inserted.{all_left, all_right, trans}
 -- ---- the order
 
 pub seat_total : IsTotalOrder seat_cmp
-seat_total = then_total (on_total (λ (t : Seat). t.0) key_total) (then_total (on_total (λ (t : Seat). t.1.0) nat_cmp_total) (on_total (λ (t : Seat). t.1.1) nat_cmp_total))
+seat_total =
+    then_total (on_total (λ (t : Seat). t.0) key_total)
+    (then_total (on_total (λ (t : Seat). t.1.0) nat_cmp_total) (then_total (on_total wake_of nat_cmp_total) (on_total due_of nat_cmp_total)))
 
 pub sooner_order : IsStrictWeakOrder is_ahead
 sooner_order = ranks_by seat_total (λ (t : Seat). t)
@@ -60,11 +63,14 @@ same_key a b h =
 
 pub same_from_equal : (a b : Seat) → seat_cmp a b ≡ Equal → a ≡ b
 same_from_equal a b h =
-    let t = then_equal (key_cmp a.0 b.0) (ordering_then (nat_cmp a.1.0 b.1.0) (nat_cmp a.1.1 b.1.1)) h in
-    let u = then_equal (nat_cmp a.1.0 b.1.0) (nat_cmp a.1.1 b.1.1) t.1 in
+    let times = ordering_then (nat_cmp (wake_of a) (wake_of b)) (nat_cmp (due_of a) (due_of b)) in
+    let t = then_equal (key_cmp a.0 b.0) (ordering_then (nat_cmp a.1.0 b.1.0) times) h in
+    let u = then_equal (nat_cmp a.1.0 b.1.0) times t.1 in
+    let v = then_equal (nat_cmp (wake_of a) (wake_of b)) (nat_cmp (due_of a) (due_of b)) u.1 in
     let e = same_key a.0 b.0 t.0 in
-    let f : a.1 ≡ b.1 = ap₂ (λ (x y : ℕ). let c : ℕ × ℕ = (x, y) in c) (same_number a.1.0 b.1.0 u.0) (same_number a.1.1 b.1.1 u.1) in
-    ap₂ (λ (x : Key) (y : ℕ × ℕ). let c : Seat = (x, y) in c) e f
+    let f : a.1.1 ≡ b.1.1 = ap₂ (λ (x y : ℕ). let c : ℕ × ℕ = (x, y) in c) (same_number (wake_of a) (wake_of b) v.0) (same_number (due_of a) (due_of b) v.1) in
+    let g : a.1 ≡ b.1 = ap₂ (λ (x : ℕ) (y : ℕ × ℕ). let c : ℕ × (ℕ × ℕ) = (x, y) in c) (same_number a.1.0 b.1.0 u.0) f in
+    ap₂ (λ (x : Key) (y : ℕ × (ℕ × ℕ)). let c : Seat = (x, y) in c) e g
 
 pub equal_from_same : (a b : Seat) → a ≡ b → seat_cmp a b ≡ Equal
 equal_from_same a b e = ap (seat_cmp a) (sym e) ∙ tied_itself seat_total a
@@ -208,20 +214,13 @@ there_here t l k r e =
 
 -- ---- the least time
 
-pub least_low : (s : Seat) (x : ℕ) → nat_lt s.1.1 (lesser s.1.1 x) ≡ false
-least_low s x = lesser_first s.1.1 x (nat_lt s.1.1 x) refl
-  where
-    lesser_first : (a b : ℕ) (v : Bool) → nat_lt a b ≡ v → nat_lt a (cond v a b) ≡ false
-    lesser_first a b true e = grind (arith, nat_tests)
-    lesser_first a b false e = e
-
-most_by : (a b : ℕ) (v : Bool) → nat_lt a b ≡ v → nat_lt (2 ^ 63 - 1) b ≡ false → nat_lt (2 ^ 63 - 1) (cond v a b) ≡ false
+most_by : (a b : ℕ) (v : Bool) → nat_lt a b ≡ v → nat_lt never b ≡ false → nat_lt never (cond v a b) ≡ false
 most_by a b true e h = grind (arith, nat_tests)
 most_by a b false e h = h
 
-least_most : (xs : List Seat) → nat_lt (2 ^ 63 - 1) (least_of xs) ≡ false
-least_most [] = grind (arith, nat_tests)
-least_most (s ∷ xs) = most_by s.1.1 (least_of xs) (nat_lt s.1.1 (least_of xs)) refl (least_most xs)
+pub least_most : (f : Seat → ℕ) (xs : List Seat) → nat_lt never (least_by f xs) ≡ false
+least_most f [] = grind (arith, nat_tests)
+least_most f (s ∷ xs) = most_by (f s) (least_by f xs) (nat_lt (f s) (least_by f xs)) refl (least_most f xs)
 
 assoc_by : (a b c : ℕ) (u v : Bool) → nat_lt a b ≡ u → nat_lt b c ≡ v → lesser a (cond v b c) ≡ lesser (cond u a b) c
 assoc_by a b c true true e f = let g : nat_lt a c ≡ true = grind (arith, nat_tests) in ap (λ (z : Bool). cond z a b) e ∙ sym (ap (λ (z : Bool). cond z a c) g)
@@ -232,9 +231,30 @@ assoc_by a b c false false e f = let g : nat_lt a c ≡ false = grind (arith, na
 assoc : (a b c : ℕ) → lesser a (lesser b c) ≡ lesser (lesser a b) c
 assoc a b c = assoc_by a b c (nat_lt a b) (nat_lt b c) refl refl
 
-pub least_join : (l xs : List Seat) → least_of (l ++ xs) ≡ lesser (least_of l) (least_of xs)
-least_join [] xs = sym (ap (λ (b : Bool). cond b (2 ^ 63 - 1) (least_of xs)) (least_most xs))
-least_join (s ∷ l) xs = ap (lesser s.1.1) (least_join l xs) ∙ assoc s.1.1 (least_of l) (least_of xs)
+pub least_join : (f : Seat → ℕ) (l xs : List Seat) → least_by f (l ++ xs) ≡ lesser (least_by f l) (least_by f xs)
+least_join f [] xs = sym (ap (λ (b : Bool). cond b never (least_by f xs)) (least_most f xs))
+least_join f (s ∷ l) xs = ap (lesser (f s)) (least_join f l xs) ∙ assoc (f s) (least_by f l) (least_by f xs)
+
+swap_by : (a b : ℕ) (u v : Bool) → nat_lt a b ≡ u → nat_lt b a ≡ v → cond u a b ≡ cond v b a
+swap_by a b true true e f = grind (arith, nat_tests)
+swap_by a b true false e f = refl
+swap_by a b false true e f = refl
+swap_by a b false false e f = grind (arith, nat_tests)
+
+lesser_swap : (a b : ℕ) → lesser a b ≡ lesser b a
+lesser_swap a b = swap_by a b (nat_lt a b) (nat_lt b a) refl refl
+
+behind_least : (a b c : ℕ) → lesser b (lesser a c) ≡ lesser a (lesser b c)
+behind_least a b c = assoc b a c ∙ (ap (λ (n : ℕ). lesser n c) (lesser_swap b a) ∙ sym (assoc a b c))
+
+least_put_by : (f : Seat → ℕ) (a x : Seat) (xs : List Seat) → least_by f (inserted is_ahead a xs) ≡ lesser (f a) (least_by f xs) → (b : Bool) → least_by f (cond b (a ∷ x ∷ xs) (x ∷ inserted is_ahead a xs)) ≡ lesser (f a) (lesser (f x) (least_by f xs))
+least_put_by f a x xs ih true = refl
+least_put_by f a x xs ih false = ap (lesser (f x)) ih ∙ behind_least (f a) (f x) (least_by f xs)
+
+-- wherever a seat is put
+pub least_put : (f : Seat → ℕ) (a : Seat) (xs : List Seat) → least_by f (inserted is_ahead a xs) ≡ lesser (f a) (least_by f xs)
+least_put f a [] = refl
+least_put f a (x ∷ xs) = least_put_by f a x xs (least_put f a xs) (is_ahead a x)
 
 -- ---- the first seat behind a key that wakes by a time
 
@@ -242,15 +262,15 @@ asleep_by : (now a b : ℕ) (v : Bool) → nat_lt a b ≡ v → nat_lt now (cond
 asleep_by now a b true e h = (h, grind (arith, nat_tests))
 asleep_by now a b false e h = (grind (arith, nat_tests), h)
 
-asleep_at : (after : Option Key) (now : ℕ) (s : Seat) (o : Option ℕ) → nat_lt now s.1.1 ≡ true → o ≡ None → (b : Bool) → cond b o (cond (nat_lt now s.1.1) o (Some s.1.0)) ≡ None
+asleep_at : (after : Option Key) (now : ℕ) (s : Seat) (o : Option ℕ) → nat_lt now (wake_of s) ≡ true → o ≡ None → (b : Bool) → cond b o (cond (nat_lt now (wake_of s)) o (Some s.1.0)) ≡ None
 asleep_at after now s o h e true = e
 asleep_at after now s o h e false = ap (λ (b : Bool). cond b o (Some s.1.0)) h ∙ e
 
 -- none wakes before the least time
-pub none_awake : (after : Option Key) (now : ℕ) (xs : List Seat) → nat_lt now (least_of xs) ≡ true → first_awake after now xs ≡ None
+pub none_awake : (after : Option Key) (now : ℕ) (xs : List Seat) → nat_lt now (least_by wake_of xs) ≡ true → first_awake after now xs ≡ None
 none_awake after now [] h = refl
 none_awake after now (s ∷ xs) h =
-    let two = asleep_by now s.1.1 (least_of xs) (nat_lt s.1.1 (least_of xs)) refl h in
+    let two = asleep_by now (wake_of s) (least_by wake_of xs) (nat_lt (wake_of s) (least_by wake_of xs)) refl h in
     asleep_at after now s (first_awake after now xs) two.0 (none_awake after now xs two.1) (is_passed after s.0)
 
 awake_some_by : (z : ℕ) (s : Seat) (o p : Option ℕ) → (o ≡ Some z → p ≡ Some z) → (b v : Bool) → cond b o (cond v o (Some s.1.0)) ≡ Some z → cond b p (cond v p (Some s.1.0)) ≡ Some z
@@ -260,7 +280,7 @@ awake_some_by z s o p ih false false h = h
 
 pub awake_join_some : (after : Option Key) (now : ℕ) (z : ℕ) (l r : List Seat) → first_awake after now l ≡ Some z → first_awake after now (l ++ r) ≡ Some z
 awake_join_some after now z [] r h = cc
-awake_join_some after now z (s ∷ l) r h = awake_some_by z s (first_awake after now l) (first_awake after now (l ++ r)) (awake_join_some after now z l r) (is_passed after s.0) (nat_lt now s.1.1) h
+awake_join_some after now z (s ∷ l) r h = awake_some_by z s (first_awake after now l) (first_awake after now (l ++ r)) (awake_join_some after now z l r) (is_passed after s.0) (nat_lt now (wake_of s)) h
 
 awake_none_by : (s : Seat) (o p q : Option ℕ) → (o ≡ None → p ≡ q) → (b v : Bool) → cond b o (cond v o (Some s.1.0)) ≡ None → cond b p (cond v p (Some s.1.0)) ≡ q
 awake_none_by s o p q ih true v h = ih h
@@ -269,7 +289,7 @@ awake_none_by s o p q ih false false h = cc
 
 pub awake_join_none : (after : Option Key) (now : ℕ) (l r : List Seat) → first_awake after now l ≡ None → first_awake after now (l ++ r) ≡ first_awake after now r
 awake_join_none after now [] r h = refl
-awake_join_none after now (s ∷ l) r h = awake_none_by s (first_awake after now l) (first_awake after now (l ++ r)) (first_awake after now r) (awake_join_none after now l r) (is_passed after s.0) (nat_lt now s.1.1) h
+awake_join_none after now (s ∷ l) r h = awake_none_by s (first_awake after now l) (first_awake after now (l ++ r)) (first_awake after now r) (awake_join_none after now l r) (is_passed after s.0) (nat_lt now (wake_of s)) h
 
 -- a key that does not stand behind one that is passed is passed
 key_by : (o p : Ordering) → is_lt (ordering_then o p) ≡ true → (o ≡ Less) ⊎ (o ≡ Equal)
@@ -299,21 +319,33 @@ passed_by (Some a) x k h p = behind_by a x.0 k.0 (not_true (is_lt (key_cmp a k.0
 none_behind : (after : Option Key) (now : ℕ) (k : Seat) (xs : List Seat) → is_passed after k.0 ≡ true → AllByRecursion (λ u. is_ahead u k ≡ true) xs → first_awake after now xs ≡ None
 none_behind after now k [] p h = refl
 none_behind after now k (s ∷ xs) p h =
-    ap (λ (b : Bool). cond b (first_awake after now xs) (cond (nat_lt now s.1.1) (first_awake after now xs) (Some s.1.0))) (passed_by after s k h.0 p) ∙ none_behind after now k xs p h.1
+    ap (λ (b : Bool). cond b (first_awake after now xs) (cond (nat_lt now (wake_of s)) (first_awake after now xs) (Some s.1.0))) (passed_by after s k h.0 p) ∙ none_behind after now k xs p h.1
 
 pub awake_right : (after : Option Key) (now : ℕ) (l : List Seat) (k : Seat) (r : List Seat) → Rises is_ahead (l ++ k ∷ r) → is_passed after k.0 ≡ true → first_awake after now (l ++ k ∷ r) ≡ first_awake after now r
 awake_right after now l k r s p =
     awake_join_none after now l (k ∷ r) (none_behind after now k l p (all_left is_ahead l k r s))
-    ∙ ap (λ (b : Bool). cond b (first_awake after now r) (cond (nat_lt now k.1.1) (first_awake after now r) (Some k.1.0))) p
+    ∙ ap (λ (b : Bool). cond b (first_awake after now r) (cond (nat_lt now (wake_of k)) (first_awake after now r) (Some k.1.0))) p
 
-pub awake_here : (after : Option Key) (now : ℕ) (l : List Seat) (k : Seat) (r : List Seat) → is_passed after k.0 ≡ false → nat_lt now k.1.1 ≡ false → first_awake after now l ≡ None → first_awake after now (l ++ k ∷ r) ≡ Some k.1.0
+pub awake_here : (after : Option Key) (now : ℕ) (l : List Seat) (k : Seat) (r : List Seat) → is_passed after k.0 ≡ false → nat_lt now (wake_of k) ≡ false → first_awake after now l ≡ None → first_awake after now (l ++ k ∷ r) ≡ Some k.1.0
 awake_here after now l k r p n h = awake_join_none after now l (k ∷ r) h ∙ rw (p, n) refl
 
-pub awake_over : (after : Option Key) (now : ℕ) (l : List Seat) (k : Seat) (r : List Seat) → is_passed after k.0 ≡ false → nat_lt now k.1.1 ≡ true → first_awake after now l ≡ None → first_awake after now (l ++ k ∷ r) ≡ first_awake after now r
+pub awake_over : (after : Option Key) (now : ℕ) (l : List Seat) (k : Seat) (r : List Seat) → is_passed after k.0 ≡ false → nat_lt now (wake_of k) ≡ true → first_awake after now l ≡ None → first_awake after now (l ++ k ∷ r) ≡ first_awake after now r
 awake_over after now l k r p n h = awake_join_none after now l (k ∷ r) h ∙ rw (p, n) refl
 
 pub awake_left : (after : Option Key) (now : ℕ) (z : ℕ) (l : List Seat) (k : Seat) (r : List Seat) → first_awake after now l ≡ Some z → first_awake after now (l ++ k ∷ r) ≡ Some z
 awake_left after now z l k r h = awake_join_some after now z l (k ∷ r) h
+
+-- ---- when the next seat is due
+
+due_by : (now : ℕ) (s : Seat) → nat_lt now (due_of s) ≡ true → due_after now s ≡ due_of s
+due_by now s h = ap (λ (b : Bool). cond b (due_of s) never) h
+
+-- where none is due by a time, the next one is the least of all
+pub all_due : (now : ℕ) (xs : List Seat) → nat_lt now (least_by due_of xs) ≡ true → next_due now xs ≡ least_by due_of xs
+all_due now [] h = refl
+all_due now (s ∷ xs) h =
+    let two = asleep_by now (due_of s) (least_by due_of xs) (nat_lt (due_of s) (least_by due_of xs)) refl h in
+    ap₂ lesser (due_by now s two.0) (all_due now xs two.1)
 
 -- ---- a seat put where another stands
 
@@ -361,7 +393,7 @@ wake_free Equal Greater v w h = refl
 
 same_ahead : (x y u v : Seat) → x.0 ≡ u.0 → x.1.0 ≡ u.1.0 → y.0 ≡ v.0 → y.1.0 ≡ v.1.0 → u.1.0 ≢ v.1.0 → is_ahead x y ≡ is_ahead u v
 same_ahead x y u v a b c d n =
-    rw (a, b, c, d) (wake_free (key_cmp u.0 v.0) (nat_cmp u.1.0 v.1.0) (nat_cmp x.1.1 y.1.1) (nat_cmp u.1.1 v.1.1) (λ e. n (same_number u.1.0 v.1.0 e)))
+    rw (a, b, c, d) (wake_free (key_cmp u.0 v.0) (nat_cmp u.1.0 v.1.0) (ordering_then (nat_cmp (wake_of x) (wake_of y)) (nat_cmp (due_of x) (due_of y))) (ordering_then (nat_cmp (wake_of u) (wake_of v)) (nat_cmp (due_of u) (due_of v))) (λ e. n (same_number u.1.0 v.1.0 e)))
 
 pub swap_ahead : (a b u v : Seat) → b.0 ≡ a.0 → b.1.0 ≡ a.1.0 → u.1.0 ≢ v.1.0 → is_ahead (swap a b u) (swap a b v) ≡ is_ahead u v
 swap_ahead a b u v e f n =

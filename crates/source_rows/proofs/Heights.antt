@@ -1,10 +1,10 @@
--- How high a balanced tree can be, by the fewest times that one of its height has.
+-- How high a balanced tree can be, by the fewest seats that one of its height has.
 use Rattle.std.proofs.Common.{◌≡◌, ℕ, zero, suc, ◌+◌, ◌*◌, ◌^◌, ◌≤◌, ◌⊎◌, inl, inr, List, length, refl, ap, arith}
 use Rattle.std.proofs.Math.Nat.{pow-succ'}
-use Rattle.source_rows.specs.Times.{Time, fewest, IsLow}
+use Rattle.source_rows.specs.Seats.{Seat, fewest, IsLow}
 use Rattle.source_rows.proofs.Low.{fewest_rises}
 
--- ---- more height, more times
+-- ---- more height, more seats
 at_most_or_next : (a b : ℕ) → a ≤ suc b → (a ≤ b) ⊎ (a ≡ suc b)
 at_most_or_next zero b h = inl (omega arith)
 at_most_or_next (suc a) zero h = inr (ap suc (omega arith))
@@ -32,7 +32,7 @@ at_most_or_above (suc a) (suc b) = more (at_most_or_above a b)
     more (inl le) = inl (omega arith)
     more (inr le) = inr (omega arith)
 
-pub of_2000 : (v : List Time × ℕ) → IsLow v → length v.0 ≤ 2000 → v.1 ≤ 15
+pub of_2000 : (v : List Seat × ℕ) → IsLow v → length v.0 ≤ 2000 → v.1 ≤ 15
 of_2000 v low few = by (at_most_or_above v.1 15)
   where
     by : (v.1 ≤ 15) ⊎ (15 + 1 ≤ v.1) → v.1 ≤ 15
@@ -42,7 +42,7 @@ of_2000 v low few = by (at_most_or_above v.1 15)
         let up : fewest 16 ≤ fewest v.1 = fewest_up 16 v.1 (omega arith) in
         absurd (omega (arith, is, up, low.1, few))
 
-pub of_100 : (v : List Time × ℕ) → IsLow v → length v.0 ≤ 100 → v.1 ≤ 9
+pub of_100 : (v : List Seat × ℕ) → IsLow v → length v.0 ≤ 100 → v.1 ≤ 9
 of_100 v low few = by (at_most_or_above v.1 9)
   where
     by : (v.1 ≤ 9) ⊎ (9 + 1 ≤ v.1) → v.1 ≤ 9
@@ -62,7 +62,7 @@ doubles (suc h) n e =
     let power = pow-succ' 2 h in
     rw is (omega (arith, power, ih, up))
 
-pub logarithm : (v : List Time × ℕ) (h : ℕ) → IsLow v → 2 * h ≤ v.1 → 2 ^ h ≤ length v.0 + 1
+pub logarithm : (v : List Seat × ℕ) (h : ℕ) → IsLow v → 2 * h ≤ v.1 → 2 ^ h ≤ length v.0 + 1
 logarithm v h low le =
     let up = fewest_up (2 * h) v.1 le in
     let twice = doubles h (2 * h) refl in

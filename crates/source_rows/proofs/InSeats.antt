@@ -14,7 +14,7 @@ use Rattle.source_rows.proofs.Forest.{all_found}
 use Rattle.source_rows.proofs.Kept.{found_id}
 use Rattle.source_rows.proofs.Ahead.{swap_ahead, apart_ids, is_same, same_time, sooner_order}
 
--- ---- the times of rows
+-- ---- the seats of rows
 
 abbrev pub AreApart : Seat → Seat → Type 0
 AreApart a b = (is_ahead a b ≡ true) ⊎ (is_ahead b a ≡ true)
@@ -40,7 +40,7 @@ in_seats-push (q ∷ rows) r h =
     let apart = apart_ids (seat_of q) (seat_of r) (λ e. absurd (omega (arith, e, less))) in
     ap (inserted is_ahead (seat_of q)) (in_seats-push rows r h.1) ∙ comm is_ahead sooner_order (seat_of q) (seat_of r) apart (in_seats rows)
 
--- ---- the times of some of the rows
+-- ---- the seats of some of the rows
 
 filter_by : (p : Row → Bool) (f : Seat → Bool) (r : Row) (rows : List Row) → Rises is_ahead (in_seats rows) → p r ≡ f (seat_of r) → in_seats (filter p rows) ≡ filter f (in_seats rows) → (b : Bool) → p r ≡ b
     → in_seats (cond b (r ∷ filter p rows) (filter p rows)) ≡ filter f (inserted is_ahead (seat_of r) (in_seats rows))
@@ -69,7 +69,7 @@ tests_by id r q is one false e = apart_by_id (is_eq (seat_cmp (seat_of r) (seat_
         let never = sym e ∙ (ap (λ (n : ℕ). n == id) (sym same ∙ is) ∙ same_self id) in cc
     apart_by_id false f = refl
 
--- a row has the id where its time is that of the row of the id
+-- a row has the id where its seat is that of the row of the id
 all_tests : (id : ℕ) (r : Row) (xs : List Row) → r.id ≡ id → AllByRecursion (λ q. q.id ≡ id → q ≡ r) xs → AllByRecursion (λ q. not (has_id id q) ≡ not (is_eq (seat_cmp (seat_of r) (seat_of q)))) xs
 all_tests id r [] is h = tt
 all_tests id r (q ∷ xs) is h = (ap not (tests_by id r q is h.0 (q.id == id) refl), all_tests id r xs is h.1)
@@ -78,7 +78,7 @@ pub in_seats-removed : (id : ℕ) (r : Row) (rows : List Row) → IdsRise rows �
 in_seats-removed id r rows h e =
     in_seats-filter (λ q. not (has_id id q)) (λ u. not (is_eq (seat_cmp (seat_of r) u))) rows h (all_tests id r rows (found_id id r rows e) (all_one id r rows h e))
 
--- ---- the times after a row is changed
+-- ---- the seats after a row is changed
 
 -- none of the rows above an id has it
 above_kept : (id : ℕ) (g : Row → Row) (xs : List Row) → AllByRecursion (λ q. id < q.id) xs → (changed id g xs ≡ xs) × (filter (λ q. not (has_id id q)) xs ≡ xs)
@@ -108,7 +108,7 @@ put_in row old (q ∷ rows) h e = put_by row old q rows h.0 (put_in row old rows
 pub in_seats-changed : (row old : Row) (rows : List Row) → IdsRise rows → row_of row.id rows ≡ Some old → in_seats (changed row.id (λ _. row) rows) ≡ inserted is_ahead (seat_of row) (without (seat_of old) (in_seats rows))
 in_seats-changed row old rows h e = put_in row old rows h e ∙ ap (inserted is_ahead (seat_of row)) (in_seats-removed row.id old rows h e)
 
--- ---- a change that keeps the time
+-- ---- a change that keeps the seat
 
 seat_by : (row q : Row) → (q.id ≡ row.id → seat_of q ≡ seat_of row) → (b : Bool) → (q.id == row.id) ≡ b → seat_of (cond b row q) ≡ seat_of q
 seat_by row q same true e = sym (same (are_same q.id row.id e))
@@ -127,7 +127,7 @@ same_seats row old (q ∷ xs) e h = (λ same. ap seat_of (h.0 same) ∙ e, same_
 pub in_seats-same : (row old : Row) (rows : List Row) → IdsRise rows → row_of row.id rows ≡ Some old → seat_of old ≡ seat_of row → in_seats (changed row.id (λ _. row) rows) ≡ in_seats rows
 in_seats-same row old rows h e same = kept_seats row rows (same_seats row old rows same (all_one row.id old rows h e))
 
--- ---- the time of a row is there
+-- ---- the seat of a row is there
 
 any_inserted_by : (p : Seat → Bool) (a x : Seat) (xs : List Seat) → list_any p (inserted is_ahead a xs) ≡ (p a || list_any p xs) → (b u v : Bool) → p a ≡ u → p x ≡ v → list_any p (cond b (a ∷ x ∷ xs) (x ∷ inserted is_ahead a xs)) ≡ (u || (v || list_any p xs))
 any_inserted_by p a x xs ih true u v e f = rw (e, f) refl
@@ -140,18 +140,17 @@ any_inserted : (p : Seat → Bool) (a : Seat) (xs : List Seat) → list_any p (i
 any_inserted p a [] = refl
 any_inserted p a (x ∷ xs) = any_inserted_by p a x xs (any_inserted p a xs) (is_ahead a x) (p a) (p x) refl refl
 
-timed_by : (r q : Row) (o : Option Row) (there : Bool) → (o ≡ Some r → there ≡ true) → (b : Bool) → cond b (Some q) o ≡ Some r → (is_eq (seat_cmp (seat_of r) (seat_of q)) || there) ≡ true
-timed_by r q o there ih true e =
+seated_by : (r q : Row) (o : Option Row) (there : Bool) → (o ≡ Some r → there ≡ true) → (b : Bool) → cond b (Some q) o ≡ Some r → (is_eq (seat_cmp (seat_of r) (seat_of q)) || there) ≡ true
+seated_by r q o there ih true e =
     let same : q ≡ r = cc in
     ap (λ (b : Bool). b || there) (is_same (seat_of r) (seat_of q) (ap seat_of (sym same)))
-timed_by r q o there ih false e = ap (λ (b : Bool). is_eq (seat_cmp (seat_of r) (seat_of q)) || b) (ih e) ∙ or_true (is_eq (seat_cmp (seat_of r) (seat_of q)))
+seated_by r q o there ih false e = ap (λ (b : Bool). is_eq (seat_cmp (seat_of r) (seat_of q)) || b) (ih e) ∙ or_true (is_eq (seat_cmp (seat_of r) (seat_of q)))
 
-pub timed : (id : ℕ) (r : Row) (rows : List Row) → row_of id rows ≡ Some r → list_any (λ u. is_eq (seat_cmp (seat_of r) u)) (in_seats rows) ≡ true
-timed id r [] e = cc
-timed id r (q ∷ rows) e =
+pub seated : (id : ℕ) (r : Row) (rows : List Row) → row_of id rows ≡ Some r → list_any (λ u. is_eq (seat_cmp (seat_of r) u)) (in_seats rows) ≡ true
+seated id r [] e = cc
+seated id r (q ∷ rows) e =
     any_inserted (λ u. is_eq (seat_cmp (seat_of r) u)) (seat_of q) (in_seats rows)
-    ∙ timed_by r q (row_of id rows) (list_any (λ u. is_eq (seat_cmp (seat_of r) u)) (in_seats rows)) (timed id r rows) (q.id == id) e
-
+    ∙ seated_by r q (row_of id rows) (list_any (λ u. is_eq (seat_cmp (seat_of r) u)) (in_seats rows)) (seated id r rows) (q.id == id) e
 
 -- ---- a row put in the place of one with its key
 

@@ -1,9 +1,10 @@
--- How low a balanced tree of times is.
-use Rattle.std.proofs.Common.{◌≡◌, ℕ, zero, suc, ◌+◌, ◌≤◌, ◌⊎◌, inl, inr, max, List, ◌∷◌, ◌++◌, length, refl, ap, sym, subst, arith, length-append}
-use Rattle.source_rows.specs.Times.{Time, fewest, IsLow}
-use Rattle.source_rows.specs.TimeTree.{seen_of, DifferBy, IsEven}
-use Rattle.source_rows.specs.declared.times.Node.{Node}
-use Rattle.source_rows.specs.declared.times.Node.TheVariants.{Leaf, Fork}
+-- How low a balanced tree of seats is.
+use Rattle.std.proofs.Common.{◌≡◌, ℕ, zero, suc, ◌+◌, ◌≤◌, ◌⊎◌, inl, inr, max, List, ◌∷◌, ◌++◌, length, refl, ap, sym, ◌∙◌, subst, arith, length-append}
+use Rattle.source_rows.specs.Seats.{Seat, swapped, fewest, IsLow}
+use Rattle.source_rows.specs.SeatTree.{seen_of, DifferBy, IsEven}
+use Rattle.source_rows.proofs.Ahead.{length_swapped}
+use Rattle.source_rows.specs.declared.seats.Node.{Node}
+use Rattle.source_rows.specs.declared.seats.Node.TheVariants.{Leaf, Fork}
 
 pub fewest_rises : (h : ℕ) → fewest h ≤ fewest (suc h)
 fewest_rises zero = omega arith
@@ -27,7 +28,7 @@ apart_by (suc a) (suc b) h k = more (apart_by a b (omega arith) (omega arith))
     more (inr (inl e)) = inr (inl (ap suc e))
     more (inr (inr e)) = inr (inr (ap suc e))
 
--- one more time over two sides
+-- one more seat over two sides
 fewest_over : (a b : ℕ) → DifferBy 1 a b → fewest (suc (max a b)) ≤ fewest a + fewest b + 1
 fewest_over a b d = by (apart_by a b d.0 d.1)
   where
@@ -39,7 +40,7 @@ fewest_over a b d = by (apart_by a b d.0 d.1)
     by (inr (inl e)) = to a (omega (arith, e)) (subst (λ n. fewest (suc n) ≤ fewest n + fewest b + 1) (sym e) (omega arith))
     by (inr (inr e)) = to b (omega (arith, e)) (subst (λ n. fewest (suc n) ≤ fewest a + fewest n + 1) (sym e) (omega arith))
 
-pub low_sides : (v w : List Time × ℕ) (t : Time) → DifferBy 1 v.1 w.1 → IsLow v → IsLow w → IsLow (v.0 ++ t ∷ w.0, max v.1 w.1 + 1)
+pub low_sides : (v w : List Seat × ℕ) (t : Seat) → DifferBy 1 v.1 w.1 → IsLow v → IsLow w → IsLow (v.0 ++ t ∷ w.0, max v.1 w.1 + 1)
 low_sides v w t d l m =
     let is : max v.1 w.1 + 1 ≡ suc (max v.1 w.1) = omega arith in
     let long : length (v.0 ++ t ∷ w.0) ≡ length v.0 + length w.0 + 1 = omega (arith, length-append v.0 (t ∷ w.0)) in
@@ -51,5 +52,11 @@ low_sides v w t d l m =
 -- a node in balance is low
 pub low_even : (n : Node) → IsEven n → IsLow (seen_of n)
 low_even Leaf e = (omega arith, omega arith)
-low_even (Fork sooner time height later) e =
-    subst (λ h. IsLow (sooner.value.0 ++ time ∷ later.value.0, h)) (sym e.0) (low_sides sooner.value later.value time e.1 e.2 e.3)
+low_even (Fork sooner seat height least later) e =
+    subst (λ h. IsLow (sooner.value.0 ++ seat ∷ later.value.0, h)) (sym e.0) (low_sides sooner.value later.value seat e.1 e.2 e.3)
+
+-- sides of which one has a seat put where another stands
+pub side_swapped : (v w : List Seat × ℕ) (a b : Seat) → w.0 ≡ swapped a b v.0 → w.1 ≡ v.1 → IsLow v → IsLow w
+side_swapped v w a b s h low =
+    let long = ap (λ (l : List Seat). length l) s ∙ length_swapped a b v.0 in
+    (omega (arith, low.0, h, long), subst (λ n. fewest n ≤ length w.0) (sym h) (omega (arith, low.1, long)))

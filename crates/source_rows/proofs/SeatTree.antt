@@ -21,6 +21,10 @@ pub record AtFork (d l : List Seat) (k : Seat) (r : List Seat) : Type 0 where
 sides_shorter : (l : List Seat) (k : Seat) (r : List Seat) → length (l ++ k ∷ r) ≡ length l + length r + 1
 sides_shorter l k r = omega (arith, length-append l (k ∷ r))
 
+-- what a node shows
+pub parts_of : {n : Node} {d : List Seat × ℕ} {l r : Box Seats Global} {k : Seat} {h : _} {n0 : _} → seen_of n ≡ d → n ≡ Fork l k h n0 r → d.0 ≡ l.value.0 ++ k ∷ r.value.0
+parts_of {n} {d} {l} {r} {k} {h} {n0} view_is is = ap (λ (v : List Seat × ℕ). v.0) (sym view_is ∙ ap seen_of is)
+
 pub at_Fork : {n : Node} {d : List Seat × ℕ} {l r : Box Seats Global} {k : Seat} {h : _} {n0 : _} → seen_of n ≡ d → Rises is_ahead d.0 → n ≡ Fork l k h n0 r → AtFork d.0 l.value.0 k r.value.0
 at_Fork {n} {d} {l} {r} {k} {h} {n0} view_is rises is =
     let e = ap (λ (v : List Seat × ℕ). v.0) (sym view_is ∙ ap seen_of is) in

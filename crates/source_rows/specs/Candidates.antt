@@ -1,5 +1,5 @@
 -- The rows that may be ready at a time, as far as kinds and ready times tell.
-use Rattle.std.specs.Prelude.{ℕ, nat_lt, ◌&&◌, ◌-◌, ◌^◌, Bool, true, false, not, ℤ, pos, negsuc, List, filter, if◌then◌else◌}
+use Rattle.std.specs.Prelude.{ℕ, nat_lt, ◌&&◌, ◌^◌, Bool, true, false, not, ℤ, pos, negsuc, List, filter, if◌then◌else◌}
 use Rattle.std.specs.List.{list_any}
 use Rattle.loop_script.specs.declared.Kind.{Kind}
 use Rattle.loop_script.specs.declared.Kind.TheVariants.{Idle, Timeout, ReadyTime, Fd, Cancel}
@@ -14,14 +14,18 @@ is_open (ReadyTime us) = false
 is_open (Fd fd bits) = true
 is_open (Cancel c) = true
 
--- a ready time, or the last time of all for never
-abbrev pub or_last : ℤ → ℕ
-or_last (pos n) = n
-or_last (negsuc n) = 2 ^ 63 - 1
+-- later than any ready time
+abbrev pub never : ℕ
+never = 2 ^ 63
+
+-- when a ready time comes
+abbrev pub due_at : ℤ → ℕ
+due_at (pos n) = n
+due_at (negsuc n) = never
 
 -- from when on a source may be ready
 abbrev pub wakes_at : Kind → ℤ → ℕ
-wakes_at kind ready = if is_open kind then 0 else or_last ready
+wakes_at kind ready = if is_open kind then 0 else due_at ready
 
 abbrev pub is_awake : ℕ → Row → Bool
 is_awake now r = not (nat_lt now (wakes_at r.kind r.ready))

@@ -13,8 +13,6 @@ pub mod Moves
 pub mod Band
 pub mod Lists
 pub mod Inserted
-pub mod Times
-pub mod TimeTree
 pub mod TwoLevels
 pub mod Edits
 pub mod Heights

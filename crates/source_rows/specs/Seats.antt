@@ -1,18 +1,25 @@
--- The seats of rows in their order: where a row stands, its id, and from when on it may be ready.
-use Rattle.std.specs.Prelude.{ℕ, nat_lt, ◌||◌, length, ◌≡◌, ◌≤◌, ◌-◌, ◌^◌, Bool, false, not, Option, Some, None, List, [], ◌∷◌, map, filter, if◌then◌else◌}
+-- The seats of rows in their order: where a row stands, its id, from when on it may be ready, and when it is due.
+use Rattle.std.specs.Prelude.{ℕ, zero, suc, nat_lt, ◌+◌, ◌||◌, length, ◌≡◌, ◌≤◌, ◌^◌, Bool, false, not, Option, Some, None, List, [], ◌∷◌, map, filter, if◌then◌else◌}
 use Rattle.std.specs.Ordering.{is_lt, is_eq, ordering_then, nat_cmp}
 use Rattle.std.specs.declared.cmp.Ordering.{Ordering}
 use Rattle.source_rows.specs.declared.row.Row.{Row}
+use Rattle.source_rows.specs.declared.seats.Least.{Least}
 use Rattle.source_rows.specs.Inserted.{inserted}
 use Rattle.source_rows.specs.Rows.{Key, key_cmp, key_of}
-use Rattle.source_rows.specs.Candidates.{wakes_at}
+use Rattle.source_rows.specs.Candidates.{never, due_at, wakes_at}
 
--- a key, an id, and from when on its row may be ready
+-- a key, an id, from when on its row may be ready, and when it is due
 abbrev pub Seat : Type 0
-Seat = Key × (ℕ × ℕ)
+Seat = Key × (ℕ × (ℕ × ℕ))
+
+abbrev pub wake_of : Seat → ℕ
+wake_of s = s.1.1.0
+
+abbrev pub due_of : Seat → ℕ
+due_of s = s.1.1.1
 
 abbrev pub seat_cmp : Seat → Seat → Ordering
-seat_cmp a b = ordering_then (key_cmp a.0 b.0) (ordering_then (nat_cmp a.1.0 b.1.0) (nat_cmp a.1.1 b.1.1))
+seat_cmp a b = ordering_then (key_cmp a.0 b.0) (ordering_then (nat_cmp a.1.0 b.1.0) (ordering_then (nat_cmp (wake_of a) (wake_of b)) (nat_cmp (due_of a) (due_of b))))
 
 abbrev pub is_ahead : Seat → Seat → Bool
 is_ahead a b = is_lt (seat_cmp a b)
@@ -43,10 +50,13 @@ replaced a b seats = if is_other a b then (if stays a b then swapped a b seats e
 abbrev pub lesser : ℕ → ℕ → ℕ
 lesser a b = if nat_lt a b then a else b
 
--- the least time of the seats, the greatest that there is for none
-abbrev pub least_of : List Seat → ℕ
-least_of [] = 2 ^ 63 - 1
-least_of (s ∷ seats) = lesser s.1.1 (least_of seats)
+-- the least of a time of each seat, never for none
+abbrev pub least_by : (Seat → ℕ) → List Seat → ℕ
+least_by time [] = never
+least_by time (s ∷ seats) = lesser (time s) (least_by time seats)
+
+abbrev pub least_of : List Seat → Least
+least_of seats = record { wake = least_by wake_of seats; due = least_by due_of seats }
 
 -- the key does not stand behind the other
 abbrev pub is_passed : Option Key → Key → Bool
@@ -57,18 +67,38 @@ is_passed (Some a) k = not (is_lt (key_cmp a k))
 abbrev pub first_awake : Option Key → ℕ → List Seat → Option ℕ
 first_awake after now [] = None
 first_awake after now (s ∷ seats) = if is_passed after s.0 then first_awake after now seats
-    else if nat_lt now s.1.1 then first_awake after now seats
+    else if nat_lt now (wake_of s) then first_awake after now seats
     else Some s.1.0
 
+-- when a seat is due where that is after a time, else never
+abbrev pub due_after : ℕ → Seat → ℕ
+due_after now s = if nat_lt now (due_of s) then due_of s else never
+
+-- when the next of the seats is due, after a time
+abbrev pub next_due : ℕ → List Seat → ℕ
+next_due now seats = least_by (due_after now) seats
+
 abbrev pub seat_of : Row → Seat
-seat_of r = (key_of r, (r.id, wakes_at r.kind r.ready))
+seat_of r = (key_of r, (r.id, (wakes_at r.kind r.ready, due_at r.ready)))
 
 -- the seats of rows
 abbrev pub in_seats : List Row → List Seat
 in_seats [] = []
 in_seats (r ∷ rows) = inserted is_ahead (seat_of r) (in_seats rows)
 
--- the seats of rows, in a tree of some height
+-- the fewest seats that a tree of a height has where the heights of no two sides differ by more than one: one at its root, and on
+-- its sides the fewest of the height below it and of the one below that
+abbrev pub fewest : ℕ → ℕ
+fewest zero = 0
+fewest (suc zero) = 1
+fewest (suc (suc h)) = fewest (suc h) + fewest h + 1
+
+-- a tree of seats, seen with its height, is no higher than it has seats, and no higher than a balanced tree of so many can be
+abbrev pub IsLow : List Seat × ℕ → Type 0
+IsLow v = (v.1 ≤ length v.0) × (fewest v.1 ≤ length v.0)
+
+-- the seats of rows, in a tree that is low
 pub record IsSeated (rows : List Row) (seats : List Seat × ℕ) : Type 0 where
   pub are : seats.0 ≡ in_seats rows
-  pub low : seats.1 ≤ length seats.0
+  pub few : length seats.0 ≤ 2 ^ 63
+  pub low : IsLow seats

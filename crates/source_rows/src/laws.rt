@@ -38,7 +38,7 @@ pub fn worked_orders()
     ensures { WorkedOrders }
 {}
 
-/// How many ready times stand above each other at most where they stand in a balanced tree.
-pub fn ready_times_stand_low()
+/// How many seats stand above each other at most where they stand in a balanced tree.
+pub fn seats_stand_low()
     ensures { HeightLaws }
 {}

@@ -16,7 +16,6 @@ mod row;
 mod rows;
 mod seats;
 mod table;
-mod times;
 
 pub use candidates::Candidates;
 pub use fault::RowsFault;

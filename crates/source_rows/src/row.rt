@@ -5,10 +5,10 @@ ghost use Rattle.source_rows.specs.Band.{first_key, last_key};
 ghost use Rattle.source_rows.specs.Moves.{moved_row};
 ghost use Rattle.source_rows.specs.Slots.{asks};
 ghost use Rattle.source_rows.specs.Seats.{seat_of};
-ghost use Rattle.source_rows.specs.Candidates.{is_awake, or_last, wakes_at};
+ghost use Rattle.source_rows.specs.Candidates.{is_awake, due_at, wakes_at};
 ghost use Rattle.source_rows.specs.Row.{ready_at, root_row, child_row, line_under, path_under};
 
-use crate::seats::Seat;
+use crate::seats::{NEVER, Seat};
 use loop_script::{Kind, SourceSpec};
 use std::cmp::Ordering;
 
@@ -70,11 +70,12 @@ impl Row {
         }
     }
 
-    /// Where the row stands, its id, and from when on it may be ready.
+    /// Where the row stands, its id, from when on it may be ready, and when it is due.
     pub(crate) fn seat(&self) -> Seat
         ensures { result ≡ seat_of self.now }
     {
-        (self.key(), (self.id, wakes_at(self.kind, self.ready)))
+        let times = (wakes_at(self.kind, self.ready), due_at(self.ready));
+        (self.key(), (self.id, times))
     }
 
     /// Whether the source may be ready at a time, as far as its kind and its ready time tell.
@@ -109,15 +110,11 @@ impl Row {
     }
 }
 
-/// A ready time, or the last time of all for never.
-fn or_last(ready: i64) -> u64
-    ensures { result ≡ or_last ready }
+/// When a ready time comes.
+fn due_at(ready: i64) -> u64
+    ensures { result ≡ due_at ready }
 {
-    if ready < 0 {
-        9_223_372_036_854_775_807
-    } else {
-        ready as u64
-    }
+    if ready < 0 { NEVER } else { ready as u64 }
 }
 
 /// From when on a source may be ready.
@@ -125,8 +122,8 @@ fn wakes_at(kind: Kind, ready: i64) -> u64
     ensures { result ≡ wakes_at kind ready }
 {
     match kind {
-        Kind::Timeout(_) => or_last(ready),
-        Kind::ReadyTime(_) => or_last(ready),
+        Kind::Timeout(_) => due_at(ready),
+        Kind::ReadyTime(_) => due_at(ready),
         _ => 0,
     }
 }

@@ -1,36 +1,51 @@
-//! The seats of rows in order: key, id, and from when on the row may be ready, in a search tree whose nodes are taken beforehand: so a time is changed without memory.
+//! The seats of rows in order, in a search tree whose nodes are taken beforehand: so a ready time is changed without memory.
+//!
+//! A node has the least times of the seats from there on: so the next row that may be ready and the next ready time are found
+//! without a look at the others.
 ghost use Rattle.std.specs.Prelude.{◌≡◌, ◌+◌, ◌≤◌, ◌<◌, ◌^◌, max, length, [], ◌∷◌, ◌++◌, true, is_some, IfSome, IfNone};
 ghost use Rattle.std.specs.List.{list_any};
 ghost use Rattle.std.specs.Ordering.{is_eq};
 ghost use Rattle.source_rows.specs.Inserted.{inserted, Rises};
-ghost use Rattle.source_rows.specs.Seats.{seat_cmp, is_ahead, without, first_awake, least_of, lesser, is_passed, is_other, stays, swapped, replaced};
+ghost use Rattle.source_rows.specs.Seats.{seat_cmp, is_ahead, without, first_awake, next_due, due_after, least_of, lesser, is_passed, is_other, stays, swapped, replaced, IsLow};
+ghost use Rattle.source_rows.specs.Candidates.{never};
 ghost use Rattle.source_rows.specs.declared.seats.Node.TheVariants.{Fork};
-ghost use Rattle.source_rows.specs.SeatTree.{seen_of, is_fork, LosesRoot, IsEven, IsNearlyEven, AreNearlyEven, IsLow, IsHeight, IsLowered, Balances};
+ghost use Rattle.source_rows.specs.SeatTree.{seen_of, is_fork, LosesRoot, IsEven, IsNearlyEven, AreNearlyEven, IsHeight, IsLowered, Balances};
 
 use std::alloc::{AllocError, Global};
 use std::cmp::Ordering;
 use std::marker::Model;
 use std::mem;
 
-/// The key of a row, its id, and from when on it may be ready.
-pub(crate) type Seat = ((i32, [u64; 4]), (u64, u64));
+/// The key of a row, its id, and in microseconds from when on it may be ready and when it is due: `NEVER` for a row without a
+/// ready time.
+pub(crate) type Seat = ((i32, [u64; 4]), (u64, (u64, u64)));
 
-/// Ready times, each beside the id of its row, seen as a list. The tree is balanced: no time stands deep in it.
+/// Later than any ready time.
+pub(crate) const NEVER: u64 = 1 << 63;
+
+/// Seats, seen as a list with the height of their tree. The tree is balanced: no seat stands deep in it.
 #[cycle(seats)]
 #[derive(Drop)]
 pub(crate) struct Seats {
     node: Node,
 }
 
-/// What is sooner, a time, how high the tree is from here, and what is later.
+/// What stands before a seat, the seat, how high the tree is from here, the least times from here, and what stands behind it.
 #[cycle(seats)]
 #[derive(Drop)]
 enum Node {
     Leaf,
-    Fork(Box<Seats>, Seat, u64, u64, Box<Seats>),
+    Fork(Box<Seats>, Seat, u64, Least, Box<Seats>),
 }
 
-/// Room for one time.
+/// The least times of some seats, `NEVER` where there are none.
+#[derive(Clone, Copy)]
+pub(crate) struct Least {
+    wake: u64,
+    due: u64,
+}
+
+/// Room for one seat.
 #[derive(Drop)]
 pub(crate) struct Room {
     sooner: Box<Seats>,
@@ -63,15 +78,19 @@ impl Room {
         Ok(Room { sooner, later })
     }
 
-    /// A node with a time and nothing else.
-    fn fill(mut self, time: Seat) -> Node
-        ensures times { seen_of result ≡ (time ∷ [], 1) }
+    /// A node with a seat and nothing else.
+    fn fill(mut self, seat: Seat) -> Node
+        ensures seats { seen_of result ≡ (seat ∷ [], 1) }
         ensures even { IsEven result }
     {
         *self.sooner = Seats::new();
         *self.later = Seats::new();
-        let least = lesser(time.1.1, 9_223_372_036_854_775_807);
-        Node::Fork(self.sooner, time, 1, least, self.later)
+        let (wake, due) = seat.1.1;
+        let least = Least {
+            wake: lesser(wake, NEVER),
+            due: lesser(due, NEVER),
+        };
+        Node::Fork(self.sooner, seat, 1, least, self.later)
     }
 }
 
@@ -82,9 +101,11 @@ impl Seats {
         Seats { node: Node::Leaf }
     }
 
-    /// How many times stand above each other at most.
+    /// How many seats stand above each other at most.
+    #[tactic(auto, using(crate::proofs::Low::low_even))]
     pub fn height(&self) -> u64
-        ensures { result ≡ self.now.1 }
+        ensures height { result ≡ self.now.1 }
+        ensures low { IsLow self.now }
     {
         match self.node {
             Node::Leaf => 0,
@@ -92,32 +113,34 @@ impl Seats {
         }
     }
 
-    /// Puts a time into a place.
-    pub fn insert(&mut self, place: Room, time: Seat)
+    /// Puts a seat into a place.
+    #[tactic(auto, using(crate::proofs::Low::low_even))]
+    pub fn insert(&mut self, place: Room, seat: Seat)
         requires rises { Rises is_ahead self.old.0 }
         requires few { length self.old.0 < 2 ^ 63 }
         requires low { IsLow self.old }
-        ensures times { self.new.0 ≡ inserted is_ahead time self.old.0 }
+        ensures seats { self.new.0 ≡ inserted is_ahead seat self.old.0 }
         ensures low { IsLow self.new }
         ensures height { IsLowered self.new.1 self.old.1 }
     {
         match &mut self.node {
             Node::Leaf => {
-                self.node = place.fill(time);
+                self.node = place.fill(seat);
                 return;
             }
             Node::Fork(sooner, other, _, _, later) => {
-                if is_ahead(&time, other) {
-                    sooner.insert(place, time);
+                if is_ahead(&seat, other) {
+                    sooner.insert(place, seat);
                 } else {
-                    later.insert(place, time);
+                    later.insert(place, seat);
                 }
             }
         }
         balance(&mut self.node);
     }
 
-    /// Takes the first time out, with its place.
+    /// Takes the first seat out, with its place.
+    #[tactic(auto, using(crate::proofs::Low::low_even))]
     fn remove_first(&mut self) -> Option<(Seat, Room)>
         requires few { length self.old.0 ≤ 2 ^ 63 }
         requires low { IsLow self.old }
@@ -137,28 +160,29 @@ impl Seats {
         }
         match mem::replace(&mut self.node, Node::Leaf) {
             Node::Leaf => None,
-            Node::Fork(sooner, time, _, _, mut later) => {
+            Node::Fork(sooner, seat, _, _, mut later) => {
                 self.node = mem::replace(&mut *later, Seats::new()).node;
-                Some((time, Room { sooner, later }))
+                Some((seat, Room { sooner, later }))
             }
         }
     }
 
-    /// Takes a time out, with its place; None where it isn't there.
-    fn take(&mut self, time: Seat) -> Option<Room>
+    /// Takes a seat out, with its place; none where it is not there.
+    #[tactic(auto, using(crate::proofs::Low::low_even))]
+    fn take(&mut self, seat: Seat) -> Option<Room>
         requires rises { Rises is_ahead self.old.0 }
         requires few { length self.old.0 ≤ 2 ^ 63 }
         requires low { IsLow self.old }
-        ensures there { is_some result ≡ list_any (λ u. is_eq (seat_cmp time u)) self.old.0 }
-        ensures times { self.new.0 ≡ without time self.old.0 }
+        ensures there { is_some result ≡ list_any (λ u. is_eq (seat_cmp seat u)) self.old.0 }
+        ensures seats { self.new.0 ≡ without seat self.old.0 }
         ensures low { IsLow self.new }
         ensures height { IsLowered self.old.1 self.new.1 }
     {
         let place = match &mut self.node {
             Node::Leaf => return None,
-            Node::Fork(sooner, other, _, _, later) => match time.cmp(other) {
-                Ordering::Less => sooner.take(time),
-                Ordering::Greater => later.take(time),
+            Node::Fork(sooner, other, _, _, later) => match seat.cmp(other) {
+                Ordering::Less => sooner.take(seat),
+                Ordering::Greater => later.take(seat),
                 Ordering::Equal => return remove_root(&mut self.node),
             },
         };
@@ -166,15 +190,15 @@ impl Seats {
         place
     }
 
-    /// Gives a time up, and its place.
-    pub fn remove(&mut self, time: Seat)
+    /// Gives a seat up, and its place.
+    pub fn remove(&mut self, seat: Seat)
         requires rises { Rises is_ahead self.old.0 }
         requires few { length self.old.0 ≤ 2 ^ 63 }
         requires low { IsLow self.old }
-        ensures times { self.new.0 ≡ without time self.old.0 }
+        ensures seats { self.new.0 ≡ without seat self.old.0 }
         ensures low { IsLow self.new }
     {
-        drop(self.take(time));
+        drop(self.take(seat));
     }
 
     /// Puts another seat into the place of one.
@@ -183,7 +207,7 @@ impl Seats {
         requires few { length self.old.0 ≤ 2 ^ 63 }
         requires low { IsLow self.old }
         requires there { list_any (λ u. is_eq (seat_cmp before u)) self.old.0 ≡ true }
-        ensures times { self.new.0 ≡ inserted is_ahead after (without before self.old.0) }
+        ensures seats { self.new.0 ≡ inserted is_ahead after (without before self.old.0) }
         ensures low { IsLow self.new }
     {
         if let Some(place) = self.take(before) {
@@ -216,7 +240,7 @@ impl Seats {
         requires few { length self.old.0 ≤ 2 ^ 63 }
         requires low { IsLow self.old }
         requires there { list_any (λ u. is_eq (seat_cmp before u)) self.old.0 ≡ true }
-        ensures times { self.new.0 ≡ replaced before after self.old.0 }
+        ensures seats { self.new.0 ≡ replaced before after self.old.0 }
         ensures low { IsLow self.new }
     {
         if is_other(&before, &after) {
@@ -228,12 +252,15 @@ impl Seats {
         }
     }
 
-    /// No seat wakes before this time.
-    fn least(&self) -> u64
+    /// The least times of the seats.
+    fn least(&self) -> Least
         ensures { result ≡ least_of self.now.0 }
     {
         match self.node {
-            Node::Leaf => 9_223_372_036_854_775_807,
+            Node::Leaf => Least {
+                wake: NEVER,
+                due: NEVER,
+            },
             Node::Fork(_, _, _, least, _) => least,
         }
     }
@@ -245,23 +272,41 @@ impl Seats {
     {
         match &self.node {
             Node::Leaf => None,
-            Node::Fork(sooner, time, _, least, later) => {
-                if now < *least {
+            Node::Fork(sooner, seat, _, least, later) => {
+                if now < least.wake {
                     return None;
                 }
-                if is_passed(after, time.0) {
+                if is_passed(after, seat.0) {
                     return later.first_awake(after, now);
                 }
                 match sooner.first_awake(after, now) {
                     None => {
-                        if time.1.1 <= now {
-                            Some(time.1.0)
+                        if seat.1.1.0 <= now {
+                            Some(seat.1.0)
                         } else {
                             later.first_awake(after, now)
                         }
                     }
                     first => first,
                 }
+            }
+        }
+    }
+
+    /// When the next of the seats is due, after a time.
+    pub fn next_due(&self, now: u64) -> u64
+        ensures { result ≡ next_due now self.now.0 }
+    {
+        match &self.node {
+            Node::Leaf => NEVER,
+            Node::Fork(sooner, seat, _, least, later) => {
+                if now < least.due {
+                    return least.due;
+                }
+                lesser(
+                    sooner.next_due(now),
+                    lesser(due_after(now, seat), later.next_due(now)),
+                )
             }
         }
     }
@@ -305,11 +350,24 @@ fn lesser(a: u64, b: u64) -> u64
     }
 }
 
-/// The least time of a seat and of those on its sides.
-fn least_over(sooner: &Seats, time: Seat, later: &Seats) -> u64
-    ensures { result ≡ least_of (sooner.now.0 ++ time ∷ later.now.0) }
+/// The least times of a seat and of those on its sides.
+fn least_over(sooner: &Seats, seat: Seat, later: &Seats) -> Least
+    ensures { result ≡ least_of (sooner.now.0 ++ seat ∷ later.now.0) }
 {
-    lesser(sooner.least(), lesser(time.1.1, later.least()))
+    let (before, behind) = (sooner.least(), later.least());
+    let (wake, due) = seat.1.1;
+    Least {
+        wake: lesser(before.wake, lesser(wake, behind.wake)),
+        due: lesser(before.due, lesser(due, behind.due)),
+    }
+}
+
+/// When a seat is due where that is after a time, else never.
+fn due_after(now: u64, seat: &Seat) -> u64
+    ensures { result ≡ due_after now seat.now }
+{
+    let due = seat.1.1.1;
+    if now < due { due } else { NEVER }
 }
 
 /// Whether a key does not stand behind another.
@@ -325,12 +383,13 @@ fn is_passed(after: Option<(i32, [u64; 4])>, key: (i32, [u64; 4])) -> bool
     }
 }
 
-/// Takes the time out that stands at the root, with its place.
+/// Takes the seat out that stands at the root, with its place.
+#[tactic(auto, using(crate::proofs::Low::low_even, crate::proofs::Low::low_sides))]
 fn remove_root(node: &mut Node) -> Option<Room>
     requires even { IsEven node.old }
     requires few { length (seen_of node.old).0 ≤ 2 ^ 63 }
     ensures place { is_some result ≡ is_fork node.old }
-    ensures times { LosesRoot node.old node.new }
+    ensures seats { LosesRoot node.old node.new }
     ensures even { IsEven node.new }
     ensures height { IsLowered (seen_of node.old).1 (seen_of node.new).1 }
 {
@@ -350,13 +409,13 @@ fn remove_root(node: &mut Node) -> Option<Room>
 }
 
 /// A node over two sides.
-fn fork(sooner: Box<Seats>, time: Seat, later: Box<Seats>) -> Node
+fn fork(sooner: Box<Seats>, seat: Seat, later: Box<Seats>) -> Node
     requires { max sooner.value.1 later.value.1 + 1 < 2 ^ 64 }
-    ensures { result ≡ Fork sooner time (max sooner.value.1 later.value.1 + 1) (least_of (sooner.value.0 ++ time ∷ later.value.0)) later }
+    ensures { result ≡ Fork sooner seat (max sooner.value.1 later.value.1 + 1) (least_of (sooner.value.0 ++ seat ∷ later.value.0)) later }
 {
     let height = sooner.height().max(later.height()) + 1;
-    let least = least_over(&sooner, time, &later);
-    Node::Fork(sooner, time, height, least, later)
+    let least = least_over(&sooner, seat, &later);
+    Node::Fork(sooner, seat, height, least, later)
 }
 
 /// Brings a node into balance after a change of one side.
@@ -364,79 +423,82 @@ fn balance(node: &mut Node)
     requires { IsNearlyEven node.old }
     ensures { Balances node.old node.new }
 {
-    if let Node::Fork(sooner, time, height, least, later) = node {
+    if let Node::Fork(sooner, seat, height, least, later) = node {
         let (low, high) = (sooner.height(), later.height());
         if low.abs_diff(high) <= 1 {
             *height = low.max(high) + 1;
-            *least = least_over(sooner, *time, later);
+            *least = least_over(sooner, *seat, later);
             return;
         }
     }
     *node = match mem::replace(node, Node::Leaf) {
         Node::Leaf => Node::Leaf,
-        Node::Fork(sooner, time, _, _, later) => balanced(sooner, time, later),
+        Node::Fork(sooner, seat, _, _, later) => balanced(sooner, seat, later),
     };
 }
 
 /// A node over two sides that differ in height by at most two.
-fn balanced(sooner: Box<Seats>, time: Seat, later: Box<Seats>) -> Node
+#[tactic(auto, using(crate::proofs::Low::low_even, crate::proofs::Low::low_sides))]
+fn balanced(sooner: Box<Seats>, seat: Seat, later: Box<Seats>) -> Node
     requires { AreNearlyEven sooner.value later.value }
     ensures even { IsEven result }
-    ensures times { (seen_of result).0 ≡ sooner.value.0 ++ time ∷ later.value.0 }
+    ensures seats { (seen_of result).0 ≡ sooner.value.0 ++ seat ∷ later.value.0 }
     ensures height { IsHeight sooner.value.1 later.value.1 (seen_of result).1 }
 {
     let (low, high) = (sooner.height(), later.height());
     if low > high + 1 {
-        lift_sooner(sooner, time, later)
+        lift_sooner(sooner, seat, later)
     } else if high > low + 1 {
-        lift_later(sooner, time, later)
+        lift_later(sooner, seat, later)
     } else {
-        fork(sooner, time, later)
+        fork(sooner, seat, later)
     }
 }
 
 /// A node over two sides of which the sooner is the higher by two.
-fn lift_sooner(mut sooner: Box<Seats>, time: Seat, later: Box<Seats>) -> Node
+#[tactic(auto, using(crate::proofs::Low::low_even, crate::proofs::Low::low_sides))]
+fn lift_sooner(mut sooner: Box<Seats>, seat: Seat, later: Box<Seats>) -> Node
     requires sides { AreNearlyEven sooner.value later.value }
     requires higher { sooner.value.1 ≡ later.value.1 + 2 }
     ensures even { IsEven result }
-    ensures times { (seen_of result).0 ≡ sooner.value.0 ++ time ∷ later.value.0 }
+    ensures seats { (seen_of result).0 ≡ sooner.value.0 ++ seat ∷ later.value.0 }
     ensures height { IsHeight sooner.value.1 later.value.1 (seen_of result).1 }
 {
     let Node::Fork(first, low, _, _, mut inner) = mem::replace(&mut *sooner, Seats::new()).node else {
         unreachable!()
     };
     if first.height() >= inner.height() {
-        sooner.node = fork(inner, time, later);
+        sooner.node = fork(inner, seat, later);
         return fork(first, low, sooner);
     }
     let Node::Fork(before, middle, _, _, after) = mem::replace(&mut *inner, Seats::new()).node else {
         unreachable!()
     };
     inner.node = fork(first, low, before);
-    sooner.node = fork(after, time, later);
+    sooner.node = fork(after, seat, later);
     fork(inner, middle, sooner)
 }
 
 /// A node over two sides of which the later is the higher by two.
-fn lift_later(sooner: Box<Seats>, time: Seat, mut later: Box<Seats>) -> Node
+#[tactic(auto, using(crate::proofs::Low::low_even, crate::proofs::Low::low_sides))]
+fn lift_later(sooner: Box<Seats>, seat: Seat, mut later: Box<Seats>) -> Node
     requires sides { AreNearlyEven sooner.value later.value }
     requires higher { later.value.1 ≡ sooner.value.1 + 2 }
     ensures even { IsEven result }
-    ensures times { (seen_of result).0 ≡ sooner.value.0 ++ time ∷ later.value.0 }
+    ensures seats { (seen_of result).0 ≡ sooner.value.0 ++ seat ∷ later.value.0 }
     ensures height { IsHeight sooner.value.1 later.value.1 (seen_of result).1 }
 {
     let Node::Fork(mut inner, high, _, _, last) = mem::replace(&mut *later, Seats::new()).node else {
         unreachable!()
     };
     if last.height() >= inner.height() {
-        later.node = fork(sooner, time, inner);
+        later.node = fork(sooner, seat, inner);
         return fork(later, high, last);
     }
     let Node::Fork(before, middle, _, _, after) = mem::replace(&mut *inner, Seats::new()).node else {
         unreachable!()
     };
-    later.node = fork(sooner, time, before);
+    later.node = fork(sooner, seat, before);
     inner.node = fork(after, high, last);
     fork(later, middle, inner)
 }

@@ -11,20 +11,18 @@ ghost use Rattle.source_rows.specs.Slots.{AllNamed, MayAsk, asks};
 
 use crate::guesses::Guesses;
 use crate::row::Row;
-use crate::seats::{Room, Seats};
-use crate::times::{Place, Times};
+use crate::seats::{NEVER, Room, Seats};
 use slab::Slab;
 use std::alloc::{AllocError, Global};
 use std::collections::BTreeMap;
 use std::marker::Model;
 
-/// Rows by rising id, each found by its id, with their ready times in order.
+/// Rows by rising id, each found by its id, with their seats in order.
 #[derive(Drop)]
 pub(crate) struct Table {
     slots: Slab<Row>,
     keys: BTreeMap<u64, usize>,
     guesses: Guesses,
-    times: Times,
     seats: Seats,
     /// Whether a row may be one of a descriptor.
     may_ask: bool,
@@ -41,7 +39,7 @@ impl Model for Table {
 
     ghost view = { λ t. rows_at t.slots t.keys.entries };
 
-    ghost invariant = { λ t. IsHeld t.slots t.keys.entries t.times t.seats t.may_ask };
+    ghost invariant = { λ t. IsHeld t.slots t.keys.entries t.seats t.may_ask };
 }
 
 /// The slot of an id, from a guess where that is right.
@@ -79,7 +77,6 @@ impl Table {
             slots: Slab::new(alloc),
             keys: BTreeMap::new(alloc),
             guesses: Guesses::new(alloc),
-            times: Times::new(),
             seats: Seats::new(),
             may_ask: false,
             alloc,
@@ -115,7 +112,8 @@ impl Table {
         requires { now ≤ 2 ^ 62 }
         ensures { result ≡ next_ready now self.now }
     {
-        self.times.first_above(now as i64)
+        let due = self.seats.next_due(now);
+        if due < NEVER { Some(due as i64) } else { None }
     }
 
     /// The id of the first row behind a key that may be ready at `now`.
@@ -132,7 +130,6 @@ impl Table {
         ensures ok { OnOk result (self.new ≡ self.old ++ row ∷ []) }
         ensures err { OnErr result (self.new ≡ self.old) }
     {
-        let place = Place::new(self.alloc)?;
         let room = Room::new(self.alloc)?;
         self.slots.reserve(1)?;
         self.guesses.make_room(self.alloc, &self.slots)?;
@@ -142,7 +139,6 @@ impl Table {
                 self.guesses.note(&self.slots, row.id, key);
                 let may_ask = may_ask_with(self.may_ask, &row);
                 self.may_ask = may_ask;
-                self.times.insert(place, (row.ready, row.id));
                 self.seats.insert(room, row.seat());
                 Ok(())
             }
@@ -161,14 +157,10 @@ impl Table {
         if let Some(key) = slot_of(&self.slots, &self.keys, &self.guesses, row.id) {
             if let Some(slot) = self.slots.get_mut(key) {
                 let may_ask = may_ask_with(self.may_ask, &row);
-                let before = slot.ready;
                 let seat = slot.seat();
                 *slot = row;
                 self.seats.replace(seat, row.seat());
                 self.may_ask = may_ask;
-                if before != row.ready {
-                    self.times.change(row.id, before, row.ready);
-                }
             }
         }
     }
@@ -180,7 +172,6 @@ impl Table {
     {
         if let Some(key) = self.keys.remove(&id) {
             if let Some(row) = self.slots.try_remove(key) {
-                self.times.remove((row.ready, id));
                 self.seats.remove(row.seat());
             }
         }

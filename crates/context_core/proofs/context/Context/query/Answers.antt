@@ -1,4 +1,4 @@
-use Rattle.std.proofs.Common.{◌≡◌, ◌++◌, [], List, map, filter, false, ap, sym, ◌∙◌, rules}
+use Rattle.std.proofs.Common.{◌≡◌, [], List, map, filter, false, ap, sym, ◌∙◌, rules}
 use Rattle.source_rows.specs.declared.row.Row.{Row}
 use Rattle.source_rows.specs.Candidates.{candidates}
 use Rattle.context_core.specs.Phases.{is_asked, interest_of}

@@ -1,4 +1,4 @@
-use Rattle.std.proofs.Common.{◌≡◌, ℕ, ◌++◌, [], List, false, ℤ, Some, ap, sym, ◌∙◌, rules, w32}
+use Rattle.std.proofs.Common.{◌≡◌, ℕ, ◌++◌, [], List, ℤ, Some, ap, sym, ◌∙◌, rules, w32}
 use Rattle.std.proofs.lemmas.Int.{to_z-of_z}
 use mir.Val.{SFits, to_z, of_z}
 use Rattle.std.specs.Ordering.{nat_cmp}

@@ -32,30 +32,30 @@ balance-requires t c =
       | then-is_ahead w ↦
           let a = w.insert.ensures in
           let is : w.deref_mut.result.now ≡ c.in-Fork.sooner.value = search rules in
-          let more = length_inserted is_ahead c.args.time w.deref_mut.result.now.0 in
-          rw w.self-inside-is (grind (arith, is), a.low, even.3, grind (arith, is, more, a.times, f.parts, c.requires.few))
+          let more = length_inserted is_ahead c.args.seat w.deref_mut.result.now.0 in
+          rw w.self-inside-is (grind (arith, is), a.low, even.3, grind (arith, is, more, a.seats, f.parts, c.requires.few))
       | else-is_ahead w ↦
           let a = w.insert-else-is_ahead.ensures in
           let is : w.deref_mut-else-is_ahead.result.now ≡ c.in-Fork.later.value = search rules in
-          let more = length_inserted is_ahead c.args.time w.deref_mut-else-is_ahead.result.now.0 in
-          rw w.self-inside-is (grind (arith, is), even.2, a.low, grind (arith, is, more, a.times, f.parts, c.requires.few))
+          let more = length_inserted is_ahead c.args.seat w.deref_mut-else-is_ahead.result.now.0 in
+          rw w.self-inside-is (grind (arith, is), even.2, a.low, grind (arith, is, more, a.seats, f.parts, c.requires.few))
     ]
 
-pub returns-clause-times : goal.returns-clause-times
-returns-clause-times t c =
+pub returns-clause-seats : goal.returns-clause-seats
+returns-clause-seats t c =
     let f = at_Fork c.self.view_is c.requires.rises c.in-Fork.is in
     let l = c.in-Fork.sooner.value.0 in
     let k = c.in-Fork.other in
     let r = c.in-Fork.later.value.0 in
     elim c.if-is_ahead.branch [
       | then-is_ahead w ↦
-          let low : is_ahead c.args.time k ≡ true = search rules in
+          let low : is_ahead c.args.seat k ≡ true = search rules in
           let s = rw w.self-inside-is at c.balance.ensures in
-          let is : w.insert.new.self.0 ≡ inserted is_ahead c.args.time l = search rules in
-          s.1 ∙ (ap (λ (x : List Seat). x ++ k ∷ r) is ∙ sym (ap (inserted is_ahead c.args.time) f.is ∙ inserted_left is_ahead c.args.time l k r low))
+          let is : w.insert.new.self.0 ≡ inserted is_ahead c.args.seat l = search rules in
+          s.1 ∙ (ap (λ (x : List Seat). x ++ k ∷ r) is ∙ sym (ap (inserted is_ahead c.args.seat) f.is ∙ inserted_left is_ahead c.args.seat l k r low))
       | else-is_ahead w ↦
-          let high : is_ahead c.args.time k ≡ false = search rules in
+          let high : is_ahead c.args.seat k ≡ false = search rules in
           let s = rw w.self-inside-is at c.balance.ensures in
-          let is : w.insert-else-is_ahead.new.self.0 ≡ inserted is_ahead c.args.time r = search rules in
-          s.1 ∙ (ap (λ (x : List Seat). l ++ k ∷ x) is ∙ sym (ap (inserted is_ahead c.args.time) f.is ∙ inserted_right is_ahead sooner_order c.args.time l k r f.rises high))
+          let is : w.insert-else-is_ahead.new.self.0 ≡ inserted is_ahead c.args.seat r = search rules in
+          s.1 ∙ (ap (λ (x : List Seat). l ++ k ∷ x) is ∙ sym (ap (inserted is_ahead c.args.seat) f.is ∙ inserted_right is_ahead sooner_order c.args.seat l k r f.rises high))
     ]

@@ -1,7 +1,8 @@
-use Rattle.std.proofs.Common.{◌≡◌, ◌∙◌, ◌<◌, List, [], ◌∷◌, ◌++◌, length, sym, ap, arith, rules}
+use Rattle.std.proofs.Common.{◌≡◌, ◌∙◌, ◌<◌, ℕ, ◌+◌, max, subst, List, [], ◌∷◌, ◌++◌, length, sym, ap, arith, rules}
 use Rattle.std.specs.declared.cmp.Ordering.TheVariants.{Less, Equal, Greater}
 use Rattle.source_rows.specs.declared.seats.Node.{Node}
-use Rattle.source_rows.specs.SeatTree.{seen_of}
+use Rattle.source_rows.specs.SeatTree.{seen_of, IsEven, DifferBy}
+use Rattle.source_rows.proofs.Low.{side_swapped}
 use Rattle.source_rows.specs.Seats.{Seat, seat_cmp, swapped}
 use Rattle.source_rows.proofs.SeatTree.{at_Fork}
 use Rattle.source_rows.proofs.Ahead.{less_sooner, greater_back, same_from_equal, swapped_left, swapped_right, swapped_here}
@@ -45,5 +46,31 @@ returns-clause-seats t c =
             | in-Equal v ↦
                 let o : seat_cmp a k ≡ Equal = search rules in
                 rw (w.self-inside-is, v.sooner-is, v.seat-is, v.later-is) (sym (ap (swapped a b) f.is ∙ swapped_here a b l k r f.rises (same_from_equal a k o)))
+          ]
+    ]
+
+pub invariant_of-self : goal.invariant_of-self
+invariant_of-self t c =
+    elim c.match-self.branch [
+      | in-Leaf w ↦ search rules
+      | in-Fork w ↦
+          let even = subst IsEven w.in-Fork.is c.self.invariant in
+          let a = c.args.before in
+          let b = c.args.after in
+          let l = w.in-Fork.sooner.value in
+          let r = w.in-Fork.later.value in
+          elim w.match-cmp.branch [
+            | in-Less v ↦
+                let seats : v.set.new.self.0 ≡ swapped a b l.0 = search rules in
+                let height : v.set.new.self.1 ≡ l.1 = search rules in
+                let low = side_swapped l v.set.new.self a b seats height even.2 in
+                rw (w.self-inside-is, v.sooner-is, v.seat-is, v.later-is) (subst (λ (n : ℕ). w.in-Fork.field-2 ≡ max n r.1 + 1) (sym height) even.0, subst (λ (n : ℕ). DifferBy 1 n r.1) (sym height) even.1, low, even.3, search rules)
+            | in-Greater v ↦
+                let seats : v.set-in-Greater.new.self.0 ≡ swapped a b r.0 = search rules in
+                let height : v.set-in-Greater.new.self.1 ≡ r.1 = search rules in
+                let low = side_swapped r v.set-in-Greater.new.self a b seats height even.3 in
+                rw (w.self-inside-is, v.sooner-is, v.seat-is, v.later-is) (subst (λ (n : ℕ). w.in-Fork.field-2 ≡ max l.1 n + 1) (sym height) even.0, subst (λ (n : ℕ). DifferBy 1 l.1 n) (sym height) even.1, even.2, low, search rules)
+            | in-Equal v ↦
+                rw (w.self-inside-is, v.sooner-is, v.seat-is, v.later-is) (even.0, even.1, even.2, even.3, search rules)
           ]
     ]

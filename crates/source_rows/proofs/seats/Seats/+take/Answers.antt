@@ -33,19 +33,19 @@ balance-requires t c =
       | in-Less w ↦
           let a = w.take.ensures in
           let is : w.deref_mut.result.now ≡ c.in-Fork.sooner.value = search rules in
-          let less = length_filter (λ u. not (is_eq (seat_cmp c.args.time u))) w.deref_mut.result.now.0 in
-          rw w.self-inside-is (grind (arith, is), a.low, even.3, grind (arith, is, less, a.times, f.parts, c.requires.few))
+          let less = length_filter (λ u. not (is_eq (seat_cmp c.args.seat u))) w.deref_mut.result.now.0 in
+          rw w.self-inside-is (grind (arith, is), a.low, even.3, grind (arith, is, less, a.seats, f.parts, c.requires.few))
       | in-Greater w ↦
           let a = w.take-in-Greater.ensures in
           let is : w.deref_mut-in-Greater.result.now ≡ c.in-Fork.later.value = search rules in
-          let less = length_filter (λ u. not (is_eq (seat_cmp c.args.time u))) w.deref_mut-in-Greater.result.now.0 in
-          rw w.self-inside-is (grind (arith, is), even.2, a.low, grind (arith, is, less, a.times, f.parts, c.requires.few))
+          let less = length_filter (λ u. not (is_eq (seat_cmp c.args.seat u))) w.deref_mut-in-Greater.result.now.0 in
+          rw w.self-inside-is (grind (arith, is), even.2, a.low, grind (arith, is, less, a.seats, f.parts, c.requires.few))
     ]
 
 pub returns-clause-there : goal.returns-clause-there
 returns-clause-there t c =
     let f = at_Fork c.self.view_is c.requires.rises c.in-Fork.is in
-    let x = c.args.time in
+    let x = c.args.seat in
     let l = c.in-Fork.sooner.value.0 in
     let k = c.in-Fork.other in
     let r = c.in-Fork.later.value.0 in
@@ -60,10 +60,10 @@ returns-clause-there t c =
           is ∙ sym (ap (list_any (λ u. is_eq (seat_cmp x u))) f.is ∙ there_right x l k r f.rises (greater_back x k o))
     ]
 
-pub returns-clause-times : goal.returns-clause-times
-returns-clause-times t c =
+pub returns-clause-seats : goal.returns-clause-seats
+returns-clause-seats t c =
     let f = at_Fork c.self.view_is c.requires.rises c.in-Fork.is in
-    let x = c.args.time in
+    let x = c.args.seat in
     let l = c.in-Fork.sooner.value.0 in
     let k = c.in-Fork.other in
     let r = c.in-Fork.later.value.0 in
@@ -80,10 +80,10 @@ returns-clause-times t c =
           s.1 ∙ (ap (λ (y : List Seat). l ++ k ∷ y) is ∙ sym (ap (without x) f.is ∙ without_right x l k r f.rises (greater_back x k o)))
     ]
 
-pub returns-in-Equal-clause-times : goal.returns-in-Equal-clause-times
-returns-in-Equal-clause-times t c =
+pub returns-in-Equal-clause-seats : goal.returns-in-Equal-clause-seats
+returns-in-Equal-clause-seats t c =
     let f = at_Fork c.self.view_is c.requires.rises c.in-Fork.is in
-    let x = c.args.time in
+    let x = c.args.seat in
     let l = c.in-Fork.sooner.value.0 in
     let k = c.in-Fork.other in
     let r = c.in-Fork.later.value.0 in

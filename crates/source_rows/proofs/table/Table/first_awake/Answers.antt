@@ -1,11 +1,11 @@
 use Rattle.std.proofs.Common.{◌≡◌, ◌∙◌, ap, rules, List}
 use Rattle.source_rows.specs.declared.row.Row.{Row}
 use Rattle.source_rows.specs.Seats.{first_awake, in_seats}
-use Rattle.source_rows.proofs.Seated.{stands}
+use Rattle.source_rows.proofs.Seated.{rises_seats}
 use Rattle.source_rows.proofs.table.Table.first_awake.Goals as goal
 
 pub first_awake-requires : goal.first_awake-requires
-first_awake-requires c = (stands c.self.inside.slots c.self.inside.keys.entries c.self.inside.times c.self.inside.seats c.self.invariant.timed c.self.invariant.seated).rises
+first_awake-requires c = rises_seats c.self.inside.slots c.self.inside.keys.entries c.self.inside.seats c.self.invariant.filled.table c.self.invariant.seated
 
 pub returns : goal.returns
 returns c =
