@@ -25,9 +25,11 @@ pub mod Low
 pub mod Heights
 pub mod Filled
 pub mod SeatTree
+pub mod Soonest
 pub mod Ahead
 pub mod InSeats
 pub mod Seated
 pub mod NextDue
 pub mod Steps
+pub mod AwakeRows
 pub mod Walked

@@ -8,7 +8,7 @@ use Rattle.source_rows.specs.Candidates.{never, due_at}
 use Rattle.source_rows.specs.Rows.{sooner, next_ready}
 use Rattle.source_rows.specs.Seats.{lesser, due_after, next_due, seat_of, in_seats}
 use Rattle.source_rows.specs.Slots.{IsTime}
-use Rattle.source_rows.proofs.Ahead.{least_most, least_put}
+use Rattle.source_rows.proofs.Soonest.{least_most, least_put}
 
 -- a time that is due, none for never
 abbrev pub time : ℕ → Option ℤ

@@ -4,6 +4,7 @@
 //! iteration dispatches them: by priority, and in each tree the children before their parent.
 #![tactic(auto)]
 
+mod balance;
 mod candidates;
 mod fault;
 mod guesses;

@@ -2,7 +2,7 @@ use Rattle.std.proofs.Common.{◌≡◌, ◌∙◌, option_map, sym, rules}
 use Rattle.std.specs.Option.{option_copied}
 use Rattle.source_rows.specs.Rows.{key_of}
 use Rattle.source_rows.specs.Seats.{first_awake, in_seats}
-use Rattle.source_rows.proofs.Steps.{awake_row, awake_none}
+use Rattle.source_rows.proofs.AwakeRows.{awake_row, awake_none}
 use Rattle.source_rows.proofs.candidates.awake_row.Goals as goal
 
 pub returns-in-None : goal.returns-in-None

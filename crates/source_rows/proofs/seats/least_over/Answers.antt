@@ -1,7 +1,7 @@
 use Rattle.std.proofs.Common.{◌≡◌, ◌∷◌, ◌∙◌, ℕ, ap₂, sym, rules}
 use Rattle.source_rows.specs.declared.seats.Least.{Least}
 use Rattle.source_rows.specs.Seats.{wake_of, due_of, least_by, lesser}
-use Rattle.source_rows.proofs.Ahead.{least_join}
+use Rattle.source_rows.proofs.Soonest.{least_join}
 use Rattle.source_rows.proofs.seats.least_over.Goals as goal
 
 pub returns : goal.returns

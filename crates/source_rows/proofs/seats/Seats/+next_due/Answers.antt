@@ -5,7 +5,7 @@ use Rattle.source_rows.specs.declared.seats.Least.{Least}
 use Rattle.source_rows.specs.Seats.{due_of, due_after, least_by, least_of, lesser, next_due}
 use Rattle.source_rows.specs.SeatTree.{IsEven}
 use Rattle.source_rows.proofs.SeatTree.{parts_of}
-use Rattle.source_rows.proofs.Ahead.{all_due, least_join}
+use Rattle.source_rows.proofs.Soonest.{all_due, least_join}
 use Rattle.source_rows.proofs.seats.Seats.+next_due.Goals as goal
 
 pub returns-then-now-least : goal.returns-then-now-least
