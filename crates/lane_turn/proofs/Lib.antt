@@ -36,3 +36,9 @@ pub mod Moving
 pub mod Brought
 pub mod Taken
 pub mod Lost
+pub mod Follows
+pub mod Adds
+pub mod Added
+pub mod EachLane
+pub mod Traced
+pub mod Rested

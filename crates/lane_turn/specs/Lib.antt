@@ -21,3 +21,6 @@ pub mod Sound
 pub mod Meaning
 pub mod Iterations
 pub mod Levels
+pub mod Traces
+pub mod Depths
+pub mod Rest

@@ -7,6 +7,9 @@ ghost use Rattle.lane_turn.specs.Views.{ViewsAgree};
 ghost use Rattle.lane_turn.specs.Arrivals.{LettersArrive};
 ghost use Rattle.lane_turn.specs.Owed.{RepliesComeOnce};
 ghost use Rattle.lane_turn.specs.Taken.{RepliesAreTakenOnce};
+ghost use Rattle.lane_turn.specs.Traces.{TracesGrow};
+ghost use Rattle.lane_turn.specs.Depths.{DepthsHold};
+ghost use Rattle.lane_turn.specs.Rest.{EndedLanesRest};
 
 /// A turn leaves a lane with no step left: it rests, has ended or is halted.
 pub fn turns_end()
@@ -58,4 +61,21 @@ pub fn replies_come_once()
 /// reply is lost where the script has a context: what a lane posted in earlier ticks is then held, or its result was told.
 pub fn replies_are_taken_once()
     ensures { RepliesAreTakenOnce }
+{}
+
+/// A trace only grows, by lines of the tick: a step, a turn and a delivery leave the lines that there are, and add lines of
+/// their own tick behind them. So the lines of each lane of a run stand by their ticks.
+pub fn traces_grow()
+    ensures { TracesGrow }
+{}
+
+/// A lane that has ended or is halted takes no step: its turns poll its tasks, and write no other line than that one is late.
+/// Deliveries write what comes with letters, take no step of a lane, and let none go on.
+pub fn ended_lanes_rest()
+    ensures { EndedLanesRest }
+{}
+
+/// The depth of a dispatch is the number of dispatches that are in progress in its lane, itself among them, and it is 1 to 32.
+pub fn depths_hold()
+    ensures { DepthsHold }
 {}

@@ -1,0 +1,178 @@
+-- What each step, each turn and each delivery adds to a trace, and leaves of the sources.
+use Rattle.std.proofs.Common.{◌≡◌, ◌≢◌, ℕ, zero, suc, ◌+◌, ◌<◌, ◌≤◌, Bool, true, false, cond, Option, Some, None, List, [], ◌∷◌, ◌++◌, map, length, refl, ap, sym, ◌∙◌, arith, subst, append-nil, ltb-true}
+use Rattle.std.specs.Prelude.{slice_get, nat_lt, is_some}
+use Rattle.std.specs.List.{AllByRecursion, cons_option}
+use Rattle.std.proofs.lemmas.List.Sums.{sum_by-cons}
+use Rattle.loop_script.specs.declared.plan.Plan.{Plan}
+use Rattle.loop_script.specs.declared.action.Action.{Action}
+use Rattle.loop_script.specs.Parts.{actions_of}
+use Rattle.source_rows.specs.declared.row.Row.{Row}
+use Rattle.source_rows.specs.Rows.{counted as counted_once}
+use Rattle.cancel_view.specs.Seen.{Seen}
+use Rattle.post_office.specs.declared.letter.Body.{Body as Mail}
+use Rattle.lane_watch.specs.Tasks.{Started, is_late_at}
+use Rattle.lane_turn.specs.declared.line.Line.{Line}
+use Rattle.lane_turn.specs.declared.line.Event.{Event}
+use Rattle.lane_turn.specs.declared.line.Event.TheVariants as events
+use Rattle.lane_turn.specs.declared.parts.Status.{Status}
+use Rattle.lane_turn.specs.declared.parts.Status.TheVariants.{GoesOn, Ended, Halted}
+use Rattle.lane_turn.specs.declared.layer.Call.{Call}
+use Rattle.lane_turn.specs.declared.layer.Caller.{Caller}
+use Rattle.lane_turn.specs.declared.layer.Origin.{Origin}
+use Rattle.lane_turn.specs.declared.layer.Origin.TheVariants as origins
+use Rattle.lane_turn.specs.declared.replies.Awaited.{Awaited}
+use Rattle.lane_turn.specs.Replies.{reply_held}
+use Rattle.lane_turn.specs.Frames.{Frame, CallOf, IterOf, LoopOf, advanced, calls, depth, is_source, is_other, is_call, is_dispatch}
+use Rattle.lane_turn.specs.Lane.{Lane, Turn, with_rows, written, stopped, popped, taken, row_of, iterating, is_running}
+use Rattle.lane_turn.specs.Acted.{acted, sends}
+use Rattle.lane_turn.specs.Step.{step, step_polling, step_call, step_id, counted_by, in_lane, dispatched, dispatching, polled, late_line, one_if, result_lines}
+use Rattle.lane_turn.specs.Depths.{caller_of, callers, IsShallow, TellsDepth}
+use Rattle.lane_turn.specs.Traces.{Grows}
+use Rattle.lane_turn.proofs.Follows.{AllFollow, follows_counted, all_same, all_changed}
+use Rattle.lane_turn.proofs.Adds.{grows_none, grows_line, grows_trans, grows_as, IsOther, OtherAt, Acts, adds_acted, adds_returned, adds_answered, line, same, trans}
+
+-- ---- depths
+
+call_depth : (origin : Origin) (cs : List Caller) (n : ℕ) → n ≡ length cs → cond (is_source origin) 1 0 + n ≡ length (cons_option (caller_of origin) cs)
+call_depth origins.Start cs n e = omega (arith, e)
+call_depth (origins.Source caller) cs n e = omega (arith, e)
+call_depth (origins.Invoke acquired) cs n e = omega (arith, e)
+
+depth_callers : (fs : List Frame) → depth fs ≡ length (callers fs)
+depth_callers [] = refl
+depth_callers (CallOf call ∷ fs) = sum_by-cons (λ (f : Frame). cond (is_dispatch f) 1 0) (CallOf call) fs ∙ call_depth call.origin (callers fs) (depth fs) (depth_callers fs)
+depth_callers (IterOf context ids answer ∷ fs) = omega (arith, sum_by-cons (λ (f : Frame). cond (is_dispatch f) 1 0) (IterOf context ids answer) fs, depth_callers fs)
+depth_callers (LoopOf number context ∷ fs) = omega (arith, sum_by-cons (λ (f : Frame). cond (is_dispatch f) 1 0) (LoopOf number context) fs, depth_callers fs)
+
+callers_advanced : (fs : List Frame) → callers (advanced fs) ≡ callers fs
+callers_advanced [] = refl
+callers_advanced (CallOf call ∷ fs) = refl
+callers_advanced (IterOf context ids answer ∷ fs) = refl
+callers_advanced (LoopOf number context ∷ fs) = refl
+
+fewer : (origin : Origin) → cond (is_source origin) 1 0 ≤ cond (is_other origin) 1 0
+fewer origins.Start = omega arith
+fewer (origins.Source caller) = omega arith
+fewer (origins.Invoke acquired) = omega arith
+
+few_dispatches : (fs : List Frame) → depth fs ≤ calls fs
+few_dispatches [] = omega arith
+few_dispatches (CallOf call ∷ fs) =
+    omega (arith, sum_by-cons (λ (f : Frame). cond (is_dispatch f) 1 0) (CallOf call) fs, sum_by-cons (λ (f : Frame). cond (is_call f) 1 0) (CallOf call) fs, few_dispatches fs, fewer call.origin)
+few_dispatches (IterOf context ids answer ∷ fs) =
+    omega (arith, sum_by-cons (λ (f : Frame). cond (is_dispatch f) 1 0) (IterOf context ids answer) fs, sum_by-cons (λ (f : Frame). cond (is_call f) 1 0) (IterOf context ids answer) fs, few_dispatches fs)
+few_dispatches (LoopOf number context ∷ fs) =
+    omega (arith, sum_by-cons (λ (f : Frame). cond (is_dispatch f) 1 0) (LoopOf number context) fs, sum_by-cons (λ (f : Frame). cond (is_call f) 1 0) (LoopOf number context) fs, few_dispatches fs)
+
+-- ---- a step
+
+-- a line of a tick that tells the depth of frames
+abbrev pub Told : ℕ → List Frame → Line → Type 0
+Told tick frames l = (l.tick ≡ tick) × TellsDepth frames l.event × IsShallow l.event
+
+pub record Does (tick : ℕ) (lane after : Lane) : Type 0 where
+  pub lines : Grows (Told tick after.frames) lane.trace after.trace
+  pub rows : AllFollow lane.contexts after.contexts
+
+other_told : (tick : ℕ) (frames : List Frame) (t : ℕ) (event : Event) → t ≡ tick → IsOther event → (t ≡ tick) × TellsDepth frames event × IsShallow event
+other_told tick frames t (events.Dispatch context id priority depth) e h = absurd h
+other_told tick frames t _ e h = (e, tt, tt)
+
+pub of_acts : (tick : ℕ) (lane after : Lane) → Acts tick lane after → Does tick lane after
+of_acts tick lane after h = record { lines = grows_as (OtherAt tick) (Told tick after.frames) (λ l p. other_told tick after.frames l.tick l.event p.0 p.1) lane.trace after.trace h.lines; rows = h.rows }
+
+of_same : (tick : ℕ) (lane after : Lane) → after.trace ≡ lane.trace → after.contexts ≡ lane.contexts → Does tick lane after
+of_same tick lane after t c = of_acts tick lane after (same (OtherAt tick) lane after t c)
+
+result_grows : (tick : ℕ) (frames : List Frame) (o : Option Awaited) (view : Seen) (xs : List Line) → Grows (Told tick frames) xs (xs ++ result_lines tick o view)
+result_grows tick frames None view xs = record { more = []; lines = refl; each = tt }
+result_grows tick frames (Some awaited) view xs = grows_line (Told tick frames) xs _ (refl, tt, tt)
+
+does_dispatched : (tick context : ℕ) (row : Row) (lane : Lane) → calls lane.frames < 32 → Does tick lane (dispatched tick context row lane)
+does_dispatched tick context row lane h =
+    let after : Lane = dispatched tick context row lane in
+    let n : ℕ = depth lane.frames in
+    let first : Line = record { tick = tick; event = events.Dispatch context row.id row.priority (n + 1) } in
+    let same : length (callers (advanced lane.frames)) ≡ n = ap (λ (cs : List Caller). length cs) (callers_advanced lane.frames) ∙ sym (depth_callers lane.frames) in
+    let told : Told tick after.frames first = (refl, omega (arith, same), (omega arith, omega (arith, h, few_dispatches lane.frames))) in
+    record {
+      lines = grows_trans (Told tick after.frames) lane.trace (lane.trace ++ first ∷ []) after.trace (grows_line (Told tick after.frames) lane.trace first told) (result_grows tick after.frames (reply_held context row.id lane.replies) lane.view (lane.trace ++ first ∷ []));
+      rows = all_changed (with_rows (counted_once row.id)) (λ c. follows_counted row.id c.rows) lane.contexts context;
+    }
+
+does_halted : (tick : ℕ) (lane : Lane) (event : Event) → IsOther event → Does tick lane (stopped Halted (written tick event lane))
+does_halted tick lane event p =
+    let told : Lane = written tick event lane in
+    of_acts tick lane _ (trans (OtherAt tick) lane told (stopped Halted told) (line (OtherAt tick) lane tick event (refl, p)) (same (OtherAt tick) told (stopped Halted told) refl refl))
+
+does_dispatching : (tick context : ℕ) (row : Row) (lane : Lane) → Does tick lane (dispatching tick context row lane)
+does_dispatching tick context row lane = by (nat_lt (calls lane.frames) 32) refl
+  where
+    by : (b : Bool) → nat_lt (calls lane.frames) 32 ≡ b → Does tick lane (cond b (dispatched tick context row lane) (stopped Halted (written tick events.HaltDepth lane)))
+    by true e = does_dispatched tick context row lane (ltb-true (calls lane.frames) 32 e)
+    by false e = does_halted tick lane events.HaltDepth tt
+
+some_same : (t u : Turn) → Some t ≡ Some u → t ≡ u
+some_same t u e = cc
+
+abbrev On : ℕ → Turn → Turn → Type 0
+On tick t u = Does tick t.lane u.lane
+
+does_counted : (tick : ℕ) (mail : Option Mail) (f : Lane → Lane) (t : Turn) (left : ℕ) → Does tick t.lane (f t.lane) → On tick t (counted_by tick mail f t left)
+does_counted tick mail f t zero h = does_halted tick t.lane events.HaltSteps tt
+does_counted tick mail f t (suc left) h = h
+
+after_taken : (tick : ℕ) (lane before after : Lane) → before.trace ≡ lane.trace → before.contexts ≡ lane.contexts → Acts tick before after → Does tick lane after
+after_taken tick lane before after t c h = of_acts tick lane after (trans (OtherAt tick) lane before after (same (OtherAt tick) lane before t c) h)
+
+does_call : (script : Plan) (tick : ℕ) (t : Turn) (call : Call) (a : Option Action) → On tick t (step_call script tick t call a)
+does_call script tick t call (Some a) =
+    does_counted tick (sends a (taken t.lane)) (λ lane. acted script tick a (taken lane)) t t.left (after_taken tick t.lane (taken t.lane) _ refl refl (adds_acted script tick a (taken t.lane)))
+does_call script tick t call None = after_taken tick t.lane (popped t.lane) _ refl refl (adds_returned script tick call.body call.origin (popped t.lane))
+
+does_id : (tick : ℕ) (t : Turn) (context : ℕ) (r : Option Row) → On tick t (step_id tick t context r)
+does_id tick t context None = of_same tick t.lane (taken t.lane) refl refl
+does_id tick t context (Some row) = does_counted tick None (dispatching tick context row) t t.left (does_dispatching tick context row t.lane)
+
+does_loop : (script : Plan) (tick : ℕ) (t : Turn) (number context : ℕ) (runs iterated : Bool) (u : Turn)
+    → cond runs (cond iterated None (Some (record t { lane = iterating script tick context None t.lane; iterated = true }))) (Some (in_lane (λ lane. written tick (events.LoopEnd number) (popped lane)) t)) ≡ Some u → On tick t u
+does_loop script tick t number context true true u e = cc
+does_loop script tick t number context true false u e = subst (On tick t) (some_same _ _ e) (of_same tick t.lane (iterating script tick context None t.lane) refl refl)
+does_loop script tick t number context false iterated u e =
+    subst (On tick t) (some_same _ _ e) (after_taken tick t.lane (popped t.lane) _ refl refl (line (OtherAt tick) (popped t.lane) tick (events.LoopEnd number) (refl, tt)))
+
+abbrev turn : Turn → List Frame → Status → Turn
+turn t frames status = record t { lane = record t.lane { frames = frames; status = status }; unpolled = [] }
+
+does_step : (script : Plan) (tick : ℕ) (t : Turn) (frames : List Frame) (status : Status) (u : Turn) → step script tick (turn t frames status) ≡ Some u → On tick (turn t frames status) u
+does_step script tick t [] GoesOn u e = cc
+does_step script tick t (CallOf call ∷ below) GoesOn u e =
+    let now : Turn = turn t (CallOf call ∷ below) GoesOn in
+    subst (On tick now) (some_same _ _ e) (does_call script tick now call (slice_get (actions_of script call.body) call.place))
+does_step script tick t (IterOf context [] answer ∷ below) GoesOn u e =
+    let now : Turn = turn t (IterOf context [] answer ∷ below) GoesOn in
+    subst (On tick now) (some_same _ _ e) (after_taken tick now.lane (popped now.lane) _ refl refl (adds_answered tick context answer (popped now.lane)))
+does_step script tick t (IterOf context (id ∷ ids) answer ∷ below) GoesOn u e =
+    let now : Turn = turn t (IterOf context (id ∷ ids) answer ∷ below) GoesOn in
+    subst (On tick now) (some_same _ _ e) (does_id tick now context (row_of context id now.lane))
+does_step script tick t (LoopOf number context ∷ below) GoesOn u e =
+    let now : Turn = turn t (LoopOf number context ∷ below) GoesOn in
+    does_loop script tick now number context (is_running number now.lane) now.iterated u e
+does_step script tick t frames Ended u e = cc
+does_step script tick t frames Halted u e = cc
+
+-- ---- a poll
+
+pub late_grows : (P : Line → Type 0) (tick : ℕ) (lane : Lane) (number : ℕ) (late : Bool) → P (late_line tick lane.number number) → Grows P lane.trace (lane.trace ++ one_if late (late_line tick lane.number number))
+late_grows P tick lane number true p = grows_line P lane.trace (late_line tick lane.number number) p
+late_grows P tick lane number false p = record { more = []; lines = refl; each = tt }
+
+does_polled : (tick : ℕ) (t : Turn) (task : Started) (tasks : List Started) → On tick (record t { unpolled = task ∷ tasks }) (polled tick task (record t { unpolled = tasks }))
+does_polled tick t task tasks = record { lines = late_grows (Told tick t.lane.frames) tick t.lane task.number (is_late_at tick t.lane.tasks task) (refl, tt, tt); rows = all_same t.lane.contexts }
+
+does_polling : (script : Plan) (tick : ℕ) (t : Turn) (tasks : List Started) (u : Turn) → step_polling script tick (record t { unpolled = tasks }) tasks ≡ Some u → On tick (record t { unpolled = tasks }) u
+does_polling script tick t [] u e = does_step script tick t t.lane.frames t.lane.status u e
+does_polling script tick t (task ∷ tasks) u e = subst (On tick (record t { unpolled = task ∷ tasks })) (some_same _ _ e) (does_polled tick t task tasks)
+
+pub does : (script : Plan) (tick : ℕ) (t u : Turn) → step script tick t ≡ Some u → Does tick t.lane u.lane
+does script tick t u e = does_polling script tick t t.unpolled u e
