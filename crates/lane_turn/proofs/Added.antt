@@ -23,12 +23,13 @@ use Rattle.lane_turn.specs.declared.layer.Origin.TheVariants as origins
 use Rattle.lane_turn.specs.declared.replies.Awaited.{Awaited}
 use Rattle.lane_turn.specs.Replies.{reply_held}
 use Rattle.lane_turn.specs.Frames.{Frame, CallOf, IterOf, LoopOf, advanced, calls, depth, is_source, is_other, is_call, is_dispatch}
-use Rattle.lane_turn.specs.Lane.{Lane, Turn, with_rows, written, stopped, popped, taken, row_of, iterating, is_running}
+use Rattle.lane_turn.specs.Lane.{Lane, Turn, own, with_rows, written, stopped, popped, taken, row_of, iterating, is_running}
 use Rattle.lane_turn.specs.Acted.{acted, sends}
 use Rattle.lane_turn.specs.Step.{step, step_polling, step_call, step_id, counted_by, in_lane, dispatched, dispatching, polled, late_line, one_if, result_lines}
 use Rattle.lane_turn.specs.Depths.{caller_of, callers, IsShallow, TellsDepth}
 use Rattle.lane_turn.specs.Traces.{Grows}
 use Rattle.lane_turn.proofs.Follows.{AllFollow, follows_counted, all_same, all_changed}
+use Rattle.lane_turn.proofs.Iterations.{row_in_id}
 use Rattle.lane_turn.proofs.Adds.{grows_none, grows_line, grows_trans, grows_as, IsOther, OtherAt, Acts, adds_acted, adds_returned, adds_answered, line, same, trans}
 
 -- ---- depths
@@ -66,37 +67,50 @@ few_dispatches (LoopOf number context ∷ fs) =
 
 -- ---- a step
 
--- a line of a tick that tells the depth of frames
-abbrev pub Told : ℕ → List Frame → Line → Type 0
-Told tick frames l = (l.tick ≡ tick) × TellsDepth frames l.event × IsShallow l.event
+-- the next source of the innermost iteration
+pub record IsNext (lane : Lane) (context id : ℕ) : Type 0 where
+  pub ids : List ℕ
+  pub answer : Option Bool
+  pub below : List Frame
+  pub was : lane.frames ≡ IterOf context (id ∷ ids) answer ∷ below
+  pub row : Row
+  pub there : row_of context id lane ≡ Some row
+
+abbrev pub TellsNext : Lane → Event → Type 0
+TellsNext lane (events.Dispatch context id priority depth) = IsNext lane context id
+TellsNext lane _ = Unit {0}
+
+-- a line of a tick, where that of a dispatch is of the next source, and tells the depth of frames
+abbrev pub Told : ℕ → List Frame → Lane → Line → Type 0
+Told tick frames lane l = (l.tick ≡ tick) × TellsDepth frames l.event × IsShallow l.event × TellsNext lane l.event
 
 pub record Does (tick : ℕ) (lane after : Lane) : Type 0 where
-  pub lines : Grows (Told tick after.frames) lane.trace after.trace
+  pub lines : Grows (Told tick after.frames lane) lane.trace after.trace
   pub rows : AllFollow lane.contexts after.contexts
 
-other_told : (tick : ℕ) (frames : List Frame) (t : ℕ) (event : Event) → t ≡ tick → IsOther event → (t ≡ tick) × TellsDepth frames event × IsShallow event
-other_told tick frames t (events.Dispatch context id priority depth) e h = absurd h
-other_told tick frames t _ e h = (e, tt, tt)
+other_told : (tick : ℕ) (frames : List Frame) (lane : Lane) (t : ℕ) (event : Event) → t ≡ tick → IsOther event → (t ≡ tick) × TellsDepth frames event × IsShallow event × TellsNext lane event
+other_told tick frames lane t (events.Dispatch context id priority depth) e h = absurd h
+other_told tick frames lane t _ e h = (e, tt, tt, tt)
 
 pub of_acts : (tick : ℕ) (lane after : Lane) → Acts tick lane after → Does tick lane after
-of_acts tick lane after h = record { lines = grows_as (OtherAt tick) (Told tick after.frames) (λ l p. other_told tick after.frames l.tick l.event p.0 p.1) lane.trace after.trace h.lines; rows = h.rows }
+of_acts tick lane after h = record { lines = grows_as (OtherAt tick) (Told tick after.frames lane) (λ l p. other_told tick after.frames lane l.tick l.event p.0 p.1) lane.trace after.trace h.lines; rows = h.rows }
 
 of_same : (tick : ℕ) (lane after : Lane) → after.trace ≡ lane.trace → after.contexts ≡ lane.contexts → Does tick lane after
 of_same tick lane after t c = of_acts tick lane after (same (OtherAt tick) lane after t c)
 
-result_grows : (tick : ℕ) (frames : List Frame) (o : Option Awaited) (view : Seen) (xs : List Line) → Grows (Told tick frames) xs (xs ++ result_lines tick o view)
-result_grows tick frames None view xs = record { more = []; lines = refl; each = tt }
-result_grows tick frames (Some awaited) view xs = grows_line (Told tick frames) xs _ (refl, tt, tt)
+result_grows : (tick : ℕ) (frames : List Frame) (lane : Lane) (o : Option Awaited) (view : Seen) (xs : List Line) → Grows (Told tick frames lane) xs (xs ++ result_lines tick o view)
+result_grows tick frames lane None view xs = record { more = []; lines = refl; each = tt }
+result_grows tick frames lane (Some awaited) view xs = grows_line (Told tick frames lane) xs _ (refl, tt, tt, tt)
 
-does_dispatched : (tick context : ℕ) (row : Row) (lane : Lane) → calls lane.frames < 32 → Does tick lane (dispatched tick context row lane)
-does_dispatched tick context row lane h =
+does_dispatched : (tick context : ℕ) (row : Row) (lane : Lane) → IsNext lane context row.id → calls lane.frames < 32 → Does tick lane (dispatched tick context row lane)
+does_dispatched tick context row lane next h =
     let after : Lane = dispatched tick context row lane in
     let n : ℕ = depth lane.frames in
     let first : Line = record { tick = tick; event = events.Dispatch context row.id row.priority (n + 1) } in
     let same : length (callers (advanced lane.frames)) ≡ n = ap (λ (cs : List Caller). length cs) (callers_advanced lane.frames) ∙ sym (depth_callers lane.frames) in
-    let told : Told tick after.frames first = (refl, omega (arith, same), (omega arith, omega (arith, h, few_dispatches lane.frames))) in
+    let told : Told tick after.frames lane first = (refl, omega (arith, same), (omega arith, omega (arith, h, few_dispatches lane.frames)), next) in
     record {
-      lines = grows_trans (Told tick after.frames) lane.trace (lane.trace ++ first ∷ []) after.trace (grows_line (Told tick after.frames) lane.trace first told) (result_grows tick after.frames (reply_held context row.id lane.replies) lane.view (lane.trace ++ first ∷ []));
+      lines = grows_trans (Told tick after.frames lane) lane.trace (lane.trace ++ first ∷ []) after.trace (grows_line (Told tick after.frames lane) lane.trace first told) (result_grows tick after.frames lane (reply_held context row.id lane.replies) lane.view (lane.trace ++ first ∷ []));
       rows = all_changed (with_rows (counted_once row.id)) (λ c. follows_counted row.id c.rows) lane.contexts context;
     }
 
@@ -105,11 +119,11 @@ does_halted tick lane event p =
     let told : Lane = written tick event lane in
     of_acts tick lane _ (trans (OtherAt tick) lane told (stopped Halted told) (line (OtherAt tick) lane tick event (refl, p)) (same (OtherAt tick) told (stopped Halted told) refl refl))
 
-does_dispatching : (tick context : ℕ) (row : Row) (lane : Lane) → Does tick lane (dispatching tick context row lane)
-does_dispatching tick context row lane = by (nat_lt (calls lane.frames) 32) refl
+does_dispatching : (tick context : ℕ) (row : Row) (lane : Lane) → IsNext lane context row.id → Does tick lane (dispatching tick context row lane)
+does_dispatching tick context row lane next = by (nat_lt (calls lane.frames) 32) refl
   where
     by : (b : Bool) → nat_lt (calls lane.frames) 32 ≡ b → Does tick lane (cond b (dispatched tick context row lane) (stopped Halted (written tick events.HaltDepth lane)))
-    by true e = does_dispatched tick context row lane (ltb-true (calls lane.frames) 32 e)
+    by true e = does_dispatched tick context row lane next (ltb-true (calls lane.frames) 32 e)
     by false e = does_halted tick lane events.HaltDepth tt
 
 some_same : (t u : Turn) → Some t ≡ Some u → t ≡ u
@@ -130,9 +144,19 @@ does_call script tick t call (Some a) =
     does_counted tick (sends a (taken t.lane)) (λ lane. acted script tick a (taken lane)) t t.left (after_taken tick t.lane (taken t.lane) _ refl refl (adds_acted script tick a (taken t.lane)))
 does_call script tick t call None = after_taken tick t.lane (popped t.lane) _ refl refl (adds_returned script tick call.body call.origin (popped t.lane))
 
-does_id : (tick : ℕ) (t : Turn) (context : ℕ) (r : Option Row) → On tick t (step_id tick t context r)
-does_id tick t context None = of_same tick t.lane (taken t.lane) refl refl
-does_id tick t context (Some row) = does_counted tick None (dispatching tick context row) t t.left (does_dispatching tick context row t.lane)
+does_id : (tick : ℕ) (t : Turn) (context id : ℕ) (ids : List ℕ) (answer : Option Bool) (below : List Frame) (r : Option Row) → t.lane.frames ≡ IterOf context (id ∷ ids) answer ∷ below → row_of context id t.lane ≡ r → On tick t (step_id tick t context r)
+does_id tick t context id ids answer below None f e = of_same tick t.lane (taken t.lane) refl refl
+does_id tick t context id ids answer below (Some row) f e =
+    let same : row.id ≡ id = row_in_id id (own context t.lane) row (sym e) in
+    let next : IsNext t.lane context row.id = record {
+      ids = ids;
+      answer = answer;
+      below = below;
+      was = f ∙ ap (λ (i : ℕ). IterOf context (i ∷ ids) answer ∷ below) (sym same);
+      row = row;
+      there = ap (λ (i : ℕ). row_of context i t.lane) same ∙ e;
+    } in
+    does_counted tick None (dispatching tick context row) t t.left (does_dispatching tick context row t.lane next)
 
 does_loop : (script : Plan) (tick : ℕ) (t : Turn) (number context : ℕ) (runs iterated : Bool) (u : Turn)
     → cond runs (cond iterated None (Some (record t { lane = iterating script tick context None t.lane; iterated = true }))) (Some (in_lane (λ lane. written tick (events.LoopEnd number) (popped lane)) t)) ≡ Some u → On tick t u
@@ -154,7 +178,7 @@ does_step script tick t (IterOf context [] answer ∷ below) GoesOn u e =
     subst (On tick now) (some_same _ _ e) (after_taken tick now.lane (popped now.lane) _ refl refl (adds_answered tick context answer (popped now.lane)))
 does_step script tick t (IterOf context (id ∷ ids) answer ∷ below) GoesOn u e =
     let now : Turn = turn t (IterOf context (id ∷ ids) answer ∷ below) GoesOn in
-    subst (On tick now) (some_same _ _ e) (does_id tick now context (row_of context id now.lane))
+    subst (On tick now) (some_same _ _ e) (does_id tick now context id ids answer below (row_of context id now.lane) refl refl)
 does_step script tick t (LoopOf number context ∷ below) GoesOn u e =
     let now : Turn = turn t (LoopOf number context ∷ below) GoesOn in
     does_loop script tick now number context (is_running number now.lane) now.iterated u e
@@ -168,7 +192,7 @@ late_grows P tick lane number true p = grows_line P lane.trace (late_line tick l
 late_grows P tick lane number false p = record { more = []; lines = refl; each = tt }
 
 does_polled : (tick : ℕ) (t : Turn) (task : Started) (tasks : List Started) → On tick (record t { unpolled = task ∷ tasks }) (polled tick task (record t { unpolled = tasks }))
-does_polled tick t task tasks = record { lines = late_grows (Told tick t.lane.frames) tick t.lane task.number (is_late_at tick t.lane.tasks task) (refl, tt, tt); rows = all_same t.lane.contexts }
+does_polled tick t task tasks = record { lines = late_grows (Told tick t.lane.frames t.lane) tick t.lane task.number (is_late_at tick t.lane.tasks task) (refl, tt, tt, tt); rows = all_same t.lane.contexts }
 
 does_polling : (script : Plan) (tick : ℕ) (t : Turn) (tasks : List Started) (u : Turn) → step_polling script tick (record t { unpolled = tasks }) tasks ≡ Some u → On tick (record t { unpolled = tasks }) u
 does_polling script tick t [] u e = does_step script tick t t.lane.frames t.lane.status u e

@@ -209,7 +209,7 @@ row_found : (id : ℕ) (rows : List Row) (row : Row) → Some row ≡ find (has_
 row_found id [] row h = let no : Some row ≡ None = h in cc
 row_found id (r ∷ rows) row h = row_by id r rows row (r.id == id) refl (row_found id rows row) h
 
-row_in_id : (id : ℕ) (o : Option Context) (row : Row) → Some row ≡ row_in id o → row.id ≡ id
+pub row_in_id : (id : ℕ) (o : Option Context) (row : Row) → Some row ≡ row_in id o → row.id ≡ id
 row_in_id id None row h = let no : Some row ≡ None = h in cc
 row_in_id id (Some c) row h = row_found id c.rows.rows row h
 

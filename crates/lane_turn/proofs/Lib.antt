@@ -39,6 +39,8 @@ pub mod Lost
 pub mod Follows
 pub mod Adds
 pub mod Added
+pub mod Waits
+pub mod Freed
 pub mod EachLane
 pub mod Traced
 pub mod Rested

@@ -28,7 +28,7 @@ use Rattle.lane_turn.proofs.EachLane.{each_lane}
 -- ---- steps and turns
 
 pub of_tick : (script : Plan) (tick : ℕ) (t u : Turn) → step script tick t ≡ Some u → Grows (IsOf tick) t.lane.trace u.lane.trace
-of_tick script tick t u e = grows_as (Told tick u.lane.frames) (IsOf tick) (λ l p. p.0) t.lane.trace u.lane.trace (does script tick t u e).lines
+of_tick script tick t u e = grows_as (Told tick u.lane.frames t.lane) (IsOf tick) (λ l p. p.0) t.lane.trace u.lane.trace (does script tick t u e).lines
 
 pub turn_grows : (script : Plan) (tick : ℕ) (lane : Lane) → Grows (IsOf tick) lane.trace (turned script tick lane).trace
 turn_grows script tick lane =
@@ -90,7 +90,7 @@ run_before script tick =
 -- ---- depths
 
 pub tells_depths : (script : Plan) (tick : ℕ) (t u : Turn) → step script tick t ≡ Some u → Grows (λ line. TellsDepth u.lane.frames line.event × IsShallow line.event) t.lane.trace u.lane.trace
-tells_depths script tick t u e = grows_as (Told tick u.lane.frames) (λ l. TellsDepth u.lane.frames l.event × IsShallow l.event) (λ l p. (p.1, p.2)) t.lane.trace u.lane.trace (does script tick t u e).lines
+tells_depths script tick t u e = grows_as (Told tick u.lane.frames t.lane) (λ l. TellsDepth u.lane.frames l.event × IsShallow l.event) (λ l p. (p.1, p.2)) t.lane.trace u.lane.trace (does script tick t u e).lines
 
 abbrev AllShallow : Lane → Type 0
 AllShallow lane = AllByRecursion (λ line. IsShallow line.event) lane.trace
@@ -99,7 +99,7 @@ grown_shallow : (xs ys : List Line) → Grows (λ line. IsShallow line.event) xs
 grown_shallow xs ys g h = subst (λ (ls : List Line). AllByRecursion (λ line. IsShallow line.event) ls) (sym g.lines) (each_joined (λ line. IsShallow line.event) xs g.more h g.each)
 
 step_shallow : (script : Plan) (tick : ℕ) (t u : Turn) → step script tick t ≡ Some u → AllShallow t.lane → AllShallow u.lane
-step_shallow script tick t u e h = grown_shallow t.lane.trace u.lane.trace (grows_as (Told tick u.lane.frames) (λ l. IsShallow l.event) (λ l p. p.2) t.lane.trace u.lane.trace (does script tick t u e).lines) h
+step_shallow script tick t u e h = grown_shallow t.lane.trace u.lane.trace (grows_as (Told tick u.lane.frames t.lane) (λ l. IsShallow l.event) (λ l p. p.2) t.lane.trace u.lane.trace (does script tick t u e).lines) h
 
 brought_shallow : (event : Event) → IsBrought event → IsShallow event
 brought_shallow (events.Dispatch context id priority depth) h = absurd h

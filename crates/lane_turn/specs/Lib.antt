@@ -24,3 +24,4 @@ pub mod Levels
 pub mod Traces
 pub mod Depths
 pub mod Rest
+pub mod Blocked

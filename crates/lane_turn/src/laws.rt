@@ -10,6 +10,7 @@ ghost use Rattle.lane_turn.specs.Taken.{RepliesAreTakenOnce};
 ghost use Rattle.lane_turn.specs.Traces.{TracesGrow};
 ghost use Rattle.lane_turn.specs.Depths.{DepthsHold};
 ghost use Rattle.lane_turn.specs.Rest.{EndedLanesRest};
+ghost use Rattle.lane_turn.specs.Blocked.{BlockedWait};
 
 /// A turn leaves a lane with no step left: it rests, has ended or is halted.
 pub fn turns_end()
@@ -78,4 +79,9 @@ pub fn ended_lanes_rest()
 /// The depth of a dispatch is the number of dispatches that are in progress in its lane, itself among them, and it is 1 to 32.
 pub fn depths_hold()
     ensures { DepthsHold }
+{}
+
+/// In a run no source is dispatched while it, or one above it, is in a call that may not recurse.
+pub fn blocked_sources_wait()
+    ensures { BlockedWait }
 {}
