@@ -41,6 +41,7 @@ pub mod Adds
 pub mod Added
 pub mod Waits
 pub mod Freed
+pub mod Selected
 pub mod EachLane
 pub mod Traced
 pub mod Rested

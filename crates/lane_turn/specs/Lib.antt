@@ -25,3 +25,4 @@ pub mod Traces
 pub mod Depths
 pub mod Rest
 pub mod Blocked
+pub mod Selected

@@ -11,6 +11,7 @@ ghost use Rattle.lane_turn.specs.Traces.{TracesGrow};
 ghost use Rattle.lane_turn.specs.Depths.{DepthsHold};
 ghost use Rattle.lane_turn.specs.Rest.{EndedLanesRest};
 ghost use Rattle.lane_turn.specs.Blocked.{BlockedWait};
+ghost use Rattle.lane_turn.specs.Selected.{IterationsHaveOrder};
 
 /// A turn leaves a lane with no step left: it rests, has ended or is halted.
 pub fn turns_end()
@@ -84,4 +85,10 @@ pub fn depths_hold()
 /// In a run no source is dispatched while it, or one above it, is in a call that may not recurse.
 pub fn blocked_sources_wait()
     ensures { BlockedWait }
+{}
+
+/// What an iteration dispatches: the most urgent ready sources of its context, all of one priority, in the order of their numbers,
+/// and none twice.
+pub fn iterations_have_order()
+    ensures { IterationsHaveOrder }
 {}
