@@ -1,5 +1,5 @@
 -- What each step does to the frames.
-use Rattle.std.proofs.Common.{◌≡◌, ℕ, ℤ, zero, suc, ◌==◌, Bool, true, false, cond, Option, Some, None, List, [], ◌∷◌, inl, inr, drop, refl, ap, sym, ◌∙◌, subst}
+use Rattle.std.proofs.Common.{◌≡◌, ℕ, ℤ, zero, suc, ◌==◌, Bool, true, false, cond, Option, Some, None, List, [], ◌∷◌, ◌++◌, inl, inr, drop, refl, ap, sym, ◌∙◌, subst}
 use Rattle.std.specs.Prelude.{slice_get, nat_lt, is_some}
 use Rattle.std.specs.List.{AllByRecursion, find}
 use Rattle.std.proofs.lemmas.Bool.Decides.{eqb_tells}
@@ -170,7 +170,7 @@ acted_on ch script tick (Invoke context proc) lane k = invoke_on ch tick (time_o
 acted_on ch script tick (Give context to) lane k = taken_on ch lane.frames
 acted_on ch script tick (Log n) lane k = taken_on ch lane.frames
 
-some_turn : (t u : Turn) → Some t ≡ Some u → t ≡ u
+pub some_turn : (t u : Turn) → Some t ≡ Some u → t ≡ u
 some_turn t u e = cc
 
 abbrev On : (ℕ → List ℕ) → List Frame → Turn → Type 0
@@ -213,10 +213,10 @@ pub row_in_id : (id : ℕ) (o : Option Context) (row : Row) → Some row ≡ row
 row_in_id id None row h = let no : Some row ≡ None = h in cc
 row_in_id id (Some c) row h = row_found id c.rows.rows row h
 
-abbrev turn : Turn → Lane → ℕ → Bool → Turn
+abbrev pub turn : Turn → Lane → ℕ → Bool → Turn
 turn rest lane left iterated = record rest { lane = lane; unpolled = []; left = left; iterated = iterated }
 
-abbrev going : Lane → List Frame → Lane
+abbrev pub going : Lane → List Frame → Lane
 going base frames = record base { frames = frames; status = GoesOn }
 
 id_on : (ch : ℕ → List ℕ) (rest : Turn) (tick : ℕ) (base : Lane) (below : List Frame) (left : ℕ) (iterated : Bool) (context id : ℕ) (ids : List ℕ) (answer : Option Bool) (r : Option Row)
@@ -260,3 +260,22 @@ polling_on ch script tick t (task ∷ tasks) u k e = subst (On ch t.lane.frames)
 
 pub goes_on : (script : Plan) (tick : ℕ) (t u : Turn) → step script tick t ≡ Some u → FramesGoOn (λ context. chosen script tick context t.lane) t.lane.frames u.lane.frames
 goes_on script tick t u e = polling_on (λ context. chosen script tick context t.lane) script tick t t.unpolled u (λ c. refl) e
+
+-- ---- what an `iterate` is told
+
+told_at : (script : Plan) (tick : ℕ) (rest : Turn) (base : Lane) (below : List Frame) (left : ℕ) (iterated : Bool) (context : ℕ) (any : Bool) (u : Turn)
+    → step script tick (turn rest (going base (IterOf context [] (Some any) ∷ below)) left iterated) ≡ Some u → (u.lane.frames ≡ below) × (u.lane.trace ≡ base.trace ++ (record { tick = tick; event = events.Iterate context any }) ∷ [])
+told_at script tick rest base below left iterated context any u e =
+    let same = sym (some_turn _ _ e) in
+    (ap (λ (v : Turn). v.lane.frames) same, ap (λ (v : Turn). v.lane.trace) same)
+
+-- a turn that is in the middle of some frames
+pub in_the_middle : (script : Plan) (tick : ℕ) (t u : Turn) (frames : List Frame) → t.unpolled ≡ [] → t.lane.status ≡ GoesOn → t.lane.frames ≡ frames → step script tick t ≡ Some u → step script tick (turn t (going t.lane frames) t.left t.iterated) ≡ Some u
+in_the_middle script tick t u frames p s f e =
+    let at : List Started → Status → List Frame → Turn = λ tasks status fs. record t { unpolled = tasks; lane = record t.lane { frames = fs; status = status } } in
+    subst (λ (fs : List Frame). step script tick (at [] GoesOn fs) ≡ Some u) f
+    (subst (λ (x : Status). step script tick (at [] x t.lane.frames) ≡ Some u) s (subst (λ (tasks : List Started). step script tick (at tasks t.lane.status t.lane.frames) ≡ Some u) p e))
+
+pub told_answer : (script : Plan) (tick : ℕ) (t u : Turn) (context : ℕ) (any : Bool) (below : List Frame) → t.unpolled ≡ [] → t.lane.status ≡ GoesOn → t.lane.frames ≡ IterOf context [] (Some any) ∷ below
+    → step script tick t ≡ Some u → (u.lane.frames ≡ below) × (u.lane.trace ≡ t.lane.trace ++ (record { tick = tick; event = events.Iterate context any }) ∷ [])
+told_answer script tick t u context any below p s f e = told_at script tick t t.lane below t.left t.iterated context any u (in_the_middle script tick t u (IterOf context [] (Some any) ∷ below) p s f e)

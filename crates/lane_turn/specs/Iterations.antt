@@ -1,7 +1,9 @@
 -- What a step may do to what is in progress, in the words of those who iterate.
-use Rattle.std.specs.Prelude.{◌≡◌, ◌≢◌, ℕ, Bool, true, false, Option, Some, None, List, [], ◌∷◌, ◌⊎◌, drop}
+use Rattle.std.specs.Prelude.{◌≡◌, ◌≢◌, ℕ, Bool, true, false, Option, Some, None, List, [], ◌∷◌, ◌++◌, ◌⊎◌, drop}
 use Rattle.std.specs.List.{AllByRecursion}
 use Rattle.loop_script.specs.declared.plan.Plan.{Plan}
+use Rattle.lane_turn.specs.declared.line.Event.TheVariants as events
+use Rattle.lane_turn.specs.declared.parts.Status.TheVariants.{GoesOn}
 use Rattle.lane_turn.specs.declared.layer.Origin.{Origin}
 use Rattle.lane_turn.specs.declared.layer.Origin.TheVariants.{Start, Source, Invoke}
 use Rattle.lane_turn.specs.Frames.{Frame, CallOf, IterOf, LoopOf}
@@ -71,8 +73,11 @@ Begun selected frames (f ∷ now) = EachLater frames now × MayBegin selected fr
 abbrev pub FramesGoOn : (selected : ℕ → List ℕ) → List Frame → List Frame → Type 0
 FramesGoOn selected frames now = EachLater frames now ⊎ (EachLater (drop 1 frames) now ⊎ Begun selected frames now)
 
--- no iteration ever has an id that it was not given when it began, which are the ids selected then; none has one left when a
--- newer one of its context begins; what is dispatched is the next id of the innermost, which has it no more; and each call,
--- iteration and run that goes on is the one that it was
-abbrev pub IterationsGoOn : Type 0
-IterationsGoOn = (script : Plan) (tick : ℕ) (t u : Turn) → step script tick t ≡ Some u → FramesGoOn (λ context. chosen script tick context t.lane) t.lane.frames u.lane.frames
+pub record IterationsGoOn : Type 0 where
+  -- no iteration ever has an id that it was not given when it began, which are the ids selected then; none has one left when a
+  -- newer one of its context begins; what is dispatched is the next id of the innermost, which has it no more; and each call,
+  -- iteration and run that goes on is the one that it was
+  pub frames : (script : Plan) (tick : ℕ) (t u : Turn) → step script tick t ≡ Some u → FramesGoOn (λ context. chosen script tick context t.lane) t.lane.frames u.lane.frames
+  -- an iteration that has no id left ends, and an `iterate` that asked for it is told its answer
+  pub answers : (script : Plan) (tick : ℕ) (t u : Turn) (context : ℕ) (any : Bool) (below : List Frame) → t.unpolled ≡ [] → t.lane.status ≡ GoesOn → t.lane.frames ≡ IterOf context [] (Some any) ∷ below
+      → step script tick t ≡ Some u → (u.lane.frames ≡ below) × (u.lane.trace ≡ t.lane.trace ++ (record { tick = tick; event = events.Iterate context any }) ∷ [])
