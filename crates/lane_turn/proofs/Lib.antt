@@ -42,6 +42,7 @@ pub mod Added
 pub mod Waits
 pub mod Freed
 pub mod Selected
+pub mod Stays
 pub mod EachLane
 pub mod Traced
 pub mod Rested

@@ -26,3 +26,4 @@ pub mod Depths
 pub mod Rest
 pub mod Blocked
 pub mod Selected
+pub mod Stays

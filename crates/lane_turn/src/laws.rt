@@ -12,6 +12,7 @@ ghost use Rattle.lane_turn.specs.Depths.{DepthsHold};
 ghost use Rattle.lane_turn.specs.Rest.{EndedLanesRest};
 ghost use Rattle.lane_turn.specs.Blocked.{BlockedWait};
 ghost use Rattle.lane_turn.specs.Selected.{IterationsHaveOrder};
+ghost use Rattle.lane_turn.specs.Stays.{SourcesStay};
 
 /// A turn leaves a lane with no step left: it rests, has ended or is halted.
 pub fn turns_end()
@@ -91,4 +92,10 @@ pub fn blocked_sources_wait()
 /// and none twice.
 pub fn iterations_have_order()
     ensures { IterationsHaveOrder }
+{}
+
+/// In a run a source is there after the call of its n-th dispatch exactly where it was not destroyed before, was no reply's, and
+/// `keep` lets it stay.
+pub fn sources_stay_as_kept()
+    ensures { SourcesStay }
 {}
