@@ -1,5 +1,5 @@
 -- What each step, each turn and each delivery adds to a trace, and leaves of the sources.
-use Rattle.std.proofs.Common.{◌≡◌, ◌≢◌, ℕ, zero, suc, ◌+◌, ◌<◌, ◌≤◌, Bool, true, false, cond, Option, Some, None, List, [], ◌∷◌, ◌++◌, map, length, refl, ap, sym, ◌∙◌, arith, subst, append-nil, ltb-true}
+use Rattle.std.proofs.Common.{◌≡◌, ◌≢◌, ℕ, zero, suc, ◌+◌, ◌<◌, ◌≤◌, ◌==◌, ◌&&◌, Bool, true, false, cond, Option, Some, None, List, [], ◌∷◌, ◌++◌, map, length, refl, ap, sym, ◌∙◌, arith, subst, append-nil, ltb-true}
 use Rattle.std.specs.Prelude.{slice_get, nat_lt, is_some}
 use Rattle.std.specs.List.{AllByRecursion, cons_option}
 use Rattle.std.proofs.lemmas.List.Sums.{sum_by-cons}
@@ -25,10 +25,14 @@ use Rattle.lane_turn.specs.Replies.{reply_held}
 use Rattle.lane_turn.specs.Frames.{Frame, CallOf, IterOf, LoopOf, advanced, calls, depth, is_source, is_other, is_call, is_dispatch}
 use Rattle.lane_turn.specs.Lane.{Lane, Turn, own, with_rows, written, stopped, popped, taken, row_of, iterating, is_running}
 use Rattle.lane_turn.specs.Acted.{acted, sends}
-use Rattle.lane_turn.specs.Step.{step, step_polling, step_call, step_id, counted_by, in_lane, dispatched, dispatching, polled, late_line, one_if, result_lines}
+use Rattle.lane_turn.specs.Step.{step, step_polling, step_call, step_id, counted_by, in_lane, dispatched, dispatching, polled, late_line, one_if, result_lines, body_of}
 use Rattle.lane_turn.specs.Depths.{caller_of, callers, IsShallow, TellsDepth}
 use Rattle.lane_turn.specs.Traces.{Grows}
-use Rattle.lane_turn.proofs.Follows.{AllFollow, follows_counted, all_same, all_changed}
+use Rattle.source_rows.proofs.Compared.{same_self}
+use Rattle.lane_turn.specs.Stays.{dispatches}
+use Rattle.lane_turn.proofs.Follows.{AllFollow, follows_counted, all_changed}
+use Rattle.lane_turn.proofs.Counts.{all_same, follow_all}
+use Rattle.lane_turn.proofs.Counted.{AllNumbered, Counted, one_more, counted_acts, counted_dispatched}
 use Rattle.lane_turn.proofs.Iterations.{row_in_id}
 use Rattle.lane_turn.proofs.Adds.{grows_none, grows_line, grows_trans, grows_as, IsOther, OtherAt, Acts, adds_acted, adds_returned, adds_answered, line, same, trans}
 
@@ -67,50 +71,70 @@ few_dispatches (LoopOf number context ∷ fs) =
 
 -- ---- a step
 
+-- the call of a source
+abbrev pub call_to : ℕ → Row → Bool → Call
+call_to context row once = record { origin = origins.Source (record { context = context; id = row.id; recurse = row.recurse; number = row.count + 1; once = once }); body = body_of row.call; place = 0 }
+
 -- the next source of the innermost iteration
-pub record IsNext (lane : Lane) (context id : ℕ) : Type 0 where
+pub record IsNext (lane : Lane) (context : ℕ) (row : Row) : Type 0 where
   pub ids : List ℕ
   pub answer : Option Bool
   pub below : List Frame
-  pub was : lane.frames ≡ IterOf context (id ∷ ids) answer ∷ below
-  pub row : Row
-  pub there : row_of context id lane ≡ Some row
+  pub was : lane.frames ≡ IterOf context (row.id ∷ ids) answer ∷ below
+  pub there : row_of context row.id lane ≡ Some row
 
-abbrev pub TellsNext : Lane → Event → Type 0
-TellsNext lane (events.Dispatch context id priority depth) = IsNext lane context id
-TellsNext lane _ = Unit {0}
+-- it is dispatched
+pub record IsDispatched (lane after : Lane) (context id : ℕ) : Type 0 where
+  pub row : Row
+  pub same : row.id ≡ id
+  pub next : IsNext lane context row
+  pub frames : after.frames ≡ CallOf (call_to context row (is_some (reply_held context row.id lane.replies))) ∷ advanced lane.frames
+  pub number : dispatches context row.id after.trace ≡ dispatches context row.id lane.trace + 1
+
+abbrev pub TellsNext : (lane after : Lane) → Event → Type 0
+TellsNext lane after (events.Dispatch context id priority depth) = IsDispatched lane after context id
+TellsNext lane after _ = Unit {0}
 
 -- a line of a tick, where that of a dispatch is of the next source, and tells the depth of frames
-abbrev pub Told : ℕ → List Frame → Lane → Line → Type 0
-Told tick frames lane l = (l.tick ≡ tick) × TellsDepth frames l.event × IsShallow l.event × TellsNext lane l.event
+abbrev pub Told : ℕ → (lane after : Lane) → Line → Type 0
+Told tick lane after l = (l.tick ≡ tick) × TellsDepth after.frames l.event × IsShallow l.event × TellsNext lane after l.event
 
 pub record Does (tick : ℕ) (lane after : Lane) : Type 0 where
-  pub lines : Grows (Told tick after.frames lane) lane.trace after.trace
+  pub lines : Grows (Told tick lane after) lane.trace after.trace
+  pub counted : AllNumbered lane → Counted lane → Counted after
   pub rows : AllFollow lane.contexts after.contexts
 
-other_told : (tick : ℕ) (frames : List Frame) (lane : Lane) (t : ℕ) (event : Event) → t ≡ tick → IsOther event → (t ≡ tick) × TellsDepth frames event × IsShallow event × TellsNext lane event
-other_told tick frames lane t (events.Dispatch context id priority depth) e h = absurd h
-other_told tick frames lane t _ e h = (e, tt, tt, tt)
+other_told : (tick : ℕ) (lane after : Lane) (t : ℕ) (event : Event) → t ≡ tick → IsOther event → (t ≡ tick) × TellsDepth after.frames event × IsShallow event × TellsNext lane after event
+other_told tick lane after t (events.Dispatch context id priority depth) e h = absurd h
+other_told tick lane after t _ e h = (e, tt, tt, tt)
 
 pub of_acts : (tick : ℕ) (lane after : Lane) → Acts tick lane after → Does tick lane after
-of_acts tick lane after h = record { lines = grows_as (OtherAt tick) (Told tick after.frames lane) (λ l p. other_told tick after.frames lane l.tick l.event p.0 p.1) lane.trace after.trace h.lines; rows = h.rows }
+of_acts tick lane after h = record {
+  lines = grows_as (OtherAt tick) (Told tick lane after) (λ l p. other_told tick lane after l.tick l.event p.0 p.1) lane.trace after.trace h.lines;
+  counted = λ n. counted_acts tick lane after h.lines h.rows;
+  rows = follow_all lane.contexts after.contexts h.rows;
+}
 
 of_same : (tick : ℕ) (lane after : Lane) → after.trace ≡ lane.trace → after.contexts ≡ lane.contexts → Does tick lane after
 of_same tick lane after t c = of_acts tick lane after (same (OtherAt tick) lane after t c)
 
-result_grows : (tick : ℕ) (frames : List Frame) (lane : Lane) (o : Option Awaited) (view : Seen) (xs : List Line) → Grows (Told tick frames lane) xs (xs ++ result_lines tick o view)
-result_grows tick frames lane None view xs = record { more = []; lines = refl; each = tt }
-result_grows tick frames lane (Some awaited) view xs = grows_line (Told tick frames lane) xs _ (refl, tt, tt, tt)
+result_grows : (tick : ℕ) (lane after : Lane) (o : Option Awaited) (view : Seen) (xs : List Line) → Grows (Told tick lane after) xs (xs ++ result_lines tick o view)
+result_grows tick lane after None view xs = record { more = []; lines = refl; each = tt }
+result_grows tick lane after (Some awaited) view xs = grows_line (Told tick lane after) xs _ (refl, tt, tt, tt)
 
-does_dispatched : (tick context : ℕ) (row : Row) (lane : Lane) → IsNext lane context row.id → calls lane.frames < 32 → Does tick lane (dispatched tick context row lane)
+does_dispatched : (tick context : ℕ) (row : Row) (lane : Lane) → IsNext lane context row → calls lane.frames < 32 → Does tick lane (dispatched tick context row lane)
 does_dispatched tick context row lane next h =
     let after : Lane = dispatched tick context row lane in
     let n : ℕ = depth lane.frames in
     let first : Line = record { tick = tick; event = events.Dispatch context row.id row.priority (n + 1) } in
     let same : length (callers (advanced lane.frames)) ≡ n = ap (λ (cs : List Caller). length cs) (callers_advanced lane.frames) ∙ sym (depth_callers lane.frames) in
-    let told : Told tick after.frames lane first = (refl, omega (arith, same), (omega arith, omega (arith, h, few_dispatches lane.frames)), next) in
+    let rise = λ (c : ℕ) (i : ℕ). one_more tick c i context row (n + 1) (reply_held context row.id lane.replies) lane.view lane.trace in
+    let here : ((context == context) && (row.id == row.id)) ≡ true = ap (λ b. b && (row.id == row.id)) (same_self context) ∙ same_self row.id in
+    let number : dispatches context row.id after.trace ≡ dispatches context row.id lane.trace + 1 = rise context row.id ∙ ap (λ b. dispatches context row.id lane.trace + cond b 1 0) here in
+    let told : Told tick lane after first = (refl, omega (arith, same), (omega arith, omega (arith, h, few_dispatches lane.frames)), record { row = row; same = refl; next = next; frames = refl; number = number }) in
     record {
-      lines = grows_trans (Told tick after.frames lane) lane.trace (lane.trace ++ first ∷ []) after.trace (grows_line (Told tick after.frames lane) lane.trace first told) (result_grows tick after.frames lane (reply_held context row.id lane.replies) lane.view (lane.trace ++ first ∷ []));
+      lines = grows_trans (Told tick lane after) lane.trace (lane.trace ++ first ∷ []) after.trace (grows_line (Told tick lane after) lane.trace first told) (result_grows tick lane after (reply_held context row.id lane.replies) lane.view (lane.trace ++ first ∷ []));
+      counted = counted_dispatched context row lane after next.there refl rise;
       rows = all_changed (with_rows (counted_once row.id)) (λ c. follows_counted row.id c.rows) lane.contexts context;
     }
 
@@ -119,7 +143,7 @@ does_halted tick lane event p =
     let told : Lane = written tick event lane in
     of_acts tick lane _ (trans (OtherAt tick) lane told (stopped Halted told) (line (OtherAt tick) lane tick event (refl, p)) (same (OtherAt tick) told (stopped Halted told) refl refl))
 
-does_dispatching : (tick context : ℕ) (row : Row) (lane : Lane) → IsNext lane context row.id → Does tick lane (dispatching tick context row lane)
+does_dispatching : (tick context : ℕ) (row : Row) (lane : Lane) → IsNext lane context row → Does tick lane (dispatching tick context row lane)
 does_dispatching tick context row lane next = by (nat_lt (calls lane.frames) 32) refl
   where
     by : (b : Bool) → nat_lt (calls lane.frames) 32 ≡ b → Does tick lane (cond b (dispatched tick context row lane) (stopped Halted (written tick events.HaltDepth lane)))
@@ -148,12 +172,11 @@ does_id : (tick : ℕ) (t : Turn) (context id : ℕ) (ids : List ℕ) (answer : 
 does_id tick t context id ids answer below None f e = of_same tick t.lane (taken t.lane) refl refl
 does_id tick t context id ids answer below (Some row) f e =
     let same : row.id ≡ id = row_in_id id (own context t.lane) row (sym e) in
-    let next : IsNext t.lane context row.id = record {
+    let next : IsNext t.lane context row = record {
       ids = ids;
       answer = answer;
       below = below;
       was = f ∙ ap (λ (i : ℕ). IterOf context (i ∷ ids) answer ∷ below) (sym same);
-      row = row;
       there = ap (λ (i : ℕ). row_of context i t.lane) same ∙ e;
     } in
     does_counted tick None (dispatching tick context row) t t.left (does_dispatching tick context row t.lane next)
@@ -192,7 +215,9 @@ late_grows P tick lane number true p = grows_line P lane.trace (late_line tick l
 late_grows P tick lane number false p = record { more = []; lines = refl; each = tt }
 
 does_polled : (tick : ℕ) (t : Turn) (task : Started) (tasks : List Started) → On tick (record t { unpolled = task ∷ tasks }) (polled tick task (record t { unpolled = tasks }))
-does_polled tick t task tasks = record { lines = late_grows (Told tick t.lane.frames t.lane) tick t.lane task.number (is_late_at tick t.lane.tasks task) (refl, tt, tt, tt); rows = all_same t.lane.contexts }
+does_polled tick t task tasks =
+    let after : Lane = (polled tick task (record t { unpolled = tasks })).lane in
+    of_acts tick t.lane after (record { lines = late_grows (OtherAt tick) tick t.lane task.number (is_late_at tick t.lane.tasks task) (refl, tt); rows = all_same t.lane.contexts })
 
 does_polling : (script : Plan) (tick : ℕ) (t : Turn) (tasks : List Started) (u : Turn) → step_polling script tick (record t { unpolled = tasks }) tasks ≡ Some u → On tick (record t { unpolled = tasks }) u
 does_polling script tick t [] u e = does_step script tick t t.lane.frames t.lane.status u e

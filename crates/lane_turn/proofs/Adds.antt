@@ -33,7 +33,7 @@ use Rattle.lane_turn.specs.Acted.{attach, acted, born, can_bear, child_of, on_so
 use Rattle.lane_turn.specs.Step.{returned, answered}
 use Rattle.lane_turn.specs.Traces.{Grows}
 use Rattle.lane_turn.specs.Rest.{IsBrought}
-use Rattle.lane_turn.proofs.Follows.{Follows, AllFollow, follows_attached, follows_child, follows_destroyed, follows_ready_set, follows_reprioritised, follows_restarted, follows_same, all_same, all_trans, all_changed}
+use Rattle.lane_turn.proofs.Counts.{Edits, AllEdit, edits_attached, edits_child, edits_destroyed, edits_ready_set, edits_reprioritised, edits_restarted, edits_same, all_same, all_trans, all_changed}
 
 -- ---- lines
 
@@ -69,18 +69,18 @@ grows_same P xs ys e = record { more = []; lines = e ∙ sym (append-nil xs); ea
 -- lines that are so, and sources that stand as they stood
 pub record Adds (P : Line → Type 0) (lane after : Lane) : Type 0 where
   pub lines : Grows P lane.trace after.trace
-  pub rows : AllFollow lane.contexts after.contexts
+  pub rows : AllEdit lane.contexts after.contexts
 
 pub same : (P : Line → Type 0) (lane after : Lane) → after.trace ≡ lane.trace → after.contexts ≡ lane.contexts → Adds P lane after
-same P lane after t c = record { lines = grows_same P lane.trace after.trace t; rows = subst (AllFollow lane.contexts) (sym c) (all_same lane.contexts) }
+same P lane after t c = record { lines = grows_same P lane.trace after.trace t; rows = subst (AllEdit lane.contexts) (sym c) (all_same lane.contexts) }
 
 pub line : (P : Line → Type 0) (lane : Lane) (tick : ℕ) (event : Event) → P (record { tick = tick; event = event }) → Adds P lane (written tick event lane)
 line P lane tick event p = record { lines = grows_line P lane.trace (record { tick = tick; event = event }) p; rows = all_same lane.contexts }
 
-pub change : (P : Line → Type 0) (lane : Lane) (context : ℕ) (f : Context → Context) → ((c : Context) → Follows c.rows (f c).rows) → Adds P lane (with_context context f lane)
+pub change : (P : Line → Type 0) (lane : Lane) (context : ℕ) (f : Context → Context) → ((c : Context) → Edits c.rows (f c).rows) → Adds P lane (with_context context f lane)
 change P lane context f e = record { lines = grows_none P lane.trace; rows = all_changed f e lane.contexts context }
 
-pub edit : (P : Line → Type 0) (lane : Lane) (context : ℕ) (f : RowSet → RowSet) → ((s : RowSet) → Follows s (f s)) → Adds P lane (edited context f lane)
+pub edit : (P : Line → Type 0) (lane : Lane) (context : ℕ) (f : RowSet → RowSet) → ((s : RowSet) → Edits s (f s)) → Adds P lane (edited context f lane)
 edit P lane context f e = change P lane context (with_rows f) (λ c. e c.rows)
 
 pub trans : (P : Line → Type 0) (a b c : Lane) → Adds P a b → Adds P b c → Adds P a c
@@ -111,7 +111,7 @@ b_same tick lane after t c s f = record { adds = same (BroughtAt tick) lane afte
 pub b_line : (tick : ℕ) (lane : Lane) (event : Event) → IsBrought event → Brings tick lane (written tick event lane)
 b_line tick lane event p = record { adds = line (BroughtAt tick) lane tick event (refl, p); status = refl; frames = refl }
 
-pub b_edit : (tick : ℕ) (lane : Lane) (context : ℕ) (f : RowSet → RowSet) → ((s : RowSet) → Follows s (f s)) → Brings tick lane (edited context f lane)
+pub b_edit : (tick : ℕ) (lane : Lane) (context : ℕ) (f : RowSet → RowSet) → ((s : RowSet) → Edits s (f s)) → Brings tick lane (edited context f lane)
 b_edit tick lane context f e = record { adds = edit (BroughtAt tick) lane context f e; status = refl; frames = refl }
 
 pub b_trans : (tick : ℕ) (a b c : Lane) → Brings tick a b → Brings tick b c → Brings tick a c
@@ -124,15 +124,15 @@ b_either tick lane x y false p q = q
 pub b_none : (tick : ℕ) (lane : Lane) → Brings tick lane lane
 b_none tick lane = b_same tick lane lane refl refl refl refl
 
-b_source : (tick : ℕ) (word : Word) (f : ℕ → RowSet → RowSet) (o : Option Place) (lane : Lane) → ((id : ℕ) (s : RowSet) → Follows s (f id s)) → Brings tick lane (on_source tick word f o lane)
+b_source : (tick : ℕ) (word : Word) (f : ℕ → RowSet → RowSet) (o : Option Place) (lane : Lane) → ((id : ℕ) (s : RowSet) → Edits s (f id s)) → Brings tick lane (on_source tick word f o lane)
 b_source tick word f None lane e = b_line tick lane (events.Miss word) tt
 b_source tick word f (Some place) lane e = b_either tick lane _ _ (is_some (row_at place lane)) (b_edit tick lane place.context (f place.id) (e place.id)) (b_line tick lane (events.Miss word) tt)
 
 b_one : (script : Plan) (tick : ℕ) (action : Action) (lane : Lane) → Brings tick lane (plain_acted script tick action lane)
 b_one script tick (Attach context slot spec) lane = b_none tick lane
 b_one script tick (Child parent slot spec) lane = b_none tick lane
-b_one script tick (Destroy slot) lane = b_source tick words.Destroy destroyed (place_at slot lane) lane follows_destroyed
-b_one script tick (SetReady slot us) lane = b_source tick words.SetReady (λ id. ready_set id us) (place_at slot lane) lane (λ id. follows_ready_set id us)
+b_one script tick (Destroy slot) lane = b_source tick words.Destroy destroyed (place_at slot lane) lane edits_destroyed
+b_one script tick (SetReady slot us) lane = b_source tick words.SetReady (λ id. ready_set id us) (place_at slot lane) lane (λ id. edits_ready_set id us)
 b_one script tick (SetPriority slot priority) lane = b_none tick lane
 b_one script tick (Iterate context) lane = b_none tick lane
 b_one script tick (Pending context) lane = b_none tick lane
@@ -206,7 +206,7 @@ a_either tick lane x y b p q = either (OtherAt tick) lane x y b p q
 a_trans : (tick : ℕ) (a b c : Lane) → Acts tick a b → Acts tick b c → Acts tick a c
 a_trans tick a b c h g = trans (OtherAt tick) a b c h g
 
-a_edit : (tick : ℕ) (lane : Lane) (context : ℕ) (f : RowSet → RowSet) → ((s : RowSet) → Follows s (f s)) → Acts tick lane (edited context f lane)
+a_edit : (tick : ℕ) (lane : Lane) (context : ℕ) (f : RowSet → RowSet) → ((s : RowSet) → Edits s (f s)) → Acts tick lane (edited context f lane)
 a_edit tick lane context f e = edit (OtherAt tick) lane context f e
 
 a_connect : (script : Plan) (tick c slot proc : ℕ) (lane : Lane) → Acts tick lane (connect script tick c slot proc lane)
@@ -224,13 +224,13 @@ a_child tick now slot spec None lane = a_line tick lane (events.Miss words.Child
 a_child tick now slot spec (Some place) lane =
     let there : Lane = edited place.context (born spec now place.id) lane in
     a_either tick lane _ _ (can_bear place lane)
-    (a_trans tick lane there _ (a_edit tick lane place.context (born spec now place.id) (λ s. follows_child spec now (row_with place.id s.rows) s)) (a_same tick there _ refl refl))
+    (a_trans tick lane there _ (a_edit tick lane place.context (born spec now place.id) (λ s. edits_child spec now (row_with place.id s.rows) s)) (a_same tick there _ refl refl))
     (a_line tick lane (events.Miss words.Child) tt)
 
 a_priority : (tick : ℕ) (priority : ℤ) (o : Option Place) (lane : Lane) → Acts tick lane (set_priority_of tick priority o lane)
 a_priority tick priority None lane = a_line tick lane (events.Miss words.SetPriority) tt
 a_priority tick priority (Some place) lane =
-    a_either tick lane _ _ (is_none (priority_fault (row_at place lane))) (a_edit tick lane place.context (reprioritised place.id priority) (follows_reprioritised place.id priority)) (a_line tick lane (events.Miss words.SetPriority) tt)
+    a_either tick lane _ _ (is_none (priority_fault (row_at place lane))) (a_edit tick lane place.context (reprioritised place.id priority) (edits_reprioritised place.id priority)) (a_line tick lane (events.Miss words.SetPriority) tt)
 
 a_at_once : (tick context proc : ℕ) (acquires : Option ℕ) (lane : Lane) → Acts tick lane (called_at_once tick context proc acquires lane)
 a_at_once tick context proc acquires lane =
@@ -243,7 +243,7 @@ a_at_once tick context proc acquires lane =
 a_attaching : (tick now context proc : ℕ) (lane : Lane) → Acts tick lane (attaching tick now context proc lane)
 a_attaching tick now context proc lane =
     let there : Lane = edited context (attached (invoke_spec proc) now) lane in
-    a_trans tick lane there _ (a_edit tick lane context (attached (invoke_spec proc) now) (follows_attached (invoke_spec proc) now)) (a_line tick there (events.Invoke context Attached) tt)
+    a_trans tick lane there _ (a_edit tick lane context (attached (invoke_spec proc) now) (edits_attached (invoke_spec proc) now)) (a_line tick there (events.Invoke context Attached) tt)
 
 a_invoke : (tick now context proc : ℕ) (lane : Lane) → Acts tick lane (invoke tick now context proc lane)
 a_invoke tick now context proc lane =
@@ -259,14 +259,14 @@ a_attach : (tick now context slot : ℕ) (spec : SourceSpec) (lane : Lane) → A
 a_attach tick now context slot spec lane =
     let there : Lane = edited context (attached spec now) lane in
     a_either tick lane _ _ (is_some (own context lane))
-    (a_trans tick lane there _ (a_edit tick lane context (attached spec now) (follows_attached spec now)) (a_same tick there _ refl refl))
+    (a_trans tick lane there _ (a_edit tick lane context (attached spec now) (edits_attached spec now)) (a_same tick there _ refl refl))
     (a_line tick lane (events.Miss words.Attach) tt)
 
 pub adds_acted : (script : Plan) (tick : ℕ) (action : Action) (lane : Lane) → Acts tick lane (acted script tick action lane)
 adds_acted script tick (Attach context slot spec) lane = a_attach tick (time_of script tick) context slot spec lane
 adds_acted script tick (Child parent slot spec) lane = a_child tick (time_of script tick) slot spec (place_at parent lane) lane
-adds_acted script tick (Destroy slot) lane = of_brought tick lane _ (b_source tick words.Destroy destroyed (place_at slot lane) lane follows_destroyed)
-adds_acted script tick (SetReady slot us) lane = of_brought tick lane _ (b_source tick words.SetReady (λ id. ready_set id us) (place_at slot lane) lane (λ id. follows_ready_set id us))
+adds_acted script tick (Destroy slot) lane = of_brought tick lane _ (b_source tick words.Destroy destroyed (place_at slot lane) lane edits_destroyed)
+adds_acted script tick (SetReady slot us) lane = of_brought tick lane _ (b_source tick words.SetReady (λ id. ready_set id us) (place_at slot lane) lane (λ id. edits_ready_set id us))
 adds_acted script tick (SetPriority slot priority) lane = a_priority tick priority (place_at slot lane) lane
 adds_acted script tick (Iterate context) lane = a_either tick lane _ _ (is_some (own context lane)) (a_same tick lane _ refl refl) (a_line tick lane (events.Iterate context false) tt)
 adds_acted script tick (Pending context) lane = a_line tick lane _ tt
@@ -282,10 +282,10 @@ adds_acted script tick ShowDefault lane = a_line tick lane (events.Default (defa
 adds_acted script tick (Acquire context) lane =
     let there : Lane = with_context context acquired lane in
     a_either tick lane _ _ (is_some (own context lane))
-    (a_trans tick lane there _ (change (OtherAt tick) lane context acquired (λ c. follows_same c.rows)) (a_line tick there (events.Acquire context true) tt))
+    (a_trans tick lane there _ (change (OtherAt tick) lane context acquired (λ c. edits_same c.rows)) (a_line tick there (events.Acquire context true) tt))
     (a_line tick lane (events.Acquire context false) tt)
 adds_acted script tick (Release context) lane =
-    a_either tick lane _ _ (may_release (own context lane)) (change (OtherAt tick) lane context released (λ c. follows_same c.rows)) (a_line tick lane (events.Miss words.Release) tt)
+    a_either tick lane _ _ (may_release (own context lane)) (change (OtherAt tick) lane context released (λ c. edits_same c.rows)) (a_line tick lane (events.Miss words.Release) tt)
 adds_acted script tick (Invoke context proc) lane = a_invoke tick (time_of script tick) context proc lane
 adds_acted script tick (Give context to) lane = a_same tick lane lane refl refl
 adds_acted script tick (Log m) lane = a_line tick lane (events.Log m) tt
@@ -299,8 +299,8 @@ adds_returned script tick body Start lane =
 adds_returned script tick body (Invoked acquired) lane = a_same tick lane lane refl refl
 adds_returned script tick body (Source caller) lane =
     a_either tick lane _ _ (not caller.once && stays script body caller.number)
-    (a_edit tick lane caller.context (restarted (time_of script tick) caller.id) (follows_restarted (time_of script tick) caller.id))
-    (a_edit tick lane caller.context (destroyed caller.id) (follows_destroyed caller.id))
+    (a_edit tick lane caller.context (restarted (time_of script tick) caller.id) (edits_restarted (time_of script tick) caller.id))
+    (a_edit tick lane caller.context (destroyed caller.id) (edits_destroyed caller.id))
 
 pub adds_answered : (tick context : ℕ) (answer : Option Bool) (lane : Lane) → Acts tick lane (answered tick context answer lane)
 adds_answered tick context None lane = a_same tick lane lane refl refl

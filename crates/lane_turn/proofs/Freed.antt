@@ -28,6 +28,7 @@ use Rattle.lane_turn.specs.Depths.{caller_of, callers}
 use Rattle.lane_turn.specs.Blocked.{MayRecur, IsFree, IsOfFree, turn_within, OfEachStep, BlockedWait}
 use Rattle.lane_turn.proofs.Iterations.{goes_on, row_in_id}
 use Rattle.lane_turn.proofs.Follows.{FollowsIn, AllFollow}
+use Rattle.lane_turn.proofs.Counts.{follow_all}
 use Rattle.lane_turn.proofs.Adds.{grows_as, each_as}
 use Rattle.lane_turn.proofs.Added.{IsNext, TellsNext, Told, does}
 use Rattle.lane_turn.proofs.Traced.{brings_all}
@@ -111,13 +112,13 @@ sits_step script tick t u e h =
       waits = wait_on t.lane.contexts u.lane.contexts rows u.lane.frames (frames_wait script tick t.lane u.lane.frames h.numbered (goes_on script tick t u e) h.waits);
     }
 
-sits_received : (script : Plan) (tick : ℕ) (letters : List Letter) (lane : Lane) → Sits lane → Sits (received_all script tick letters lane)
+pub sits_received : (script : Plan) (tick : ℕ) (letters : List Letter) (lane : Lane) → Sits lane → Sits (received_all script tick letters lane)
 sits_received script tick letters lane h =
     let after : Lane = received_all script tick letters lane in
     let b = brings_all script tick letters lane in
     record {
-      numbered = numbered_on lane.contexts after.contexts b.adds.rows h.numbered;
-      waits = subst (AllWait after.contexts) (sym b.frames) (wait_on lane.contexts after.contexts b.adds.rows lane.frames h.waits);
+      numbered = numbered_on lane.contexts after.contexts (follow_all lane.contexts after.contexts b.adds.rows) h.numbered;
+      waits = subst (AllWait after.contexts) (sym b.frames) (wait_on lane.contexts after.contexts (follow_all lane.contexts after.contexts b.adds.rows) lane.frames h.waits);
     }
 
 numbered_pushed : (os : List (Option Context)) (o : Option Context) → ((i : ℕ) → NumberedIn (known (slice_get os i))) → NumberedIn o → (i : ℕ) → NumberedIn (known (slice_get (os ++ o ∷ []) i))
@@ -130,7 +131,7 @@ numbered_open : (script : Plan) (b : Bool) → NumberedIn (cond b (Some (no_sour
 numbered_open script true = record { rising = tt; given = tt }
 numbered_open script false = tt
 
-numbered_all : (script : Plan) (lane n : ℕ) → (i : ℕ) → NumberedIn (known (slice_get (open_contexts_to script lane n) i))
+pub numbered_all : (script : Plan) (lane n : ℕ) → (i : ℕ) → NumberedIn (known (slice_get (open_contexts_to script lane n) i))
 numbered_all script lane zero i = tt
 numbered_all script lane (suc n) i = numbered_pushed (open_contexts_to script lane n) (open_context script lane n) (numbered_all script lane n) (numbered_open script (home_of script n == lane)) i
 
@@ -144,18 +145,18 @@ sits_within script tick steps lane h = kept_finish script tick steps (λ t. Sits
 
 -- ---- a dispatch
 
-free_next : (lane : Lane) (context id : ℕ) → Sits lane → IsNext lane context id → (row : Row) × (row_of context id lane ≡ Some row) × IsFree lane.frames context row
-free_next lane context id h n =
+free_next : (lane : Lane) (context : ℕ) (row : Row) → Sits lane → IsNext lane context row → IsFree lane.frames context row
+free_next lane context row h n =
     let w = subst (AllWait lane.contexts) n.was h.waits in
-    let free = next_free id n.ids (busy context n.below) (own context lane) n.row w.1 n.there in
-    (n.row, n.there, subst (λ (fs : List Frame). IsFree fs context n.row) (sym n.was) (each_recurs context n.below (n.row).line free))
+    let free = next_free row.id n.ids (busy context n.below) (own context lane) row w.1 n.there in
+    subst (λ (fs : List Frame). IsFree fs context row) (sym n.was) (each_recurs context n.below row.line free)
 
-free_told : (lane : Lane) (event : Event) → Sits lane → TellsNext lane event → IsOfFree lane event
-free_told lane (events.Dispatch context id priority depth) h n = free_next lane context id h n
-free_told lane _ h n = tt
+free_told : (lane after : Lane) (event : Event) → Sits lane → TellsNext lane after event → IsOfFree lane event
+free_told lane after (events.Dispatch context id priority depth) h d = (d.row, ap (λ (i : ℕ). row_of context i lane) (sym d.same) ∙ (d.next).there, free_next lane context d.row h d.next)
+free_told lane after _ h d = tt
 
 free_step : (script : Plan) (tick : ℕ) (t u : Turn) → step script tick t ≡ Some u → Sits t.lane → Grows (λ line. IsOfFree t.lane line.event) t.lane.trace u.lane.trace
-free_step script tick t u e h = grows_as (Told tick u.lane.frames t.lane) (λ l. IsOfFree t.lane l.event) (λ l p. free_told t.lane l.event h p.3) t.lane.trace u.lane.trace (does script tick t u e).lines
+free_step script tick t u e h = grows_as (Told tick t.lane u.lane) (λ l. IsOfFree t.lane l.event) (λ l p. free_told t.lane u.lane l.event h p.3) t.lane.trace u.lane.trace (does script tick t u e).lines
 
 pub blocked_wait : BlockedWait
 blocked_wait script tick steps =

@@ -37,10 +37,13 @@ pub mod Brought
 pub mod Taken
 pub mod Lost
 pub mod Follows
+pub mod Counts
+pub mod Counted
 pub mod Adds
 pub mod Added
 pub mod Waits
 pub mod Freed
+pub mod Began
 pub mod Selected
 pub mod Stays
 pub mod EachLane

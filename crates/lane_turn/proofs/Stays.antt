@@ -27,7 +27,7 @@ use Rattle.lane_turn.specs.Step.{step, step_call, left_source, returned, in_lane
 use Rattle.lane_turn.specs.Levels.{Grown}
 use Rattle.lane_turn.specs.Tick.{lanes_at, lane_within}
 use Rattle.lane_turn.specs.Blocked.{turn_within}
-use Rattle.lane_turn.specs.Stays.{IsThere, StaysTo, StaysBy, Stays, IsAtEnd, SourcesStay}
+use Rattle.lane_turn.specs.Stays.{IsThere, StaysTo, StaysBy, Stays, IsAtEnd}
 use Rattle.lane_turn.proofs.Adds.{each_as}
 use Rattle.lane_turn.proofs.Grown.{grown_run, own_grown}
 use Rattle.lane_turn.proofs.Iterations.{some_turn, turn, going, in_the_middle}
@@ -141,8 +141,10 @@ stays_so script tick t u caller body g h e =
     subst (λ (lane : Lane). IsThere caller.context caller.id lane ↔ (IsThere caller.context caller.id t.lane × (caller.once ≡ false) × Stays script body caller.number)) (sym (ended_so script tick t u caller body h e))
     (left_there script tick body caller over (λ c k. ((own_grown (tree_levels script) t.lane caller.context c k g).sound).forest) (not caller.once && stays script body caller.number) refl)
 
-pub sources_stay : SourcesStay
-sources_stay script few tick steps h =
+pub stay_after : (script : Plan) → length script.lanes ≤ 64 → (tick steps : ℕ) → tick ≤ 4096
+    → AllByRecursion (λ lane. (caller : Caller) (body : Body) (u : Turn) → IsAtEnd script caller body (turn_within script tick steps lane) → step script tick (turn_within script tick steps lane) ≡ Some u
+    → (IsThere caller.context caller.id u.lane ↔ (IsThere caller.context caller.id (turn_within script tick steps lane).lane × (caller.once ≡ false) × Stays script body caller.number))) (lanes_at script tick)
+stay_after script few tick steps h =
     each_as (λ lane. AllByRecursion (Grown (tree_levels script)) (lane_within script tick steps lane).contexts)
     (λ lane. (caller : Caller) (body : Body) (u : Turn) → IsAtEnd script caller body (turn_within script tick steps lane) → step script tick (turn_within script tick steps lane) ≡ Some u
     → (IsThere caller.context caller.id u.lane ↔ (IsThere caller.context caller.id (turn_within script tick steps lane).lane × (caller.once ≡ false) × Stays script body caller.number)))

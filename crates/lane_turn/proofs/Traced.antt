@@ -19,7 +19,7 @@ use Rattle.lane_turn.specs.Tick.{lanes_at, lane_within}
 use Rattle.lane_turn.specs.Traces.{Grows, IsOf, NoTickFalls, IsBefore}
 use Rattle.lane_turn.specs.Depths.{TellsDepth, IsShallow}
 use Rattle.lane_turn.specs.Rest.{IsBrought}
-use Rattle.lane_turn.proofs.Follows.{follows_attached}
+use Rattle.lane_turn.proofs.Counts.{edits_attached}
 use Rattle.lane_turn.proofs.Adds.{grows_none, grows_trans, grows_as, each_joined, each_as, same, BroughtAt, Brings, b_line, b_edit, b_trans, b_either, b_none, b_cancel}
 use Rattle.lane_turn.proofs.Added.{Told, does}
 use Rattle.lane_turn.proofs.Turns.{kept_finish, kept_finished}
@@ -28,7 +28,7 @@ use Rattle.lane_turn.proofs.EachLane.{each_lane}
 -- ---- steps and turns
 
 pub of_tick : (script : Plan) (tick : ℕ) (t u : Turn) → step script tick t ≡ Some u → Grows (IsOf tick) t.lane.trace u.lane.trace
-of_tick script tick t u e = grows_as (Told tick u.lane.frames t.lane) (IsOf tick) (λ l p. p.0) t.lane.trace u.lane.trace (does script tick t u e).lines
+of_tick script tick t u e = grows_as (Told tick t.lane u.lane) (IsOf tick) (λ l p. p.0) t.lane.trace u.lane.trace (does script tick t u e).lines
 
 pub turn_grows : (script : Plan) (tick : ℕ) (lane : Lane) → Grows (IsOf tick) lane.trace (turned script tick lane).trace
 turn_grows script tick lane =
@@ -41,7 +41,7 @@ brings_body script tick sender (mails.Attach context spec) lane =
     let there : Lane = edited context (attached spec (time_of script tick)) lane in
     let id : ℕ = next_id (own context lane) in
     b_either tick lane (written tick (events.Arrive context id) there) lane (is_some (own context lane))
-    (b_trans tick lane there _ (b_edit tick lane context (attached spec (time_of script tick)) (follows_attached spec (time_of script tick))) (b_line tick there (events.Arrive context id) tt))
+    (b_trans tick lane there _ (b_edit tick lane context (attached spec (time_of script tick)) (edits_attached spec (time_of script tick))) (b_line tick there (events.Arrive context id) tt))
     (b_none tick lane)
 brings_body script tick sender (mails.Complete reply) lane =
     let there : Lane = edited reply.ctx (attached (reply_spec reply) (time_of script tick)) lane in
@@ -49,7 +49,7 @@ brings_body script tick sender (mails.Complete reply) lane =
     let held : Lane = holding reply.ctx id sender reply there in
     b_either tick lane (written tick (events.Arrive reply.ctx id) held) lane (is_some (own reply.ctx lane))
     (b_trans tick lane held _
-    (b_trans tick lane there held (b_edit tick lane reply.ctx (attached (reply_spec reply) (time_of script tick)) (follows_attached (reply_spec reply) (time_of script tick)))
+    (b_trans tick lane there held (b_edit tick lane reply.ctx (attached (reply_spec reply) (time_of script tick)) (edits_attached (reply_spec reply) (time_of script tick)))
     (record { adds = same (BroughtAt tick) there held refl refl; status = refl; frames = refl }))
     (b_line tick held (events.Arrive reply.ctx id) tt))
     (b_none tick lane)
@@ -90,7 +90,7 @@ run_before script tick =
 -- ---- depths
 
 pub tells_depths : (script : Plan) (tick : ℕ) (t u : Turn) → step script tick t ≡ Some u → Grows (λ line. TellsDepth u.lane.frames line.event × IsShallow line.event) t.lane.trace u.lane.trace
-tells_depths script tick t u e = grows_as (Told tick u.lane.frames t.lane) (λ l. TellsDepth u.lane.frames l.event × IsShallow l.event) (λ l p. (p.1, p.2)) t.lane.trace u.lane.trace (does script tick t u e).lines
+tells_depths script tick t u e = grows_as (Told tick t.lane u.lane) (λ l. TellsDepth u.lane.frames l.event × IsShallow l.event) (λ l p. (p.1, p.2)) t.lane.trace u.lane.trace (does script tick t u e).lines
 
 abbrev AllShallow : Lane → Type 0
 AllShallow lane = AllByRecursion (λ line. IsShallow line.event) lane.trace
@@ -99,7 +99,7 @@ grown_shallow : (xs ys : List Line) → Grows (λ line. IsShallow line.event) xs
 grown_shallow xs ys g h = subst (λ (ls : List Line). AllByRecursion (λ line. IsShallow line.event) ls) (sym g.lines) (each_joined (λ line. IsShallow line.event) xs g.more h g.each)
 
 step_shallow : (script : Plan) (tick : ℕ) (t u : Turn) → step script tick t ≡ Some u → AllShallow t.lane → AllShallow u.lane
-step_shallow script tick t u e h = grown_shallow t.lane.trace u.lane.trace (grows_as (Told tick u.lane.frames t.lane) (λ l. IsShallow l.event) (λ l p. p.2) t.lane.trace u.lane.trace (does script tick t u e).lines) h
+step_shallow script tick t u e h = grown_shallow t.lane.trace u.lane.trace (grows_as (Told tick t.lane u.lane) (λ l. IsShallow l.event) (λ l p. p.2) t.lane.trace u.lane.trace (does script tick t u e).lines) h
 
 brought_shallow : (event : Event) → IsBrought event → IsShallow event
 brought_shallow (events.Dispatch context id priority depth) h = absurd h
