@@ -1,7 +1,7 @@
 -- What each step, each turn and each delivery adds to a trace, and leaves of the sources.
-use Rattle.std.proofs.Common.{◌≡◌, ◌≢◌, ℕ, zero, suc, ◌+◌, ◌<◌, ◌≤◌, ◌==◌, ◌&&◌, Bool, true, false, cond, Option, Some, None, List, [], ◌∷◌, ◌++◌, map, length, refl, ap, sym, ◌∙◌, arith, subst, append-nil, ltb-true}
+use Rattle.std.proofs.Common.{◌≡◌, ℕ, zero, suc, ◌+◌, ◌<◌, ◌≤◌, ◌==◌, ◌&&◌, Bool, true, false, cond, Option, Some, None, List, [], ◌∷◌, ◌++◌, length, refl, ap, sym, ◌∙◌, arith, subst, ltb-true}
 use Rattle.std.specs.Prelude.{slice_get, nat_lt, is_some}
-use Rattle.std.specs.List.{AllByRecursion, cons_option}
+use Rattle.std.specs.List.{cons_option}
 use Rattle.std.proofs.lemmas.List.Sums.{sum_by-cons}
 use Rattle.loop_script.specs.declared.plan.Plan.{Plan}
 use Rattle.loop_script.specs.declared.action.Action.{Action}
@@ -34,7 +34,7 @@ use Rattle.lane_turn.proofs.Follows.{AllFollow, follows_counted, all_changed}
 use Rattle.lane_turn.proofs.Counts.{all_same, follow_all}
 use Rattle.lane_turn.proofs.Counted.{AllNumbered, Counted, one_more, counted_acts, counted_dispatched}
 use Rattle.lane_turn.proofs.Iterations.{row_in_id}
-use Rattle.lane_turn.proofs.Adds.{grows_none, grows_line, grows_trans, grows_as, IsOther, OtherAt, Acts, adds_acted, adds_returned, adds_answered, line, same, trans}
+use Rattle.lane_turn.proofs.Adds.{grows_line, grows_trans, grows_as, IsOther, OtherAt, Acts, adds_acted, adds_returned, adds_answered, line, same, trans}
 
 -- ---- depths
 

@@ -1,10 +1,9 @@
 -- What actions write, and what they leave of the sources: lines of the tick that are no dispatch.
-use Rattle.std.proofs.Common.{◌≡◌, ℕ, ℤ, zero, suc, ◌==◌, Bool, true, false, cond, Option, Some, None, List, [], ◌∷◌, ◌++◌, refl, ap, sym, ◌∙◌, arith, subst, append-nil, append_assoc}
+use Rattle.std.proofs.Common.{◌≡◌, ℕ, ℤ, ◌==◌, Bool, true, false, cond, Option, Some, None, List, [], ◌∷◌, ◌++◌, refl, ap, sym, ◌∙◌, subst, append-nil, append_assoc}
 use Rattle.std.specs.Prelude.{nat_lt, is_some, is_none, not, ◌&&◌}
 use Rattle.std.specs.List.{AllByRecursion}
 use Rattle.loop_script.specs.declared.plan.Plan.{Plan}
 use Rattle.loop_script.specs.declared.source.SourceSpec.{SourceSpec}
-use Rattle.loop_script.specs.declared.task.TaskSpec.{TaskSpec}
 use Rattle.loop_script.specs.declared.action.Action.{Action}
 use Rattle.loop_script.specs.declared.action.Action.TheVariants.{Attach, Child, Destroy, SetReady, SetPriority, Iterate, Pending, Run, Quit, Cancel, Connect, Disconnect, Task, Push, Pop, ShowDefault, Acquire, Release, Invoke, Give, Log}
 use Rattle.loop_script.specs.declared.body.Body.{Body}
@@ -23,9 +22,8 @@ use Rattle.lane_turn.specs.declared.line.Word.{Word}
 use Rattle.lane_turn.specs.declared.line.Word.TheVariants as words
 use Rattle.lane_turn.specs.declared.layer.Origin.{Origin}
 use Rattle.lane_turn.specs.declared.layer.Origin.TheVariants.{Start, Source, Invoke as Invoked}
-use Rattle.lane_turn.specs.declared.parts.Status.{Status}
 use Rattle.lane_turn.specs.declared.slot.Place.{Place}
-use Rattle.lane_turn.specs.Frames.{Frame, calls}
+use Rattle.lane_turn.specs.Frames.{calls}
 use Rattle.lane_turn.specs.Sources.{restarted}
 use Rattle.lane_turn.specs.Lane.{Lane, own, with_rows, with_context, edited, row_at, place_at, handler_at, written, viewing, noting}
 use Rattle.lane_turn.specs.Owned.{default_context, is_owned, may_release, invoke_spec, calling, called_at_once, attaching, invoke_own, invoke}

@@ -14,7 +14,7 @@ use Rattle.lane_turn.specs.Frames.{advanced}
 use Rattle.lane_turn.specs.Sources.{no_sources}
 use Rattle.lane_turn.specs.Lane.{Lane, Turn, known, row_of}
 use Rattle.lane_turn.specs.Step.{step, body_of}
-use Rattle.lane_turn.specs.Turn.{begun, turned, opening, open_context, open_contexts_to}
+use Rattle.lane_turn.specs.Turn.{begun, turned, open_context, open_contexts_to}
 use Rattle.lane_turn.specs.Deliver.{received_all}
 use Rattle.lane_turn.specs.Tick.{lanes_at}
 use Rattle.lane_turn.specs.Traces.{Grows}

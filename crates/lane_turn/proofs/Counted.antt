@@ -1,11 +1,11 @@
 -- The count of a source is the number of the lines of its dispatches: an invariant of the lanes of a run.
-use Rattle.std.proofs.Common.{◌≡◌, ◌≢◌, ℕ, zero, suc, ◌+◌, ◌<◌, ◌≤◌, ◌==◌, ◌&&◌, Bool, true, false, cond, Option, Some, None, List, [], ◌∷◌, ◌++◌, ◌⊎◌, inl, inr, map, slice_set, option_map, refl, ap, sym, ◌∙◌, arith, subst}
+use Rattle.std.proofs.Common.{◌≡◌, ◌≢◌, ℕ, zero, suc, ◌+◌, ◌<◌, ◌≤◌, ◌==◌, ◌&&◌, Bool, true, false, cond, Option, Some, None, List, [], ◌∷◌, ◌++◌, ◌⊎◌, inl, inr, slice_set, option_map, refl, ap, sym, ◌∙◌, arith, subst}
 use Rattle.std.specs.Prelude.{slice_get}
 use Rattle.std.specs.List.{AllByRecursion}
 use Rattle.std.proofs.lemmas.Bool.Decides.{eqb_tells}
 use Rattle.std.proofs.lemmas.List.Sums.{sum_by-cons, sum_by-append, sum_by_push}
 use Rattle.source_rows.specs.declared.row.Row.{Row}
-use Rattle.source_rows.specs.Rows.{RowSet, counted as counted_once, has_id, row_of as row_with}
+use Rattle.source_rows.specs.Rows.{RowSet, counted as counted_once, has_id}
 use Rattle.source_rows.proofs.Compared.{same_self, are_same, not_same}
 use Rattle.source_rows.proofs.Lists.{all_of, all_map}
 use Rattle.source_rows.proofs.Forest.{found}
@@ -20,7 +20,6 @@ use Rattle.lane_turn.specs.Step.{result_lines}
 use Rattle.lane_turn.specs.Stays.{is_dispatch_of, dispatches}
 use Rattle.lane_turn.specs.Traces.{Grows}
 use Rattle.lane_turn.proofs.Counts.{Edits, EditsIn, AllEdit}
-use Rattle.lane_turn.proofs.Follows.{IsNumbered}
 use Rattle.lane_turn.proofs.Adds.{IsOther, OtherAt}
 use Rattle.lane_turn.proofs.Waits.{NumberedIn}
 
@@ -129,9 +128,9 @@ counted_here : (i id : ℕ) (xs ys : List Line) (s : RowSet) → Rise i id i xs 
 counted_here i id xs ys s rise l h = record {
   rows = all_map (λ (r : Row). (r.count == dispatches i r.id xs) ≡ true) (λ (r : Row). (r.count == dispatches i r.id ys) ≡ true) (λ r. cond (has_id id r) (record r { count = r.count + 1 }) r) (λ r k. count_row i id xs ys r rise k (r.id == id) refl) s.rows h.rows;
   new = λ j k.
-    let other : ((i == i) && (id == j)) ≡ false = ap (λ b. b && (id == j)) (same_self i) ∙ not_same id j (λ e. absurd (omega (arith, e, l, k))) in
-    let more : dispatches i j ys ≡ dispatches i j xs + 0 = rise j ∙ ap (λ b. dispatches i j xs + cond b 1 0) other in
-    omega (arith, more, h.new j k);
+      let other : ((i == i) && (id == j)) ≡ false = ap (λ b. b && (id == j)) (same_self i) ∙ not_same id j (λ e. absurd (omega (arith, e, l, k))) in
+      let more : dispatches i j ys ≡ dispatches i j xs + 0 = rise j ∙ ap (λ b. dispatches i j xs + cond b 1 0) other in
+      omega (arith, more, h.new j k);
 }
 
 counted_there : (context id i : ℕ) (xs ys : List Line) (s : RowSet) → Rise context id i xs ys → i ≢ context → IsCounted i xs s → IsCounted i ys s

@@ -1,19 +1,15 @@
 -- What edits leave of the sources that there are: the ids rise, no source is put under another later, and a new one gets a new id.
-use Rattle.std.proofs.Common.{◌≡◌, ℕ, ℤ, zero, suc, ◌+◌, ◌<◌, ◌≤◌, ◌==◌, Bool, true, false, not, cond, Option, Some, None, List, [], ◌∷◌, ◌++◌, map, slice_set, option_map, refl, ap, sym, ◌∙◌, arith, subst}
-use Rattle.std.specs.Prelude.{slice_get, filter}
+use Rattle.std.proofs.Common.{◌≡◌, ℕ, ℤ, zero, suc, ◌+◌, ◌<◌, ◌≤◌, ◌==◌, Bool, true, false, not, cond, Option, Some, None, List, [], ◌∷◌, map, slice_set, option_map, refl, ap, ◌∙◌, arith}
+use Rattle.std.specs.Prelude.{slice_get}
 use Rattle.std.specs.List.{AllByRecursion}
 use Rattle.loop_script.specs.declared.source.SourceSpec.{SourceSpec}
-use Rattle.loop_script.specs.declared.source.Kind.{Kind}
-use Rattle.loop_script.specs.declared.source.Kind.TheVariants as kinds
 use Rattle.source_rows.specs.declared.row.Row.{Row}
 use Rattle.source_rows.specs.Row.{root_row, child_row}
-use Rattle.source_rows.specs.Rows.{RowSet, no_rows, added, attached, child_added, destroyed, counted, ready_set, reprioritised, moved, changed, has_id, is_under, row_of as row_with}
+use Rattle.source_rows.specs.Rows.{RowSet, added, attached, child_added, destroyed, counted, ready_set, reprioritised, moved, has_id, is_under}
 use Rattle.source_rows.specs.Tree.{IdsRise}
-use Rattle.source_rows.specs.Lists.{Pairs}
 use Rattle.source_rows.proofs.Lists.{all_of, all_push, all_map, all_filter, pairs_push, pairs_map, pairs_filter}
 use Rattle.context_core.specs.declared.context.Context.{Context}
-use Rattle.lane_turn.specs.Sources.{restarted, restarted_row, restarted_kind, due_after}
-use Rattle.lane_turn.specs.Lane.{known, with_rows}
+use Rattle.lane_turn.specs.Lane.{known}
 
 -- the ids rise, and what comes next is new
 pub record IsNumbered (s : RowSet) : Type 0 where
@@ -98,20 +94,6 @@ follows_reprioritised id priority s = follows_mapped (moved id priority s.next_o
     moved_line r true = refl
     moved_line r false = refl
 
-follows_kind : (now id : ℕ) (kind : Kind) (s : RowSet) → Follows s (restarted_kind now id kind s)
-follows_kind now id kinds.Idle s = follows_same s
-follows_kind now id (kinds.Timeout ms) s = follows_ready_set id (due_after ms now) s
-follows_kind now id (kinds.ReadyTime us) s = follows_same s
-follows_kind now id (kinds.Fd fd bits) s = follows_same s
-follows_kind now id (kinds.Cancel c) s = follows_same s
-
-follows_row : (now id : ℕ) (o : Option Row) (s : RowSet) → Follows s (restarted_row now id o s)
-follows_row now id None s = follows_same s
-follows_row now id (Some row) s = follows_kind now id row.kind s
-
-pub follows_restarted : (now id : ℕ) (s : RowSet) → Follows s (restarted now id s)
-follows_restarted now id s = follows_row now id (row_with id s.rows) s
-
 -- ---- contexts
 
 abbrev pub FollowsIn : Option Context → Option Context → Type 0
@@ -126,20 +108,6 @@ AllFollow before now = (i : ℕ) → FollowsIn (known (slice_get before i)) (kno
 pub in_same : (o : Option Context) → FollowsIn o o
 in_same None = tt
 in_same (Some c) = follows_same c.rows
-
-in_trans : (a b c : Option Context) → FollowsIn a b → FollowsIn b c → FollowsIn a c
-in_trans None None None h g = tt
-in_trans None None (Some c) h g = g
-in_trans None (Some b) c h g = absurd h
-in_trans (Some a) None c h g = absurd h
-in_trans (Some a) (Some b) None h g = absurd g
-in_trans (Some a) (Some b) (Some c) h g = follows_trans a.rows b.rows c.rows h g
-
-pub all_same : (contexts : List (Option Context)) → AllFollow contexts contexts
-all_same contexts i = in_same (known (slice_get contexts i))
-
-pub all_trans : (a b c : List (Option Context)) → AllFollow a b → AllFollow b c → AllFollow a c
-all_trans a b c h g i = in_trans (known (slice_get a i)) (known (slice_get b i)) (known (slice_get c i)) (h i) (g i)
 
 in_changed : (f : Context → Context) → ((c : Context) → Follows c.rows (f c).rows) → (o : Option Context) → FollowsIn o (option_map f o)
 in_changed f e None = tt

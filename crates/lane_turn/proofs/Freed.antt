@@ -20,19 +20,19 @@ use Rattle.lane_turn.specs.Frames.{Frame, CallOf, IterOf, LoopOf, blocked_by, bl
 use Rattle.lane_turn.specs.Sources.{no_sources}
 use Rattle.lane_turn.specs.Lane.{Lane, Turn, known, own, row_in, row_of}
 use Rattle.lane_turn.specs.Step.{step}
-use Rattle.lane_turn.specs.Turn.{begun, turned, opening, open_context, open_contexts_to}
+use Rattle.lane_turn.specs.Turn.{begun, turned, open_context, open_contexts_to}
 use Rattle.lane_turn.specs.Deliver.{received_all}
 use Rattle.lane_turn.specs.Tick.{lanes_at}
 use Rattle.lane_turn.specs.Traces.{Grows}
 use Rattle.lane_turn.specs.Depths.{caller_of, callers}
-use Rattle.lane_turn.specs.Blocked.{MayRecur, IsFree, IsOfFree, turn_within, OfEachStep, BlockedWait}
+use Rattle.lane_turn.specs.Blocked.{MayRecur, IsFree, IsOfFree, turn_within, BlockedWait}
 use Rattle.lane_turn.proofs.Iterations.{goes_on, row_in_id}
 use Rattle.lane_turn.proofs.Follows.{FollowsIn, AllFollow}
 use Rattle.lane_turn.proofs.Counts.{follow_all}
 use Rattle.lane_turn.proofs.Adds.{grows_as, each_as}
 use Rattle.lane_turn.proofs.Added.{IsNext, TellsNext, Told, does}
 use Rattle.lane_turn.proofs.Traced.{brings_all}
-use Rattle.lane_turn.proofs.Waits.{is_in, is_held, may_go, Waits, WaitsIn, AllWait, NumberedIn, not_true, wait_on, frames_wait}
+use Rattle.lane_turn.proofs.Waits.{is_in, is_held, may_go, WaitsIn, AllWait, NumberedIn, not_true, wait_on, frames_wait}
 use Rattle.lane_turn.proofs.Turns.{kept_finish, kept_finished}
 use Rattle.lane_turn.proofs.EachLane.{each_lane}
 

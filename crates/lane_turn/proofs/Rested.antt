@@ -1,5 +1,5 @@
 -- What a lane that has ended or is halted still does.
-use Rattle.std.proofs.Common.{◌≡◌, ◌≢◌, ℕ, Bool, true, false, Option, Some, None, List, [], ◌∷◌, ◌++◌, refl, ap, sym, ◌∙◌, subst, append-nil}
+use Rattle.std.proofs.Common.{◌≡◌, ◌≢◌, ℕ, Option, Some, None, List, [], ◌∷◌, refl, ap, sym, ◌∙◌, subst}
 use Rattle.loop_script.specs.declared.plan.Plan.{Plan}
 use Rattle.post_office.specs.declared.letter.Letter.{Letter}
 use Rattle.lane_watch.specs.Tasks.{Started, is_late_at}
@@ -10,7 +10,6 @@ use Rattle.lane_turn.specs.Lane.{Lane, Turn}
 use Rattle.lane_turn.specs.Step.{step, step_polling, step_going, polled}
 use Rattle.lane_turn.specs.Turn.{begun, turned}
 use Rattle.lane_turn.specs.Deliver.{received_all}
-use Rattle.lane_turn.specs.Traces.{Grows}
 use Rattle.lane_turn.specs.Rest.{IsLate, IsBrought, IsPolled, IsSent}
 use Rattle.lane_turn.proofs.Adds.{grows_none, grows_trans, grows_as, BroughtAt}
 use Rattle.lane_turn.proofs.Added.{late_grows}

@@ -1,5 +1,5 @@
 -- What an iteration is to dispatch: the most urgent ready sources, by their numbers, and each once.
-use Rattle.std.proofs.Common.{◌≡◌, ◌≢◌, ℕ, ℤ, ◌<◌, ◌≤◌, ◌==◌, ◌&&◌, Bool, true, false, cond, Option, Some, None, List, [], ◌∷◌, ◌⊎◌, inl, inr, map, filter, length, refl, ap, sym, ◌∙◌, arith, subst, ltb-true, ltb-false}
+use Rattle.std.proofs.Common.{◌≡◌, ◌≢◌, ℕ, ℤ, ◌<◌, ◌≤◌, ◌==◌, ◌&&◌, Bool, true, false, cond, Option, Some, List, [], ◌∷◌, ◌⊎◌, inl, inr, filter, length, refl, ap, sym, ◌∙◌, arith, subst, ltb-true, ltb-false}
 use Rattle.std.specs.Prelude.{int_le, nat_lt}
 use Rattle.std.specs.List.{AllByRecursion, list_all}
 use Rattle.std.proofs.lemmas.Bool.Decides.{eqb_tells}
@@ -9,7 +9,7 @@ use Rattle.source_rows.specs.declared.row.Row.{Row}
 use Rattle.source_rows.specs.Rows.{row_of as row_with, in_order, stands_before}
 use Rattle.source_rows.specs.Tree.{IsForest}
 use Rattle.source_rows.specs.Lists.{Pairs}
-use Rattle.source_rows.proofs.Lists.{all_of, all_both, all_map, all_passed, pairs_map, pairs_filter, pairs_with, pairs_and, all_true}
+use Rattle.source_rows.proofs.Lists.{all_both, all_map, all_passed, pairs_map, pairs_filter, pairs_with, pairs_and, all_true}
 use Rattle.source_rows.proofs.Order.{all_in_order, pairs_in_order, sorted_in_order}
 use Rattle.source_rows.proofs.Forest.{found, all_found, one_order}
 use Rattle.source_rows.proofs.Post.{post_order}

@@ -1,7 +1,7 @@
 -- A source is there after a call of it exactly where `keep` lets it stay.
-use Rattle.std.proofs.Common.{◌≡◌, ℕ, zero, suc, ◌≤◌, ◌==◌, ◌&&◌, Bool, true, false, not, cond, Option, Some, None, List, [], ◌∷◌, ◌↔◌, filter, map, length, slice_set, option_map, refl, ap, sym, ◌∙◌, arith, subst, leb-true, le-leb}
-use Rattle.std.specs.Prelude.{slice_get, is_some, nat_le}
-use Rattle.std.specs.List.{AllByRecursion, find}
+use Rattle.std.proofs.Common.{◌≡◌, ℕ, zero, suc, ◌≤◌, ◌==◌, ◌&&◌, Bool, true, false, not, cond, Option, Some, None, List, [], ◌∷◌, ◌↔◌, filter, map, length, slice_set, option_map, refl, ap, sym, ◌∙◌, subst, leb-true, le-leb}
+use Rattle.std.specs.Prelude.{slice_get, is_some}
+use Rattle.std.specs.List.{AllByRecursion}
 use Rattle.loop_script.specs.declared.plan.Plan.{Plan}
 use Rattle.loop_script.specs.declared.plan.Proc.{Proc}
 use Rattle.loop_script.specs.declared.action.Action.{Action}
@@ -9,9 +9,9 @@ use Rattle.loop_script.specs.declared.body.Body.{Body}
 use Rattle.loop_script.specs.declared.body.Body.TheVariants.{Start, Procedure, Nothing}
 use Rattle.loop_script.specs.declared.source.Kind.{Kind}
 use Rattle.loop_script.specs.declared.source.Kind.TheVariants as kinds
-use Rattle.loop_script.specs.Parts.{time_of, actions_of, is_kept, keeps, stays}
+use Rattle.loop_script.specs.Parts.{time_of, is_kept, keeps, stays}
 use Rattle.source_rows.specs.declared.row.Row.{Row}
-use Rattle.source_rows.specs.Rows.{RowSet, row_of as row_with, destroyed, ready_set, has_id, is_under}
+use Rattle.source_rows.specs.Rows.{RowSet, row_of as row_with, destroyed, has_id, is_under}
 use Rattle.source_rows.specs.Tree.{IsForest}
 use Rattle.source_rows.proofs.Compared.{are_same}
 use Rattle.source_rows.proofs.Lists.{all_of}
@@ -20,10 +20,10 @@ use Rattle.context_core.specs.declared.context.Context.{Context}
 use Rattle.lane_turn.specs.declared.layer.Call.{Call}
 use Rattle.lane_turn.specs.declared.layer.Caller.{Caller}
 use Rattle.lane_turn.specs.declared.layer.Origin.TheVariants.{Source}
-use Rattle.lane_turn.specs.Frames.{Frame, CallOf}
+use Rattle.lane_turn.specs.Frames.{CallOf}
 use Rattle.lane_turn.specs.Sources.{restarted, restarted_row, restarted_kind, due_after, tree_levels}
 use Rattle.lane_turn.specs.Lane.{Lane, Turn, known, own, with_rows, edited, popped, row_in, row_of}
-use Rattle.lane_turn.specs.Step.{step, step_call, left_source, returned, in_lane}
+use Rattle.lane_turn.specs.Step.{step, step_call, left_source}
 use Rattle.lane_turn.specs.Levels.{Grown}
 use Rattle.lane_turn.specs.Tick.{lanes_at, lane_within}
 use Rattle.lane_turn.specs.Blocked.{turn_within}
@@ -116,14 +116,16 @@ left_there : (script : Plan) (tick : ℕ) (body : Body) (caller : Caller) (lane 
     → IsThere caller.context caller.id (cond b (edited caller.context (restarted (time_of script tick) caller.id) lane) (edited caller.context (destroyed caller.id) lane)) ↔ (IsThere caller.context caller.id lane × (caller.once ≡ false) × Stays script body caller.number)
 left_there script tick body caller lane f true e =
     let same : is_some (row_of caller.context caller.id (edited caller.context (restarted (time_of script tick) caller.id) lane)) ≡ is_some (row_of caller.context caller.id lane) =
-    ap (λ (o : Option Context). is_some (row_in caller.id o)) (own_set (with_rows (restarted (time_of script tick) caller.id)) lane.contexts caller.context) ∙ restarted_there (time_of script tick) caller.id (own caller.context lane) in
-    (λ there. (sym same ∙ there, not_false caller.once (and_left (not caller.once) (stays script body caller.number) e), (stays_tells script body caller.number).0 (and_right (not caller.once) (stays script body caller.number) e)),
-    λ all. same ∙ all.0)
+    ap (λ (o : Option Context). is_some (row_in caller.id o)) (own_set (with_rows (restarted (time_of script tick) caller.id)) lane.contexts caller.context) ∙ restarted_there (time_of script tick) caller.id (own caller.context lane) in (
+      λ there. (sym same ∙ there, not_false caller.once (and_left (not caller.once) (stays script body caller.number) e), (stays_tells script body caller.number).0 (and_right (not caller.once) (stays script body caller.number) e)),
+      λ all. same ∙ all.0,
+    )
 left_there script tick body caller lane f false e =
     let gone : is_some (row_of caller.context caller.id (edited caller.context (destroyed caller.id) lane)) ≡ false =
-    ap (λ (o : Option Context). is_some (row_in caller.id o)) (own_set (with_rows (destroyed caller.id)) lane.contexts caller.context) ∙ destroyed_there caller.id (own caller.context lane) f in
-    (λ there. let no : true ≡ false = sym there ∙ gone in cc,
-    λ all. let both : (not caller.once && stays script body caller.number) ≡ true = ap (λ b. not b && stays script body caller.number) all.1 ∙ (stays_tells script body caller.number).1 all.2 in let no : true ≡ false = sym both ∙ e in cc)
+    ap (λ (o : Option Context). is_some (row_in caller.id o)) (own_set (with_rows (destroyed caller.id)) lane.contexts caller.context) ∙ destroyed_there caller.id (own caller.context lane) f in (
+      λ there. let no : true ≡ false = sym there ∙ gone in cc,
+      λ all. let both : (not caller.once && stays script body caller.number) ≡ true = ap (λ b. not b && stays script body caller.number) all.1 ∙ (stays_tells script body caller.number).1 all.2 in let no : true ≡ false = sym both ∙ e in cc,
+    )
 
 -- a call that has no action left
 ended_so : (script : Plan) (tick : ℕ) (t u : Turn) (caller : Caller) (body : Body) (h : IsAtEnd script caller body t) → step script tick t ≡ Some u → u.lane ≡ left_source script tick body caller (popped (going t.lane (CallOf (record { origin = Source caller; body = body; place = h.place }) ∷ h.below)))

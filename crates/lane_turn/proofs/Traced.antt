@@ -1,5 +1,5 @@
 -- How traces grow over turns, deliveries and runs.
-use Rattle.std.proofs.Common.{◌≡◌, ℕ, zero, suc, ◌<◌, ◌≤◌, ◌++◌, Bool, Some, List, [], ◌∷◌, refl, sym, arith, subst}
+use Rattle.std.proofs.Common.{◌≡◌, ℕ, suc, ◌<◌, ◌≤◌, ◌++◌, Some, List, [], ◌∷◌, refl, sym, arith, subst}
 use Rattle.std.specs.Prelude.{is_some}
 use Rattle.std.specs.List.{AllByRecursion}
 use Rattle.loop_script.specs.declared.plan.Plan.{Plan}
@@ -13,7 +13,7 @@ use Rattle.lane_turn.specs.declared.line.Event.{Event}
 use Rattle.lane_turn.specs.declared.line.Event.TheVariants as events
 use Rattle.lane_turn.specs.Lane.{Lane, Turn, own, next_id, edited, written}
 use Rattle.lane_turn.specs.Step.{step}
-use Rattle.lane_turn.specs.Turn.{opening, begun, finished, turned}
+use Rattle.lane_turn.specs.Turn.{begun, turned}
 use Rattle.lane_turn.specs.Deliver.{reply_spec, holding, received_body, received, received_all}
 use Rattle.lane_turn.specs.Tick.{lanes_at, lane_within}
 use Rattle.lane_turn.specs.Traces.{Grows, IsOf, NoTickFalls, IsBefore}

@@ -1,13 +1,12 @@
 -- What an iteration has left waits for no call in progress: an invariant of the lanes of a run.
-use Rattle.std.proofs.Common.{◌≡◌, ◌≢◌, ℕ, zero, suc, ◌+◌, ◌<◌, ◌≤◌, ◌==◌, ◌||◌, ◌&&◌, Bool, true, false, not, cond, Option, Some, None, List, [], ◌∷◌, ◌++◌, ◌⊎◌, inl, inr, map, filter, drop, reverse, refl, ap, sym, ◌∙◌, arith, subst}
+use Rattle.std.proofs.Common.{◌≡◌, ◌≢◌, ℕ, zero, suc, ◌<◌, ◌≤◌, ◌==◌, ◌||◌, ◌&&◌, Bool, true, false, not, cond, Option, Some, None, List, [], ◌∷◌, inl, inr, map, filter, drop, reverse, refl, ap, sym, ◌∙◌, arith, subst}
 use Rattle.std.specs.Prelude.{slice_get}
 use Rattle.std.specs.List.{AllByRecursion, list_any, filter_map, cons_option}
-use Rattle.std.proofs.lemmas.List.Sorted.{list_any-IsPermutation, IsPermutation-reverse}
 use Rattle.source_rows.specs.declared.row.Row.{Row}
 use Rattle.source_rows.specs.Rows.{RowSet, row_of as row_with, in_order}
 use Rattle.source_rows.specs.Tree.{IdsRise}
 use Rattle.source_rows.specs.Lists.{Pairs}
-use Rattle.source_rows.proofs.Compared.{same_self, are_same, not_same}
+use Rattle.source_rows.proofs.Compared.{are_same, not_same}
 use Rattle.source_rows.proofs.Lists.{all_of, all_map, all_passed, all_filter, pairs_map, pairs_filter, pairs_with, all_true}
 use Rattle.source_rows.proofs.Order.{all_in_order, pairs_in_order}
 use Rattle.source_rows.proofs.Forest.{all_found}
@@ -15,9 +14,6 @@ use Rattle.context_core.specs.declared.context.Context.{Context}
 use Rattle.context_core.specs.Ready.{Own, is_ready, is_most_urgent, ready_rows, selected}
 use Rattle.loop_script.specs.declared.plan.Plan.{Plan}
 use Rattle.cancel_view.specs.Seen.{Seen}
-use Rattle.lane_turn.specs.declared.layer.Caller.{Caller}
-use Rattle.lane_turn.specs.declared.layer.Origin.{Origin}
-use Rattle.lane_turn.specs.declared.layer.Origin.TheVariants as origins
 use Rattle.lane_turn.specs.Frames.{Frame, CallOf, IterOf, LoopOf, blocked_by, blocked_in, busy}
 use Rattle.lane_turn.specs.Lane.{Lane, known, chosen}
 use Rattle.lane_turn.specs.Sources.{own_ready_at, chosen_in}

@@ -21,7 +21,8 @@ pub fn turns_end()
 
 /// An iteration never dispatches a source that was not selected when it began, and none after a newer iteration of its
 /// context began: by each step it keeps some of the ids that it had left, from some place on; where a newer one begins
-/// none is left; and what is dispatched is the next id of the innermost.
+/// none is left; and what is dispatched is the next id of the innermost, which is taken. What goes on is the call, the
+/// iteration or the run of a loop that it was. An `iterate` is told whether anything was selected.
 pub fn iterations_go_on()
     ensures { IterationsGoOn }
 {}
@@ -94,8 +95,8 @@ pub fn iterations_have_order()
     ensures { IterationsHaveOrder }
 {}
 
-/// In a run a source is there after the call of its n-th dispatch exactly where it was not destroyed before, was no reply's, and
-/// `keep` lets it stay.
+/// In a run each dispatch begins a call of its source, and the n-th one that knows that it is the n-th. When that call ends the
+/// source is there exactly where it was not destroyed before, was no reply's, and `keep` lets it stay.
 pub fn sources_stay_as_kept()
     ensures { SourcesStay }
 {}
