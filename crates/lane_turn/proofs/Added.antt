@@ -1,5 +1,5 @@
 -- What each step, each turn and each delivery adds to a trace, and leaves of the sources.
-use Rattle.std.proofs.Common.{◌≡◌, ℕ, zero, suc, ◌+◌, ◌<◌, ◌≤◌, ◌==◌, ◌&&◌, Bool, true, false, cond, Option, Some, None, List, [], ◌∷◌, ◌++◌, length, refl, ap, sym, ◌∙◌, arith, subst, ltb-true}
+use Rattle.std.proofs.Common.{◌≡◌, ℕ, zero, suc, ◌+◌, ◌<◌, ◌≤◌, ◌==◌, ◌&&◌, Bool, true, false, cond, Option, Some, None, List, [], ◌∷◌, ◌++◌, length, refl, ap, sym, ◌∙◌, arith, subst, ltb-true, ltb-false, drop}
 use Rattle.std.specs.Prelude.{slice_get, nat_lt, is_some}
 use Rattle.std.specs.List.{cons_option}
 use Rattle.std.proofs.lemmas.List.Sums.{sum_by-cons}
@@ -26,7 +26,7 @@ use Rattle.lane_turn.specs.Frames.{Frame, CallOf, IterOf, LoopOf, advanced, call
 use Rattle.lane_turn.specs.Lane.{Lane, Turn, own, with_rows, written, stopped, popped, taken, row_of, iterating, is_running}
 use Rattle.lane_turn.specs.Acted.{acted, sends}
 use Rattle.lane_turn.specs.Step.{step, step_polling, step_call, step_id, counted_by, in_lane, dispatched, dispatching, polled, late_line, one_if, result_lines, body_of}
-use Rattle.lane_turn.specs.Depths.{caller_of, callers, IsShallow, TellsDepth}
+use Rattle.lane_turn.specs.Depths.{caller_of, callers, begun_of, begun_calls, IsShallow, TellsDepth, HaltsOver}
 use Rattle.lane_turn.specs.Traces.{Grows}
 use Rattle.source_rows.proofs.Compared.{same_self}
 use Rattle.lane_turn.specs.Stays.{dispatches}
@@ -69,6 +69,24 @@ few_dispatches (IterOf context ids answer ∷ fs) =
 few_dispatches (LoopOf number context ∷ fs) =
     omega (arith, sum_by-cons (λ (f : Frame). cond (is_dispatch f) 1 0) (LoopOf number context) fs, sum_by-cons (λ (f : Frame). cond (is_call f) 1 0) (LoopOf number context) fs, few_dispatches fs)
 
+-- the calls in progress
+calls_begun : (fs : List Frame) → calls fs ≡ length (begun_calls fs)
+calls_begun [] = refl
+calls_begun (CallOf call ∷ fs) = sum_by-cons (λ (f : Frame). cond (is_call f) 1 0) (CallOf call) fs ∙ by call.origin (calls_begun fs)
+  where
+    by : (origin : Origin) → calls fs ≡ length (begun_calls fs) → cond (is_other origin) 1 0 + calls fs ≡ length (cons_option (begun_of origin) (begun_calls fs))
+    by origins.Start e = omega (arith, e)
+    by (origins.Source caller) e = omega (arith, e)
+    by (origins.Invoke acquired) e = omega (arith, e)
+calls_begun (IterOf context ids answer ∷ fs) = omega (arith, sum_by-cons (λ (f : Frame). cond (is_call f) 1 0) (IterOf context ids answer) fs, calls_begun fs)
+calls_begun (LoopOf number context ∷ fs) = omega (arith, sum_by-cons (λ (f : Frame). cond (is_call f) 1 0) (LoopOf number context) fs, calls_begun fs)
+
+calls_advanced : (fs : List Frame) → calls (advanced fs) ≡ calls fs
+calls_advanced [] = refl
+calls_advanced (CallOf call ∷ fs) = sum_by-cons (λ (f : Frame). cond (is_call f) 1 0) (CallOf (record call { place = call.place + 1 })) fs ∙ sym (sum_by-cons (λ (f : Frame). cond (is_call f) 1 0) (CallOf call) fs)
+calls_advanced (IterOf context ids answer ∷ fs) = sum_by-cons (λ (f : Frame). cond (is_call f) 1 0) (IterOf context (drop 1 ids) answer) fs ∙ sym (sum_by-cons (λ (f : Frame). cond (is_call f) 1 0) (IterOf context ids answer) fs)
+calls_advanced (LoopOf number context ∷ fs) = refl
+
 -- ---- a step
 
 -- the call of a source
@@ -97,30 +115,31 @@ TellsNext lane after _ = Unit {0}
 
 -- a line of a tick, where that of a dispatch is of the next source, and tells the depth of frames
 abbrev pub Told : ℕ → (lane after : Lane) → Line → Type 0
-Told tick lane after l = (l.tick ≡ tick) × TellsDepth after.frames l.event × IsShallow l.event × TellsNext lane after l.event
+Told tick lane after l = (l.tick ≡ tick) × TellsDepth after.frames l.event × IsShallow l.event × TellsNext lane after l.event × HaltsOver lane.frames l.event
 
 pub record Does (tick : ℕ) (lane after : Lane) : Type 0 where
   pub lines : Grows (Told tick lane after) lane.trace after.trace
   pub counted : AllNumbered lane → Counted lane → Counted after
   pub rows : AllFollow lane.contexts after.contexts
 
-other_told : (tick : ℕ) (lane after : Lane) (t : ℕ) (event : Event) → t ≡ tick → IsOther event → (t ≡ tick) × TellsDepth after.frames event × IsShallow event × TellsNext lane after event
+other_told : (tick : ℕ) (lane after : Lane) (t : ℕ) (event : Event) → t ≡ tick → IsOther (calls lane.frames) event → (t ≡ tick) × TellsDepth after.frames event × IsShallow event × TellsNext lane after event × HaltsOver lane.frames event
 other_told tick lane after t (events.Dispatch context id priority depth) e h = absurd h
-other_told tick lane after t _ e h = (e, tt, tt, tt)
+other_told tick lane after t events.HaltDepth e h = (e, tt, tt, tt, omega (arith, h, calls_begun lane.frames))
+other_told tick lane after t _ e h = (e, tt, tt, tt, tt)
 
-pub of_acts : (tick : ℕ) (lane after : Lane) → Acts tick lane after → Does tick lane after
+pub of_acts : (tick : ℕ) (lane after : Lane) → Acts tick (calls lane.frames) lane after → Does tick lane after
 of_acts tick lane after h = record {
-  lines = grows_as (OtherAt tick) (Told tick lane after) (λ l p. other_told tick lane after l.tick l.event p.0 p.1) lane.trace after.trace h.lines;
-  counted = λ n. counted_acts tick lane after h.lines h.rows;
+  lines = grows_as (OtherAt tick (calls lane.frames)) (Told tick lane after) (λ l p. other_told tick lane after l.tick l.event p.0 p.1) lane.trace after.trace h.lines;
+  counted = λ n. counted_acts tick (calls lane.frames) lane after h.lines h.rows;
   rows = follow_all lane.contexts after.contexts h.rows;
 }
 
 of_same : (tick : ℕ) (lane after : Lane) → after.trace ≡ lane.trace → after.contexts ≡ lane.contexts → Does tick lane after
-of_same tick lane after t c = of_acts tick lane after (same (OtherAt tick) lane after t c)
+of_same tick lane after t c = of_acts tick lane after (same (OtherAt tick (calls lane.frames)) lane after t c)
 
 result_grows : (tick : ℕ) (lane after : Lane) (o : Option Awaited) (view : Seen) (xs : List Line) → Grows (Told tick lane after) xs (xs ++ result_lines tick o view)
 result_grows tick lane after None view xs = record { more = []; lines = refl; each = tt }
-result_grows tick lane after (Some awaited) view xs = grows_line (Told tick lane after) xs _ (refl, tt, tt, tt)
+result_grows tick lane after (Some awaited) view xs = grows_line (Told tick lane after) xs _ (refl, tt, tt, tt, tt)
 
 does_dispatched : (tick context : ℕ) (row : Row) (lane : Lane) → IsNext lane context row → calls lane.frames < 32 → Does tick lane (dispatched tick context row lane)
 does_dispatched tick context row lane next h =
@@ -131,24 +150,25 @@ does_dispatched tick context row lane next h =
     let rise = λ (c : ℕ) (i : ℕ). one_more tick c i context row (n + 1) (reply_held context row.id lane.replies) lane.view lane.trace in
     let here : ((context == context) && (row.id == row.id)) ≡ true = ap (λ b. b && (row.id == row.id)) (same_self context) ∙ same_self row.id in
     let number : dispatches context row.id after.trace ≡ dispatches context row.id lane.trace + 1 = rise context row.id ∙ ap (λ b. dispatches context row.id lane.trace + cond b 1 0) here in
-    let told : Told tick lane after first = (refl, omega (arith, same), (omega arith, omega (arith, h, few_dispatches lane.frames)), record { row = row; same = refl; next = next; frames = refl; number = number }) in
+    let told : Told tick lane after first = (refl, omega (arith, same), (omega arith, omega (arith, h, few_dispatches lane.frames)), record { row = row; same = refl; next = next; frames = refl; number = number }, tt) in
     record {
       lines = grows_trans (Told tick lane after) lane.trace (lane.trace ++ first ∷ []) after.trace (grows_line (Told tick lane after) lane.trace first told) (result_grows tick lane after (reply_held context row.id lane.replies) lane.view (lane.trace ++ first ∷ []));
       counted = counted_dispatched context row lane after next.there refl rise;
       rows = all_changed (with_rows (counted_once row.id)) (λ c. follows_counted row.id c.rows) lane.contexts context;
     }
 
-does_halted : (tick : ℕ) (lane : Lane) (event : Event) → IsOther event → Does tick lane (stopped Halted (written tick event lane))
+does_halted : (tick : ℕ) (lane : Lane) (event : Event) → IsOther (calls lane.frames) event → Does tick lane (stopped Halted (written tick event lane))
 does_halted tick lane event p =
     let told : Lane = written tick event lane in
-    of_acts tick lane _ (trans (OtherAt tick) lane told (stopped Halted told) (line (OtherAt tick) lane tick event (refl, p)) (same (OtherAt tick) told (stopped Halted told) refl refl))
+    let P : Line → Type 0 = OtherAt tick (calls lane.frames) in
+    of_acts tick lane _ (trans P lane told (stopped Halted told) (line P lane tick event (refl, p)) (same P told (stopped Halted told) refl refl))
 
 does_dispatching : (tick context : ℕ) (row : Row) (lane : Lane) → IsNext lane context row → Does tick lane (dispatching tick context row lane)
 does_dispatching tick context row lane next = by (nat_lt (calls lane.frames) 32) refl
   where
     by : (b : Bool) → nat_lt (calls lane.frames) 32 ≡ b → Does tick lane (cond b (dispatched tick context row lane) (stopped Halted (written tick events.HaltDepth lane)))
     by true e = does_dispatched tick context row lane next (ltb-true (calls lane.frames) 32 e)
-    by false e = does_halted tick lane events.HaltDepth tt
+    by false e = does_halted tick lane events.HaltDepth (omega (arith, ltb-false (calls lane.frames) 32 e))
 
 some_same : (t u : Turn) → Some t ≡ Some u → t ≡ u
 some_same t u e = cc
@@ -160,13 +180,13 @@ does_counted : (tick : ℕ) (mail : Option Mail) (f : Lane → Lane) (t : Turn) 
 does_counted tick mail f t zero h = does_halted tick t.lane events.HaltSteps tt
 does_counted tick mail f t (suc left) h = h
 
-after_taken : (tick : ℕ) (lane before after : Lane) → before.trace ≡ lane.trace → before.contexts ≡ lane.contexts → Acts tick before after → Does tick lane after
-after_taken tick lane before after t c h = of_acts tick lane after (trans (OtherAt tick) lane before after (same (OtherAt tick) lane before t c) h)
+after_taken : (tick : ℕ) (lane before after : Lane) → before.trace ≡ lane.trace → before.contexts ≡ lane.contexts → Acts tick (calls lane.frames) before after → Does tick lane after
+after_taken tick lane before after t c h = of_acts tick lane after (trans (OtherAt tick (calls lane.frames)) lane before after (same (OtherAt tick (calls lane.frames)) lane before t c) h)
 
 does_call : (script : Plan) (tick : ℕ) (t : Turn) (call : Call) (a : Option Action) → On tick t (step_call script tick t call a)
 does_call script tick t call (Some a) =
-    does_counted tick (sends a (taken t.lane)) (λ lane. acted script tick a (taken lane)) t t.left (after_taken tick t.lane (taken t.lane) _ refl refl (adds_acted script tick a (taken t.lane)))
-does_call script tick t call None = after_taken tick t.lane (popped t.lane) _ refl refl (adds_returned script tick call.body call.origin (popped t.lane))
+    does_counted tick (sends a (taken t.lane)) (λ lane. acted script tick a (taken lane)) t t.left (after_taken tick t.lane (taken t.lane) _ refl refl (adds_acted script tick (calls t.lane.frames) a (taken t.lane) (sym (calls_advanced t.lane.frames))))
+does_call script tick t call None = after_taken tick t.lane (popped t.lane) _ refl refl (adds_returned script tick (calls t.lane.frames) call.body call.origin (popped t.lane))
 
 does_id : (tick : ℕ) (t : Turn) (context id : ℕ) (ids : List ℕ) (answer : Option Bool) (below : List Frame) (r : Option Row) → t.lane.frames ≡ IterOf context (id ∷ ids) answer ∷ below → row_of context id t.lane ≡ r → On tick t (step_id tick t context r)
 does_id tick t context id ids answer below None f e = of_same tick t.lane (taken t.lane) refl refl
@@ -186,7 +206,7 @@ does_loop : (script : Plan) (tick : ℕ) (t : Turn) (number context : ℕ) (runs
 does_loop script tick t number context true true u e = cc
 does_loop script tick t number context true false u e = subst (On tick t) (some_same _ _ e) (of_same tick t.lane (iterating script tick context None t.lane) refl refl)
 does_loop script tick t number context false iterated u e =
-    subst (On tick t) (some_same _ _ e) (after_taken tick t.lane (popped t.lane) _ refl refl (line (OtherAt tick) (popped t.lane) tick (events.LoopEnd number) (refl, tt)))
+    subst (On tick t) (some_same _ _ e) (after_taken tick t.lane (popped t.lane) _ refl refl (line (OtherAt tick (calls t.lane.frames)) (popped t.lane) tick (events.LoopEnd number) (refl, tt)))
 
 abbrev turn : Turn → List Frame → Status → Turn
 turn t frames status = record t { lane = record t.lane { frames = frames; status = status }; unpolled = [] }
@@ -198,7 +218,7 @@ does_step script tick t (CallOf call ∷ below) GoesOn u e =
     subst (On tick now) (some_same _ _ e) (does_call script tick now call (slice_get (actions_of script call.body) call.place))
 does_step script tick t (IterOf context [] answer ∷ below) GoesOn u e =
     let now : Turn = turn t (IterOf context [] answer ∷ below) GoesOn in
-    subst (On tick now) (some_same _ _ e) (after_taken tick now.lane (popped now.lane) _ refl refl (adds_answered tick context answer (popped now.lane)))
+    subst (On tick now) (some_same _ _ e) (after_taken tick now.lane (popped now.lane) _ refl refl (adds_answered tick (calls now.lane.frames) context answer (popped now.lane)))
 does_step script tick t (IterOf context (id ∷ ids) answer ∷ below) GoesOn u e =
     let now : Turn = turn t (IterOf context (id ∷ ids) answer ∷ below) GoesOn in
     subst (On tick now) (some_same _ _ e) (does_id tick now context id ids answer below (row_of context id now.lane) refl refl)
@@ -217,7 +237,7 @@ late_grows P tick lane number false p = record { more = []; lines = refl; each =
 does_polled : (tick : ℕ) (t : Turn) (task : Started) (tasks : List Started) → On tick (record t { unpolled = task ∷ tasks }) (polled tick task (record t { unpolled = tasks }))
 does_polled tick t task tasks =
     let after : Lane = (polled tick task (record t { unpolled = tasks })).lane in
-    of_acts tick t.lane after (record { lines = late_grows (OtherAt tick) tick t.lane task.number (is_late_at tick t.lane.tasks task) (refl, tt); rows = all_same t.lane.contexts })
+    of_acts tick t.lane after (record { lines = late_grows (OtherAt tick (calls t.lane.frames)) tick t.lane task.number (is_late_at tick t.lane.tasks task) (refl, tt); rows = all_same t.lane.contexts })
 
 does_polling : (script : Plan) (tick : ℕ) (t : Turn) (tasks : List Started) (u : Turn) → step_polling script tick (record t { unpolled = tasks }) tasks ≡ Some u → On tick (record t { unpolled = tasks }) u
 does_polling script tick t [] u e = does_step script tick t t.lane.frames t.lane.status u e

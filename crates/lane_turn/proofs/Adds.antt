@@ -1,5 +1,5 @@
 -- What actions write, and what they leave of the sources: lines of the tick that are no dispatch.
-use Rattle.std.proofs.Common.{◌≡◌, ℕ, ℤ, ◌==◌, Bool, true, false, cond, Option, Some, None, List, [], ◌∷◌, ◌++◌, refl, ap, sym, ◌∙◌, subst, append-nil, append_assoc}
+use Rattle.std.proofs.Common.{◌≡◌, ℕ, ◌≤◌, ℤ, ◌==◌, Bool, true, false, cond, Option, Some, None, List, [], ◌∷◌, ◌++◌, refl, ap, sym, ◌∙◌, subst, append-nil, append_assoc, arith, ltb-false}
 use Rattle.std.specs.Prelude.{nat_lt, is_some, is_none, not, ◌&&◌}
 use Rattle.std.specs.List.{AllByRecursion}
 use Rattle.loop_script.specs.declared.plan.Plan.{Plan}
@@ -22,10 +22,11 @@ use Rattle.lane_turn.specs.declared.line.Word.{Word}
 use Rattle.lane_turn.specs.declared.line.Word.TheVariants as words
 use Rattle.lane_turn.specs.declared.layer.Origin.{Origin}
 use Rattle.lane_turn.specs.declared.layer.Origin.TheVariants.{Start, Source, Invoke as Invoked}
+use Rattle.lane_turn.specs.declared.parts.Status.TheVariants.{Halted}
 use Rattle.lane_turn.specs.declared.slot.Place.{Place}
 use Rattle.lane_turn.specs.Frames.{calls}
 use Rattle.lane_turn.specs.Sources.{restarted}
-use Rattle.lane_turn.specs.Lane.{Lane, own, with_rows, with_context, edited, row_at, place_at, handler_at, written, viewing, noting}
+use Rattle.lane_turn.specs.Lane.{Lane, stopped, own, with_rows, with_context, edited, row_at, place_at, handler_at, written, viewing, noting}
 use Rattle.lane_turn.specs.Owned.{default_context, is_owned, may_release, invoke_spec, calling, called_at_once, attaching, invoke_own, invoke}
 use Rattle.lane_turn.specs.Acted.{attach, acted, born, can_bear, child_of, on_source, set_priority_of, plain_acted, all_acted, handled, all_handled, cancel, connect, disconnect_of}
 use Rattle.lane_turn.specs.Step.{returned, answered}
@@ -173,133 +174,138 @@ b_cancel script tick c lane =
 
 -- ---- actions
 
--- what is no line of a dispatch
-abbrev pub IsOther : Event → Type 0
-IsOther (events.Dispatch context id priority depth) = ⊥
-IsOther _ = Unit {0}
+-- what is no line of a dispatch, and of a halt at a depth only over 32 calls
+abbrev pub IsOther : ℕ → Event → Type 0
+IsOther n (events.Dispatch context id priority depth) = ⊥
+IsOther n events.HaltDepth = 32 ≤ n
+IsOther n _ = Unit {0}
 
-abbrev pub OtherAt : ℕ → Line → Type 0
-OtherAt tick l = (l.tick ≡ tick) × IsOther l.event
+abbrev pub OtherAt : (tick n : ℕ) → Line → Type 0
+OtherAt tick n l = (l.tick ≡ tick) × IsOther n l.event
 
-brought_other : (event : Event) → IsBrought event → IsOther event
-brought_other (events.Dispatch context id priority depth) h = absurd h
-brought_other _ h = tt
+brought_other : (n : ℕ) (event : Event) → IsBrought event → IsOther n event
+brought_other n (events.Dispatch context id priority depth) h = absurd h
+brought_other n events.HaltDepth h = absurd h
+brought_other n _ h = tt
 
 -- an action adds such lines
-abbrev pub Acts : ℕ → Lane → Lane → Type 0
-Acts tick lane after = Adds (OtherAt tick) lane after
+abbrev pub Acts : (tick n : ℕ) → Lane → Lane → Type 0
+Acts tick n lane after = Adds (OtherAt tick n) lane after
 
-pub of_brought : (tick : ℕ) (lane after : Lane) → Brings tick lane after → Acts tick lane after
-of_brought tick lane after h = adds_as (BroughtAt tick) (OtherAt tick) (λ l p. (p.0, brought_other l.event p.1)) lane after h.adds
+pub of_brought : (tick n : ℕ) (lane after : Lane) → Brings tick lane after → Acts tick n lane after
+of_brought tick n lane after h = adds_as (BroughtAt tick) (OtherAt tick n) (λ l p. (p.0, brought_other n l.event p.1)) lane after h.adds
 
-a_same : (tick : ℕ) (lane after : Lane) → after.trace ≡ lane.trace → after.contexts ≡ lane.contexts → Acts tick lane after
-a_same tick lane after t c = same (OtherAt tick) lane after t c
+a_same : (tick n : ℕ) (lane after : Lane) → after.trace ≡ lane.trace → after.contexts ≡ lane.contexts → Acts tick n lane after
+a_same tick n lane after t c = same (OtherAt tick n) lane after t c
 
-a_line : (tick : ℕ) (lane : Lane) (event : Event) → IsOther event → Acts tick lane (written tick event lane)
-a_line tick lane event p = line (OtherAt tick) lane tick event (refl, p)
+a_line : (tick n : ℕ) (lane : Lane) (event : Event) → IsOther n event → Acts tick n lane (written tick event lane)
+a_line tick n lane event p = line (OtherAt tick n) lane tick event (refl, p)
 
-a_either : (tick : ℕ) (lane x y : Lane) (b : Bool) → Acts tick lane x → Acts tick lane y → Acts tick lane (cond b x y)
-a_either tick lane x y b p q = either (OtherAt tick) lane x y b p q
+a_either : (tick n : ℕ) (lane x y : Lane) (b : Bool) → Acts tick n lane x → Acts tick n lane y → Acts tick n lane (cond b x y)
+a_either tick n lane x y b p q = either (OtherAt tick n) lane x y b p q
 
-a_trans : (tick : ℕ) (a b c : Lane) → Acts tick a b → Acts tick b c → Acts tick a c
-a_trans tick a b c h g = trans (OtherAt tick) a b c h g
+a_trans : (tick n : ℕ) (a b c : Lane) → Acts tick n a b → Acts tick n b c → Acts tick n a c
+a_trans tick n a b c h g = trans (OtherAt tick n) a b c h g
 
-a_edit : (tick : ℕ) (lane : Lane) (context : ℕ) (f : RowSet → RowSet) → ((s : RowSet) → Edits s (f s)) → Acts tick lane (edited context f lane)
-a_edit tick lane context f e = edit (OtherAt tick) lane context f e
+a_edit : (tick n : ℕ) (lane : Lane) (context : ℕ) (f : RowSet → RowSet) → ((s : RowSet) → Edits s (f s)) → Acts tick n lane (edited context f lane)
+a_edit tick n lane context f e = edit (OtherAt tick n) lane context f e
 
-a_connect : (script : Plan) (tick c slot proc : ℕ) (lane : Lane) → Acts tick lane (connect script tick c slot proc lane)
-a_connect script tick c slot proc lane =
+a_connect : (script : Plan) (tick n c slot proc : ℕ) (lane : Lane) → Acts tick n lane (connect script tick c slot proc lane)
+a_connect script tick n c slot proc lane =
     let f : Fired = record { id = 0; proc = proc } in
     let after : Lane = handled script tick f lane in
-    a_either tick lane _ _ (has c lane.view) (a_trans tick lane after _ (of_brought tick lane after (b_handled script tick f lane)) (a_same tick after _ refl refl)) (a_same tick lane _ refl refl)
+    a_either tick n lane _ _ (has c lane.view) (a_trans tick n lane after _ (of_brought tick n lane after (b_handled script tick f lane)) (a_same tick n after _ refl refl)) (a_same tick n lane _ refl refl)
 
-a_disconnect : (tick : ℕ) (o : Option ℕ) (lane : Lane) → Acts tick lane (disconnect_of tick o lane)
-a_disconnect tick None lane = a_line tick lane (events.Miss words.Disconnect) tt
-a_disconnect tick (Some id) lane = a_either tick lane _ _ (may_disconnect id lane.view) (a_same tick lane _ refl refl) (a_line tick lane (events.Miss words.Disconnect) tt)
+a_disconnect : (tick n : ℕ) (o : Option ℕ) (lane : Lane) → Acts tick n lane (disconnect_of tick o lane)
+a_disconnect tick n None lane = a_line tick n lane (events.Miss words.Disconnect) tt
+a_disconnect tick n (Some id) lane = a_either tick n lane _ _ (may_disconnect id lane.view) (a_same tick n lane _ refl refl) (a_line tick n lane (events.Miss words.Disconnect) tt)
 
-a_child : (tick now slot : ℕ) (spec : SourceSpec) (o : Option Place) (lane : Lane) → Acts tick lane (child_of tick now slot spec o lane)
-a_child tick now slot spec None lane = a_line tick lane (events.Miss words.Child) tt
-a_child tick now slot spec (Some place) lane =
+a_child : (tick n now slot : ℕ) (spec : SourceSpec) (o : Option Place) (lane : Lane) → Acts tick n lane (child_of tick now slot spec o lane)
+a_child tick n now slot spec None lane = a_line tick n lane (events.Miss words.Child) tt
+a_child tick n now slot spec (Some place) lane =
     let there : Lane = edited place.context (born spec now place.id) lane in
-    a_either tick lane _ _ (can_bear place lane)
-    (a_trans tick lane there _ (a_edit tick lane place.context (born spec now place.id) (λ s. edits_child spec now (row_with place.id s.rows) s)) (a_same tick there _ refl refl))
-    (a_line tick lane (events.Miss words.Child) tt)
+    a_either tick n lane _ _ (can_bear place lane)
+    (a_trans tick n lane there _ (a_edit tick n lane place.context (born spec now place.id) (λ s. edits_child spec now (row_with place.id s.rows) s)) (a_same tick n there _ refl refl))
+    (a_line tick n lane (events.Miss words.Child) tt)
 
-a_priority : (tick : ℕ) (priority : ℤ) (o : Option Place) (lane : Lane) → Acts tick lane (set_priority_of tick priority o lane)
-a_priority tick priority None lane = a_line tick lane (events.Miss words.SetPriority) tt
-a_priority tick priority (Some place) lane =
-    a_either tick lane _ _ (is_none (priority_fault (row_at place lane))) (a_edit tick lane place.context (reprioritised place.id priority) (edits_reprioritised place.id priority)) (a_line tick lane (events.Miss words.SetPriority) tt)
+a_priority : (tick n : ℕ) (priority : ℤ) (o : Option Place) (lane : Lane) → Acts tick n lane (set_priority_of tick priority o lane)
+a_priority tick n priority None lane = a_line tick n lane (events.Miss words.SetPriority) tt
+a_priority tick n priority (Some place) lane =
+    a_either tick n lane _ _ (is_none (priority_fault (row_at place lane))) (a_edit tick n lane place.context (reprioritised place.id priority) (edits_reprioritised place.id priority)) (a_line tick n lane (events.Miss words.SetPriority) tt)
 
-a_at_once : (tick context proc : ℕ) (acquires : Option ℕ) (lane : Lane) → Acts tick lane (called_at_once tick context proc acquires lane)
-a_at_once tick context proc acquires lane =
-    let told : Lane = written tick (events.Invoke context Direct) lane in
-    let halted : Lane = written tick events.HaltDepth lane in
-    a_either tick lane (calling tick context proc acquires lane) _ (nat_lt (calls lane.frames) 32)
-    (a_trans tick lane told _ (a_line tick lane (events.Invoke context Direct) tt) (a_same tick told _ refl refl))
-    (a_trans tick lane halted _ (a_line tick lane events.HaltDepth tt) (a_same tick halted _ refl refl))
+a_at_once : (tick n context proc : ℕ) (acquires : Option ℕ) (lane : Lane) → n ≡ calls lane.frames → Acts tick n lane (called_at_once tick context proc acquires lane)
+a_at_once tick n context proc acquires lane e = by (nat_lt (calls lane.frames) 32) refl
+  where
+    by : (b : Bool) → nat_lt (calls lane.frames) 32 ≡ b → Acts tick n lane (cond b (calling tick context proc acquires lane) (stopped Halted (written tick events.HaltDepth lane)))
+    by true k =
+        let told : Lane = written tick (events.Invoke context Direct) lane in
+        a_trans tick n lane told _ (a_line tick n lane (events.Invoke context Direct) tt) (a_same tick n told _ refl refl)
+    by false k =
+        let halted : Lane = written tick events.HaltDepth lane in
+        a_trans tick n lane halted _ (a_line tick n lane events.HaltDepth (omega (arith, e, ltb-false (calls lane.frames) 32 k))) (a_same tick n halted _ refl refl)
 
-a_attaching : (tick now context proc : ℕ) (lane : Lane) → Acts tick lane (attaching tick now context proc lane)
-a_attaching tick now context proc lane =
+a_attaching : (tick n now context proc : ℕ) (lane : Lane) → Acts tick n lane (attaching tick now context proc lane)
+a_attaching tick n now context proc lane =
     let there : Lane = edited context (attached (invoke_spec proc) now) lane in
-    a_trans tick lane there _ (a_edit tick lane context (attached (invoke_spec proc) now) (edits_attached (invoke_spec proc) now)) (a_line tick there (events.Invoke context Attached) tt)
+    a_trans tick n lane there _ (a_edit tick n lane context (attached (invoke_spec proc) now) (edits_attached (invoke_spec proc) now)) (a_line tick n there (events.Invoke context Attached) tt)
 
-a_invoke : (tick now context proc : ℕ) (lane : Lane) → Acts tick lane (invoke tick now context proc lane)
-a_invoke tick now context proc lane =
+a_invoke : (tick n now context proc : ℕ) (lane : Lane) → n ≡ calls lane.frames → Acts tick n lane (invoke tick now context proc lane)
+a_invoke tick n now context proc lane e =
     let none : Lane = called_at_once tick context proc None lane in
     let some : Lane = called_at_once tick context proc (Some context) lane in
     let there : Lane = attaching tick now context proc lane in
-    a_either tick lane (invoke_own tick now context proc lane) (written tick (events.Invoke context Posted) lane) (is_some (own context lane))
-    (a_either tick lane none (cond (default_context lane == context) some there) (is_owned context lane) (a_at_once tick context proc None lane)
-    (a_either tick lane some there (default_context lane == context) (a_at_once tick context proc (Some context) lane) (a_attaching tick now context proc lane)))
-    (a_line tick lane (events.Invoke context Posted) tt)
+    a_either tick n lane (invoke_own tick now context proc lane) (written tick (events.Invoke context Posted) lane) (is_some (own context lane))
+    (a_either tick n lane none (cond (default_context lane == context) some there) (is_owned context lane) (a_at_once tick n context proc None lane e)
+    (a_either tick n lane some there (default_context lane == context) (a_at_once tick n context proc (Some context) lane e) (a_attaching tick n now context proc lane)))
+    (a_line tick n lane (events.Invoke context Posted) tt)
 
-a_attach : (tick now context slot : ℕ) (spec : SourceSpec) (lane : Lane) → Acts tick lane (attach tick now context slot spec lane)
-a_attach tick now context slot spec lane =
+a_attach : (tick n now context slot : ℕ) (spec : SourceSpec) (lane : Lane) → Acts tick n lane (attach tick now context slot spec lane)
+a_attach tick n now context slot spec lane =
     let there : Lane = edited context (attached spec now) lane in
-    a_either tick lane _ _ (is_some (own context lane))
-    (a_trans tick lane there _ (a_edit tick lane context (attached spec now) (edits_attached spec now)) (a_same tick there _ refl refl))
-    (a_line tick lane (events.Miss words.Attach) tt)
+    a_either tick n lane _ _ (is_some (own context lane))
+    (a_trans tick n lane there _ (a_edit tick n lane context (attached spec now) (edits_attached spec now)) (a_same tick n there _ refl refl))
+    (a_line tick n lane (events.Miss words.Attach) tt)
 
-pub adds_acted : (script : Plan) (tick : ℕ) (action : Action) (lane : Lane) → Acts tick lane (acted script tick action lane)
-adds_acted script tick (Attach context slot spec) lane = a_attach tick (time_of script tick) context slot spec lane
-adds_acted script tick (Child parent slot spec) lane = a_child tick (time_of script tick) slot spec (place_at parent lane) lane
-adds_acted script tick (Destroy slot) lane = of_brought tick lane _ (b_source tick words.Destroy destroyed (place_at slot lane) lane edits_destroyed)
-adds_acted script tick (SetReady slot us) lane = of_brought tick lane _ (b_source tick words.SetReady (λ id. ready_set id us) (place_at slot lane) lane (λ id. edits_ready_set id us))
-adds_acted script tick (SetPriority slot priority) lane = a_priority tick priority (place_at slot lane) lane
-adds_acted script tick (Iterate context) lane = a_either tick lane _ _ (is_some (own context lane)) (a_same tick lane _ refl refl) (a_line tick lane (events.Iterate context false) tt)
-adds_acted script tick (Pending context) lane = a_line tick lane _ tt
-adds_acted script tick (Run number) lane = a_either tick lane _ _ (is_some (own (context_of script number) lane)) (a_same tick lane _ refl refl) (a_line tick lane (events.Miss words.Run) tt)
-adds_acted script tick (Quit number) lane = a_either tick lane _ _ (is_some (own (context_of script number) lane)) (a_same tick lane _ refl refl) (a_line tick lane (events.Miss words.Quit) tt)
-adds_acted script tick (Cancel c) lane = of_brought tick lane _ (b_cancel script tick c lane)
-adds_acted script tick (Connect c slot proc) lane = a_connect script tick c slot proc lane
-adds_acted script tick (Disconnect slot) lane = a_disconnect tick (handler_at slot lane) lane
-adds_acted script tick (Task spec) lane = a_same tick lane _ refl refl
-adds_acted script tick (Push context) lane = a_either tick lane _ _ (is_some (own context lane)) (a_same tick lane _ refl refl) (a_line tick lane (events.Miss words.Push) tt)
-adds_acted script tick (Pop context) lane = a_either tick lane _ _ (is_on_top context lane.defaults) (a_same tick lane _ refl refl) (a_line tick lane (events.Miss words.Pop) tt)
-adds_acted script tick ShowDefault lane = a_line tick lane (events.Default (default_context lane)) tt
-adds_acted script tick (Acquire context) lane =
+pub adds_acted : (script : Plan) (tick n : ℕ) (action : Action) (lane : Lane) → n ≡ calls lane.frames → Acts tick n lane (acted script tick action lane)
+adds_acted script tick n (Attach context slot spec) lane e = a_attach tick n (time_of script tick) context slot spec lane
+adds_acted script tick n (Child parent slot spec) lane e = a_child tick n (time_of script tick) slot spec (place_at parent lane) lane
+adds_acted script tick n (Destroy slot) lane e = of_brought tick n lane _ (b_source tick words.Destroy destroyed (place_at slot lane) lane edits_destroyed)
+adds_acted script tick n (SetReady slot us) lane e = of_brought tick n lane _ (b_source tick words.SetReady (λ id. ready_set id us) (place_at slot lane) lane (λ id. edits_ready_set id us))
+adds_acted script tick n (SetPriority slot priority) lane e = a_priority tick n priority (place_at slot lane) lane
+adds_acted script tick n (Iterate context) lane e = a_either tick n lane _ _ (is_some (own context lane)) (a_same tick n lane _ refl refl) (a_line tick n lane (events.Iterate context false) tt)
+adds_acted script tick n (Pending context) lane e = a_line tick n lane _ tt
+adds_acted script tick n (Run number) lane e = a_either tick n lane _ _ (is_some (own (context_of script number) lane)) (a_same tick n lane _ refl refl) (a_line tick n lane (events.Miss words.Run) tt)
+adds_acted script tick n (Quit number) lane e = a_either tick n lane _ _ (is_some (own (context_of script number) lane)) (a_same tick n lane _ refl refl) (a_line tick n lane (events.Miss words.Quit) tt)
+adds_acted script tick n (Cancel c) lane e = of_brought tick n lane _ (b_cancel script tick c lane)
+adds_acted script tick n (Connect c slot proc) lane e = a_connect script tick n c slot proc lane
+adds_acted script tick n (Disconnect slot) lane e = a_disconnect tick n (handler_at slot lane) lane
+adds_acted script tick n (Task spec) lane e = a_same tick n lane _ refl refl
+adds_acted script tick n (Push context) lane e = a_either tick n lane _ _ (is_some (own context lane)) (a_same tick n lane _ refl refl) (a_line tick n lane (events.Miss words.Push) tt)
+adds_acted script tick n (Pop context) lane e = a_either tick n lane _ _ (is_on_top context lane.defaults) (a_same tick n lane _ refl refl) (a_line tick n lane (events.Miss words.Pop) tt)
+adds_acted script tick n ShowDefault lane e = a_line tick n lane (events.Default (default_context lane)) tt
+adds_acted script tick n (Acquire context) lane e =
     let there : Lane = with_context context acquired lane in
-    a_either tick lane _ _ (is_some (own context lane))
-    (a_trans tick lane there _ (change (OtherAt tick) lane context acquired (λ c. edits_same c.rows)) (a_line tick there (events.Acquire context true) tt))
-    (a_line tick lane (events.Acquire context false) tt)
-adds_acted script tick (Release context) lane =
-    a_either tick lane _ _ (may_release (own context lane)) (change (OtherAt tick) lane context released (λ c. edits_same c.rows)) (a_line tick lane (events.Miss words.Release) tt)
-adds_acted script tick (Invoke context proc) lane = a_invoke tick (time_of script tick) context proc lane
-adds_acted script tick (Give context to) lane = a_same tick lane lane refl refl
-adds_acted script tick (Log m) lane = a_line tick lane (events.Log m) tt
+    a_either tick n lane _ _ (is_some (own context lane))
+    (a_trans tick n lane there _ (change (OtherAt tick n) lane context acquired (λ c. edits_same c.rows)) (a_line tick n there (events.Acquire context true) tt))
+    (a_line tick n lane (events.Acquire context false) tt)
+adds_acted script tick n (Release context) lane e =
+    a_either tick n lane _ _ (may_release (own context lane)) (change (OtherAt tick n) lane context released (λ c. edits_same c.rows)) (a_line tick n lane (events.Miss words.Release) tt)
+adds_acted script tick n (Invoke context proc) lane e = a_invoke tick n (time_of script tick) context proc lane e
+adds_acted script tick n (Give context to) lane e = a_same tick n lane lane refl refl
+adds_acted script tick n (Log m) lane e = a_line tick n lane (events.Log m) tt
 
 -- ---- what ends
 
-pub adds_returned : (script : Plan) (tick : ℕ) (body : Body) (origin : Origin) (lane : Lane) → Acts tick lane (returned script tick body origin lane)
-adds_returned script tick body Start lane =
+pub adds_returned : (script : Plan) (tick n : ℕ) (body : Body) (origin : Origin) (lane : Lane) → Acts tick n lane (returned script tick body origin lane)
+adds_returned script tick n body Start lane =
     let told : Lane = written tick events.End lane in
-    a_trans tick lane told _ (a_line tick lane events.End tt) (a_same tick told _ refl refl)
-adds_returned script tick body (Invoked acquired) lane = a_same tick lane lane refl refl
-adds_returned script tick body (Source caller) lane =
-    a_either tick lane _ _ (not caller.once && stays script body caller.number)
-    (a_edit tick lane caller.context (restarted (time_of script tick) caller.id) (edits_restarted (time_of script tick) caller.id))
-    (a_edit tick lane caller.context (destroyed caller.id) (edits_destroyed caller.id))
+    a_trans tick n lane told _ (a_line tick n lane events.End tt) (a_same tick n told _ refl refl)
+adds_returned script tick n body (Invoked acquired) lane = a_same tick n lane lane refl refl
+adds_returned script tick n body (Source caller) lane =
+    a_either tick n lane _ _ (not caller.once && stays script body caller.number)
+    (a_edit tick n lane caller.context (restarted (time_of script tick) caller.id) (edits_restarted (time_of script tick) caller.id))
+    (a_edit tick n lane caller.context (destroyed caller.id) (edits_destroyed caller.id))
 
-pub adds_answered : (tick context : ℕ) (answer : Option Bool) (lane : Lane) → Acts tick lane (answered tick context answer lane)
-adds_answered tick context None lane = a_same tick lane lane refl refl
-adds_answered tick context (Some any) lane = a_line tick lane (events.Iterate context any) tt
+pub adds_answered : (tick n context : ℕ) (answer : Option Bool) (lane : Lane) → Acts tick n lane (answered tick context answer lane)
+adds_answered tick n context None lane = a_same tick n lane lane refl refl
+adds_answered tick n context (Some any) lane = a_line tick n lane (events.Iterate context any) tt

@@ -40,8 +40,8 @@ counts_step script tick t u e h = record { sits = sits_step script tick t u e h.
 counts_received : (script : Plan) (tick : ℕ) (letters : List Letter) (lane : Lane) → Counts lane → Counts (received_all script tick letters lane)
 counts_received script tick letters lane h =
     let after : Lane = received_all script tick letters lane in
-    let acts = of_brought tick lane after (brings_all script tick letters lane) in
-    record { sits = sits_received script tick letters lane h.sits; counted = counted_acts tick lane after acts.lines acts.rows h.counted }
+    let acts = of_brought tick 0 lane after (brings_all script tick letters lane) in
+    record { sits = sits_received script tick letters lane h.sits; counted = counted_acts tick 0 lane after acts.lines acts.rows h.counted }
 
 counted_pushed : (j : ℕ) (os : List (Option Context)) (o : Option Context) → ((i : ℕ) → CountedIn j [] (known (slice_get os i))) → CountedIn j [] o → (i : ℕ) → CountedIn j [] (known (slice_get (os ++ o ∷ []) i))
 counted_pushed j [] o n p zero = p

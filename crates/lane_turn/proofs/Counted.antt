@@ -28,23 +28,23 @@ use Rattle.lane_turn.proofs.Waits.{NumberedIn}
 weight : (c i : ℕ) → Line → ℕ
 weight c i l = cond (is_dispatch_of c i l.event) 1 0
 
-other_none : (c i : ℕ) (event : Event) → IsOther event → is_dispatch_of c i event ≡ false
-other_none c i (events.Dispatch context id priority depth) h = absurd h
-other_none c i _ h = refl
+other_none : (n c i : ℕ) (event : Event) → IsOther n event → is_dispatch_of c i event ≡ false
+other_none n c i (events.Dispatch context id priority depth) h = absurd h
+other_none n c i _ h = refl
 
-none_more : (tick c i : ℕ) (ls : List Line) → AllByRecursion (OtherAt tick) ls → dispatches c i ls ≡ 0
-none_more tick c i [] h = refl
-none_more tick c i (l ∷ ls) h = sum_by-cons (λ (l : Line). cond (is_dispatch_of c i l.event) 1 0) l ls ∙ (ap (λ b. cond b 1 0 + dispatches c i ls) (other_none c i l.event (h.0).1) ∙ omega (arith, none_more tick c i ls h.1))
+none_more : (tick n c i : ℕ) (ls : List Line) → AllByRecursion (OtherAt tick n) ls → dispatches c i ls ≡ 0
+none_more tick n c i [] h = refl
+none_more tick n c i (l ∷ ls) h = sum_by-cons (λ (l : Line). cond (is_dispatch_of c i l.event) 1 0) l ls ∙ (ap (λ b. cond b 1 0 + dispatches c i ls) (other_none n c i l.event (h.0).1) ∙ omega (arith, none_more tick n c i ls h.1))
 
 dispatches_joined : (c i : ℕ) (xs ys : List Line) → dispatches c i (xs ++ ys) ≡ dispatches c i xs + dispatches c i ys
 dispatches_joined c i xs ys = sum_by-append (λ (l : Line). cond (is_dispatch_of c i l.event) 1 0) xs ys
 
-pub same_others : (tick c i : ℕ) (xs ys : List Line) → Grows (OtherAt tick) xs ys → dispatches c i ys ≡ dispatches c i xs
-same_others tick c i xs ys g = ap (dispatches c i) g.lines ∙ omega (arith, dispatches_joined c i xs g.more, none_more tick c i g.more g.each)
+pub same_others : (tick n c i : ℕ) (xs ys : List Line) → Grows (OtherAt tick n) xs ys → dispatches c i ys ≡ dispatches c i xs
+same_others tick n c i xs ys g = ap (dispatches c i) g.lines ∙ omega (arith, dispatches_joined c i xs g.more, none_more tick n c i g.more g.each)
 
 result_none : (tick c i : ℕ) (o : Option Awaited) (view : Seen) → dispatches c i (result_lines tick o view) ≡ 0
 result_none tick c i None view = refl
-result_none tick c i (Some a) view = none_more tick c i (result_lines tick (Some a) view) ((refl, tt), tt)
+result_none tick c i (Some a) view = none_more tick 0 c i (result_lines tick (Some a) view) ((refl, tt), tt)
 
 pub one_more : (tick c i context : ℕ) (row : Row) (depth : ℕ) (o : Option Awaited) (view : Seen) (xs : List Line)
     → dispatches c i ((xs ++ (record { tick = tick; event = events.Dispatch context row.id row.priority depth }) ∷ []) ++ result_lines tick o view) ≡ dispatches c i xs + cond ((context == c) && (row.id == i)) 1 0
@@ -86,8 +86,8 @@ counted_edited i xs ys None (Some d) e same h = absurd e
 counted_edited i xs ys (Some c) None e same h = absurd e
 counted_edited i xs ys (Some c) (Some d) e same h = counted_edit i xs ys c.rows d.rows e same h
 
-pub counted_acts : (tick : ℕ) (lane after : Lane) → Grows (OtherAt tick) lane.trace after.trace → AllEdit lane.contexts after.contexts → Counted lane → Counted after
-counted_acts tick lane after g e h i = counted_edited i lane.trace after.trace (known (slice_get lane.contexts i)) (known (slice_get after.contexts i)) (e i) (λ id. same_others tick i id lane.trace after.trace g) (h i)
+pub counted_acts : (tick n : ℕ) (lane after : Lane) → Grows (OtherAt tick n) lane.trace after.trace → AllEdit lane.contexts after.contexts → Counted lane → Counted after
+counted_acts tick n lane after g e h i = counted_edited i lane.trace after.trace (known (slice_get lane.contexts i)) (known (slice_get after.contexts i)) (e i) (λ id. same_others tick n i id lane.trace after.trace g) (h i)
 
 -- ---- a dispatch
 

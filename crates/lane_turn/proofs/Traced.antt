@@ -17,7 +17,7 @@ use Rattle.lane_turn.specs.Turn.{begun, turned}
 use Rattle.lane_turn.specs.Deliver.{reply_spec, holding, received_body, received, received_all}
 use Rattle.lane_turn.specs.Tick.{lanes_at, lane_within}
 use Rattle.lane_turn.specs.Traces.{Grows, IsOf, NoTickFalls, IsBefore}
-use Rattle.lane_turn.specs.Depths.{TellsDepth, IsShallow}
+use Rattle.lane_turn.specs.Depths.{TellsDepth, IsShallow, HaltsOver}
 use Rattle.lane_turn.specs.Rest.{IsBrought}
 use Rattle.lane_turn.proofs.Counts.{edits_attached}
 use Rattle.lane_turn.proofs.Adds.{grows_none, grows_trans, grows_as, each_joined, each_as, same, BroughtAt, Brings, b_line, b_edit, b_trans, b_either, b_none, b_cancel}
@@ -91,6 +91,9 @@ run_before script tick =
 
 pub tells_depths : (script : Plan) (tick : ℕ) (t u : Turn) → step script tick t ≡ Some u → Grows (λ line. TellsDepth u.lane.frames line.event × IsShallow line.event) t.lane.trace u.lane.trace
 tells_depths script tick t u e = grows_as (Told tick t.lane u.lane) (λ l. TellsDepth u.lane.frames l.event × IsShallow l.event) (λ l p. (p.1, p.2)) t.lane.trace u.lane.trace (does script tick t u e).lines
+
+pub halts_over : (script : Plan) (tick : ℕ) (t u : Turn) → step script tick t ≡ Some u → Grows (λ line. HaltsOver t.lane.frames line.event) t.lane.trace u.lane.trace
+halts_over script tick t u e = grows_as (Told tick t.lane u.lane) (λ l. HaltsOver t.lane.frames l.event) (λ l p. p.4) t.lane.trace u.lane.trace (does script tick t u e).lines
 
 abbrev AllShallow : Lane → Type 0
 AllShallow lane = AllByRecursion (λ line. IsShallow line.event) lane.trace

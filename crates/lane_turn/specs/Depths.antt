@@ -38,9 +38,30 @@ abbrev pub TellsDepth : List Frame → Event → Type 0
 TellsDepth frames (events.Dispatch context id priority depth) = depth ≡ length (callers frames)
 TellsDepth frames _ = Unit {0}
 
+-- the calls in progress, of dispatches and of invokes: all but that of a start list
+abbrev pub begun_of : Origin → Option Origin
+begun_of Start = None
+begun_of (Source caller) = Some (Source caller)
+begun_of (Invoke acquired) = Some (Invoke acquired)
+
+abbrev pub begun_in : Frame → Option Origin
+begun_in (CallOf call) = begun_of call.origin
+begun_in (IterOf context ids answer) = None
+begun_in (LoopOf number context) = None
+
+abbrev pub begun_calls : List Frame → List Origin
+begun_calls frames = filter_map begun_in frames
+
+-- a lane halts at a depth only where 32 calls are in progress
+abbrev pub HaltsOver : List Frame → Event → Type 0
+HaltsOver frames events.HaltDepth = 32 ≤ length (begun_calls frames)
+HaltsOver frames _ = Unit {0}
+
 pub record DepthsHold : Type 0 where
   -- a dispatch that a step begins tells how many dispatches are then in progress: 1 to 32
   pub steps : (script : Plan) (tick : ℕ) (t u : Turn) → step script tick t ≡ Some u
       → Grows (λ line. TellsDepth u.lane.frames line.event × IsShallow line.event) t.lane.trace u.lane.trace
-  -- so does each dispatch in the traces of a run, before and after each step
+  -- where a lane halts at a depth, a call would be the 33rd
+  pub halts : (script : Plan) (tick : ℕ) (t u : Turn) → step script tick t ≡ Some u → Grows (λ line. HaltsOver t.lane.frames line.event) t.lane.trace u.lane.trace
+  -- the depth of each dispatch in the traces of a run is 1 to 32, before and after each step
   pub run : (script : Plan) (tick steps : ℕ) → AllByRecursion (λ lane. AllByRecursion (λ line. IsShallow line.event) (lane_within script tick steps lane).trace) (lanes_at script tick)
