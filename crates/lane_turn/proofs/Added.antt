@@ -1,8 +1,6 @@
 -- What each step, each turn and each delivery adds to a trace, and leaves of the sources.
-use Rattle.std.proofs.Common.{◌≡◌, ℕ, zero, suc, ◌+◌, ◌<◌, ◌≤◌, ◌==◌, ◌&&◌, Bool, true, false, cond, Option, Some, None, List, [], ◌∷◌, ◌++◌, length, refl, ap, sym, ◌∙◌, arith, subst, ltb-true, ltb-false, drop}
+use Rattle.std.proofs.Common.{◌≡◌, ℕ, zero, suc, ◌+◌, ◌<◌, ◌==◌, ◌&&◌, Bool, true, false, cond, Option, Some, None, List, [], ◌∷◌, ◌++◌, length, refl, ap, sym, ◌∙◌, arith, subst, ltb-true, ltb-false}
 use Rattle.std.specs.Prelude.{slice_get, nat_lt, is_some}
-use Rattle.std.specs.List.{cons_option}
-use Rattle.std.proofs.lemmas.List.Sums.{sum_by-cons}
 use Rattle.loop_script.specs.declared.plan.Plan.{Plan}
 use Rattle.loop_script.specs.declared.action.Action.{Action}
 use Rattle.loop_script.specs.Parts.{actions_of}
@@ -18,74 +16,23 @@ use Rattle.lane_turn.specs.declared.parts.Status.{Status}
 use Rattle.lane_turn.specs.declared.parts.Status.TheVariants.{GoesOn, Ended, Halted}
 use Rattle.lane_turn.specs.declared.layer.Call.{Call}
 use Rattle.lane_turn.specs.declared.layer.Caller.{Caller}
-use Rattle.lane_turn.specs.declared.layer.Origin.{Origin}
 use Rattle.lane_turn.specs.declared.layer.Origin.TheVariants as origins
 use Rattle.lane_turn.specs.declared.replies.Awaited.{Awaited}
 use Rattle.lane_turn.specs.Replies.{reply_held}
-use Rattle.lane_turn.specs.Frames.{Frame, CallOf, IterOf, LoopOf, advanced, calls, depth, is_source, is_other, is_call, is_dispatch}
+use Rattle.lane_turn.specs.Frames.{Frame, CallOf, IterOf, LoopOf, advanced, calls, depth}
 use Rattle.lane_turn.specs.Lane.{Lane, Turn, own, with_rows, written, stopped, popped, taken, row_of, iterating, is_running}
 use Rattle.lane_turn.specs.Acted.{acted, sends}
 use Rattle.lane_turn.specs.Step.{step, step_polling, step_call, step_id, counted_by, in_lane, dispatched, dispatching, polled, late_line, one_if, result_lines, body_of}
-use Rattle.lane_turn.specs.Depths.{caller_of, callers, begun_of, begun_calls, IsShallow, TellsDepth, HaltsOver}
+use Rattle.lane_turn.specs.Depths.{callers, IsShallow, TellsDepth, HaltsOver}
 use Rattle.lane_turn.specs.Traces.{Grows}
 use Rattle.source_rows.proofs.Compared.{same_self}
 use Rattle.lane_turn.specs.Stays.{dispatches}
 use Rattle.lane_turn.proofs.Follows.{AllFollow, follows_counted, all_changed}
 use Rattle.lane_turn.proofs.Counts.{all_same, follow_all}
 use Rattle.lane_turn.proofs.Counted.{AllNumbered, Counted, one_more, counted_acts, counted_dispatched}
+use Rattle.lane_turn.proofs.Depths.{depth_callers, callers_advanced, few_dispatches, calls_begun, calls_advanced}
 use Rattle.lane_turn.proofs.Iterations.{row_in_id}
 use Rattle.lane_turn.proofs.Adds.{grows_line, grows_trans, grows_as, IsOther, OtherAt, Acts, adds_acted, adds_returned, adds_answered, line, same, trans}
-
--- ---- depths
-
-call_depth : (origin : Origin) (cs : List Caller) (n : ℕ) → n ≡ length cs → cond (is_source origin) 1 0 + n ≡ length (cons_option (caller_of origin) cs)
-call_depth origins.Start cs n e = omega (arith, e)
-call_depth (origins.Source caller) cs n e = omega (arith, e)
-call_depth (origins.Invoke acquired) cs n e = omega (arith, e)
-
-depth_callers : (fs : List Frame) → depth fs ≡ length (callers fs)
-depth_callers [] = refl
-depth_callers (CallOf call ∷ fs) = sum_by-cons (λ (f : Frame). cond (is_dispatch f) 1 0) (CallOf call) fs ∙ call_depth call.origin (callers fs) (depth fs) (depth_callers fs)
-depth_callers (IterOf context ids answer ∷ fs) = omega (arith, sum_by-cons (λ (f : Frame). cond (is_dispatch f) 1 0) (IterOf context ids answer) fs, depth_callers fs)
-depth_callers (LoopOf number context ∷ fs) = omega (arith, sum_by-cons (λ (f : Frame). cond (is_dispatch f) 1 0) (LoopOf number context) fs, depth_callers fs)
-
-callers_advanced : (fs : List Frame) → callers (advanced fs) ≡ callers fs
-callers_advanced [] = refl
-callers_advanced (CallOf call ∷ fs) = refl
-callers_advanced (IterOf context ids answer ∷ fs) = refl
-callers_advanced (LoopOf number context ∷ fs) = refl
-
-fewer : (origin : Origin) → cond (is_source origin) 1 0 ≤ cond (is_other origin) 1 0
-fewer origins.Start = omega arith
-fewer (origins.Source caller) = omega arith
-fewer (origins.Invoke acquired) = omega arith
-
-few_dispatches : (fs : List Frame) → depth fs ≤ calls fs
-few_dispatches [] = omega arith
-few_dispatches (CallOf call ∷ fs) =
-    omega (arith, sum_by-cons (λ (f : Frame). cond (is_dispatch f) 1 0) (CallOf call) fs, sum_by-cons (λ (f : Frame). cond (is_call f) 1 0) (CallOf call) fs, few_dispatches fs, fewer call.origin)
-few_dispatches (IterOf context ids answer ∷ fs) =
-    omega (arith, sum_by-cons (λ (f : Frame). cond (is_dispatch f) 1 0) (IterOf context ids answer) fs, sum_by-cons (λ (f : Frame). cond (is_call f) 1 0) (IterOf context ids answer) fs, few_dispatches fs)
-few_dispatches (LoopOf number context ∷ fs) =
-    omega (arith, sum_by-cons (λ (f : Frame). cond (is_dispatch f) 1 0) (LoopOf number context) fs, sum_by-cons (λ (f : Frame). cond (is_call f) 1 0) (LoopOf number context) fs, few_dispatches fs)
-
--- the calls in progress
-calls_begun : (fs : List Frame) → calls fs ≡ length (begun_calls fs)
-calls_begun [] = refl
-calls_begun (CallOf call ∷ fs) = sum_by-cons (λ (f : Frame). cond (is_call f) 1 0) (CallOf call) fs ∙ by call.origin (calls_begun fs)
-  where
-    by : (origin : Origin) → calls fs ≡ length (begun_calls fs) → cond (is_other origin) 1 0 + calls fs ≡ length (cons_option (begun_of origin) (begun_calls fs))
-    by origins.Start e = omega (arith, e)
-    by (origins.Source caller) e = omega (arith, e)
-    by (origins.Invoke acquired) e = omega (arith, e)
-calls_begun (IterOf context ids answer ∷ fs) = omega (arith, sum_by-cons (λ (f : Frame). cond (is_call f) 1 0) (IterOf context ids answer) fs, calls_begun fs)
-calls_begun (LoopOf number context ∷ fs) = omega (arith, sum_by-cons (λ (f : Frame). cond (is_call f) 1 0) (LoopOf number context) fs, calls_begun fs)
-
-calls_advanced : (fs : List Frame) → calls (advanced fs) ≡ calls fs
-calls_advanced [] = refl
-calls_advanced (CallOf call ∷ fs) = sum_by-cons (λ (f : Frame). cond (is_call f) 1 0) (CallOf (record call { place = call.place + 1 })) fs ∙ sym (sum_by-cons (λ (f : Frame). cond (is_call f) 1 0) (CallOf call) fs)
-calls_advanced (IterOf context ids answer ∷ fs) = sum_by-cons (λ (f : Frame). cond (is_call f) 1 0) (IterOf context (drop 1 ids) answer) fs ∙ sym (sum_by-cons (λ (f : Frame). cond (is_call f) 1 0) (IterOf context ids answer) fs)
-calls_advanced (LoopOf number context ∷ fs) = refl
 
 -- ---- a step
 

@@ -1,5 +1,5 @@
 -- What each step does to the frames.
-use Rattle.std.proofs.Common.{◌≡◌, ℕ, ℤ, zero, suc, ◌==◌, Bool, true, false, cond, Option, Some, None, List, [], ◌∷◌, ◌++◌, inl, inr, drop, refl, ap, sym, ◌∙◌, subst}
+use Rattle.std.proofs.Common.{◌≡◌, ◌<◌, length, arith, ltb-true, ℕ, ℤ, zero, suc, ◌==◌, Bool, true, false, cond, Option, Some, None, List, [], ◌∷◌, ◌++◌, inl, inr, drop, refl, ap, sym, ◌∙◌, subst}
 use Rattle.std.specs.Prelude.{slice_get, nat_lt, is_some}
 use Rattle.std.specs.List.{AllByRecursion, find}
 use Rattle.std.proofs.lemmas.Bool.Decides.{eqb_tells}
@@ -31,6 +31,8 @@ use Rattle.lane_turn.specs.Owned.{default_context, is_owned, calling, called_at_
 use Rattle.lane_turn.specs.Acted.{acted, sends, missed, child_of, on_source, set_priority_of, disconnect_of}
 use Rattle.lane_turn.specs.Step.{step, step_polling, step_call, step_id, returned, answered, counted_by, in_lane, dispatched, dispatching}
 use Rattle.lane_turn.proofs.Mild.{Plain, plain_cancel, plain_handled}
+use Rattle.lane_turn.specs.Depths.{begun_calls}
+use Rattle.lane_turn.proofs.Depths.{calls_begun, calls_advanced}
 use Rattle.lane_turn.specs.Iterations.{IsRest, Later, EachLater, IsOver, TellsAny, Begun, FramesGoOn}
 
 -- ---- frames later on
@@ -127,10 +129,14 @@ disconnect_on ch tick None lane fs h = h
 disconnect_on ch tick (Some id) lane fs h = by_either ch fs _ _ _ h h
 
 at_once_on : (ch : ℕ → List ℕ) (tick context proc : ℕ) (acquires : Option ℕ) (lane : Lane) → FramesGoOn ch lane.frames (called_at_once tick context proc acquires (taken lane)).frames
-at_once_on ch tick context proc acquires lane =
-    let begun : Begun ch lane.frames (CallOf (record { origin = origins.Invoke acquires; body = Procedure proc; place = 0 }) ∷ advanced lane.frames) = (each_taken lane.frames, tt) in
-    by_either ch lane.frames (calling tick context proc acquires (taken lane)) (stopped Halted (written tick events.HaltDepth (taken lane))) (nat_lt (calls (taken lane).frames) 32)
-    (inr (inr begun)) (taken_on ch lane.frames)
+at_once_on ch tick context proc acquires lane = by (nat_lt (calls (taken lane).frames) 32) refl
+  where
+    by : (b : Bool) → nat_lt (calls (taken lane).frames) 32 ≡ b → FramesGoOn ch lane.frames (cond b (calling tick context proc acquires (taken lane)) (stopped Halted (written tick events.HaltDepth (taken lane)))).frames
+    by true e =
+        let few : length (begun_calls lane.frames) < 32 = omega (arith, ltb-true (calls (advanced lane.frames)) 32 e, calls_advanced lane.frames, calls_begun lane.frames) in
+        let begun : Begun ch lane.frames (CallOf (record { origin = origins.Invoke acquires; body = Procedure proc; place = 0 }) ∷ advanced lane.frames) = (each_taken lane.frames, (few, tt)) in
+        inr (inr begun)
+    by false e = taken_on ch lane.frames
 
 invoke_on : (ch : ℕ → List ℕ) (tick now context proc : ℕ) (lane : Lane) → FramesGoOn ch lane.frames (invoke tick now context proc (taken lane)).frames
 invoke_on ch tick now context proc lane =
@@ -225,8 +231,15 @@ id_on : (ch : ℕ → List ℕ) (rest : Turn) (tick : ℕ) (base : Lane) (below 
 id_on ch rest tick base below left iterated context id ids answer None e = inl (each_taken (IterOf context (id ∷ ids) answer ∷ below))
 id_on ch rest tick base below left iterated context id ids answer (Some row) e =
     let lane : Lane = going base (IterOf context (id ∷ ids) answer ∷ below) in
-    let begun : Begun ch lane.frames (dispatched tick context row lane).frames = (each_taken lane.frames, record { ids = ids; answer = answer; below = below; was = ap (λ (i : ℕ). IterOf context (i ∷ ids) answer ∷ below) (sym (row_in_id id (own context lane) row e)); is = refl }) in
-    counted_on ch tick None (dispatching tick context row) (turn rest lane left iterated) left (by_either ch lane.frames (dispatched tick context row lane) (stopped Halted (written tick events.HaltDepth lane)) (nat_lt (calls lane.frames) 32) (inr (inr begun)) (inl (each_same lane.frames)))
+    counted_on ch tick None (dispatching tick context row) (turn rest lane left iterated) left (by (nat_lt (calls lane.frames) 32) refl)
+  where
+    by : let lane : Lane = going base (IterOf context (id ∷ ids) answer ∷ below) in (b : Bool) → nat_lt (calls lane.frames) 32 ≡ b → FramesGoOn ch lane.frames (cond b (dispatched tick context row lane) (stopped Halted (written tick events.HaltDepth lane))).frames
+    by true k =
+        let lane : Lane = going base (IterOf context (id ∷ ids) answer ∷ below) in
+        let few : length (begun_calls lane.frames) < 32 = omega (arith, ltb-true (calls lane.frames) 32 k, calls_begun lane.frames) in
+        let begun : Begun ch lane.frames (dispatched tick context row lane).frames = (each_taken lane.frames, (few, record { ids = ids; answer = answer; below = below; was = ap (λ (i : ℕ). IterOf context (i ∷ ids) answer ∷ below) (sym (row_in_id id (own context lane) row e)); is = refl })) in
+        inr (inr begun)
+    by false k = inl (each_same (IterOf context (id ∷ ids) answer ∷ below))
 
 loop_on : (ch : ℕ → List ℕ) (rest : Turn) (script : Plan) (tick : ℕ) (base : Lane) (below : List Frame) (left : ℕ) (iterated : Bool) (number context : ℕ) (runs : Bool) (u : Turn)
     → let lane : Lane = going base (LoopOf number context ∷ below) in let t : Turn = turn rest lane left iterated in

@@ -27,6 +27,7 @@ pub mod Keeps
 pub mod Owing
 pub mod Opening
 pub mod Runs
+pub mod Depths
 pub mod Iterations
 pub mod Grown
 pub mod Owed

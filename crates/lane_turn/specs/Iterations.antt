@@ -1,5 +1,5 @@
 -- What a step may do to what is in progress, in the words of those who iterate.
-use Rattle.std.specs.Prelude.{◌≡◌, ◌≢◌, ℕ, Bool, true, false, Option, Some, None, List, [], ◌∷◌, ◌++◌, ◌⊎◌, drop}
+use Rattle.std.specs.Prelude.{◌≡◌, ◌≢◌, ℕ, ◌<◌, Bool, true, false, Option, Some, None, List, [], ◌∷◌, ◌++◌, ◌⊎◌, length, drop}
 use Rattle.std.specs.List.{AllByRecursion}
 use Rattle.loop_script.specs.declared.plan.Plan.{Plan}
 use Rattle.lane_turn.specs.declared.line.Event.TheVariants as events
@@ -7,6 +7,7 @@ use Rattle.lane_turn.specs.declared.parts.Status.TheVariants.{GoesOn}
 use Rattle.lane_turn.specs.declared.layer.Origin.{Origin}
 use Rattle.lane_turn.specs.declared.layer.Origin.TheVariants.{Start, Source, Invoke}
 use Rattle.lane_turn.specs.Frames.{Frame, CallOf, IterOf, LoopOf}
+use Rattle.lane_turn.specs.Depths.{begun_calls}
 use Rattle.lane_turn.specs.Lane.{Turn, chosen}
 use Rattle.lane_turn.specs.Step.{step}
 
@@ -58,10 +59,10 @@ TellsAny ids None = Unit {0}
 TellsAny ids (Some true) = ids ≢ []
 TellsAny ids (Some false) = ids ≡ []
 
--- what may be begun over frames that were those: a call; an iteration, of what is selected then, and no older one of its
+-- what may be begun over frames that were those: a call, where fewer than 32 are in progress; an iteration, of what is selected then, and no older one of its
 -- context has an id left; a loop
 abbrev pub MayBegin : (selected : ℕ → List ℕ) (before now : List Frame) → Frame → Type 0
-MayBegin selected before now (CallOf call) = IsCalledBy before now call.origin
+MayBegin selected before now (CallOf call) = (length (begun_calls before) < 32) × IsCalledBy before now call.origin
 MayBegin selected before now (IterOf context ids answer) = AllByRecursion (IsOver context) now × (ids ≡ selected context) × TellsAny ids answer
 MayBegin selected before now (LoopOf number context) = Unit {0}
 
@@ -75,8 +76,8 @@ FramesGoOn selected frames now = EachLater frames now ⊎ (EachLater (drop 1 fra
 
 pub record IterationsGoOn : Type 0 where
   -- no iteration ever has an id that it was not given when it began, which are the ids selected then; none has one left when a
-  -- newer one of its context begins; what is dispatched is the next id of the innermost, which has it no more; and each call,
-  -- iteration and run that goes on is the one that it was
+  -- newer one of its context begins; what is dispatched is the next id of the innermost, which has it no more; no call begins
+  -- over 32; and each call, iteration and run that goes on is the one that it was
   pub frames : (script : Plan) (tick : ℕ) (t u : Turn) → step script tick t ≡ Some u → FramesGoOn (λ context. chosen script tick context t.lane) t.lane.frames u.lane.frames
   -- an iteration that has no id left ends, and an `iterate` that asked for it is told its answer
   pub answers : (script : Plan) (tick : ℕ) (t u : Turn) (context : ℕ) (any : Bool) (below : List Frame) → t.unpolled ≡ [] → t.lane.status ≡ GoesOn → t.lane.frames ≡ IterOf context [] (Some any) ∷ below
