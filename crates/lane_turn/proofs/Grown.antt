@@ -93,7 +93,7 @@ grown_change : (levels : ℕ) (lane : Lane) (context : ℕ) (change : Context �
 grown_change levels lane context change f h = set_at levels (option_map change (own context lane)) lane.contexts context (kept levels change (own context lane) f (grown_at levels lane.contexts context h)) h
 
 -- the sources of an own context stand so, and have few numbers
-own_grown : (levels : ℕ) (lane : Lane) (context : ℕ) (c : Context) → own context lane ≡ Some c → AllGrown levels lane → IsGrown levels c.rows
+pub own_grown : (levels : ℕ) (lane : Lane) (context : ℕ) (c : Context) → own context lane ≡ Some c → AllGrown levels lane → IsGrown levels c.rows
 own_grown levels lane context c e h = subst (Grown levels) e (grown_at levels lane.contexts context h)
 
 few_numbers : (lane : Lane) (context : ℕ) (c : Context) → own context lane ≡ Some c → AllBounded lane → c.rows.next_order < 2 ^ 63

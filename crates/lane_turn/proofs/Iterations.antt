@@ -1,5 +1,5 @@
 -- What each step does to the frames.
-use Rattle.std.proofs.Common.{◌≡◌, ℕ, ℤ, zero, suc, ◌==◌, Bool, true, false, cond, Option, Some, None, List, [], ◌∷◌, inl, inr, drop, refl, ap, sym, ◌∙◌, subst}
+use Rattle.std.proofs.Common.{◌≡◌, ◌<◌, length, arith, ltb-true, ℕ, ℤ, zero, suc, ◌==◌, Bool, true, false, cond, Option, Some, None, List, [], ◌∷◌, ◌++◌, inl, inr, drop, refl, ap, sym, ◌∙◌, subst}
 use Rattle.std.specs.Prelude.{slice_get, nat_lt, is_some}
 use Rattle.std.specs.List.{AllByRecursion, find}
 use Rattle.std.proofs.lemmas.Bool.Decides.{eqb_tells}
@@ -23,7 +23,7 @@ use Rattle.lane_turn.specs.declared.layer.Call.{Call}
 use Rattle.lane_turn.specs.declared.layer.Origin.{Origin}
 use Rattle.lane_turn.specs.declared.layer.Origin.TheVariants as origins
 use Rattle.lane_turn.specs.Frames.{Frame, CallOf, IterOf, LoopOf, advanced, advanced_one, emptied, emptied_one, calls}
-use Rattle.lane_turn.specs.Lane.{Lane, Turn, taken, pushed, popped, stopped, set_running, written, iterating, own, place_at, handler_at, row_in, row_of, is_running}
+use Rattle.lane_turn.specs.Lane.{Lane, Turn, taken, pushed, popped, stopped, set_running, written, iterating, chosen, is_any, own, place_at, handler_at, row_in, row_of, is_running}
 use Rattle.lane_watch.specs.Tasks.{Started}
 use Rattle.post_office.specs.declared.letter.Body.{Body as Mail}
 use Rattle.lane_turn.specs.declared.line.Invoked.TheVariants.{Posted}
@@ -31,23 +31,25 @@ use Rattle.lane_turn.specs.Owned.{default_context, is_owned, calling, called_at_
 use Rattle.lane_turn.specs.Acted.{acted, sends, missed, child_of, on_source, set_priority_of, disconnect_of}
 use Rattle.lane_turn.specs.Step.{step, step_polling, step_call, step_id, returned, answered, counted_by, in_lane, dispatched, dispatching}
 use Rattle.lane_turn.proofs.Mild.{Plain, plain_cancel, plain_handled}
-use Rattle.lane_turn.specs.Iterations.{IsRest, Later, EachLater, IsOver, Begun, FramesGoOn}
+use Rattle.lane_turn.specs.Depths.{begun_calls}
+use Rattle.lane_turn.proofs.Depths.{calls_begun, calls_advanced}
+use Rattle.lane_turn.specs.Iterations.{IsRest, Later, EachLater, IsOver, TellsAny, Begun, FramesGoOn}
 
 -- ---- frames later on
 
 later_same : (f : Frame) → Later f f
-later_same (CallOf call) = tt
-later_same (IterOf context ids answer) = (refl, (0, refl))
-later_same (LoopOf number context) = tt
+later_same (CallOf call) = (refl, refl)
+later_same (IterOf context ids answer) = (refl, (0, refl), refl)
+later_same (LoopOf number context) = (refl, refl)
 
 each_same : (fs : List Frame) → EachLater fs fs
 each_same [] = tt
 each_same (f ∷ fs) = (later_same f, each_same fs)
 
 later_taken : (f : Frame) → Later f (advanced_one f)
-later_taken (CallOf call) = tt
-later_taken (IterOf context ids answer) = (refl, (1, refl))
-later_taken (LoopOf number context) = tt
+later_taken (CallOf call) = (refl, refl)
+later_taken (IterOf context ids answer) = (refl, (1, refl), refl)
+later_taken (LoopOf number context) = (refl, refl)
 
 each_taken : (fs : List Frame) → EachLater fs (advanced fs)
 each_taken [] = tt
@@ -62,9 +64,9 @@ left_or_none true ids left h = drop_all ids
 left_or_none false ids left h = h
 
 later_emptied : (c : ℕ) (f g : Frame) → Later f g → Later f (emptied_one c g)
-later_emptied c (CallOf call) (CallOf call') h = tt
-later_emptied c (IterOf context ids answer) (IterOf context' left answer') h = (h.0, left_or_none (context' == c) ids left h.1)
-later_emptied c (LoopOf number context) (LoopOf number' context') h = tt
+later_emptied c (CallOf call) (CallOf call') h = h
+later_emptied c (IterOf context ids answer) (IterOf context' left answer') h = (h.0, left_or_none (context' == c) ids left h.1, h.2)
+later_emptied c (LoopOf number context) (LoopOf number' context') h = h
 later_emptied c (CallOf call) (IterOf context ids answer) h = absurd h
 later_emptied c (CallOf call) (LoopOf number context) h = absurd h
 later_emptied c (IterOf context ids answer) (CallOf call) h = absurd h
@@ -93,104 +95,112 @@ each_over c (f ∷ fs) = (over_one c f, each_over c fs)
 
 -- ---- what a step does
 
-pub by_either : (fs : List Frame) (x y : Lane) (b : Bool) → FramesGoOn fs x.frames → FramesGoOn fs y.frames → FramesGoOn fs (cond b x y).frames
-by_either fs x y true h k = h
-by_either fs x y false h k = k
+pub by_either : (ch : ℕ → List ℕ) (fs : List Frame) (x y : Lane) (b : Bool) → FramesGoOn ch fs x.frames → FramesGoOn ch fs y.frames → FramesGoOn ch fs (cond b x y).frames
+by_either ch fs x y true h k = h
+by_either ch fs x y false h k = k
 
-taken_on : (fs : List Frame) → FramesGoOn fs (advanced fs)
-taken_on fs = inl (each_taken fs)
+taken_on : (ch : ℕ → List ℕ) (fs : List Frame) → FramesGoOn ch fs (advanced fs)
+taken_on ch fs = inl (each_taken fs)
 
-iterated_on : (fs : List Frame) (c : ℕ) (ids : List ℕ) (answer : Option Bool) → FramesGoOn fs (IterOf c ids answer ∷ emptied c (advanced fs))
-iterated_on fs c ids answer = inr (inr (each_emptied c fs (advanced fs) (each_taken fs), each_over c (advanced fs)))
+iterated_on : (ch : ℕ → List ℕ) (fs : List Frame) (c : ℕ) (ids : List ℕ) (answer : Option Bool) → ids ≡ ch c → TellsAny ids answer → FramesGoOn ch fs (IterOf c ids answer ∷ emptied c (advanced fs))
+iterated_on ch fs c ids answer e a = inr (inr (each_emptied c fs (advanced fs) (each_taken fs), (each_over c (advanced fs), e, a)))
 
-child_on : (tick now slot : ℕ) (spec : SourceSpec) (o : Option Place) (lane : Lane) (fs : List Frame) → FramesGoOn fs lane.frames → FramesGoOn fs (child_of tick now slot spec o lane).frames
-child_on tick now slot spec None lane fs h = h
-child_on tick now slot spec (Some place) lane fs h = by_either fs _ _ _ h h
+tells_any : (ids : List ℕ) → TellsAny ids (Some (is_any ids))
+tells_any [] = refl
+tells_any (id ∷ ids) = λ e. cc
 
-source_on : (tick : ℕ) (word : Word) (edit : ℕ → RowSet → RowSet) (o : Option Place) (lane : Lane) (fs : List Frame) → FramesGoOn fs lane.frames → FramesGoOn fs (on_source tick word edit o lane).frames
-source_on tick word edit None lane fs h = h
-source_on tick word edit (Some place) lane fs h = by_either fs _ _ _ h h
+child_on : (ch : ℕ → List ℕ) (tick now slot : ℕ) (spec : SourceSpec) (o : Option Place) (lane : Lane) (fs : List Frame) → FramesGoOn ch fs lane.frames → FramesGoOn ch fs (child_of tick now slot spec o lane).frames
+child_on ch tick now slot spec None lane fs h = h
+child_on ch tick now slot spec (Some place) lane fs h = by_either ch fs _ _ _ h h
 
-priority_on : (tick : ℕ) (priority : ℤ) (o : Option Place) (lane : Lane) (fs : List Frame) → FramesGoOn fs lane.frames → FramesGoOn fs (set_priority_of tick priority o lane).frames
-priority_on tick priority None lane fs h = h
-priority_on tick priority (Some place) lane fs h = by_either fs _ _ _ h h
+source_on : (ch : ℕ → List ℕ) (tick : ℕ) (word : Word) (edit : ℕ → RowSet → RowSet) (o : Option Place) (lane : Lane) (fs : List Frame) → FramesGoOn ch fs lane.frames → FramesGoOn ch fs (on_source tick word edit o lane).frames
+source_on ch tick word edit None lane fs h = h
+source_on ch tick word edit (Some place) lane fs h = by_either ch fs _ _ _ h h
 
-plain_on : (fs : List Frame) (lane after : Lane) → Plain lane after → FramesGoOn fs lane.frames → FramesGoOn fs after.frames
-plain_on fs lane after p h = subst (FramesGoOn fs) (sym p.frames) h
+priority_on : (ch : ℕ → List ℕ) (tick : ℕ) (priority : ℤ) (o : Option Place) (lane : Lane) (fs : List Frame) → FramesGoOn ch fs lane.frames → FramesGoOn ch fs (set_priority_of tick priority o lane).frames
+priority_on ch tick priority None lane fs h = h
+priority_on ch tick priority (Some place) lane fs h = by_either ch fs _ _ _ h h
 
-disconnect_on : (tick : ℕ) (o : Option ℕ) (lane : Lane) (fs : List Frame) → FramesGoOn fs lane.frames → FramesGoOn fs (disconnect_of tick o lane).frames
-disconnect_on tick None lane fs h = h
-disconnect_on tick (Some id) lane fs h = by_either fs _ _ _ h h
+plain_on : (ch : ℕ → List ℕ) (fs : List Frame) (lane after : Lane) → Plain lane after → FramesGoOn ch fs lane.frames → FramesGoOn ch fs after.frames
+plain_on ch fs lane after p h = subst (FramesGoOn ch fs) (sym p.frames) h
 
-at_once_on : (tick context proc : ℕ) (acquires : Option ℕ) (lane : Lane) → FramesGoOn lane.frames (called_at_once tick context proc acquires (taken lane)).frames
-at_once_on tick context proc acquires lane =
-    let begun : Begun lane.frames (CallOf (record { origin = origins.Invoke acquires; body = Procedure proc; place = 0 }) ∷ advanced lane.frames) = (each_taken lane.frames, tt) in
-    by_either lane.frames (calling tick context proc acquires (taken lane)) (stopped Halted (written tick events.HaltDepth (taken lane))) (nat_lt (calls (taken lane).frames) 32)
-    (inr (inr begun)) (taken_on lane.frames)
+disconnect_on : (ch : ℕ → List ℕ) (tick : ℕ) (o : Option ℕ) (lane : Lane) (fs : List Frame) → FramesGoOn ch fs lane.frames → FramesGoOn ch fs (disconnect_of tick o lane).frames
+disconnect_on ch tick None lane fs h = h
+disconnect_on ch tick (Some id) lane fs h = by_either ch fs _ _ _ h h
 
-invoke_on : (tick now context proc : ℕ) (lane : Lane) → FramesGoOn lane.frames (invoke tick now context proc (taken lane)).frames
-invoke_on tick now context proc lane =
+at_once_on : (ch : ℕ → List ℕ) (tick context proc : ℕ) (acquires : Option ℕ) (lane : Lane) → FramesGoOn ch lane.frames (called_at_once tick context proc acquires (taken lane)).frames
+at_once_on ch tick context proc acquires lane = by (nat_lt (calls (taken lane).frames) 32) refl
+  where
+    by : (b : Bool) → nat_lt (calls (taken lane).frames) 32 ≡ b → FramesGoOn ch lane.frames (cond b (calling tick context proc acquires (taken lane)) (stopped Halted (written tick events.HaltDepth (taken lane)))).frames
+    by true e =
+        let few : length (begun_calls lane.frames) < 32 = omega (arith, ltb-true (calls (advanced lane.frames)) 32 e, calls_advanced lane.frames, calls_begun lane.frames) in
+        let begun : Begun ch lane.frames (CallOf (record { origin = origins.Invoke acquires; body = Procedure proc; place = 0 }) ∷ advanced lane.frames) = (each_taken lane.frames, (few, tt)) in
+        inr (inr begun)
+    by false e = taken_on ch lane.frames
+
+invoke_on : (ch : ℕ → List ℕ) (tick now context proc : ℕ) (lane : Lane) → FramesGoOn ch lane.frames (invoke tick now context proc (taken lane)).frames
+invoke_on ch tick now context proc lane =
     let next : Lane = taken lane in
     let none : Lane = called_at_once tick context proc None next in
     let some : Lane = called_at_once tick context proc (Some context) next in
     let attached : Lane = attaching tick now context proc next in
-    by_either lane.frames (invoke_own tick now context proc next) (written tick (events.Invoke context Posted) next) (is_some (own context next))
-    (by_either lane.frames none (cond (default_context next == context) some attached) (is_owned context next) (at_once_on tick context proc None lane)
-    (by_either lane.frames some attached (default_context next == context) (at_once_on tick context proc (Some context) lane) (taken_on lane.frames)))
-    (taken_on lane.frames)
+    by_either ch lane.frames (invoke_own tick now context proc next) (written tick (events.Invoke context Posted) next) (is_some (own context next))
+    (by_either ch lane.frames none (cond (default_context next == context) some attached) (is_owned context next) (at_once_on ch tick context proc None lane)
+    (by_either ch lane.frames some attached (default_context next == context) (at_once_on ch tick context proc (Some context) lane) (taken_on ch lane.frames)))
+    (taken_on ch lane.frames)
 
-acted_on : (script : Plan) (tick : ℕ) (action : Action) (lane : Lane) → FramesGoOn lane.frames (acted script tick action (taken lane)).frames
-acted_on script tick (Attach context slot spec) lane = by_either lane.frames _ _ _ (taken_on lane.frames) (taken_on lane.frames)
-acted_on script tick (Child parent slot spec) lane = child_on tick _ slot spec (place_at parent (taken lane)) (taken lane) lane.frames (taken_on lane.frames)
-acted_on script tick (Destroy slot) lane = source_on tick _ _ (place_at slot (taken lane)) (taken lane) lane.frames (taken_on lane.frames)
-acted_on script tick (SetReady slot us) lane = source_on tick _ _ (place_at slot (taken lane)) (taken lane) lane.frames (taken_on lane.frames)
-acted_on script tick (SetPriority slot priority) lane = priority_on tick priority (place_at slot (taken lane)) (taken lane) lane.frames (taken_on lane.frames)
-acted_on script tick (Iterate context) lane = by_either lane.frames _ _ _ (iterated_on lane.frames context _ _) (taken_on lane.frames)
-acted_on script tick (Pending context) lane = taken_on lane.frames
-acted_on script tick (Run number) lane =
-    let begun : Begun lane.frames (LoopOf number (context_of script number) ∷ advanced lane.frames) = (each_taken lane.frames, tt) in
-    by_either lane.frames (pushed (LoopOf number (context_of script number)) (set_running number true (taken lane))) (missed tick words.Run (taken lane)) (is_some (own (context_of script number) (taken lane)))
-    (inr (inr begun)) (taken_on lane.frames)
-acted_on script tick (Quit number) lane = by_either lane.frames _ _ _ (taken_on lane.frames) (taken_on lane.frames)
-acted_on script tick (Cancel c) lane = plain_on lane.frames (taken lane) _ (plain_cancel script tick c (taken lane)) (taken_on lane.frames)
-acted_on script tick (Connect c slot proc) lane =
-    by_either lane.frames _ _ _ (plain_on lane.frames (taken lane) _ (plain_handled script tick (record { id = 0; proc = proc }) (taken lane)) (taken_on lane.frames)) (taken_on lane.frames)
-acted_on script tick (Disconnect slot) lane = disconnect_on tick (handler_at slot (taken lane)) (taken lane) lane.frames (taken_on lane.frames)
-acted_on script tick (Task spec) lane = taken_on lane.frames
-acted_on script tick (Push context) lane = by_either lane.frames _ _ _ (taken_on lane.frames) (taken_on lane.frames)
-acted_on script tick (Pop context) lane = by_either lane.frames _ _ _ (taken_on lane.frames) (taken_on lane.frames)
-acted_on script tick ShowDefault lane = taken_on lane.frames
-acted_on script tick (Acquire context) lane = by_either lane.frames _ _ _ (taken_on lane.frames) (taken_on lane.frames)
-acted_on script tick (Release context) lane = by_either lane.frames _ _ _ (taken_on lane.frames) (taken_on lane.frames)
-acted_on script tick (Invoke context proc) lane = invoke_on tick (time_of script tick) context proc lane
-acted_on script tick (Give context to) lane = taken_on lane.frames
-acted_on script tick (Log n) lane = taken_on lane.frames
+acted_on : (ch : ℕ → List ℕ) (script : Plan) (tick : ℕ) (action : Action) (lane : Lane) → ((c : ℕ) → chosen script tick c (taken lane) ≡ ch c) → FramesGoOn ch lane.frames (acted script tick action (taken lane)).frames
+acted_on ch script tick (Attach context slot spec) lane k = by_either ch lane.frames _ _ _ (taken_on ch lane.frames) (taken_on ch lane.frames)
+acted_on ch script tick (Child parent slot spec) lane k = child_on ch tick _ slot spec (place_at parent (taken lane)) (taken lane) lane.frames (taken_on ch lane.frames)
+acted_on ch script tick (Destroy slot) lane k = source_on ch tick _ _ (place_at slot (taken lane)) (taken lane) lane.frames (taken_on ch lane.frames)
+acted_on ch script tick (SetReady slot us) lane k = source_on ch tick _ _ (place_at slot (taken lane)) (taken lane) lane.frames (taken_on ch lane.frames)
+acted_on ch script tick (SetPriority slot priority) lane k = priority_on ch tick priority (place_at slot (taken lane)) (taken lane) lane.frames (taken_on ch lane.frames)
+acted_on ch script tick (Iterate context) lane k = by_either ch lane.frames _ _ _ (iterated_on ch lane.frames context _ _ (k context) (tells_any (chosen script tick context (taken lane)))) (taken_on ch lane.frames)
+acted_on ch script tick (Pending context) lane k = taken_on ch lane.frames
+acted_on ch script tick (Run number) lane k =
+    let begun : Begun ch lane.frames (LoopOf number (context_of script number) ∷ advanced lane.frames) = (each_taken lane.frames, tt) in
+    by_either ch lane.frames (pushed (LoopOf number (context_of script number)) (set_running number true (taken lane))) (missed tick words.Run (taken lane)) (is_some (own (context_of script number) (taken lane)))
+    (inr (inr begun)) (taken_on ch lane.frames)
+acted_on ch script tick (Quit number) lane k = by_either ch lane.frames _ _ _ (taken_on ch lane.frames) (taken_on ch lane.frames)
+acted_on ch script tick (Cancel c) lane k = plain_on ch lane.frames (taken lane) _ (plain_cancel script tick c (taken lane)) (taken_on ch lane.frames)
+acted_on ch script tick (Connect c slot proc) lane k =
+    by_either ch lane.frames _ _ _ (plain_on ch lane.frames (taken lane) _ (plain_handled script tick (record { id = 0; proc = proc }) (taken lane)) (taken_on ch lane.frames)) (taken_on ch lane.frames)
+acted_on ch script tick (Disconnect slot) lane k = disconnect_on ch tick (handler_at slot (taken lane)) (taken lane) lane.frames (taken_on ch lane.frames)
+acted_on ch script tick (Task spec) lane k = taken_on ch lane.frames
+acted_on ch script tick (Push context) lane k = by_either ch lane.frames _ _ _ (taken_on ch lane.frames) (taken_on ch lane.frames)
+acted_on ch script tick (Pop context) lane k = by_either ch lane.frames _ _ _ (taken_on ch lane.frames) (taken_on ch lane.frames)
+acted_on ch script tick ShowDefault lane k = taken_on ch lane.frames
+acted_on ch script tick (Acquire context) lane k = by_either ch lane.frames _ _ _ (taken_on ch lane.frames) (taken_on ch lane.frames)
+acted_on ch script tick (Release context) lane k = by_either ch lane.frames _ _ _ (taken_on ch lane.frames) (taken_on ch lane.frames)
+acted_on ch script tick (Invoke context proc) lane k = invoke_on ch tick (time_of script tick) context proc lane
+acted_on ch script tick (Give context to) lane k = taken_on ch lane.frames
+acted_on ch script tick (Log n) lane k = taken_on ch lane.frames
 
-some_turn : (t u : Turn) → Some t ≡ Some u → t ≡ u
+pub some_turn : (t u : Turn) → Some t ≡ Some u → t ≡ u
 some_turn t u e = cc
 
-abbrev On : List Frame → Turn → Type 0
-On fs u = FramesGoOn fs u.lane.frames
+abbrev On : (ℕ → List ℕ) → List Frame → Turn → Type 0
+On ch fs u = FramesGoOn ch fs u.lane.frames
 
-counted_on : (tick : ℕ) (mail : Option Mail) (f : Lane → Lane) (t : Turn) (left : ℕ) → FramesGoOn t.lane.frames (f t.lane).frames → On t.lane.frames (counted_by tick mail f t left)
-counted_on tick mail f t zero h = inl (each_same t.lane.frames)
-counted_on tick mail f t (suc n) h = h
+counted_on : (ch : ℕ → List ℕ) (tick : ℕ) (mail : Option Mail) (f : Lane → Lane) (t : Turn) (left : ℕ) → FramesGoOn ch t.lane.frames (f t.lane).frames → On ch t.lane.frames (counted_by tick mail f t left)
+counted_on ch tick mail f t zero h = inl (each_same t.lane.frames)
+counted_on ch tick mail f t (suc n) h = h
 
-returned_on : (script : Plan) (tick : ℕ) (body : Body) (origin : Origin) (lane : Lane) (fs : List Frame) → FramesGoOn fs lane.frames → FramesGoOn fs (returned script tick body origin lane).frames
-returned_on script tick body origins.Start lane fs h = h
-returned_on script tick body (origins.Source caller) lane fs h = by_either fs _ _ _ h h
-returned_on script tick body (origins.Invoke acquired) lane fs h = h
+returned_on : (ch : ℕ → List ℕ) (script : Plan) (tick : ℕ) (body : Body) (origin : Origin) (lane : Lane) (fs : List Frame) → FramesGoOn ch fs lane.frames → FramesGoOn ch fs (returned script tick body origin lane).frames
+returned_on ch script tick body origins.Start lane fs h = h
+returned_on ch script tick body (origins.Source caller) lane fs h = by_either ch fs _ _ _ h h
+returned_on ch script tick body (origins.Invoke acquired) lane fs h = h
 
-answered_on : (tick context : ℕ) (answer : Option Bool) (lane : Lane) (fs : List Frame) → FramesGoOn fs lane.frames → FramesGoOn fs (answered tick context answer lane).frames
-answered_on tick context None lane fs h = h
-answered_on tick context (Some any) lane fs h = h
+answered_on : (ch : ℕ → List ℕ) (tick context : ℕ) (answer : Option Bool) (lane : Lane) (fs : List Frame) → FramesGoOn ch fs lane.frames → FramesGoOn ch fs (answered tick context answer lane).frames
+answered_on ch tick context None lane fs h = h
+answered_on ch tick context (Some any) lane fs h = h
 
-ended_on : (fs : List Frame) → FramesGoOn fs (drop 1 fs)
-ended_on fs = inr (inl (each_same (drop 1 fs)))
+ended_on : (ch : ℕ → List ℕ) (fs : List Frame) → FramesGoOn ch fs (drop 1 fs)
+ended_on ch fs = inr (inl (each_same (drop 1 fs)))
 
-call_on : (script : Plan) (tick : ℕ) (t : Turn) (call : Call) (action : Option Action) → On t.lane.frames (step_call script tick t call action)
-call_on script tick t call (Some action) = counted_on tick (sends action (taken t.lane)) (λ lane. acted script tick action (taken lane)) t t.left (acted_on script tick action t.lane)
-call_on script tick t call None = returned_on script tick call.body call.origin (popped t.lane) t.lane.frames (ended_on t.lane.frames)
+call_on : (ch : ℕ → List ℕ) (script : Plan) (tick : ℕ) (t : Turn) (call : Call) (action : Option Action) → ((c : ℕ) → chosen script tick c (taken t.lane) ≡ ch c) → On ch t.lane.frames (step_call script tick t call action)
+call_on ch script tick t call (Some action) k = counted_on ch tick (sends action (taken t.lane)) (λ lane. acted script tick action (taken lane)) t t.left (acted_on ch script tick action t.lane k)
+call_on ch script tick t call None k = returned_on ch script tick call.body call.origin (popped t.lane) t.lane.frames (ended_on ch t.lane.frames)
 
 -- ---- a dispatch is of the next id
 
@@ -205,54 +215,80 @@ row_found : (id : ℕ) (rows : List Row) (row : Row) → Some row ≡ find (has_
 row_found id [] row h = let no : Some row ≡ None = h in cc
 row_found id (r ∷ rows) row h = row_by id r rows row (r.id == id) refl (row_found id rows row) h
 
-row_in_id : (id : ℕ) (o : Option Context) (row : Row) → Some row ≡ row_in id o → row.id ≡ id
+pub row_in_id : (id : ℕ) (o : Option Context) (row : Row) → Some row ≡ row_in id o → row.id ≡ id
 row_in_id id None row h = let no : Some row ≡ None = h in cc
 row_in_id id (Some c) row h = row_found id c.rows.rows row h
 
-abbrev turn : Turn → Lane → ℕ → Bool → Turn
+abbrev pub turn : Turn → Lane → ℕ → Bool → Turn
 turn rest lane left iterated = record rest { lane = lane; unpolled = []; left = left; iterated = iterated }
 
-abbrev going : Lane → List Frame → Lane
+abbrev pub going : Lane → List Frame → Lane
 going base frames = record base { frames = frames; status = GoesOn }
 
-id_on : (rest : Turn) (tick : ℕ) (base : Lane) (below : List Frame) (left : ℕ) (iterated : Bool) (context id : ℕ) (ids : List ℕ) (answer : Option Bool) (r : Option Row)
+id_on : (ch : ℕ → List ℕ) (rest : Turn) (tick : ℕ) (base : Lane) (below : List Frame) (left : ℕ) (iterated : Bool) (context id : ℕ) (ids : List ℕ) (answer : Option Bool) (r : Option Row)
     → let lane : Lane = going base (IterOf context (id ∷ ids) answer ∷ below) in
-    r ≡ row_of context id lane → On lane.frames (step_id tick (turn rest lane left iterated) context r)
-id_on rest tick base below left iterated context id ids answer None e = inl (each_taken (IterOf context (id ∷ ids) answer ∷ below))
-id_on rest tick base below left iterated context id ids answer (Some row) e =
+    r ≡ row_of context id lane → On ch lane.frames (step_id tick (turn rest lane left iterated) context r)
+id_on ch rest tick base below left iterated context id ids answer None e = inl (each_taken (IterOf context (id ∷ ids) answer ∷ below))
+id_on ch rest tick base below left iterated context id ids answer (Some row) e =
     let lane : Lane = going base (IterOf context (id ∷ ids) answer ∷ below) in
-    let begun : Begun lane.frames (dispatched tick context row lane).frames = (each_taken lane.frames, (refl, sym (row_in_id id (own context lane) row e))) in
-    counted_on tick None (dispatching tick context row) (turn rest lane left iterated) left (by_either lane.frames (dispatched tick context row lane) (stopped Halted (written tick events.HaltDepth lane)) (nat_lt (calls lane.frames) 32) (inr (inr begun)) (inl (each_same lane.frames)))
+    counted_on ch tick None (dispatching tick context row) (turn rest lane left iterated) left (by (nat_lt (calls lane.frames) 32) refl)
+  where
+    by : let lane : Lane = going base (IterOf context (id ∷ ids) answer ∷ below) in (b : Bool) → nat_lt (calls lane.frames) 32 ≡ b → FramesGoOn ch lane.frames (cond b (dispatched tick context row lane) (stopped Halted (written tick events.HaltDepth lane))).frames
+    by true k =
+        let lane : Lane = going base (IterOf context (id ∷ ids) answer ∷ below) in
+        let few : length (begun_calls lane.frames) < 32 = omega (arith, ltb-true (calls lane.frames) 32 k, calls_begun lane.frames) in
+        let begun : Begun ch lane.frames (dispatched tick context row lane).frames = (each_taken lane.frames, (few, record { ids = ids; answer = answer; below = below; was = ap (λ (i : ℕ). IterOf context (i ∷ ids) answer ∷ below) (sym (row_in_id id (own context lane) row e)); is = refl })) in
+        inr (inr begun)
+    by false k = inl (each_same (IterOf context (id ∷ ids) answer ∷ below))
 
-loop_on : (rest : Turn) (script : Plan) (tick : ℕ) (base : Lane) (below : List Frame) (left : ℕ) (iterated : Bool) (number context : ℕ) (runs : Bool) (u : Turn)
+loop_on : (ch : ℕ → List ℕ) (rest : Turn) (script : Plan) (tick : ℕ) (base : Lane) (below : List Frame) (left : ℕ) (iterated : Bool) (number context : ℕ) (runs : Bool) (u : Turn)
     → let lane : Lane = going base (LoopOf number context ∷ below) in let t : Turn = turn rest lane left iterated in
-    cond runs (cond iterated None (Some (turn rest (iterating script tick context None t.lane) left true))) (Some (in_lane (λ lane. written tick (events.LoopEnd number) (popped lane)) t)) ≡ Some u → On lane.frames u
-loop_on rest script tick base below left true number context true u e = cc
-loop_on rest script tick base below left false number context true u e =
+    ((c : ℕ) → chosen script tick c lane ≡ ch c) → cond runs (cond iterated None (Some (turn rest (iterating script tick context None t.lane) left true))) (Some (in_lane (λ lane. written tick (events.LoopEnd number) (popped lane)) t)) ≡ Some u → On ch lane.frames u
+loop_on ch rest script tick base below left true number context true u k e = cc
+loop_on ch rest script tick base below left false number context true u k e =
     let fs : List Frame = LoopOf number context ∷ below in
-    subst (On fs) (some_turn _ _ e) (inr (inr (each_emptied context fs fs (each_same fs), each_over context fs)))
-loop_on rest script tick base below left iterated number context false u e =
-    subst (On (LoopOf number context ∷ below)) (some_turn _ _ e) (ended_on (LoopOf number context ∷ below))
+    subst (On ch fs) (some_turn _ _ e) (inr (inr (each_emptied context fs fs (each_same fs), (each_over context fs, k context, tt))))
+loop_on ch rest script tick base below left iterated number context false u k e =
+    subst (On ch (LoopOf number context ∷ below)) (some_turn _ _ e) (ended_on ch (LoopOf number context ∷ below))
 
-step_on : (rest : Turn) (script : Plan) (tick : ℕ) (base : Lane) (frames : List Frame) (status : Status) (left : ℕ) (iterated : Bool) (u : Turn)
-    → step script tick (turn rest (record base { frames = frames; status = status }) left iterated) ≡ Some u → On frames u
-step_on rest script tick base [] GoesOn left iterated u e = cc
-step_on rest script tick base (CallOf call ∷ below) GoesOn left iterated u e =
-    subst (On (CallOf call ∷ below)) (some_turn _ _ e) (call_on script tick (turn rest (going base (CallOf call ∷ below)) left iterated) call (slice_get (actions_of script call.body) call.place))
-step_on rest script tick base (IterOf context [] answer ∷ below) GoesOn left iterated u e =
+step_on : (ch : ℕ → List ℕ) (rest : Turn) (script : Plan) (tick : ℕ) (base : Lane) (frames : List Frame) (status : Status) (left : ℕ) (iterated : Bool) (u : Turn)
+    → ((c : ℕ) → chosen script tick c (record base { frames = frames; status = status }) ≡ ch c) → step script tick (turn rest (record base { frames = frames; status = status }) left iterated) ≡ Some u → On ch frames u
+step_on ch rest script tick base [] GoesOn left iterated u k e = cc
+step_on ch rest script tick base (CallOf call ∷ below) GoesOn left iterated u k e =
+    subst (On ch (CallOf call ∷ below)) (some_turn _ _ e) (call_on ch script tick (turn rest (going base (CallOf call ∷ below)) left iterated) call (slice_get (actions_of script call.body) call.place) k)
+step_on ch rest script tick base (IterOf context [] answer ∷ below) GoesOn left iterated u k e =
     let fs : List Frame = IterOf context [] answer ∷ below in
-    subst (On fs) (some_turn _ _ e) (answered_on tick context answer (popped (going base fs)) fs (ended_on fs))
-step_on rest script tick base (IterOf context (id ∷ ids) answer ∷ below) GoesOn left iterated u e =
+    subst (On ch fs) (some_turn _ _ e) (answered_on ch tick context answer (popped (going base fs)) fs (ended_on ch fs))
+step_on ch rest script tick base (IterOf context (id ∷ ids) answer ∷ below) GoesOn left iterated u k e =
     let lane : Lane = going base (IterOf context (id ∷ ids) answer ∷ below) in
-    subst (On lane.frames) (some_turn _ _ e) (id_on rest tick base below left iterated context id ids answer (row_of context id lane) refl)
-step_on rest script tick base (LoopOf number context ∷ below) GoesOn left iterated u e =
-    loop_on rest script tick base below left iterated number context (is_running number (going base (LoopOf number context ∷ below))) u e
-step_on rest script tick base frames Ended left iterated u e = cc
-step_on rest script tick base frames Halted left iterated u e = cc
+    subst (On ch lane.frames) (some_turn _ _ e) (id_on ch rest tick base below left iterated context id ids answer (row_of context id lane) refl)
+step_on ch rest script tick base (LoopOf number context ∷ below) GoesOn left iterated u k e =
+    loop_on ch rest script tick base below left iterated number context (is_running number (going base (LoopOf number context ∷ below))) u k e
+step_on ch rest script tick base frames Ended left iterated u k e = cc
+step_on ch rest script tick base frames Halted left iterated u k e = cc
 
-polling_on : (script : Plan) (tick : ℕ) (t : Turn) (tasks : List Started) (u : Turn) → step_polling script tick (record t { unpolled = tasks }) tasks ≡ Some u → On t.lane.frames u
-polling_on script tick t [] u e = step_on t script tick t.lane t.lane.frames t.lane.status t.left t.iterated u e
-polling_on script tick t (task ∷ tasks) u e = subst (On t.lane.frames) (some_turn _ _ e) (inl (each_same t.lane.frames))
+polling_on : (ch : ℕ → List ℕ) (script : Plan) (tick : ℕ) (t : Turn) (tasks : List Started) (u : Turn) → ((c : ℕ) → chosen script tick c t.lane ≡ ch c) → step_polling script tick (record t { unpolled = tasks }) tasks ≡ Some u → On ch t.lane.frames u
+polling_on ch script tick t [] u k e = step_on ch t script tick t.lane t.lane.frames t.lane.status t.left t.iterated u k e
+polling_on ch script tick t (task ∷ tasks) u k e = subst (On ch t.lane.frames) (some_turn _ _ e) (inl (each_same t.lane.frames))
 
-pub goes_on : (script : Plan) (tick : ℕ) (t u : Turn) → step script tick t ≡ Some u → FramesGoOn t.lane.frames u.lane.frames
-goes_on script tick t u e = polling_on script tick t t.unpolled u e
+pub goes_on : (script : Plan) (tick : ℕ) (t u : Turn) → step script tick t ≡ Some u → FramesGoOn (λ context. chosen script tick context t.lane) t.lane.frames u.lane.frames
+goes_on script tick t u e = polling_on (λ context. chosen script tick context t.lane) script tick t t.unpolled u (λ c. refl) e
+
+-- ---- what an `iterate` is told
+
+told_at : (script : Plan) (tick : ℕ) (rest : Turn) (base : Lane) (below : List Frame) (left : ℕ) (iterated : Bool) (context : ℕ) (any : Bool) (u : Turn)
+    → step script tick (turn rest (going base (IterOf context [] (Some any) ∷ below)) left iterated) ≡ Some u → (u.lane.frames ≡ below) × (u.lane.trace ≡ base.trace ++ (record { tick = tick; event = events.Iterate context any }) ∷ [])
+told_at script tick rest base below left iterated context any u e =
+    let same = sym (some_turn _ _ e) in
+    (ap (λ (v : Turn). v.lane.frames) same, ap (λ (v : Turn). v.lane.trace) same)
+
+-- a turn that is in the middle of some frames
+pub in_the_middle : (script : Plan) (tick : ℕ) (t u : Turn) (frames : List Frame) → t.unpolled ≡ [] → t.lane.status ≡ GoesOn → t.lane.frames ≡ frames → step script tick t ≡ Some u → step script tick (turn t (going t.lane frames) t.left t.iterated) ≡ Some u
+in_the_middle script tick t u frames p s f e =
+    let at : List Started → Status → List Frame → Turn = λ tasks status fs. record t { unpolled = tasks; lane = record t.lane { frames = fs; status = status } } in
+    subst (λ (fs : List Frame). step script tick (at [] GoesOn fs) ≡ Some u) f
+    (subst (λ (x : Status). step script tick (at [] x t.lane.frames) ≡ Some u) s (subst (λ (tasks : List Started). step script tick (at tasks t.lane.status t.lane.frames) ≡ Some u) p e))
+
+pub told_answer : (script : Plan) (tick : ℕ) (t u : Turn) (context : ℕ) (any : Bool) (below : List Frame) → t.unpolled ≡ [] → t.lane.status ≡ GoesOn → t.lane.frames ≡ IterOf context [] (Some any) ∷ below
+    → step script tick t ≡ Some u → (u.lane.frames ≡ below) × (u.lane.trace ≡ t.lane.trace ++ (record { tick = tick; event = events.Iterate context any }) ∷ [])
+told_answer script tick t u context any below p s f e = told_at script tick t t.lane below t.left t.iterated context any u (in_the_middle script tick t u (IterOf context [] (Some any) ∷ below) p s f e)

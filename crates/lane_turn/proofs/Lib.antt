@@ -27,6 +27,7 @@ pub mod Keeps
 pub mod Owing
 pub mod Opening
 pub mod Runs
+pub mod Depths
 pub mod Iterations
 pub mod Grown
 pub mod Owed
@@ -36,3 +37,16 @@ pub mod Moving
 pub mod Brought
 pub mod Taken
 pub mod Lost
+pub mod Follows
+pub mod Counts
+pub mod Counted
+pub mod Adds
+pub mod Added
+pub mod Waits
+pub mod Freed
+pub mod Began
+pub mod Selected
+pub mod Stays
+pub mod EachLane
+pub mod Traced
+pub mod Rested

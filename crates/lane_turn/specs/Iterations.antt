@@ -1,22 +1,25 @@
 -- What a step may do to what is in progress, in the words of those who iterate.
-use Rattle.std.specs.Prelude.{◌≡◌, ℕ, Some, List, [], ◌∷◌, ◌⊎◌, drop}
+use Rattle.std.specs.Prelude.{◌≡◌, ◌≢◌, ℕ, ◌<◌, Bool, true, false, Option, Some, None, List, [], ◌∷◌, ◌++◌, ◌⊎◌, length, drop}
 use Rattle.std.specs.List.{AllByRecursion}
 use Rattle.loop_script.specs.declared.plan.Plan.{Plan}
+use Rattle.lane_turn.specs.declared.line.Event.TheVariants as events
+use Rattle.lane_turn.specs.declared.parts.Status.TheVariants.{GoesOn}
 use Rattle.lane_turn.specs.declared.layer.Origin.{Origin}
 use Rattle.lane_turn.specs.declared.layer.Origin.TheVariants.{Start, Source, Invoke}
 use Rattle.lane_turn.specs.Frames.{Frame, CallOf, IterOf, LoopOf}
-use Rattle.lane_turn.specs.Lane.{Turn}
+use Rattle.lane_turn.specs.Depths.{begun_calls}
+use Rattle.lane_turn.specs.Lane.{Turn, chosen}
 use Rattle.lane_turn.specs.Step.{step}
 
 -- ids from some place on
 abbrev pub IsRest : List ℕ → List ℕ → Type 0
 IsRest left ids = (k : ℕ) × (left ≡ drop k ids)
 
--- a frame later on: an iteration has no id left that it did not have
+-- a frame later on: the same call; the same iteration, which has no id left that it did not have; the same run of a loop
 abbrev pub Later : Frame → Frame → Type 0
-Later (CallOf call) (CallOf call') = Unit {0}
-Later (IterOf context ids answer) (IterOf context' left answer') = (context ≡ context') × IsRest left ids
-Later (LoopOf number context) (LoopOf number' context') = Unit {0}
+Later (CallOf call) (CallOf call') = (call'.origin ≡ call.origin) × (call'.body ≡ call.body)
+Later (IterOf context ids answer) (IterOf context' left answer') = (context ≡ context') × IsRest left ids × (answer' ≡ answer)
+Later (LoopOf number context) (LoopOf number' context') = (number' ≡ number) × (context' ≡ context)
 Later (CallOf call) (IterOf context ids answer) = ⊥
 Later (CallOf call) (LoopOf number context) = ⊥
 Later (IterOf context ids answer) (CallOf call) = ⊥
@@ -36,36 +39,46 @@ IsOver context (CallOf call) = Unit {0}
 IsOver context (IterOf c ids answer) = c ≡ context → ids ≡ []
 IsOver context (LoopOf number c) = Unit {0}
 
--- the innermost frame is an iteration of a context, and an id is its next
-abbrev pub TakesNext : ℕ → ℕ → List Frame → Type 0
-TakesNext context id [] = ⊥
-TakesNext context id (CallOf call ∷ below) = ⊥
-TakesNext context id (LoopOf number c ∷ below) = ⊥
-TakesNext context id (IterOf c [] answer ∷ below) = ⊥
-TakesNext context id (IterOf c (next ∷ ids) answer ∷ below) = (c ≡ context) × (next ≡ id)
+-- an id is taken: it was the next one of the innermost iteration, of that context, which has the ids after it left
+pub record Takes (context id : ℕ) (before now : List Frame) : Type 0 where
+  pub ids : List ℕ
+  pub answer : Option Bool
+  pub below : List Frame
+  pub was : before ≡ IterOf context (id ∷ ids) answer ∷ below
+  pub is : now ≡ IterOf context ids answer ∷ below
 
--- a source is dispatched by the innermost iteration, as its next
-abbrev pub IsCalledBy : List Frame → Origin → Type 0
-IsCalledBy frames Start = ⊥
-IsCalledBy frames (Source caller) = TakesNext caller.context caller.id frames
-IsCalledBy frames (Invoke acquired) = Unit {0}
+-- a source is dispatched by the innermost iteration, which takes its id
+abbrev pub IsCalledBy : (before now : List Frame) → Origin → Type 0
+IsCalledBy before now Start = ⊥
+IsCalledBy before now (Source caller) = Takes caller.context caller.id before now
+IsCalledBy before now (Invoke acquired) = Unit {0}
 
--- what may be begun over frames that were those: a call; an iteration, and then no older one of its context has an id
--- left; a loop
-abbrev pub MayBegin : (before now : List Frame) → Frame → Type 0
-MayBegin before now (CallOf call) = IsCalledBy before call.origin
-MayBegin before now (IterOf context ids answer) = AllByRecursion (IsOver context) now
-MayBegin before now (LoopOf number context) = Unit {0}
+-- what an `iterate` that asked is told: whether anything was selected
+abbrev pub TellsAny : List ℕ → Option Bool → Type 0
+TellsAny ids None = Unit {0}
+TellsAny ids (Some true) = ids ≢ []
+TellsAny ids (Some false) = ids ≡ []
 
-abbrev pub Begun : List Frame → List Frame → Type 0
-Begun frames [] = ⊥
-Begun frames (f ∷ now) = EachLater frames now × MayBegin frames now f
+-- what may be begun over frames that were those: a call, where fewer than 32 are in progress; an iteration, of what is selected then, and no older one of its
+-- context has an id left; a loop
+abbrev pub MayBegin : (selected : ℕ → List ℕ) (before now : List Frame) → Frame → Type 0
+MayBegin selected before now (CallOf call) = (length (begun_calls before) < 32) × IsCalledBy before now call.origin
+MayBegin selected before now (IterOf context ids answer) = AllByRecursion (IsOver context) now × (ids ≡ selected context) × TellsAny ids answer
+MayBegin selected before now (LoopOf number context) = Unit {0}
+
+abbrev pub Begun : (selected : ℕ → List ℕ) → List Frame → List Frame → Type 0
+Begun selected frames [] = ⊥
+Begun selected frames (f ∷ now) = EachLater frames now × MayBegin selected frames now f
 
 -- the frames go on, or the innermost ends, or one is begun in it
-abbrev pub FramesGoOn : List Frame → List Frame → Type 0
-FramesGoOn frames now = EachLater frames now ⊎ (EachLater (drop 1 frames) now ⊎ Begun frames now)
+abbrev pub FramesGoOn : (selected : ℕ → List ℕ) → List Frame → List Frame → Type 0
+FramesGoOn selected frames now = EachLater frames now ⊎ (EachLater (drop 1 frames) now ⊎ Begun selected frames now)
 
--- no iteration ever has an id that it did not have when it began, none has one left when a newer one of its context
--- begins, and what is dispatched is the next id of the innermost
-abbrev pub IterationsGoOn : Type 0
-IterationsGoOn = (script : Plan) (tick : ℕ) (t u : Turn) → step script tick t ≡ Some u → FramesGoOn t.lane.frames u.lane.frames
+pub record IterationsGoOn : Type 0 where
+  -- no iteration ever has an id that it was not given when it began, which are the ids selected then; none has one left when a
+  -- newer one of its context begins; what is dispatched is the next id of the innermost, which has it no more; no call begins
+  -- over 32; and each call, iteration and run that goes on is the one that it was
+  pub frames : (script : Plan) (tick : ℕ) (t u : Turn) → step script tick t ≡ Some u → FramesGoOn (λ context. chosen script tick context t.lane) t.lane.frames u.lane.frames
+  -- an iteration that has no id left ends, and an `iterate` that asked for it is told its answer
+  pub answers : (script : Plan) (tick : ℕ) (t u : Turn) (context : ℕ) (any : Bool) (below : List Frame) → t.unpolled ≡ [] → t.lane.status ≡ GoesOn → t.lane.frames ≡ IterOf context [] (Some any) ∷ below
+      → step script tick t ≡ Some u → (u.lane.frames ≡ below) × (u.lane.trace ≡ t.lane.trace ++ (record { tick = tick; event = events.Iterate context any }) ∷ [])

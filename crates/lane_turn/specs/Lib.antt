@@ -21,3 +21,9 @@ pub mod Sound
 pub mod Meaning
 pub mod Iterations
 pub mod Levels
+pub mod Traces
+pub mod Depths
+pub mod Rest
+pub mod Blocked
+pub mod Selected
+pub mod Stays

@@ -7,6 +7,12 @@ ghost use Rattle.lane_turn.specs.Views.{ViewsAgree};
 ghost use Rattle.lane_turn.specs.Arrivals.{LettersArrive};
 ghost use Rattle.lane_turn.specs.Owed.{RepliesComeOnce};
 ghost use Rattle.lane_turn.specs.Taken.{RepliesAreTakenOnce};
+ghost use Rattle.lane_turn.specs.Traces.{TracesGrow};
+ghost use Rattle.lane_turn.specs.Depths.{DepthsHold};
+ghost use Rattle.lane_turn.specs.Rest.{EndedLanesRest};
+ghost use Rattle.lane_turn.specs.Blocked.{BlockedWait};
+ghost use Rattle.lane_turn.specs.Selected.{IterationsHaveOrder};
+ghost use Rattle.lane_turn.specs.Stays.{SourcesStay};
 
 /// A turn leaves a lane with no step left: it rests, has ended or is halted.
 pub fn turns_end()
@@ -15,7 +21,9 @@ pub fn turns_end()
 
 /// An iteration never dispatches a source that was not selected when it began, and none after a newer iteration of its
 /// context began: by each step it keeps some of the ids that it had left, from some place on; where a newer one begins
-/// none is left; and what is dispatched is the next id of the innermost.
+/// none is left; and what is dispatched is the next id of the innermost, which is taken. What goes on is the call, the
+/// iteration or the run of a loop that it was. A call begins where fewer than 32 are in progress. An `iterate` is told whether
+/// anything was selected.
 pub fn iterations_go_on()
     ensures { IterationsGoOn }
 {}
@@ -58,4 +66,39 @@ pub fn replies_come_once()
 /// reply is lost where the script has a context: what a lane posted in earlier ticks is then held, or its result was told.
 pub fn replies_are_taken_once()
     ensures { RepliesAreTakenOnce }
+{}
+
+/// A trace only grows, by lines of the tick: a step, a turn and a delivery leave the lines that there are, and add lines of
+/// their own tick behind them. So the lines of each lane of a run stand by their ticks.
+pub fn traces_grow()
+    ensures { TracesGrow }
+{}
+
+/// A lane that has ended or is halted takes no step: its turns poll its tasks, and write no other line than that one is late.
+/// Deliveries write what comes with letters, take no step of a lane, and let none go on.
+pub fn ended_lanes_rest()
+    ensures { EndedLanesRest }
+{}
+
+/// The depth of a dispatch is the number of dispatches that are in progress in its lane, itself among them, and it is 1 to 32.
+/// A lane halts at a depth only where 32 calls are in progress.
+pub fn depths_hold()
+    ensures { DepthsHold }
+{}
+
+/// In a run no source is dispatched while it, or one above it, is in a call that may not recurse.
+pub fn blocked_sources_wait()
+    ensures { BlockedWait }
+{}
+
+/// What an iteration dispatches: the most urgent ready sources of its context, all of one priority, in the order of their numbers,
+/// and none twice.
+pub fn iterations_have_order()
+    ensures { IterationsHaveOrder }
+{}
+
+/// In a run each dispatch begins a call of its source, and the n-th one that knows that it is the n-th. When that call ends the
+/// source is there exactly where it was not destroyed before, was no reply's, and `keep` lets it stay.
+pub fn sources_stay_as_kept()
+    ensures { SourcesStay }
 {}

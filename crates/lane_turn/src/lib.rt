@@ -27,8 +27,9 @@ mod turn;
 mod wakes;
 
 pub use laws::{
-    iterations_go_on, letters_arrive, letters_tell, levels_go_by_version, replies_are_taken_once,
-    replies_come_once, turns_end, views_agree,
+    blocked_sources_wait, depths_hold, ended_lanes_rest, iterations_go_on, iterations_have_order,
+    letters_arrive, letters_tell, levels_go_by_version, replies_are_taken_once, replies_come_once,
+    sources_stay_as_kept, traces_grow, turns_end, views_agree,
 };
 pub use line::{Event, Invoked, Line, Word};
 pub use parts::Status;

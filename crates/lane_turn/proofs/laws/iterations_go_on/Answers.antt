@@ -1,5 +1,5 @@
-use Rattle.lane_turn.proofs.Iterations.{goes_on}
+use Rattle.lane_turn.proofs.Iterations.{goes_on, told_answer}
 use Rattle.lane_turn.proofs.laws.iterations_go_on.Goals as goal
 
 pub returns : goal.returns
-returns c = goes_on
+returns c = record { frames = goes_on; answers = told_answer }

@@ -1,0 +1,121 @@
+-- How traces grow over turns, deliveries and runs.
+use Rattle.std.proofs.Common.{◌≡◌, ℕ, suc, ◌<◌, ◌≤◌, ◌++◌, Some, List, [], ◌∷◌, refl, sym, arith, subst}
+use Rattle.std.specs.Prelude.{is_some}
+use Rattle.std.specs.List.{AllByRecursion}
+use Rattle.loop_script.specs.declared.plan.Plan.{Plan}
+use Rattle.loop_script.specs.Parts.{time_of}
+use Rattle.source_rows.specs.Rows.{attached}
+use Rattle.post_office.specs.declared.letter.Letter.{Letter}
+use Rattle.post_office.specs.declared.letter.Body.{Body as Mail}
+use Rattle.post_office.specs.declared.letter.Body.TheVariants as mails
+use Rattle.lane_turn.specs.declared.line.Line.{Line}
+use Rattle.lane_turn.specs.declared.line.Event.{Event}
+use Rattle.lane_turn.specs.declared.line.Event.TheVariants as events
+use Rattle.lane_turn.specs.Lane.{Lane, Turn, own, next_id, edited, written}
+use Rattle.lane_turn.specs.Step.{step}
+use Rattle.lane_turn.specs.Turn.{begun, turned}
+use Rattle.lane_turn.specs.Deliver.{reply_spec, holding, received_body, received, received_all}
+use Rattle.lane_turn.specs.Tick.{lanes_at, lane_within}
+use Rattle.lane_turn.specs.Traces.{Grows, IsOf, NoTickFalls, IsBefore}
+use Rattle.lane_turn.specs.Depths.{TellsDepth, IsShallow, HaltsOver}
+use Rattle.lane_turn.specs.Rest.{IsBrought}
+use Rattle.lane_turn.proofs.Counts.{edits_attached}
+use Rattle.lane_turn.proofs.Adds.{grows_none, grows_trans, grows_as, each_joined, each_as, same, BroughtAt, Brings, b_line, b_edit, b_trans, b_either, b_none, b_cancel}
+use Rattle.lane_turn.proofs.Added.{Told, does}
+use Rattle.lane_turn.proofs.Turns.{kept_finish, kept_finished}
+use Rattle.lane_turn.proofs.EachLane.{each_lane}
+
+-- ---- steps and turns
+
+pub of_tick : (script : Plan) (tick : ℕ) (t u : Turn) → step script tick t ≡ Some u → Grows (IsOf tick) t.lane.trace u.lane.trace
+of_tick script tick t u e = grows_as (Told tick t.lane u.lane) (IsOf tick) (λ l p. p.0) t.lane.trace u.lane.trace (does script tick t u e).lines
+
+pub turn_grows : (script : Plan) (tick : ℕ) (lane : Lane) → Grows (IsOf tick) lane.trace (turned script tick lane).trace
+turn_grows script tick lane =
+    kept_finished script tick (λ t. Grows (IsOf tick) lane.trace t.lane.trace) (λ t u e h. grows_trans (IsOf tick) lane.trace t.lane.trace u.lane.trace h (of_tick script tick t u e)) (begun tick lane) (grows_none (IsOf tick) lane.trace)
+
+-- ---- deliveries
+
+brings_body : (script : Plan) (tick sender : ℕ) (body : Mail) (lane : Lane) → Brings tick lane (received_body script tick sender body lane)
+brings_body script tick sender (mails.Attach context spec) lane =
+    let there : Lane = edited context (attached spec (time_of script tick)) lane in
+    let id : ℕ = next_id (own context lane) in
+    b_either tick lane (written tick (events.Arrive context id) there) lane (is_some (own context lane))
+    (b_trans tick lane there _ (b_edit tick lane context (attached spec (time_of script tick)) (edits_attached spec (time_of script tick))) (b_line tick there (events.Arrive context id) tt))
+    (b_none tick lane)
+brings_body script tick sender (mails.Complete reply) lane =
+    let there : Lane = edited reply.ctx (attached (reply_spec reply) (time_of script tick)) lane in
+    let id : ℕ = next_id (own reply.ctx lane) in
+    let held : Lane = holding reply.ctx id sender reply there in
+    b_either tick lane (written tick (events.Arrive reply.ctx id) held) lane (is_some (own reply.ctx lane))
+    (b_trans tick lane held _
+    (b_trans tick lane there held (b_edit tick lane reply.ctx (attached (reply_spec reply) (time_of script tick)) (edits_attached (reply_spec reply) (time_of script tick)))
+    (record { adds = same (BroughtAt tick) there held refl refl; status = refl; frames = refl }))
+    (b_line tick held (events.Arrive reply.ctx id) tt))
+    (b_none tick lane)
+brings_body script tick sender (mails.Cancelled c) lane = b_cancel script tick c lane
+
+pub brings_all : (script : Plan) (tick : ℕ) (letters : List Letter) (lane : Lane) → Brings tick lane (received_all script tick letters lane)
+brings_all script tick [] lane = b_none tick lane
+brings_all script tick (letter ∷ letters) lane = b_trans tick lane (received script tick letter lane) _ (brings_body script tick letter.sender letter.body lane) (brings_all script tick letters (received script tick letter lane))
+
+pub delivery_grows : (script : Plan) (tick : ℕ) (letters : List Letter) (lane : Lane) → Grows (IsOf tick) lane.trace (received_all script tick letters lane).trace
+delivery_grows script tick letters lane = grows_as (BroughtAt tick) (IsOf tick) (λ l p. p.0) lane.trace (received_all script tick letters lane).trace (brings_all script tick letters lane).adds.lines
+
+-- ---- runs
+
+of_one : (tick : ℕ) (ls : List Line) → AllByRecursion (IsOf tick) ls → NoTickFalls ls
+of_one tick [] h = tt
+of_one tick (l ∷ ls) h = (each_as (IsOf tick) (λ later. l.tick ≤ later.tick) (λ k e. omega (arith, e, h.0)) ls h.1, of_one tick ls h.1)
+
+rising_on : (tick : ℕ) (ls more : List Line) → AllByRecursion (λ l. l.tick < tick) ls → NoTickFalls ls → AllByRecursion (IsOf tick) more → NoTickFalls (ls ++ more)
+rising_on tick [] more h r m = of_one tick more m
+rising_on tick (l ∷ ls) more h r m =
+    (each_joined (λ later. l.tick ≤ later.tick) ls more r.0 (each_as (IsOf tick) (λ later. l.tick ≤ later.tick) (λ k e. omega (arith, e, h.0)) more m), rising_on tick ls more h.1 r.1 m)
+
+before_next : (tick : ℕ) (xs ys : List Line) → Grows (IsOf tick) xs ys → IsBefore tick xs → IsBefore (suc tick) ys
+before_next tick xs ys g h =
+    subst (IsBefore (suc tick)) (sym g.lines)
+    (record {
+      past = each_joined (λ l. l.tick < suc tick) xs g.more (each_as (λ l. l.tick < tick) (λ l. l.tick < suc tick) (λ l p. omega (arith, p)) xs h.past) (each_as (IsOf tick) (λ l. l.tick < suc tick) (λ l p. omega (arith, p)) g.more g.each);
+      rising = rising_on tick xs g.more h.past h.rising g.each;
+    })
+
+pub run_before : (script : Plan) (tick : ℕ) → AllByRecursion (λ lane. IsBefore tick lane.trace) (lanes_at script tick)
+run_before script tick =
+    each_lane script (λ k lane. IsBefore k lane.trace) (λ n. record { past = tt; rising = tt })
+    (λ k letters lane h. before_next k lane.trace (received_all script k letters (turned script k lane)).trace
+    (grows_trans (IsOf k) lane.trace (turned script k lane).trace (received_all script k letters (turned script k lane)).trace (turn_grows script k lane) (delivery_grows script k letters (turned script k lane))) h) tick
+
+-- ---- depths
+
+pub tells_depths : (script : Plan) (tick : ℕ) (t u : Turn) → step script tick t ≡ Some u → Grows (λ line. TellsDepth u.lane.frames line.event × IsShallow line.event) t.lane.trace u.lane.trace
+tells_depths script tick t u e = grows_as (Told tick t.lane u.lane) (λ l. TellsDepth u.lane.frames l.event × IsShallow l.event) (λ l p. (p.1, p.2)) t.lane.trace u.lane.trace (does script tick t u e).lines
+
+pub halts_over : (script : Plan) (tick : ℕ) (t u : Turn) → step script tick t ≡ Some u → Grows (λ line. HaltsOver t.lane.frames line.event) t.lane.trace u.lane.trace
+halts_over script tick t u e = grows_as (Told tick t.lane u.lane) (λ l. HaltsOver t.lane.frames l.event) (λ l p. p.4) t.lane.trace u.lane.trace (does script tick t u e).lines
+
+abbrev AllShallow : Lane → Type 0
+AllShallow lane = AllByRecursion (λ line. IsShallow line.event) lane.trace
+
+grown_shallow : (xs ys : List Line) → Grows (λ line. IsShallow line.event) xs ys → AllByRecursion (λ line. IsShallow line.event) xs → AllByRecursion (λ line. IsShallow line.event) ys
+grown_shallow xs ys g h = subst (λ (ls : List Line). AllByRecursion (λ line. IsShallow line.event) ls) (sym g.lines) (each_joined (λ line. IsShallow line.event) xs g.more h g.each)
+
+step_shallow : (script : Plan) (tick : ℕ) (t u : Turn) → step script tick t ≡ Some u → AllShallow t.lane → AllShallow u.lane
+step_shallow script tick t u e h = grown_shallow t.lane.trace u.lane.trace (grows_as (Told tick t.lane u.lane) (λ l. IsShallow l.event) (λ l p. p.2) t.lane.trace u.lane.trace (does script tick t u e).lines) h
+
+brought_shallow : (event : Event) → IsBrought event → IsShallow event
+brought_shallow (events.Dispatch context id priority depth) h = absurd h
+brought_shallow _ h = tt
+
+tick_shallow : (script : Plan) (tick : ℕ) (letters : List Letter) (lane : Lane) → AllShallow lane → AllShallow (received_all script tick letters (turned script tick lane))
+tick_shallow script tick letters lane h =
+    let turn : Lane = turned script tick lane in
+    let after : Lane = received_all script tick letters turn in
+    grown_shallow turn.trace after.trace (grows_as (BroughtAt tick) (λ l. IsShallow l.event) (λ l p. brought_shallow l.event p.1) turn.trace after.trace (brings_all script tick letters turn).adds.lines)
+    (kept_finished script tick (λ t. AllShallow t.lane) (step_shallow script tick) (begun tick lane) h)
+
+pub run_shallow : (script : Plan) (tick steps : ℕ) → AllByRecursion (λ lane. AllByRecursion (λ line. IsShallow line.event) (lane_within script tick steps lane).trace) (lanes_at script tick)
+run_shallow script tick steps =
+    each_as AllShallow (λ lane. AllShallow (lane_within script tick steps lane)) (λ lane h. kept_finish script tick steps (λ t. AllShallow t.lane) (step_shallow script tick) (begun tick lane) h) (lanes_at script tick)
+    (each_lane script (λ k lane. AllShallow lane) (λ n. tt) (λ k letters lane h. tick_shallow script k letters lane h) tick)

@@ -1,0 +1,92 @@
+-- Where a source is after a call of it.
+use Rattle.std.specs.Prelude.{◌≡◌, ℕ, ◌≤◌, ◌==◌, ◌&&◌, Bool, true, false, ◌↔◌, Option, Some, None, List, [], ◌∷◌, length, count_by, is_some, slice_get}
+use Rattle.std.specs.List.{AllByRecursion}
+use Rattle.loop_script.specs.declared.plan.Plan.{Plan}
+use Rattle.loop_script.specs.declared.plan.Proc.{Proc}
+use Rattle.loop_script.specs.declared.body.Body.{Body}
+use Rattle.loop_script.specs.declared.body.Body.TheVariants.{Start, Procedure, Nothing}
+use Rattle.loop_script.specs.Parts.{actions_of}
+use Rattle.source_rows.specs.declared.row.Row.{Row}
+use Rattle.lane_turn.specs.declared.line.Line.{Line}
+use Rattle.lane_turn.specs.declared.line.Event.{Event}
+use Rattle.lane_turn.specs.declared.line.Event.TheVariants as events
+use Rattle.lane_turn.specs.declared.parts.Status.TheVariants.{GoesOn}
+use Rattle.lane_turn.specs.declared.layer.Caller.{Caller}
+use Rattle.lane_turn.specs.declared.layer.Origin.TheVariants.{Source}
+use Rattle.lane_turn.specs.Frames.{Frame, CallOf}
+use Rattle.lane_turn.specs.Lane.{Lane, Turn, row_of}
+use Rattle.lane_turn.specs.Step.{step}
+use Rattle.lane_turn.specs.Tick.{lanes_at}
+use Rattle.lane_turn.specs.Replies.{reply_held}
+use Rattle.lane_turn.specs.Traces.{Grows}
+use Rattle.lane_turn.specs.Blocked.{turn_within, OfEachStep}
+
+-- a source that is there
+abbrev pub IsThere : (context id : ℕ) → Lane → Type 0
+IsThere context id lane = is_some (row_of context id lane) ≡ true
+
+-- what `keep` says of a source after its n-th dispatch: it stays where n is at most `keep`, and always where that is null
+abbrev pub StaysTo : Option ℕ → ℕ → Type 0
+StaysTo None n = Unit {0}
+StaysTo (Some keep) n = n ≤ keep
+
+abbrev pub StaysBy : Option Proc → ℕ → Type 0
+StaysBy None n = ⊥
+StaysBy (Some proc) n = StaysTo proc.keep n
+
+-- a dummy, which calls nothing, stays
+abbrev pub Stays : Plan → Body → ℕ → Type 0
+Stays script (Procedure proc) n = StaysBy (slice_get script.procs proc) n
+Stays script Nothing n = Unit {0}
+Stays script (Start lane) n = Unit {0}
+
+-- a turn in which a call of a source is innermost and has no action left
+pub record IsAtEnd (script : Plan) (caller : Caller) (body : Body) (t : Turn) : Type 0 where
+  pub place : ℕ
+  pub below : List Frame
+  pub polled : t.unpolled ≡ []
+  pub goes : t.lane.status ≡ GoesOn
+  pub frames : t.lane.frames ≡ CallOf (record { origin = Source caller; body = body; place = place }) ∷ below
+  pub over : slice_get (actions_of script body) place ≡ None
+
+-- how many lines tell a dispatch of a source
+abbrev pub is_dispatch_of : (context id : ℕ) → Event → Bool
+is_dispatch_of context id (events.Dispatch c i priority depth) = (c == context) && (i == id)
+is_dispatch_of context id _ = false
+
+abbrev pub dispatches : (context id : ℕ) → List Line → ℕ
+dispatches context id lines = count_by (λ line. is_dispatch_of context id line.event) lines
+
+-- a source calls its procedure; a dummy calls nothing
+abbrev pub Calls : Option ℕ → Body → Type 0
+Calls None body = body ≡ Nothing
+Calls (Some proc) body = body ≡ Procedure proc
+
+-- a source's dispatch began: its call is the innermost now, and knows which dispatch of the source it is, whether the source may
+-- recurse, and whether it held a reply
+pub record IsBegun (context id : ℕ) (before now : Lane) : Type 0 where
+  pub row : Row
+  pub there : row_of context id before ≡ Some row
+  pub caller : Caller
+  pub body : Body
+  pub below : List Frame
+  pub frames : now.frames ≡ CallOf (record { origin = Source caller; body = body; place = 0 }) ∷ below
+  pub same_context : caller.context ≡ context
+  pub same_id : caller.id ≡ id
+  pub calls : Calls row.call body
+  pub number : caller.number ≡ dispatches context id now.trace
+  pub recurse : caller.recurse ≡ row.recurse
+  pub once : caller.once ≡ is_some (reply_held context id before.replies)
+
+abbrev pub Begins : (before now : Lane) → Event → Type 0
+Begins before now (events.Dispatch context id priority depth) = IsBegun context id before now
+Begins before now _ = Unit {0}
+
+pub record SourcesStay : Type 0 where
+  -- in a run each dispatch begins a call of that source, and the n-th a call that knows that it is the n-th
+  pub begins : (script : Plan) → OfEachStep script (λ t u. Grows (λ line. Begins t.lane u.lane line.event) t.lane.trace u.lane.trace)
+  -- when the call of a source's n-th dispatch ends, the source is there exactly where it was not destroyed before, it was no
+  -- reply's, and `keep` lets it stay
+  pub ends : (script : Plan) → length script.lanes ≤ 64 → (tick steps : ℕ) → tick ≤ 4096
+      → AllByRecursion (λ lane. (caller : Caller) (body : Body) (u : Turn) → IsAtEnd script caller body (turn_within script tick steps lane) → step script tick (turn_within script tick steps lane) ≡ Some u
+      → (IsThere caller.context caller.id u.lane ↔ (IsThere caller.context caller.id (turn_within script tick steps lane).lane × (caller.once ≡ false) × Stays script body caller.number))) (lanes_at script tick)
