@@ -98,6 +98,9 @@ impl Chain {
     pub(crate) fn blocks(&self, context: u32, id: u64) -> bool
         ensures { result ≡ list_any (λ b. b == id) (busy_layers context self.now) }
     {
+        if self.tally.blocking == 0 {
+            return false;
+        }
         self.nest.blocks(context, id)
     }
 

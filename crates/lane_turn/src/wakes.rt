@@ -122,6 +122,25 @@ fn is_blocked(frames: &Frames, context: u32, row: &Row) -> bool
     row.line.iter().any(|id| frames.blocks(context, *id))
 }
 
+/// When a source may be ready by itself, from a tick on, where no call in progress blocks it; never where one does.
+fn free_wake(
+    script: &Script,
+    frames: &Frames,
+    context: u32,
+    row: &Row,
+    from: u32,
+    view: &View,
+) -> Option<u64>
+    ensures { (k : ℕ) → from ≤ k → IsAfter k result → is_blocked (busy context frames.now) row.now ≡ false → own_ready_at script.now k view.now row.now ≡ false }
+{
+    let wake = row_wake(script, row, from, view);
+    if wake.is_some() && is_blocked(frames, context, row) {
+        None
+    } else {
+        wake
+    }
+}
+
 /// Whether a ready time of a context comes at a tick, and had not come a tick before.
 fn is_due_soon(script: &Script, context: &Context, tick: u32) -> bool {
     let before = script.now(tick.saturating_sub(1));
@@ -142,17 +161,17 @@ fn context_wake(
 ) -> Option<u64>
     ensures { (k : ℕ) → from ≤ k → IsAfter k result → chosen_in script.now k view.now (busy number frames.now) (Some context.now) ≡ [] }
 {
-    if is_due_soon(script, context, from) {
-        return Some(u64::from(from));
-    }
     let mut wake = None;
+    let mut is_first = true;
     'rows: for row in context.rows().in_order() {
-        if !is_blocked(frames, number, row) {
-            wake = sooner(wake, row_wake(script, row, from, view));
-            if is_by(wake, from) {
-                return wake;
-            }
+        wake = sooner(wake, free_wake(script, frames, number, row, from, view));
+        if is_by(wake, from) {
+            return wake;
         }
+        if is_first && is_due_soon(script, context, from) {
+            return Some(u64::from(from));
+        }
+        is_first = false;
     }
     wake
 }

@@ -52,7 +52,7 @@ pub(crate) fn part(
     ensures due { IfOk result (λ r. r.0.items ≡ filter (is_due tick) lanes.items) }
     ensures rest { IfOk result (λ r. r.1.items ≡ filter (λ one. not (is_due tick one)) lanes.items) }
 {
-    let mut due = Vec::new(alloc);
+    let mut due = Vec::with_capacity(alloc, lanes.len())?;
     let mut resting = Vec::new(alloc);
     for one in lanes {
         if one.is_due(tick) {
@@ -74,6 +74,7 @@ pub(crate) fn wake_all(
     requires passed { All (HasPassed tick) resting.items }
     ensures { IfOk result (λ all. all.items ≡ lanes.items ++ all_woken tick resting.items) }
 {
+    lanes.reserve(resting.len())?;
     for one in resting {
         lanes.reserve(1)?;
         lanes.push_reserved(one.wake(tick)?);
@@ -110,7 +111,7 @@ pub(crate) fn settle(
     requires ready { All (IsReadyOne script.now (tick + 1)) lanes.items }
     ensures { IfOk result (λ ones. IsSettled script.now tick lanes.items ones.items) }
 {
-    let mut ones = Vec::new(alloc);
+    let mut ones = Vec::with_capacity(alloc, lanes.len())?;
     for lane in lanes {
         ones.push(rest(script, tick, lane))?;
     }

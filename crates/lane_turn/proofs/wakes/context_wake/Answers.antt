@@ -1,29 +1,21 @@
-use Rattle.std.proofs.Common.{◌≡◌, ◌∙◌, ℕ, true, false, ap, sym, rules, List}
+use Rattle.std.proofs.Common.{◌∙◌, ℕ, ap, sym, List}
 use Rattle.std.specs.List.{list_any}
 use Rattle.source_rows.proofs.Band.{any_in_order}
-use Rattle.context_core.specs.Ready.{Own, is_blocked, calls}
+use Rattle.context_core.specs.Ready.{Own, calls}
 use Rattle.lane_turn.specs.Frames.{busy}
 use Rattle.lane_turn.specs.Sources.{own_ready_at}
 use Rattle.lane_turn.proofs.Waking.{any_free}
 use Rattle.lane_turn.proofs.Quiet.{none_selected}
 use Rattle.lane_turn.proofs.wakes.context_wake.Goals as goal
 
--- a free row that is not ready by itself, or one that is blocked, changes nothing
-pub rows-preserved-else-is_by : goal.rows-preserved-else-is_by
-rows-preserved-else-is_by c = λ k le after.
-    let own : Own = own_ready_at c.args.script.now k c.args.view.now in
-    let blocks : List ℕ = busy c.args.number c.args.frames.now in
-    let both = c.sooner-wake.ensures k after in
-    any_free own blocks c.in-Some.row.now c.next.new.self (λ free. c.row_wake.ensures k le both.1)
-    ∙ (ap (list_any (calls own blocks)) (sym c.in-Some.ensures.steps) ∙ c.rows.invariant k le both.0)
-
+-- a row that no call blocks is not ready by itself, and one that is blocked changes nothing
 pub rows-preserved : goal.rows-preserved
 rows-preserved c = λ k le after.
     let own : Own = own_ready_at c.args.script.now k c.args.view.now in
     let blocks : List ℕ = busy c.args.number c.args.frames.now in
-    let blocked : is_blocked blocks c.in-Some.row.now ≡ true = search rules in
-    any_free own blocks c.in-Some.row.now c.next.new.self (λ free. let no : true ≡ false = sym blocked ∙ free in cc)
-    ∙ (ap (list_any (calls own blocks)) (sym c.in-Some.ensures.steps) ∙ c.rows.invariant k le after)
+    let both = c.sooner-wake.ensures k after in
+    any_free own blocks c.in-Some.row.now c.next.new.self (c.free_wake.ensures k le both.1)
+    ∙ (ap (list_any (calls own blocks)) (sym c.in-Some.ensures.steps) ∙ c.rows.invariant k le both.0)
 
 pub returns : goal.returns
 returns c = λ k le after.
