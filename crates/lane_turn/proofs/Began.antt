@@ -88,6 +88,7 @@ begun_so before now context id h d =
       same_id = d.same;
       calls = calls_so (d.row).call;
       number = here ∙ ap (λ (i : ℕ). dispatches context i now.trace) d.same;
+      line = sym (ap (λ (i : ℕ). dispatches context i now.trace) d.same) ∙ (d.number ∙ ap (λ (i : ℕ). dispatches context i before.trace + 1) d.same);
       recurse = refl;
       once = ap (λ (i : ℕ). is_some (reply_held context i before.replies)) d.same;
     }

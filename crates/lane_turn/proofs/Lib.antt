@@ -29,6 +29,7 @@ pub mod Opening
 pub mod Runs
 pub mod Depths
 pub mod Iterations
+pub mod Nexts
 pub mod Grown
 pub mod Owed
 pub mod Leaves

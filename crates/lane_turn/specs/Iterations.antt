@@ -1,14 +1,16 @@
 -- What a step may do to what is in progress, in the words of those who iterate.
-use Rattle.std.specs.Prelude.{◌≡◌, ◌≢◌, ℕ, ◌<◌, Bool, true, false, Option, Some, None, List, [], ◌∷◌, ◌++◌, ◌⊎◌, length, drop}
+use Rattle.std.specs.Prelude.{◌≡◌, ◌≢◌, ℕ, ◌<◌, ◌≤◌, Bool, true, false, Option, Some, None, List, [], ◌∷◌, ◌++◌, ◌⊎◌, length, drop}
 use Rattle.std.specs.List.{AllByRecursion}
 use Rattle.loop_script.specs.declared.plan.Plan.{Plan}
+use Rattle.source_rows.specs.declared.row.Row.{Row}
+use Rattle.lane_turn.specs.declared.line.Line.{Line}
 use Rattle.lane_turn.specs.declared.line.Event.TheVariants as events
 use Rattle.lane_turn.specs.declared.parts.Status.TheVariants.{GoesOn}
 use Rattle.lane_turn.specs.declared.layer.Origin.{Origin}
 use Rattle.lane_turn.specs.declared.layer.Origin.TheVariants.{Start, Source, Invoke}
 use Rattle.lane_turn.specs.Frames.{Frame, CallOf, IterOf, LoopOf}
-use Rattle.lane_turn.specs.Depths.{begun_calls}
-use Rattle.lane_turn.specs.Lane.{Turn, chosen}
+use Rattle.lane_turn.specs.Depths.{callers, begun_calls}
+use Rattle.lane_turn.specs.Lane.{Turn, row_of, chosen}
 use Rattle.lane_turn.specs.Step.{step}
 
 -- ids from some place on
@@ -59,8 +61,8 @@ TellsAny ids None = Unit {0}
 TellsAny ids (Some true) = ids ≢ []
 TellsAny ids (Some false) = ids ≡ []
 
--- what may be begun over frames that were those: a call, where fewer than 32 are in progress; an iteration, of what is selected then, and no older one of its
--- context has an id left; a loop
+-- what may be begun over frames that were those: a call, where fewer than 32 are in progress; an iteration, of what is selected
+-- then, and no older one of its context has an id left; a loop
 abbrev pub MayBegin : (selected : ℕ → List ℕ) (before now : List Frame) → Frame → Type 0
 MayBegin selected before now (CallOf call) = (length (begun_calls before) < 32) × IsCalledBy before now call.origin
 MayBegin selected before now (IterOf context ids answer) = AllByRecursion (IsOver context) now × (ids ≡ selected context) × TellsAny ids answer
@@ -82,3 +84,11 @@ pub record IterationsGoOn : Type 0 where
   -- an iteration that has no id left ends, and an `iterate` that asked for it is told its answer
   pub answers : (script : Plan) (tick : ℕ) (t u : Turn) (context : ℕ) (any : Bool) (below : List Frame) → t.unpolled ≡ [] → t.lane.status ≡ GoesOn → t.lane.frames ≡ IterOf context [] (Some any) ∷ below
       → step script tick t ≡ Some u → (u.lane.frames ≡ below) × (u.lane.trace ≡ t.lane.trace ++ (record { tick = tick; event = events.Iterate context any }) ∷ [])
+  -- the next id of the innermost iteration is dispatched, where the turn may count one more and fewer than 32 calls are in progress: the
+  -- line shows the priority of that moment, and how many dispatches are then in progress
+  pub dispatches : (script : Plan) (tick : ℕ) (t u : Turn) (context id : ℕ) (ids : List ℕ) (answer : Option Bool) (below : List Frame) (row : Row) → t.unpolled ≡ [] → t.lane.status ≡ GoesOn → t.lane.frames ≡ IterOf context (id ∷ ids) answer ∷ below
+      → row_of context id t.lane ≡ Some row → 1 ≤ t.left → length (begun_calls t.lane.frames) < 32 → step script tick t ≡ Some u
+      → (more : List Line) × (u.lane.trace ≡ t.lane.trace ++ (record { tick = tick; event = events.Dispatch context id row.priority (length (callers u.lane.frames)) }) ∷ more)
+  -- one whose source is destroyed is passed over
+  pub passes : (script : Plan) (tick : ℕ) (t u : Turn) (context id : ℕ) (ids : List ℕ) (answer : Option Bool) (below : List Frame) → t.unpolled ≡ [] → t.lane.status ≡ GoesOn → t.lane.frames ≡ IterOf context (id ∷ ids) answer ∷ below
+      → row_of context id t.lane ≡ None → step script tick t ≡ Some u → (u.lane.frames ≡ IterOf context ids answer ∷ below) × (u.lane.trace ≡ t.lane.trace)

@@ -1,5 +1,5 @@
 -- Where a source is after a call of it.
-use Rattle.std.specs.Prelude.{◌≡◌, ℕ, ◌≤◌, ◌==◌, ◌&&◌, Bool, true, false, ◌↔◌, Option, Some, None, List, [], ◌∷◌, length, count_by, is_some, slice_get}
+use Rattle.std.specs.Prelude.{◌≡◌, ℕ, ◌+◌, ◌≤◌, ◌==◌, ◌&&◌, Bool, true, false, ◌↔◌, Option, Some, None, List, [], ◌∷◌, length, count_by, is_some, slice_get}
 use Rattle.std.specs.List.{AllByRecursion}
 use Rattle.loop_script.specs.declared.plan.Plan.{Plan}
 use Rattle.loop_script.specs.declared.plan.Proc.{Proc}
@@ -63,7 +63,7 @@ Calls None body = body ≡ Nothing
 Calls (Some proc) body = body ≡ Procedure proc
 
 -- a source's dispatch began: its call is the innermost now, and knows which dispatch of the source it is, whether the source may
--- recurse, and whether it held a reply
+-- recurse, and whether it held a reply; its line is one
 pub record IsBegun (context id : ℕ) (before now : Lane) : Type 0 where
   pub row : Row
   pub there : row_of context id before ≡ Some row
@@ -75,6 +75,7 @@ pub record IsBegun (context id : ℕ) (before now : Lane) : Type 0 where
   pub same_id : caller.id ≡ id
   pub calls : Calls row.call body
   pub number : caller.number ≡ dispatches context id now.trace
+  pub line : dispatches context id now.trace ≡ dispatches context id before.trace + 1
   pub recurse : caller.recurse ≡ row.recurse
   pub once : caller.once ≡ is_some (reply_held context id before.replies)
 

@@ -22,7 +22,8 @@ pub fn turns_end()
 /// An iteration never dispatches a source that was not selected when it began, and none after a newer iteration of its
 /// context began: by each step it keeps some of the ids that it had left, from some place on; where a newer one begins
 /// none is left; and what is dispatched is the next id of the innermost, which is taken. What goes on is the call, the
-/// iteration or the run of a loop that it was. A call begins where fewer than 32 are in progress. An `iterate` is told whether
+/// iteration or the run of a loop that it was. A call begins where fewer than 32 are in progress. The next id is dispatched, and
+/// its line shows the priority of that moment; it is passed over where its source is destroyed. An `iterate` is told whether
 /// anything was selected.
 pub fn iterations_go_on()
     ensures { IterationsGoOn }
