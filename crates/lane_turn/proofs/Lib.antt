@@ -18,6 +18,7 @@ pub mod Turns
 pub mod Polls
 pub mod Behind
 pub mod Waking
+pub mod Soon
 pub mod Quiet
 pub mod Delivered
 pub mod Views

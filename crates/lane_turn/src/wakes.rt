@@ -2,6 +2,7 @@
 ghost use Rattle.std.specs.Prelude.{◌≡◌, ℕ, ◌<◌, ◌≤◌, ◌^◌, [], Some, true, false, length, IfSome};
 ghost use Rattle.task_steps.specs.Run.{IsAfter};
 ghost use Rattle.loop_script.specs.Parts.{level_of, time_of};
+ghost use Rattle.source_rows.specs.Rows.{next_ready};
 ghost use Rattle.context_core.specs.Ready.{in_view, is_due, has_bit, kind_ready, is_blocked};
 ghost use Rattle.lane_turn.specs.Sources.{own_ready_at, chosen_in};
 ghost use Rattle.lane_turn.specs.Frames.{busy};
@@ -141,16 +142,18 @@ fn free_wake(
     }
 }
 
-/// Whether a ready time of a context comes at a tick, and had not come a tick before.
-fn is_due_soon(script: &Script, context: &Context, tick: u32) -> bool {
-    let before = script.now(tick.saturating_sub(1));
-    match context.rows().next_ready(before) {
-        Some(ready) => ready <= script.now(tick) as i64,
-        None => false,
+/// When the next ready time of a context comes that has not come by a tick.
+fn next_due(script: &Script, context: &Context, from: u32) -> Option<u64>
+    ensures { (k : ℕ) → IsAfter k result → IfSome (next_ready (time_of script.now from) context.now.rows.rows) (λ ready. is_due (time_of script.now k) ready ≡ false) }
+{
+    match context.rows().next_ready(script.now(from)) {
+        Some(ready) => due_wake(script, ready),
+        None => None,
     }
 }
 
-/// When an iteration of a context may select something, from a tick on, while calls in progress stay as they are.
+/// When an iteration of a context may select something, from a tick on, while calls in progress stay as they are: what may be
+/// ready at that tick is looked at, and of the others the next ready time.
 fn context_wake(
     script: &Script,
     frames: &Frames,
@@ -162,18 +165,13 @@ fn context_wake(
     ensures { (k : ℕ) → from ≤ k → IsAfter k result → chosen_in script.now k view.now (busy number frames.now) (Some context.now) ≡ [] }
 {
     let mut wake = None;
-    let mut is_first = true;
-    'rows: for row in context.rows().in_order() {
+    'rows: for row in context.rows().candidates(script.now(from)) {
         wake = sooner(wake, free_wake(script, frames, number, row, from, view));
         if is_by(wake, from) {
             return wake;
         }
-        if is_first && is_due_soon(script, context, from) {
-            return Some(u64::from(from));
-        }
-        is_first = false;
     }
-    wake
+    sooner(wake, next_due(script, context, from))
 }
 
 /// The same, where a lane may not have the context: then nothing is selected.

@@ -18,8 +18,8 @@ use Rattle.task_steps.specs.contracts.book.TaskBook as Book
 use Rattle.task_steps.specs.contracts.run.TaskRun as Run
 use Rattle.task_steps.specs.contracts.entry.Entry as Entry
 use Rattle.lane_watch.specs.contracts.watch.Watch as Watch
-use Rattle.source_rows.proofs.times.Times.TheLaws.TheKnot.{crosses as times}
-use Rattle.source_rows.specs.contracts.times.Times as Times
+use Rattle.source_rows.proofs.seats.Seats.TheLaws.TheKnot.{crosses as seats}
+use Rattle.source_rows.specs.contracts.seats.Seats as Seats
 use Rattle.source_rows.specs.contracts.row.Row as Row
 use Rattle.source_rows.specs.contracts.table.Table as Table
 use Rattle.source_rows.specs.contracts.rows.Rows as Rows
@@ -72,14 +72,14 @@ watch_send = search (book_send, sendable, crosses) depth 60 fits 10000
 
 -- ---- sources
 
-times_send : IsSend Times.the_row
-times_send = search (times, sendable, crosses) depth 40
+seats_send : IsSend Seats.the_row
+seats_send = search (seats, sendable, crosses) depth 40
 
 row_send : IsSend Row.the_row
 row_send = search (sendable, crosses) depth 40
 
 table_send : IsSend Table.the_row
-table_send = search (times_send, row_send, BTreeMap-send, sendable, crosses) depth 60 fits 10000
+table_send = search (seats_send, row_send, BTreeMap-send, sendable, crosses) depth 60 fits 10000
 
 rows_send : IsSend Rows.the_row
 rows_send = search (table_send, BTreeMap-send, sendable, crosses) depth 60 fits 10000

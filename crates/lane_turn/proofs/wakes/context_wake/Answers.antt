@@ -1,10 +1,13 @@
-use Rattle.std.proofs.Common.{◌∙◌, ℕ, ap, sym, List}
+use Rattle.std.proofs.Common.{◌∙◌, ℕ, ap, sym, subst, ◌≡◌, List}
 use Rattle.std.specs.List.{list_any}
-use Rattle.source_rows.proofs.Band.{any_in_order}
-use Rattle.context_core.specs.Ready.{Own, calls}
+use Rattle.loop_script.specs.Parts.{level_of, time_of}
+use Rattle.context_core.specs.Ready.{Own, calls, in_view}
+use Rattle.source_rows.specs.Rows.{RowSet}
+use Rattle.source_rows.specs.Tree.{IsForest}
 use Rattle.lane_turn.specs.Frames.{busy}
 use Rattle.lane_turn.specs.Sources.{own_ready_at}
 use Rattle.lane_turn.proofs.Waking.{any_free}
+use Rattle.lane_turn.proofs.Soon.{soon}
 use Rattle.lane_turn.proofs.Quiet.{none_selected}
 use Rattle.lane_turn.proofs.wakes.context_wake.Goals as goal
 
@@ -21,5 +24,10 @@ pub returns : goal.returns
 returns c = λ k le after.
     let own : Own = own_ready_at c.args.script.now k c.args.view.now in
     let blocks : List ℕ = busy c.args.number c.args.frames.now in
-    none_selected own blocks c.args.context.now.rows.rows
-    (sym (any_in_order (calls own blocks) c.args.context.now.rows.rows) ∙ (sym (c.rows.invariant k le after) ∙ ap (list_any (calls own blocks)) c.in-None.ensures.steps.0))
+    let rows = c.args.context.now.rows.rows in
+    let same : c.rows-2.result.now ≡ c.args.context.now.rows = c.rows-2.ensures in
+    let forest = subst (λ (s : RowSet). IsForest s.rows) same c.candidates-row-items.ensures.forest in
+    let both = c.sooner.ensures k after in
+    let none = sym (c.rows.invariant k le both.0) ∙ ap (list_any (calls own blocks)) c.in-None.ensures.steps.0 in
+    none_selected own blocks rows
+    (sym (soon (λ fd. level_of c.args.script.now fd k) (in_view c.args.view.now) (time_of c.args.script.now c.args.from) (time_of c.args.script.now k) blocks rows forest (c.next_due.ensures k both.1)) ∙ none)
