@@ -241,6 +241,7 @@ module _ (rows : List Row) (forest : IsForest rows) (apart : AllApart rows) (now
     where
       asleep : AllByRecursion (λ y. wakes now last y ≡ false) rows
       asleep = all_of_order (λ y. wakes now last y ≡ false) rows (find_none (wakes now last) (in_order rows) e)
+
       never_by : (y : Row) → InForest rows y → (b : Bool) → comes now rows last y ≡ b → b ≡ false
       never_by y f false t = refl
       never_by y f true t = elim (comes_from rows forest now last there y f t) [

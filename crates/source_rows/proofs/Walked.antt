@@ -126,10 +126,10 @@ pub entered : (rows : List Row) (now : ℕ) (last : Option Row) (order : List (K
 entered rows now last order h e =
     let rest : List Row = filter (follows last) (in_order rows) in
     let are : behind last order ≡ map entry_of rest =
-        ap (behind last) e ∙ filter_mapped (λ x. not (is_passed (option_map key_of last) x.0)) (follows last) entry_of (in_order rows) (all_true (λ r. follows last r ≡ follows last r) (λ r. refl) (in_order rows)) in
+    ap (behind last) e ∙ filter_mapped (λ x. not (is_passed (option_map key_of last) x.0)) (follows last) entry_of (in_order rows) (all_true (λ r. follows last r ≡ follows last r) (λ r. refl) (in_order rows)) in
     let ids : values_of (behind last order) ≡ map (λ (r : Row). r.id) rest = ap values_of are ∙ values_of-entries rest in
     let each : AllByRecursion (λ r. row_of r.id rows ≡ Some r) rest =
-        all_filter (λ r. row_of r.id rows ≡ Some r) (follows last) (in_order rows) (all_in_order (λ r. row_of r.id rows ≡ Some r) rows (all_found rows h.forest.rising)) in
+    all_filter (λ r. row_of r.id rows ≡ Some r) (follows last) (in_order rows) (all_in_order (λ r. row_of r.id rows ≡ Some r) rows (all_found rows h.forest.rising)) in
     record {
       found = subst (AllFound rows) (sym ids) (each_there rows rest each);
       ready = ap (λ (l : List ℕ). filter (may_call now rows) (rows_of rows l)) ids ∙ (ap (filter (may_call now rows)) (same_rows rows rest each) ∙ filter_twice (follows last) (may_call now rows) (in_order rows));

@@ -88,14 +88,16 @@ fn lift_sooner(mut sooner: Box<Seats>, seat: Seat, later: Box<Seats>) -> Node
     ensures seats { (seen_of result).0 ≡ sooner.value.0 ++ seat ∷ later.value.0 }
     ensures height { IsHeight sooner.value.1 later.value.1 (seen_of result).1 }
 {
-    let Node::Fork(first, low, _, _, mut inner) = mem::replace(&mut *sooner, Seats::new()).node else {
+    let Node::Fork(first, low, _, _, mut inner) = mem::replace(&mut *sooner, Seats::new()).node
+    else {
         unreachable!()
     };
     if first.height() >= inner.height() {
         sooner.node = fork(inner, seat, later);
         return fork(first, low, sooner);
     }
-    let Node::Fork(before, middle, _, _, after) = mem::replace(&mut *inner, Seats::new()).node else {
+    let Node::Fork(before, middle, _, _, after) = mem::replace(&mut *inner, Seats::new()).node
+    else {
         unreachable!()
     };
     inner.node = fork(first, low, before);
@@ -112,14 +114,16 @@ fn lift_later(sooner: Box<Seats>, seat: Seat, mut later: Box<Seats>) -> Node
     ensures seats { (seen_of result).0 ≡ sooner.value.0 ++ seat ∷ later.value.0 }
     ensures height { IsHeight sooner.value.1 later.value.1 (seen_of result).1 }
 {
-    let Node::Fork(mut inner, high, _, _, last) = mem::replace(&mut *later, Seats::new()).node else {
+    let Node::Fork(mut inner, high, _, _, last) = mem::replace(&mut *later, Seats::new()).node
+    else {
         unreachable!()
     };
     if last.height() >= inner.height() {
         later.node = fork(sooner, seat, inner);
         return fork(later, high, last);
     }
-    let Node::Fork(before, middle, _, _, after) = mem::replace(&mut *inner, Seats::new()).node else {
+    let Node::Fork(before, middle, _, _, after) = mem::replace(&mut *inner, Seats::new()).node
+    else {
         unreachable!()
     };
     later.node = fork(sooner, seat, before);

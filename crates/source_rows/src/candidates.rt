@@ -192,13 +192,7 @@ fn nearer<'a>(a: Option<&'a Row>, b: Option<&'a Row>) -> Option<&'a Row>
         None => b,
         Some(first) => match b {
             None => a,
-            Some(second) => {
-                if second.stands_before(first) {
-                    b
-                } else {
-                    a
-                }
-            }
+            Some(second) => { if second.stands_before(first) { b } else { a } }
         },
     }
 }

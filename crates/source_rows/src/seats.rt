@@ -343,11 +343,7 @@ fn stays(a: &Seat, b: &Seat) -> bool
 fn lesser(a: u64, b: u64) -> u64
     ensures { result ≡ lesser a b }
 {
-    if a < b {
-        a
-    } else {
-        b
-    }
+    if a < b { a } else { b }
 }
 
 /// The least times of a seat and of those on its sides.
@@ -382,4 +378,3 @@ fn is_passed(after: Option<(i32, [u64; 4])>, key: (i32, [u64; 4])) -> bool
         },
     }
 }
-
