@@ -17,7 +17,7 @@ pub enum Event {
     Dispatch(u32, u64, i32, u64),
     /// The number of a `log`.
     Log(u32),
-    /// An `iterate` of a context is over, and whether it dispatched anything.
+    /// An `iterate` of a context is over, and whether anything was selected when it began.
     Iterate(u32, bool),
     /// Whether an iteration of a context would dispatch something now.
     Pending(u32, bool),

@@ -260,8 +260,7 @@ impl Rows {
             None => None,
             Some(found) => {
                 let count = found.count + 1;
-                let row = Row { count, ..*found };
-                self.table.put(row);
+                self.table.set_count(id, count);
                 Some(count)
             }
         }

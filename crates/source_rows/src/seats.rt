@@ -326,7 +326,10 @@ fn is_ahead(a: &Seat, b: &Seat) -> bool
 fn is_other(a: &Seat, b: &Seat) -> bool
     ensures { result ≡ is_other a.now b.now }
 {
-    is_ahead(a, b) || is_ahead(b, a)
+    match a.cmp(b) {
+        Ordering::Equal => false,
+        _ => true,
+    }
 }
 
 /// Whether two seats have one key.

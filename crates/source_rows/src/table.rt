@@ -165,6 +165,18 @@ impl Table {
         }
     }
 
+    /// Gives the row of an id another count.
+    pub fn set_count(&mut self, id: u64, count: u64)
+        requires { IsSome (row_of id self.old) }
+        ensures { self.new ≡ changed id (λ r. record r { count = count }) self.old }
+    {
+        if let Some(key) = slot_of(&self.slots, &self.keys, &self.guesses, id) {
+            if let Some(slot) = self.slots.get_mut(key) {
+                slot.count = count;
+            }
+        }
+    }
+
     /// Takes the row of an id away.
     pub fn remove(&mut self, id: u64)
         requires { IsSome (row_of id self.old) }

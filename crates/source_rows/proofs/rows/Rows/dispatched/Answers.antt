@@ -1,29 +1,26 @@
-use Rattle.std.proofs.Common.{rules, ◌≡◌, ◌+◌, ap, sym, ◌∙◌, refl, Some, None, List, w32, w64}
-use Rattle.std.proofs.lemmas.Int.{to_z-of_z}
-use mir.Val.{SFits}
+use Rattle.std.proofs.Common.{◌≡◌, ◌+◌, ap, sym, ◌∙◌, refl, Some, None, List}
 use Rattle.std.specs.Option.{option_copied}
 use Rattle.source_rows.specs.declared.row.Row.{Row}
 use Rattle.source_rows.specs.Rows.{RowSet, row_of, changed, counted, level_count}
 use Rattle.source_rows.proofs.Edits.{Stays}
-use Rattle.source_rows.proofs.Kept.{stays_at, at_id, kept_map, put_one, none_changed, found_id}
+use Rattle.source_rows.proofs.Kept.{stays_at, at_id, kept_map, one_changed, none_changed}
 use Rattle.source_rows.proofs.rows.Rows.dispatched.Goals as goal
 
 stays : Stays (λ r. record r { count = r.count + 1 })
 stays = record { key = λ r. refl; id = λ r. refl; level = λ r. refl; order = λ r. refl; parent = λ r. refl; line = λ r. refl }
 
-pub put-requires : goal.put-requires
-put-requires c =
+pub set_count-requires : goal.set_count-requires
+set_count-requires c =
     let is : row_of c.args.id c.self.inside.table ≡ Some c.in-Some.found.now = sym c.found.ensures ∙ ap option_copied c.in-Some.is in
-    let id = found_id c.args.id c.in-Some.found.now c.self.inside.table is in
-    rw (id, is) refl
+    rw is refl
 
-done : (c : goal.After-put) → c.put.new.self ≡ changed c.args.id (λ r. record r { count = r.count + 1 }) c.self.inside.table
+done : (c : goal.After-set_count) → c.set_count.new.self ≡ changed c.args.id (λ r. record r { count = r.count + 1 }) c.self.inside.table
 done c =
-    let is : row_of c.args.id c.self.inside.table ≡ Some c.in-Some.found.now = sym c.found.ensures ∙ ap option_copied c.in-Some.is in
-    let ready : SFits w64 c.in-Some.found.now.ready = search rules in
-    let priority : SFits w32 c.in-Some.found.now.priority = search rules in
-    let put = simp to_z-of_z at c.put.ensures in
-    put_one c.args.id c.in-Some.found.now (λ r. record r { count = r.count + 1 }) stays c.self.inside.table c.put.new.self c.self.invariant.sound.rising is put
+    let x = c.in-Some.found.now in
+    let is : row_of c.args.id c.self.inside.table ≡ Some x = sym c.found.ensures ∙ ap option_copied c.in-Some.is in
+    c.set_count.ensures
+    ∙ (sym (one_changed c.args.id x (λ r. record r { count = x.count + 1 }) c.self.inside.table c.self.invariant.sound.rising is)
+    ∙ one_changed c.args.id x (λ r. record r { count = r.count + 1 }) c.self.inside.table c.self.invariant.sound.rising is)
 
 pub invariant_of-self : goal.invariant_of-self
 invariant_of-self c =
