@@ -10,7 +10,7 @@ use Rattle.source_rows.proofs.Lists.{all_of, all_and, all_both}
 use Rattle.source_rows.proofs.Forest.{InForest, members, shaped, found, same_id, any_child}
 use Rattle.source_rows.proofs.Post.{two_levels}
 use Rattle.source_rows.proofs.AtTwo.{or_turned, any_root, any_at_two, under_two, filter_same, order_same, each_passed}
-use Rattle.context_core.specs.Ready.{Own, is_blocked, is_free, calls, is_ready, is_most_urgent, selected}
+use Rattle.context_core.specs.Ready.{Own, is_blocked, is_free, is_callable, is_ready, is_most_urgent, selected}
 use Rattle.context_core.specs.TwoLevels.{is_busy, is_parent_busy, is_blocked_at_two, calls_at_two, is_ready_at_two, ready_at_two, selected_at_two, is_above_blocked}
 use Rattle.context_core.proofs.Cutoff.{any_same}
 
@@ -92,22 +92,22 @@ ready_by : (rows : List Row) → IsForest rows → IsWithinLevels 2 rows → (ow
     → is_ready own busy rows r ≡ is_ready_at_two own busy rows r
 ready_by rows forest low own busy r f e =
     ap (λ (b : Bool). is_free busy r && b)
-    (any_same (λ q. is_under r.id q && calls own busy q) (λ q. (q.id == r.id && calls_at_two own busy r) || (is_child_of r.id q && calls_at_two own busy q)) rows each
+    (any_same (λ q. is_under r.id q && is_callable own busy q) (λ q. (q.id == r.id && calls_at_two own busy r) || (is_child_of r.id q && calls_at_two own busy q)) rows each
     ∙ (any_or (λ q. q.id == r.id && calls_at_two own busy r) (λ q. is_child_of r.id q && calls_at_two own busy q) rows
     ∙ ap (λ (b : Bool). b || list_any (λ q. is_child_of r.id q && calls_at_two own busy q) rows) (itself r.id r rows (calls_at_two own busy r) f.is)))
     ∙ lent_by (is_blocked busy r) (own r) (list_any (λ q. is_child_of r.id q && calls_at_two own busy q) rows) (is_blocked_at_two busy r) e
   where
     one : (q : Row) → InForest rows q × (is_blocked busy q ≡ is_blocked_at_two busy q) → is_under r.id q ≡ goes_with r.id q
-        → (is_under r.id q && calls own busy q) ≡ ((q.id == r.id && calls_at_two own busy r) || (is_child_of r.id q && calls_at_two own busy q))
+        → (is_under r.id q && is_callable own busy q) ≡ ((q.id == r.id && calls_at_two own busy r) || (is_child_of r.id q && calls_at_two own busy q))
     one q h u =
-        let same : calls own busy q ≡ calls_at_two own busy q = ap (λ (b : Bool). not b && own q) h.1 in
-        part_by (is_under r.id q) (q.id == r.id) (is_child_of r.id q) (calls own busy q) (calls_at_two own busy r) (calls_at_two own busy q) u
+        let same : is_callable own busy q ≡ calls_at_two own busy q = ap (λ (b : Bool). not b && own q) h.1 in
+        part_by (is_under r.id q) (q.id == r.id) (is_child_of r.id q) (is_callable own busy q) (calls_at_two own busy r) (calls_at_two own busy q) u
         (λ t. same ∙ ap (calls_at_two own busy) (same_id rows q r h.0 f (are_same q.id r.id t))) same
 
-    each : AllByRecursion (λ q. (is_under r.id q && calls own busy q) ≡ ((q.id == r.id && calls_at_two own busy r) || (is_child_of r.id q && calls_at_two own busy q))) rows
+    each : AllByRecursion (λ q. (is_under r.id q && is_callable own busy q) ≡ ((q.id == r.id && calls_at_two own busy r) || (is_child_of r.id q && calls_at_two own busy q))) rows
     each =
         all_both (λ q. InForest rows q × (is_blocked busy q ≡ is_blocked_at_two busy q)) (λ q. is_under r.id q ≡ goes_with r.id q)
-        (λ q. (is_under r.id q && calls own busy q) ≡ ((q.id == r.id && calls_at_two own busy r) || (is_child_of r.id q && calls_at_two own busy q))) one rows
+        (λ q. (is_under r.id q && is_callable own busy q) ≡ ((q.id == r.id && calls_at_two own busy r) || (is_child_of r.id q && calls_at_two own busy q))) one rows
         (all_and (InForest rows) (λ q. is_blocked busy q ≡ is_blocked_at_two busy q) rows (members rows forest) (blocked_two rows forest low busy)) (under_two rows forest low r.id)
 
 pub ready_two : (rows : List Row) → IsForest rows → IsWithinLevels 2 rows → (own : Own) (busy : List ℕ) → AllByRecursion (λ r. is_ready own busy rows r ≡ is_ready_at_two own busy rows r) rows

@@ -9,7 +9,7 @@ use Rattle.source_rows.specs.Rows.{in_order, placed, stands_before, is_under}
 use Rattle.source_rows.specs.Order.{IsInOrder}
 use Rattle.source_rows.specs.Tree.{IsForest, IsOneTree, HasPlace}
 use Rattle.source_rows.proofs.Order.{sorted_in_order}
-use Rattle.context_core.specs.Ready.{Own, is_free, calls, is_ready, ready_rows}
+use Rattle.context_core.specs.Ready.{Own, is_free, is_callable, is_ready, ready_rows}
 use Rattle.context_core.specs.Phases.{least_of}
 use Rattle.context_core.proofs.Walk.{not_more, SomeAt}
 use Rattle.context_core.proofs.Cutoff.{all_of_order, HasAt, least_has, least_none, least_above}
@@ -62,15 +62,15 @@ and_second true b h = h
 and_second false b h = let no : false ≡ true = h in cc
 
 ready_each : (own : Own) (busy : List ℕ) (whole xs : List Row)
-    → AllByRecursion (λ r. (is_under r.id r && calls own busy r) ≡ true → list_any (λ q. is_under r.id q && calls own busy q) whole ≡ true) xs
-    → AllByRecursion (λ r. is_under r.id r ≡ true) xs → AllByRecursion (λ r. calls own busy r ≡ true → is_ready own busy whole r ≡ true) xs
+    → AllByRecursion (λ r. (is_under r.id r && is_callable own busy r) ≡ true → list_any (λ q. is_under r.id q && is_callable own busy q) whole ≡ true) xs
+    → AllByRecursion (λ r. is_under r.id r ≡ true) xs → AllByRecursion (λ r. is_callable own busy r ≡ true → is_ready own busy whole r ≡ true) xs
 ready_each own busy whole [] h u = tt
 ready_each own busy whole (r ∷ xs) h u =
-    (λ c. and_both (is_free busy r) _ (and_first (is_free busy r) (own r) c) (h.0 (and_both (is_under r.id r) (calls own busy r) u.0 c)), ready_each own busy whole xs h.1 u.1)
+    (λ c. and_both (is_free busy r) _ (and_first (is_free busy r) (own r) c) (h.0 (and_both (is_under r.id r) (is_callable own busy r) u.0 c)), ready_each own busy whole xs h.1 u.1)
 
-pub called_ready : (own : Own) (busy : List ℕ) (rows : List Row) → IsForest rows → AllByRecursion (λ r. calls own busy r ≡ true → is_ready own busy rows r ≡ true) rows
+pub called_ready : (own : Own) (busy : List ℕ) (rows : List Row) → IsForest rows → AllByRecursion (λ r. is_callable own busy r ≡ true → is_ready own busy rows r ≡ true) rows
 called_ready own busy rows forest =
-    ready_each own busy rows rows (each_any (λ r q. is_under r.id q && calls own busy q) rows rows (λ r h. h)) (each_under_self rows rows forest.placed)
+    ready_each own busy rows rows (each_any (λ r q. is_under r.id q && is_callable own busy q) rows rows (λ r h. h)) (each_under_self rows rows forest.placed)
 
 some_if : (f g : Row → Bool) (m : ℤ) (xs : List Row) → AllByRecursion (λ r. f r ≡ true → g r ≡ true) xs → SomeAt f m xs → SomeAt g m xs
 some_if f g m [] h s = s
@@ -137,17 +137,17 @@ bound_by true true n r q qs rest t h ih e = subst (λ (p : ℤ). int_lt p n ≡ 
 bound_by true false n r q qs rest t h ih e = ih e
 bound_by false c n r q qs rest t h ih e = ih e
 
-any_bound : (own : Own) (busy : List ℕ) (n : ℤ) (r : Row) (qs : List Row) → AllByRecursion (λ q. is_under r.id q ≡ true → q.priority ≡ r.priority) qs → AllByRecursion (λ q. calls own busy q ≡ true → int_lt q.priority n ≡ false) qs
-    → list_any (λ q. is_under r.id q && calls own busy q) qs ≡ true → int_lt r.priority n ≡ false
+any_bound : (own : Own) (busy : List ℕ) (n : ℤ) (r : Row) (qs : List Row) → AllByRecursion (λ q. is_under r.id q ≡ true → q.priority ≡ r.priority) qs → AllByRecursion (λ q. is_callable own busy q ≡ true → int_lt q.priority n ≡ false) qs
+    → list_any (λ q. is_under r.id q && is_callable own busy q) qs ≡ true → int_lt r.priority n ≡ false
 any_bound own busy n r [] t h e = let no : false ≡ true = e in cc
-any_bound own busy n r (q ∷ qs) t h e = bound_by (is_under r.id q) (calls own busy q) n r q qs (list_any (λ q. is_under r.id q && calls own busy q) qs) t.0 h.0 (any_bound own busy n r qs t.1 h.1) e
+any_bound own busy n r (q ∷ qs) t h e = bound_by (is_under r.id q) (is_callable own busy q) n r q qs (list_any (λ q. is_under r.id q && is_callable own busy q) qs) t.0 h.0 (any_bound own busy n r qs t.1 h.1) e
 
 ready_bound : (own : Own) (busy : List ℕ) (n : ℤ) (rows xs : List Row) → AllByRecursion (λ r. AllByRecursion (λ q. is_under r.id q ≡ true → q.priority ≡ r.priority) rows) xs
-    → AllByRecursion (λ q. calls own busy q ≡ true → int_lt q.priority n ≡ false) rows → AllByRecursion (λ r. is_ready own busy rows r ≡ true → int_lt r.priority n ≡ false) xs
+    → AllByRecursion (λ q. is_callable own busy q ≡ true → int_lt q.priority n ≡ false) rows → AllByRecursion (λ r. is_ready own busy rows r ≡ true → int_lt r.priority n ≡ false) xs
 ready_bound own busy n rows [] t h = tt
 ready_bound own busy n rows (r ∷ xs) t h = (λ e. any_bound own busy n r rows t.0 h (and_second (is_free busy r) _ e), ready_bound own busy n rows xs t.1 h)
 
-none_any : (own : Own) (busy : List ℕ) (id : ℕ) (qs : List Row) → AllByRecursion (λ q. calls own busy q ≡ false) qs → list_any (λ q. is_under id q && calls own busy q) qs ≡ false
+none_any : (own : Own) (busy : List ℕ) (id : ℕ) (qs : List Row) → AllByRecursion (λ q. is_callable own busy q ≡ false) qs → list_any (λ q. is_under id q && is_callable own busy q) qs ≡ false
 none_any own busy id [] h = refl
 none_any own busy id (q ∷ qs) h = rw (h.0, none_any own busy id qs h.1) (never (is_under id q))
   where
@@ -203,19 +203,19 @@ and_false : (b : Bool) → (b && false) ≡ false
 and_false true = refl
 and_false false = refl
 
-none_ready : (own : Own) (busy : List ℕ) (rows xs : List Row) → AllByRecursion (λ q. calls own busy q ≡ false) rows → AllByRecursion (λ r. is_ready own busy rows r ≡ false) xs
+none_ready : (own : Own) (busy : List ℕ) (rows xs : List Row) → AllByRecursion (λ q. is_callable own busy q ≡ false) rows → AllByRecursion (λ r. is_ready own busy rows r ≡ false) xs
 none_ready own busy rows [] h = tt
 none_ready own busy rows (r ∷ xs) h = (ap (λ (b : Bool). is_free busy r && b) (none_any own busy r.id rows h) ∙ and_false (is_free busy r), none_ready own busy rows xs h)
 
 -- the first that calls has the least priority of what is ready
-pub first_called : (own : Own) (busy : List ℕ) (rows : List Row) → IsForest rows → IsOneTree rows → (o : Option Row) → find (calls own busy) (in_order rows) ≡ o → option_map (λ r. r.priority) o ≡ least_of (ready_rows own busy rows)
+pub first_called : (own : Own) (busy : List ℕ) (rows : List Row) → IsForest rows → IsOneTree rows → (o : Option Row) → find (is_callable own busy) (in_order rows) ≡ o → option_map (λ r. r.priority) o ≡ least_of (ready_rows own busy rows)
 first_called own busy rows forest tree None e =
-    let none = all_of_order (λ q. calls own busy q ≡ false) rows (none_found (calls own busy) (in_order rows) e) in
+    let none = all_of_order (λ q. is_callable own busy q ≡ false) rows (none_found (is_callable own busy) (in_order rows) e) in
     sym (ap least_of (none_passes (is_ready own busy rows) rows (none_ready own busy rows rows none)))
 first_called own busy rows forest tree (Some r) e =
     let ready : Row → Bool = is_ready own busy rows in
-    let below = all_of_order (λ z. calls own busy z ≡ true → int_lt z.priority r.priority ≡ false) rows (first_least (calls own busy) r (in_order rows) (sorted_in_order rows) e) in
-    let some = some_of_order (calls own busy) r.priority rows (found_some (calls own busy) r (in_order rows) e) in
+    let below = all_of_order (λ z. is_callable own busy z ≡ true → int_lt z.priority r.priority ≡ false) rows (first_least (is_callable own busy) r (in_order rows) (sorted_in_order rows) e) in
+    let some = some_of_order (is_callable own busy) r.priority rows (found_some (is_callable own busy) r (in_order rows) e) in
     sym (least_is (ready_rows own busy rows) r.priority
-    (has_passed ready r.priority rows (some_if (calls own busy) ready r.priority rows (called_ready own busy rows forest) some))
+    (has_passed ready r.priority rows (some_if (is_callable own busy) ready r.priority rows (called_ready own busy rows forest) some))
     (all_passed ready (λ q. int_lt q.priority r.priority ≡ false) rows (ready_bound own busy r.priority rows rows tree below)))

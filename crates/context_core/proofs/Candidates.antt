@@ -14,7 +14,7 @@ use Rattle.source_rows.specs.Candidates.{due_at, wakes_at, is_awake, may_call, c
 use Rattle.source_rows.proofs.Compared.{and_both}
 use Rattle.source_rows.proofs.Lists.{all_of, all_true}
 use Rattle.source_rows.proofs.Order.{all_in_order, sorted_in_order}
-use Rattle.context_core.specs.Ready.{own_ready, kind_ready, is_due, is_free, calls, is_ready}
+use Rattle.context_core.specs.Ready.{own_ready, kind_ready, is_due, is_free, is_callable, is_ready}
 use Rattle.context_core.specs.Phases.{less_urgent, walk, is_asked, is_fd}
 use Rattle.context_core.proofs.Walk.{not_more}
 use Rattle.context_core.proofs.Cutoff.{any_more, and_more}
@@ -111,16 +111,16 @@ and_last false b h = let no : false ≡ true = h in cc
 
 ready_may : (level : ℕ → ℕ) (view : ℕ → Bool) (now : ℕ) (busy : List ℕ) (rows : List Row) (r : Row) → is_ready (own_ready level view now) busy rows r ≡ true → may_call now rows r ≡ true
 ready_may level view now busy rows r h =
-    any_more (λ q. is_under r.id q && calls (own_ready level view now) busy q) (λ q. is_under r.id q && is_awake now q)
-    (λ q e. and_more (is_under r.id q) (calls (own_ready level view now) busy q) (is_awake now q) (λ c. own_awake level view now q (and_last (is_free busy q) (own_ready level view now q) c)) e)
+    any_more (λ q. is_under r.id q && is_callable (own_ready level view now) busy q) (λ q. is_under r.id q && is_awake now q)
+    (λ q e. and_more (is_under r.id q) (is_callable (own_ready level view now) busy q) (is_awake now q) (λ c. own_awake level view now q (and_last (is_free busy q) (own_ready level view now q) c)) e)
     rows (and_last (is_free busy r) _ h)
 
 pub each_ready_may : (level : ℕ → ℕ) (view : ℕ → Bool) (now : ℕ) (busy : List ℕ) (rows xs : List Row) → Keeps (is_ready (own_ready level view now) busy rows) (may_call now rows) xs
 each_ready_may level view now busy rows xs = all_true (λ r. is_ready (own_ready level view now) busy rows r ≡ true → may_call now rows r ≡ true) (λ r h. ready_may level view now busy rows r h) xs
 
-pub each_calls_may : (level : ℕ → ℕ) (view : ℕ → Bool) (now : ℕ) (busy : List ℕ) (rows : List Row) → IsForest rows → Keeps (calls (own_ready level view now) busy) (may_call now rows) rows
+pub each_calls_may : (level : ℕ → ℕ) (view : ℕ → Bool) (now : ℕ) (busy : List ℕ) (rows : List Row) → IsForest rows → Keeps (is_callable (own_ready level view now) busy) (may_call now rows) rows
 each_calls_may level view now busy rows forest =
-    all_of (λ r. calls (own_ready level view now) busy r ≡ true → is_ready (own_ready level view now) busy rows r ≡ true) (λ r. calls (own_ready level view now) busy r ≡ true → may_call now rows r ≡ true)
+    all_of (λ r. is_callable (own_ready level view now) busy r ≡ true → is_ready (own_ready level view now) busy rows r ≡ true) (λ r. is_callable (own_ready level view now) busy r ≡ true → may_call now rows r ≡ true)
     (λ r h e. ready_may level view now busy rows r (h e)) rows (called_ready (own_ready level view now) busy rows forest)
 
 -- ---- what is asked may be ready
@@ -169,10 +169,10 @@ walk_candidates level view now busy bound rows =
     walk_kept (is_ready (own_ready level view now) busy rows) (may_call now rows) bound (in_order rows) (sorted_in_order rows) (each_ready_may level view now busy rows (in_order rows))
 
 pub find_candidates : (level : ℕ → ℕ) (view : ℕ → Bool) (now : ℕ) (busy : List ℕ) (rows : List Row) → IsForest rows
-    → find (calls (own_ready level view now) busy) (candidates now rows) ≡ find (calls (own_ready level view now) busy) (in_order rows)
+    → find (is_callable (own_ready level view now) busy) (candidates now rows) ≡ find (is_callable (own_ready level view now) busy) (in_order rows)
 find_candidates level view now busy rows forest =
-    find_kept (calls (own_ready level view now) busy) (may_call now rows) (in_order rows)
-    (all_in_order (λ r. calls (own_ready level view now) busy r ≡ true → may_call now rows r ≡ true) rows (each_calls_may level view now busy rows forest))
+    find_kept (is_callable (own_ready level view now) busy) (may_call now rows) (in_order rows)
+    (all_in_order (λ r. is_callable (own_ready level view now) busy r ≡ true → may_call now rows r ≡ true) rows (each_calls_may level view now busy rows forest))
 
 pub asked_candidates : (now : ℕ) (least : Option ℤ) (busy : List ℕ) (rows : List Row) → IsForest rows
     → filter (is_asked least busy) (candidates now rows) ≡ filter (is_asked least busy) (in_order rows)

@@ -13,7 +13,7 @@ use Rattle.source_rows.proofs.Order.{in_order-filter, sorted_in_order, all_in_or
 use Rattle.std.specs.Int.Bits.{and_zero_l}
 use Rattle.source_rows.specs.Tree.{IsOneTree}
 use Rattle.context_core.specs.declared.interest.Shown.{Shown}
-use Rattle.context_core.specs.Ready.{own_ready, kind_ready, is_due, has_bit, is_blocked, calls, is_ready, is_most_urgent, selected}
+use Rattle.context_core.specs.Ready.{own_ready, kind_ready, is_due, has_bit, is_blocked, is_callable, is_ready, is_most_urgent, selected}
 use Rattle.context_core.specs.Phases.{least_of, less_urgent, nothing_shown, least_ready, is_asked, is_fd, fd_of, asked_rows, levels_for, level_of, shown, handed, walk}
 use Rattle.context_core.proofs.Walk.{walked, upto, id_of, SomeAt}
 
@@ -292,7 +292,7 @@ and_more false b c f h = h
 ready_more : (own0 own : Row → Bool) (busy : List ℕ) (rows : List Row) → ((r : Row) → own0 r ≡ true → own r ≡ true) → (r : Row) → is_ready own0 busy rows r ≡ true → is_ready own busy rows r ≡ true
 ready_more own0 own busy rows h r e =
     and_more (not (is_blocked busy r)) _ _
-    (any_more (λ q. is_under r.id q && calls own0 busy q) (λ q. is_under r.id q && calls own busy q)
+    (any_more (λ q. is_under r.id q && is_callable own0 busy q) (λ q. is_under r.id q && is_callable own busy q)
     (λ q k. and_more (is_under r.id q) _ _ (λ t. and_more (not (is_blocked busy q)) _ _ (h q) t) k) rows) e
 
 some_more : (f g : Row → Bool) (m : ℤ) → ((r : Row) → f r ≡ true → g r ≡ true) → (rows : List Row) → SomeAt f m rows → SomeAt g m rows
@@ -326,14 +326,14 @@ asked_if f b l u v w = rw (u, v, w) refl
 
 calls_same : (f g : ℕ → ℕ) (now : ℕ) (view : ℕ → Bool) (busy : List ℕ) (bound : Option ℤ) (r q : Row) → less_urgent bound r.priority ≡ false
     → (is_under r.id q ≡ true → q.priority ≡ r.priority) → (is_asked bound busy q ≡ true → f (fd_of q.kind) ≡ g (fd_of q.kind))
-    → (is_under r.id q && calls (own_ready f view now) busy q) ≡ (is_under r.id q && calls (own_ready g view now) busy q)
+    → (is_under r.id q && is_callable (own_ready f view now) busy q) ≡ (is_under r.id q && is_callable (own_ready g view now) busy q)
 calls_same f g now view busy bound r q h tree asked =
     and_same (is_under r.id q) _ _ (λ under. and_same (not (is_blocked busy q)) _ _ (λ free. own_by f g view (is_due now q.ready) q.kind
     (λ fd. asked (asked_if (is_fd q.kind) (not (is_blocked busy q)) (less_urgent bound q.priority) fd free (ap (less_urgent bound) (tree under) ∙ h)))))
 
 each_calls : (f g : ℕ → ℕ) (now : ℕ) (view : ℕ → Bool) (busy : List ℕ) (bound : Option ℤ) (r : Row) (xs : List Row) → less_urgent bound r.priority ≡ false
     → AllByRecursion (λ q. is_under r.id q ≡ true → q.priority ≡ r.priority) xs → AllByRecursion (λ q. is_asked bound busy q ≡ true → f (fd_of q.kind) ≡ g (fd_of q.kind)) xs
-    → AllByRecursion (λ q. (is_under r.id q && calls (own_ready f view now) busy q) ≡ (is_under r.id q && calls (own_ready g view now) busy q)) xs
+    → AllByRecursion (λ q. (is_under r.id q && is_callable (own_ready f view now) busy q) ≡ (is_under r.id q && is_callable (own_ready g view now) busy q)) xs
 each_calls f g now view busy bound r [] h tree asked = tt
 each_calls f g now view busy bound r (q ∷ xs) h tree asked = (calls_same f g now view busy bound r q h tree.0 asked.0, each_calls f g now view busy bound r xs h tree.1 asked.1)
 

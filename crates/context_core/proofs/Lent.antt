@@ -15,7 +15,7 @@ use Rattle.source_rows.proofs.Forest.{InForest, members, shaped, found, under_ro
 use Rattle.source_rows.proofs.Paths.{under}
 use Rattle.source_rows.proofs.Post.{children_first, together}
 use Rattle.source_rows.proofs.Band.{any_in_order}
-use Rattle.context_core.specs.Ready.{Own, is_free, calls, is_ready}
+use Rattle.context_core.specs.Ready.{Own, is_free, is_callable, is_ready}
 use Rattle.context_core.specs.Lent.{lends}
 use Rattle.context_core.proofs.Cutoff.{any_same}
 use Rattle.context_core.proofs.Candidates.{Keeps, any_kept}
@@ -92,27 +92,27 @@ passed_more own busy keep rows it rest r lent more e h p = record {
 }
 
 -- a row whose turn has come is ready where it calls, or where those that were seen lend to it
-ready_here : (own : Own) (busy : List ℕ) (keep : Row → Bool) (rows it rest : List Row) (r : Row) (lent : ℕ → Bool) → IsForest rows → Keeps (calls own busy) keep rows → it ≡ r ∷ rest → Passed own busy keep rows it lent
-    → (is_free busy r && (calls own busy r || lent r.id)) ≡ is_ready own busy rows r
+ready_here : (own : Own) (busy : List ℕ) (keep : Row → Bool) (rows it rest : List Row) (r : Row) (lent : ℕ → Bool) → IsForest rows → Keeps (is_callable own busy) keep rows → it ≡ r ∷ rest → Passed own busy keep rows it lent
+    → (is_free busy r && (is_callable own busy r || lent r.id)) ≡ is_ready own busy rows r
 ready_here own busy keep rows it rest r lent forest kept e p =
     let all = members rows forest in
-    let calling : Row → Bool = λ q. is_under r.id q && calls own busy q in
+    let calling : Row → Bool = λ q. is_under r.id q && is_callable own busy q in
     let whole : filter keep (in_order rows) ≡ p.seen ++ r ∷ rest = p.split ∙ ap (λ (l : List Row). p.seen ++ l) e in
     let f : InForest rows r = (all_back (InForest rows) p.seen (r ∷ rest) (subst (AllByRecursion (InForest rows)) whole (all_filter (InForest rows) keep (in_order rows) (all_in_order (InForest rows) rows all)))).0 in
     let t = split_at Turn p.seen r rest (subst (Pairs Turn) whole (pairs_filter Turn keep (in_order rows) (turns rows forest))) in
     let before : list_any calling p.seen ≡ list_any (lends own busy r.id) p.seen
-    = any_same calling (lends own busy r.id) p.seen (all_of (λ q. Turn q r) (λ q. calling q ≡ lends own busy r.id q) (λ q h. ap (λ (b : Bool). b && calls own busy q) h.1) p.seen t.0) in
-    let after : list_any calling rest ≡ false = any_none calling rest (all_of (Turn r) (λ q. calling q ≡ false) (λ q h. ap (λ (b : Bool). b && calls own busy q) h.0) rest t.1) in
-    let here : calling r ≡ calls own busy r = ap (λ (b : Bool). b && calls own busy r) (under_self r (shaped rows all r f)) in
+    = any_same calling (lends own busy r.id) p.seen (all_of (λ q. Turn q r) (λ q. calling q ≡ lends own busy r.id q) (λ q h. ap (λ (b : Bool). b && is_callable own busy q) h.1) p.seen t.0) in
+    let after : list_any calling rest ≡ false = any_none calling rest (all_of (Turn r) (λ q. calling q ≡ false) (λ q h. ap (λ (b : Bool). b && is_callable own busy q) h.0) rest t.1) in
+    let here : calling r ≡ is_callable own busy r = ap (λ (b : Bool). b && is_callable own busy r) (under_self r (shaped rows all r f)) in
     let parts : list_any calling rows ≡ (list_any calling p.seen || (calling r || list_any calling rest))
     = sym (any_in_order calling rows) ∙ (sym (any_kept calling keep (in_order rows) (all_in_order (λ q. calling q ≡ true → keep q ≡ true) rows
-    (all_of (λ q. calls own busy q ≡ true → keep q ≡ true) (λ q. calling q ≡ true → keep q ≡ true) (λ q h e. h ((and_both (is_under r.id q) (calls own busy q) e).1)) rows kept))) ∙ ap (list_any calling) whole ∙ list_any-append calling p.seen (r ∷ rest)) in
+    (all_of (λ q. is_callable own busy q ≡ true → keep q ≡ true) (λ q. calling q ≡ true → keep q ≡ true) (λ q h e. h ((and_both (is_under r.id q) (is_callable own busy q) e).1)) rows kept))) ∙ ap (list_any calling) whole ∙ list_any-append calling p.seen (r ∷ rest)) in
     ap (λ (b : Bool). is_free busy r && b)
-    (ap (λ (b : Bool). calls own busy r || b) (p.lends r.id ∙ sym before)
-    ∙ (or_last (calls own busy r) (list_any calling p.seen)
-    ∙ sym (parts ∙ (ap (λ (b : Bool). list_any calling p.seen || (b || list_any calling rest)) here ∙ ap (λ (b : Bool). list_any calling p.seen || (calls own busy r || b)) after))))
+    (ap (λ (b : Bool). is_callable own busy r || b) (p.lends r.id ∙ sym before)
+    ∙ (or_last (is_callable own busy r) (list_any calling p.seen)
+    ∙ sym (parts ∙ (ap (λ (b : Bool). list_any calling p.seen || (b || list_any calling rest)) here ∙ ap (λ (b : Bool). list_any calling p.seen || (is_callable own busy r || b)) after))))
 
 -- one row further
-pub stepped : (own : Own) (busy : List ℕ) (keep : Row → Bool) (rows it rest : List Row) (r : Row) (lent more : ℕ → Bool) (ready : Bool) → IsForest rows → Keeps (calls own busy) keep rows → it ≡ r ∷ rest → ((id : ℕ) → more id ≡ (lends own busy id r || lent id))
-    → ready ≡ (is_free busy r && (calls own busy r || lent r.id)) → Passed own busy keep rows it lent → Passed own busy keep rows rest more × (is_ready own busy rows r ≡ ready)
+pub stepped : (own : Own) (busy : List ℕ) (keep : Row → Bool) (rows it rest : List Row) (r : Row) (lent more : ℕ → Bool) (ready : Bool) → IsForest rows → Keeps (is_callable own busy) keep rows → it ≡ r ∷ rest → ((id : ℕ) → more id ≡ (lends own busy id r || lent id))
+    → ready ≡ (is_free busy r && (is_callable own busy r || lent r.id)) → Passed own busy keep rows it lent → Passed own busy keep rows rest more × (is_ready own busy rows r ≡ ready)
 stepped own busy keep rows it rest r lent more ready forest kept e h k p = (passed_more own busy keep rows it rest r lent more e h p, sym (k ∙ ready_here own busy keep rows it rest r lent forest kept e p))

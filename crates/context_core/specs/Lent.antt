@@ -3,8 +3,8 @@ use Rattle.std.specs.Prelude.{ℕ, ◌&&◌, Bool, List}
 use Rattle.std.specs.Option.{is_some}
 use Rattle.source_rows.specs.declared.row.Row.{Row}
 use Rattle.source_rows.specs.Rows.{is_under}
-use Rattle.context_core.specs.Ready.{Own, calls}
+use Rattle.context_core.specs.Ready.{Own, is_callable}
 
 -- it calls, it is a child, and it or one above it has the id
 abbrev pub lends : Own → List ℕ → ℕ → Row → Bool
-lends own busy id q = (is_some q.parent && is_under id q) && calls own busy q
+lends own busy id q = (is_some q.parent && is_under id q) && is_callable own busy q

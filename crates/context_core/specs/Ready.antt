@@ -44,12 +44,12 @@ abbrev pub is_free : List ℕ → Row → Bool
 is_free busy r = not (is_blocked busy r)
 
 -- free, and ready by itself
-abbrev pub calls : Own → List ℕ → Row → Bool
-calls own busy r = is_free busy r && own r
+abbrev pub is_callable : Own → List ℕ → Row → Bool
+is_callable own busy r = is_free busy r && own r
 
 -- free, and it or a source below it calls
 abbrev pub is_ready : Own → List ℕ → List Row → Row → Bool
-is_ready own busy rows r = is_free busy r && list_any (λ q. is_under r.id q && calls own busy q) rows
+is_ready own busy rows r = is_free busy r && list_any (λ q. is_under r.id q && is_callable own busy q) rows
 
 -- ---- the selection
 

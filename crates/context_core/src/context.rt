@@ -8,12 +8,12 @@ ghost use Rattle.source_rows.specs.Tree.{IsOneTree};
 ghost use Rattle.std.specs.List.{list_any};
 ghost use Rattle.std.specs.Ordering.{nat_cmp};
 ghost use Rattle.std.specs.BTreeSet.{contains};
-ghost use Rattle.context_core.specs.Ready.{in_view, own_ready, selected, is_free, is_ready, calls};
+ghost use Rattle.context_core.specs.Ready.{in_view, own_ready, selected, is_free, is_ready, is_callable};
 ghost use Rattle.context_core.specs.Lent.{lends};
 ghost use Rattle.context_core.specs.Phases.{ms_until, least_ready, wait_of, interests, asked_rows, levels_for, shown, handed, walk};
 
 use crate::interest::{Interest, Prepared, Shown};
-use crate::ready::{calls, interest, is_beyond, is_free, level_at, ms_until, sooner};
+use crate::ready::{is_callable, interest, is_beyond, is_free, level_at, ms_until, sooner};
 use cancel_view::View;
 use source_rows::{Levels, Row, Rows};
 use std::alloc::{AllocError, Global};
@@ -105,7 +105,7 @@ impl Context {
         ensures timeout { result.timeout_ms ≡ wait_of now busy.now self.now.rows.rows result.priority }
     {
         'rows: for row in self.rows.candidates(now) {
-            if calls(row, &[], now, busy, view) {
+            if is_callable(row, &[], now, busy, view) {
                 return Prepared {
                     priority: Some(row.priority),
                     timeout_ms: 0,
@@ -188,7 +188,7 @@ impl Context {
             if is_beyond(bound, row.priority) {
                 break;
             }
-            if take_turn(&mut lent, row, polled, now, busy, view)? {
+            if visit(&mut lent, row, polled, now, busy, view)? {
                 bound = Some(row.priority);
                 ids.push(row.id)?;
             }
@@ -219,7 +219,7 @@ impl Context {
 
 /// Whether a row is ready, where `lent` has the ids that the rows before it lend to. A child that calls then lends to
 /// those above it.
-fn take_turn(
+fn visit(
     lent: &mut BTreeSet<u64>,
     row: &Row,
     polled: &[Shown],
@@ -231,9 +231,9 @@ fn take_turn(
     ensures lent { OnOk result ((id : ℕ) → contains nat_cmp lent.new id
         ≡ (lends (own_ready (shown polled.now) (in_view view.now) now) busy.now id row.now || contains nat_cmp lent.old id)) }
     ensures ready { IfOk result (λ ready. ready
-        ≡ (is_free busy.now row.now && (calls (own_ready (shown polled.now) (in_view view.now) now) busy.now row.now || contains nat_cmp lent.old row.now.id))) }
+        ≡ (is_free busy.now row.now && (is_callable (own_ready (shown polled.now) (in_view view.now) now) busy.now row.now || contains nat_cmp lent.old row.now.id))) }
 {
-    if !calls(row, polled, now, busy, view) {
+    if !is_callable(row, polled, now, busy, view) {
         return Ok(is_free(row, busy) && lent.contains(&row.id));
     }
     if row.parent.is_some() {

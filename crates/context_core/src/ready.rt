@@ -2,7 +2,7 @@
 ghost use Rattle.std.specs.Prelude.{◌≡◌, ◌≤◌, ◌^◌, ◌==◌, Some, None, IfSome, IsTrue, int_lt, slice_get, pos, if◌then◌else◌};
 ghost use Rattle.source_rows.specs.Rows.{sooner};
 ghost use Rattle.std.specs.List.{find, list_any};
-ghost use Rattle.context_core.specs.Ready.{in_view, is_due, has_bit, own_ready, is_blocked, is_free, calls};
+ghost use Rattle.context_core.specs.Ready.{in_view, is_due, has_bit, own_ready, is_blocked, is_free, is_callable};
 ghost use Rattle.context_core.specs.Phases.{less_urgent, shown, is_asked, interest_of, ms_until};
 
 use crate::interest::{Interest, Shown};
@@ -80,9 +80,9 @@ pub(crate) fn is_free(row: &Row, busy: &[u64]) -> bool
 }
 
 /// Whether a source is free, and ready by itself.
-pub(crate) fn calls(row: &Row, polled: &[Shown], now: u64, busy: &[u64], view: &View) -> bool
+pub(crate) fn is_callable(row: &Row, polled: &[Shown], now: u64, busy: &[u64], view: &View) -> bool
     requires { now ≤ 2 ^ 62 }
-    ensures { result ≡ calls (own_ready (shown polled.now) (in_view view.now) now) busy.now row.now }
+    ensures { result ≡ is_callable (own_ready (shown polled.now) (in_view view.now) now) busy.now row.now }
 {
     is_free(row, busy) && own_ready(row, polled, now, view)
 }

@@ -15,12 +15,12 @@ use Rattle.lane_turn.specs.declared.slot.Held.TheVariants.{Source, Handler}
 use Rattle.cancel_view.specs.Seen.{Seen, has, connected, has_other_id, without}
 use Rattle.lane_turn.specs.declared.line.Event.{Event}
 use Rattle.lane_turn.specs.declared.line.Event.TheVariants as events
-use Rattle.lane_turn.specs.Frames.{Frame, CallOf, IterOf, LoopOf, advanced, calls}
-use Rattle.lane_turn.specs.Lane.{Lane, own, with_context, edited, taken, place_at, handler_at, next_place, named, viewing, stopped, pushed, set_running, written}
+use Rattle.lane_turn.specs.Frames.{Frame, CallOf, IterOf, LoopOf, advanced, calls_in_progress}
+use Rattle.lane_turn.specs.Lane.{Lane, context_at, with_context, edited, taken, place_at, handler_at, next_place, set_slot, viewing, stopped, pushed, set_running, written}
 use Rattle.lane_turn.specs.Acted.{acted, born, child_of, on_source, set_priority_of, connect, disconnect_of}
 use Rattle.lane_turn.specs.declared.line.Word.{Word}
 use Rattle.lane_turn.specs.declared.line.Word.TheVariants as words
-use Rattle.lane_turn.specs.declared.parts.Status.TheVariants.{Halted}
+use Rattle.lane_turn.specs.declared.lane.Status.TheVariants.{Halted}
 use Rattle.lane_turn.specs.Step.{dispatched, dispatching}
 use Rattle.lane_turn.specs.Turn.{nest_work}
 use Rattle.lane_turn.specs.Sound.{IsBounded}
@@ -31,7 +31,7 @@ use Rattle.context_core.specs.Defaults.{Defaults, acquired, released, is_on_top,
 use Rattle.lane_turn.proofs.Mild.{Mild, MildChange, MildEdit, quiet, mild_line, either, begins_frame, mild_change, mild_edit, mild_iterating, mild_attached, mild_born, mild_destroyed, mild_ready_set, mild_reprioritised, mild_counted, mild_plain, plain_cancel, plain_handled, rows_edited, bounded_edited, each_bounded}
 
 -- a slot that names a source
-mild_named : (lane after : Lane) (slot : ℕ) (thing : Held) → Mild lane after → Mild lane (named slot thing after)
+mild_named : (lane after : Lane) (slot : ℕ) (thing : Held) → Mild lane after → Mild lane (set_slot slot thing after)
 mild_named lane after slot thing h = record {
   rows = h.rows;
   frames = h.frames;
@@ -104,13 +104,13 @@ mild_released = record { rows = λ c. omega arith; bounded = λ m c b. record { 
 mild_acquire : (tick context : ℕ) (lane : Lane) → Mild lane (acquire tick context lane)
 mild_acquire tick context lane =
     let acquires : Lane = with_context context acquired lane in
-    either lane (written tick (events.Acquire context true) acquires) (written tick (events.Acquire context false) lane) (is_some (own context lane))
+    either lane (written tick (events.Acquire context true) acquires) (written tick (events.Acquire context false) lane) (is_some (context_at context lane))
     (mild_written lane acquires tick (events.Acquire context true) (mild_change lane context acquired 0 1 (omega arith) (omega arith) mild_acquired))
     (mild_line lane tick (events.Acquire context false))
 
 mild_release : (tick context : ℕ) (lane : Lane) → Mild lane (release tick context lane)
 mild_release tick context lane =
-    either lane (with_context context released lane) (written tick (events.Miss words.Release) lane) (may_release (own context lane))
+    either lane (with_context context released lane) (written tick (events.Miss words.Release) lane) (may_release (context_at context lane))
     (mild_change lane context released 0 0 (omega arith) (omega arith) mild_released)
     (mild_line lane tick (events.Miss words.Release))
 
@@ -119,7 +119,7 @@ mild_stack tick word b defaults lane = either lane (record lane { defaults = def
 
 mild_at_once : (tick context proc : ℕ) (acquires : Option ℕ) (lane : Lane) → Mild lane (called_at_once tick context proc acquires lane)
 mild_at_once tick context proc acquires lane =
-    either lane (calling tick context proc acquires lane) (stopped Halted (written tick events.HaltDepth lane)) (nat_lt (calls lane.frames) 32)
+    either lane (calling tick context proc acquires lane) (stopped Halted (written tick events.HaltDepth lane)) (nat_lt (calls_in_progress lane.frames) 32)
     (begins_frame lane (calling tick context proc acquires lane) refl refl (omega arith) (omega arith))
     (quiet lane (stopped Halted (written tick events.HaltDepth lane)) refl refl (omega arith))
 
@@ -130,7 +130,7 @@ mild_invoke tick now context proc lane =
     let none : Lane = called_at_once tick context proc None lane in
     let some : Lane = called_at_once tick context proc (Some context) lane in
     let attached_too : Lane = attaching tick now context proc lane in
-    either lane (invoke_own tick now context proc lane) (written tick (events.Invoke context Posted) lane) (is_some (own context lane))
+    either lane (invoke_own tick now context proc lane) (written tick (events.Invoke context Posted) lane) (is_some (context_at context lane))
     (either lane none (cond (default_context lane == context) some attached_too) (is_owned context lane) (mild_at_once tick context proc None lane)
     (either lane some attached_too (default_context lane == context) (mild_at_once tick context proc (Some context) lane) attaches))
     (mild_line lane tick (events.Invoke context Posted))
@@ -156,7 +156,7 @@ mild_acted script tick (Cancel c) lane = mild_plain lane _ (plain_cancel script 
 mild_acted script tick (Connect c slot proc) lane = mild_connect script tick c slot proc lane
 mild_acted script tick (Disconnect slot) lane = mild_disconnect tick (handler_at slot lane) lane
 mild_acted script tick (Task spec) lane = quiet lane _ refl refl (omega arith)
-mild_acted script tick (Push context) lane = mild_stack tick words.Push (is_some (own context lane)) (stack_with context lane.defaults) lane
+mild_acted script tick (Push context) lane = mild_stack tick words.Push (is_some (context_at context lane)) (stack_with context lane.defaults) lane
 mild_acted script tick (Pop context) lane = mild_stack tick words.Pop (is_on_top context lane.defaults) (popped context lane.defaults) lane
 mild_acted script tick ShowDefault lane = quiet lane _ refl refl (omega arith)
 mild_acted script tick (Acquire context) lane = mild_acquire tick context lane
@@ -186,7 +186,7 @@ mild_taken lane after h = record {
 
 -- a dispatch is mild
 pub mild_dispatching : (lane : Lane) (tick context : ℕ) (row : Row) → Mild lane (dispatching tick context row lane)
-mild_dispatching lane tick context row = either lane (dispatched tick context row lane) (stopped Halted (written tick events.HaltDepth lane)) (nat_lt (calls lane.frames) 32)
+mild_dispatching lane tick context row = either lane (dispatched tick context row lane) (stopped Halted (written tick events.HaltDepth lane)) (nat_lt (calls_in_progress lane.frames) 32)
     (record {
       rows = omega (arith, rows_edited 0 1 (counted row.id) (mild_counted row.id) lane.contexts context);
       frames = omega (arith, work_taken lane.frames);

@@ -12,17 +12,17 @@ use Rattle.lane_watch.specs.Tasks.{Started, is_late_at}
 use Rattle.lane_turn.specs.declared.line.Line.{Line}
 use Rattle.lane_turn.specs.declared.line.Event.{Event}
 use Rattle.lane_turn.specs.declared.line.Event.TheVariants as events
-use Rattle.lane_turn.specs.declared.parts.Status.{Status}
-use Rattle.lane_turn.specs.declared.parts.Status.TheVariants.{GoesOn, Ended, Halted}
+use Rattle.lane_turn.specs.declared.lane.Status.{Status}
+use Rattle.lane_turn.specs.declared.lane.Status.TheVariants.{GoesOn, Ended, Halted}
 use Rattle.lane_turn.specs.declared.layer.Call.{Call}
 use Rattle.lane_turn.specs.declared.layer.Caller.{Caller}
 use Rattle.lane_turn.specs.declared.layer.Origin.TheVariants as origins
 use Rattle.lane_turn.specs.declared.replies.Awaited.{Awaited}
 use Rattle.lane_turn.specs.Replies.{reply_held}
-use Rattle.lane_turn.specs.Frames.{Frame, CallOf, IterOf, LoopOf, advanced, calls, depth}
-use Rattle.lane_turn.specs.Lane.{Lane, Turn, own, with_rows, written, stopped, popped, taken, row_of, iterating, is_running}
+use Rattle.lane_turn.specs.Frames.{Frame, CallOf, IterOf, LoopOf, advanced, calls_in_progress, depth}
+use Rattle.lane_turn.specs.Lane.{Lane, Turn, context_at, with_rows, written, stopped, popped, taken, row_of, iterating, is_running}
 use Rattle.lane_turn.specs.Acted.{acted, sends}
-use Rattle.lane_turn.specs.Step.{step, step_polling, step_call, step_id, counted_by, in_lane, dispatched, dispatching, polled, late_line, one_if, result_lines, body_of}
+use Rattle.lane_turn.specs.Step.{step, step_polling, step_call, step_id, limited_by, with_lane, dispatched, dispatching, polled, late_line, one_if, result_lines, body_of}
 use Rattle.lane_turn.specs.Depths.{callers, IsShallow, TellsDepth, HaltsOver}
 use Rattle.lane_turn.specs.Traces.{Grows}
 use Rattle.source_rows.proofs.Compared.{same_self}
@@ -69,26 +69,26 @@ pub record Does (tick : ℕ) (lane after : Lane) : Type 0 where
   pub counted : AllNumbered lane → Counted lane → Counted after
   pub rows : AllFollow lane.contexts after.contexts
 
-other_told : (tick : ℕ) (lane after : Lane) (t : ℕ) (event : Event) → t ≡ tick → IsOther (calls lane.frames) event → (t ≡ tick) × TellsDepth after.frames event × IsShallow event × TellsNext lane after event × HaltsOver lane.frames event
+other_told : (tick : ℕ) (lane after : Lane) (t : ℕ) (event : Event) → t ≡ tick → IsOther (calls_in_progress lane.frames) event → (t ≡ tick) × TellsDepth after.frames event × IsShallow event × TellsNext lane after event × HaltsOver lane.frames event
 other_told tick lane after t (events.Dispatch context id priority depth) e h = absurd h
 other_told tick lane after t events.HaltDepth e h = (e, tt, tt, tt, omega (arith, h, calls_begun lane.frames))
 other_told tick lane after t _ e h = (e, tt, tt, tt, tt)
 
-pub of_acts : (tick : ℕ) (lane after : Lane) → Acts tick (calls lane.frames) lane after → Does tick lane after
+pub of_acts : (tick : ℕ) (lane after : Lane) → Acts tick (calls_in_progress lane.frames) lane after → Does tick lane after
 of_acts tick lane after h = record {
-  lines = grows_as (OtherAt tick (calls lane.frames)) (Told tick lane after) (λ l p. other_told tick lane after l.tick l.event p.0 p.1) lane.trace after.trace h.lines;
-  counted = λ n. counted_acts tick (calls lane.frames) lane after h.lines h.rows;
+  lines = grows_as (OtherAt tick (calls_in_progress lane.frames)) (Told tick lane after) (λ l p. other_told tick lane after l.tick l.event p.0 p.1) lane.trace after.trace h.lines;
+  counted = λ n. counted_acts tick (calls_in_progress lane.frames) lane after h.lines h.rows;
   rows = follow_all lane.contexts after.contexts h.rows;
 }
 
 of_same : (tick : ℕ) (lane after : Lane) → after.trace ≡ lane.trace → after.contexts ≡ lane.contexts → Does tick lane after
-of_same tick lane after t c = of_acts tick lane after (same (OtherAt tick (calls lane.frames)) lane after t c)
+of_same tick lane after t c = of_acts tick lane after (same (OtherAt tick (calls_in_progress lane.frames)) lane after t c)
 
 result_grows : (tick : ℕ) (lane after : Lane) (o : Option Awaited) (view : Seen) (xs : List Line) → Grows (Told tick lane after) xs (xs ++ result_lines tick o view)
 result_grows tick lane after None view xs = record { more = []; lines = refl; each = tt }
 result_grows tick lane after (Some awaited) view xs = grows_line (Told tick lane after) xs _ (refl, tt, tt, tt, tt)
 
-does_dispatched : (tick context : ℕ) (row : Row) (lane : Lane) → IsNext lane context row → calls lane.frames < 32 → Does tick lane (dispatched tick context row lane)
+does_dispatched : (tick context : ℕ) (row : Row) (lane : Lane) → IsNext lane context row → calls_in_progress lane.frames < 32 → Does tick lane (dispatched tick context row lane)
 does_dispatched tick context row lane next h =
     let after : Lane = dispatched tick context row lane in
     let n : ℕ = depth lane.frames in
@@ -104,18 +104,18 @@ does_dispatched tick context row lane next h =
       rows = all_changed (with_rows (counted_once row.id)) (λ c. follows_counted row.id c.rows) lane.contexts context;
     }
 
-does_halted : (tick : ℕ) (lane : Lane) (event : Event) → IsOther (calls lane.frames) event → Does tick lane (stopped Halted (written tick event lane))
+does_halted : (tick : ℕ) (lane : Lane) (event : Event) → IsOther (calls_in_progress lane.frames) event → Does tick lane (stopped Halted (written tick event lane))
 does_halted tick lane event p =
     let told : Lane = written tick event lane in
-    let P : Line → Type 0 = OtherAt tick (calls lane.frames) in
+    let P : Line → Type 0 = OtherAt tick (calls_in_progress lane.frames) in
     of_acts tick lane _ (trans P lane told (stopped Halted told) (line P lane tick event (refl, p)) (same P told (stopped Halted told) refl refl))
 
 does_dispatching : (tick context : ℕ) (row : Row) (lane : Lane) → IsNext lane context row → Does tick lane (dispatching tick context row lane)
-does_dispatching tick context row lane next = by (nat_lt (calls lane.frames) 32) refl
+does_dispatching tick context row lane next = by (nat_lt (calls_in_progress lane.frames) 32) refl
   where
-    by : (b : Bool) → nat_lt (calls lane.frames) 32 ≡ b → Does tick lane (cond b (dispatched tick context row lane) (stopped Halted (written tick events.HaltDepth lane)))
-    by true e = does_dispatched tick context row lane next (ltb-true (calls lane.frames) 32 e)
-    by false e = does_halted tick lane events.HaltDepth (omega (arith, ltb-false (calls lane.frames) 32 e))
+    by : (b : Bool) → nat_lt (calls_in_progress lane.frames) 32 ≡ b → Does tick lane (cond b (dispatched tick context row lane) (stopped Halted (written tick events.HaltDepth lane)))
+    by true e = does_dispatched tick context row lane next (ltb-true (calls_in_progress lane.frames) 32 e)
+    by false e = does_halted tick lane events.HaltDepth (omega (arith, ltb-false (calls_in_progress lane.frames) 32 e))
 
 some_same : (t u : Turn) → Some t ≡ Some u → t ≡ u
 some_same t u e = cc
@@ -123,22 +123,22 @@ some_same t u e = cc
 abbrev On : ℕ → Turn → Turn → Type 0
 On tick t u = Does tick t.lane u.lane
 
-does_counted : (tick : ℕ) (mail : Option Mail) (f : Lane → Lane) (t : Turn) (left : ℕ) → Does tick t.lane (f t.lane) → On tick t (counted_by tick mail f t left)
+does_counted : (tick : ℕ) (mail : Option Mail) (f : Lane → Lane) (t : Turn) (left : ℕ) → Does tick t.lane (f t.lane) → On tick t (limited_by tick mail f t left)
 does_counted tick mail f t zero h = does_halted tick t.lane events.HaltSteps tt
 does_counted tick mail f t (suc left) h = h
 
-after_taken : (tick : ℕ) (lane before after : Lane) → before.trace ≡ lane.trace → before.contexts ≡ lane.contexts → Acts tick (calls lane.frames) before after → Does tick lane after
-after_taken tick lane before after t c h = of_acts tick lane after (trans (OtherAt tick (calls lane.frames)) lane before after (same (OtherAt tick (calls lane.frames)) lane before t c) h)
+after_taken : (tick : ℕ) (lane before after : Lane) → before.trace ≡ lane.trace → before.contexts ≡ lane.contexts → Acts tick (calls_in_progress lane.frames) before after → Does tick lane after
+after_taken tick lane before after t c h = of_acts tick lane after (trans (OtherAt tick (calls_in_progress lane.frames)) lane before after (same (OtherAt tick (calls_in_progress lane.frames)) lane before t c) h)
 
 does_call : (script : Plan) (tick : ℕ) (t : Turn) (call : Call) (a : Option Action) → On tick t (step_call script tick t call a)
 does_call script tick t call (Some a) =
-    does_counted tick (sends a (taken t.lane)) (λ lane. acted script tick a (taken lane)) t t.left (after_taken tick t.lane (taken t.lane) _ refl refl (adds_acted script tick (calls t.lane.frames) a (taken t.lane) (sym (calls_advanced t.lane.frames))))
-does_call script tick t call None = after_taken tick t.lane (popped t.lane) _ refl refl (adds_returned script tick (calls t.lane.frames) call.body call.origin (popped t.lane))
+    does_counted tick (sends a (taken t.lane)) (λ lane. acted script tick a (taken lane)) t t.left (after_taken tick t.lane (taken t.lane) _ refl refl (adds_acted script tick (calls_in_progress t.lane.frames) a (taken t.lane) (sym (calls_advanced t.lane.frames))))
+does_call script tick t call None = after_taken tick t.lane (popped t.lane) _ refl refl (adds_returned script tick (calls_in_progress t.lane.frames) call.body call.origin (popped t.lane))
 
 does_id : (tick : ℕ) (t : Turn) (context id : ℕ) (ids : List ℕ) (answer : Option Bool) (below : List Frame) (r : Option Row) → t.lane.frames ≡ IterOf context (id ∷ ids) answer ∷ below → row_of context id t.lane ≡ r → On tick t (step_id tick t context r)
 does_id tick t context id ids answer below None f e = of_same tick t.lane (taken t.lane) refl refl
 does_id tick t context id ids answer below (Some row) f e =
-    let same : row.id ≡ id = row_in_id id (own context t.lane) row (sym e) in
+    let same : row.id ≡ id = row_in_id id (context_at context t.lane) row (sym e) in
     let next : IsNext t.lane context row = record {
       ids = ids;
       answer = answer;
@@ -149,11 +149,11 @@ does_id tick t context id ids answer below (Some row) f e =
     does_counted tick None (dispatching tick context row) t t.left (does_dispatching tick context row t.lane next)
 
 does_loop : (script : Plan) (tick : ℕ) (t : Turn) (number context : ℕ) (runs iterated : Bool) (u : Turn)
-    → cond runs (cond iterated None (Some (record t { lane = iterating script tick context None t.lane; iterated = true }))) (Some (in_lane (λ lane. written tick (events.LoopEnd number) (popped lane)) t)) ≡ Some u → On tick t u
+    → cond runs (cond iterated None (Some (record t { lane = iterating script tick context None t.lane; iterated = true }))) (Some (with_lane (λ lane. written tick (events.LoopEnd number) (popped lane)) t)) ≡ Some u → On tick t u
 does_loop script tick t number context true true u e = cc
 does_loop script tick t number context true false u e = subst (On tick t) (some_same _ _ e) (of_same tick t.lane (iterating script tick context None t.lane) refl refl)
 does_loop script tick t number context false iterated u e =
-    subst (On tick t) (some_same _ _ e) (after_taken tick t.lane (popped t.lane) _ refl refl (line (OtherAt tick (calls t.lane.frames)) (popped t.lane) tick (events.LoopEnd number) (refl, tt)))
+    subst (On tick t) (some_same _ _ e) (after_taken tick t.lane (popped t.lane) _ refl refl (line (OtherAt tick (calls_in_progress t.lane.frames)) (popped t.lane) tick (events.LoopEnd number) (refl, tt)))
 
 abbrev turn : Turn → List Frame → Status → Turn
 turn t frames status = record t { lane = record t.lane { frames = frames; status = status }; unpolled = [] }
@@ -165,7 +165,7 @@ does_step script tick t (CallOf call ∷ below) GoesOn u e =
     subst (On tick now) (some_same _ _ e) (does_call script tick now call (slice_get (actions_of script call.body) call.place))
 does_step script tick t (IterOf context [] answer ∷ below) GoesOn u e =
     let now : Turn = turn t (IterOf context [] answer ∷ below) GoesOn in
-    subst (On tick now) (some_same _ _ e) (after_taken tick now.lane (popped now.lane) _ refl refl (adds_answered tick (calls now.lane.frames) context answer (popped now.lane)))
+    subst (On tick now) (some_same _ _ e) (after_taken tick now.lane (popped now.lane) _ refl refl (adds_answered tick (calls_in_progress now.lane.frames) context answer (popped now.lane)))
 does_step script tick t (IterOf context (id ∷ ids) answer ∷ below) GoesOn u e =
     let now : Turn = turn t (IterOf context (id ∷ ids) answer ∷ below) GoesOn in
     subst (On tick now) (some_same _ _ e) (does_id tick now context id ids answer below (row_of context id now.lane) refl refl)
@@ -184,7 +184,7 @@ late_grows P tick lane number false p = record { more = []; lines = refl; each =
 does_polled : (tick : ℕ) (t : Turn) (task : Started) (tasks : List Started) → On tick (record t { unpolled = task ∷ tasks }) (polled tick task (record t { unpolled = tasks }))
 does_polled tick t task tasks =
     let after : Lane = (polled tick task (record t { unpolled = tasks })).lane in
-    of_acts tick t.lane after (record { lines = late_grows (OtherAt tick (calls t.lane.frames)) tick t.lane task.number (is_late_at tick t.lane.tasks task) (refl, tt); rows = all_same t.lane.contexts })
+    of_acts tick t.lane after (record { lines = late_grows (OtherAt tick (calls_in_progress t.lane.frames)) tick t.lane task.number (is_late_at tick t.lane.tasks task) (refl, tt); rows = all_same t.lane.contexts })
 
 does_polling : (script : Plan) (tick : ℕ) (t : Turn) (tasks : List Started) (u : Turn) → step_polling script tick (record t { unpolled = tasks }) tasks ≡ Some u → On tick (record t { unpolled = tasks }) u
 does_polling script tick t [] u e = does_step script tick t t.lane.frames t.lane.status u e

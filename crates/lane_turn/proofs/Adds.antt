@@ -22,11 +22,11 @@ use Rattle.lane_turn.specs.declared.line.Word.{Word}
 use Rattle.lane_turn.specs.declared.line.Word.TheVariants as words
 use Rattle.lane_turn.specs.declared.layer.Origin.{Origin}
 use Rattle.lane_turn.specs.declared.layer.Origin.TheVariants.{Start, Source, Invoke as Invoked}
-use Rattle.lane_turn.specs.declared.parts.Status.TheVariants.{Halted}
+use Rattle.lane_turn.specs.declared.lane.Status.TheVariants.{Halted}
 use Rattle.lane_turn.specs.declared.slot.Place.{Place}
-use Rattle.lane_turn.specs.Frames.{calls}
+use Rattle.lane_turn.specs.Frames.{calls_in_progress}
 use Rattle.lane_turn.specs.Sources.{restarted}
-use Rattle.lane_turn.specs.Lane.{Lane, stopped, own, with_rows, with_context, edited, row_at, place_at, handler_at, written, viewing, noting}
+use Rattle.lane_turn.specs.Lane.{Lane, stopped, context_at, with_rows, with_context, edited, row_at, place_at, handler_at, written, viewing, noting}
 use Rattle.lane_turn.specs.Owned.{default_context, is_owned, may_release, invoke_spec, calling, called_at_once, attaching, invoke_own, invoke}
 use Rattle.lane_turn.specs.Acted.{attach, acted, born, can_bear, child_of, on_source, set_priority_of, plain_acted, all_acted, handled, all_handled, cancel, connect, disconnect_of}
 use Rattle.lane_turn.specs.Step.{returned, answered}
@@ -136,7 +136,7 @@ b_one script tick (SetPriority slot priority) lane = b_none tick lane
 b_one script tick (Iterate context) lane = b_none tick lane
 b_one script tick (Pending context) lane = b_none tick lane
 b_one script tick (Run number) lane = b_none tick lane
-b_one script tick (Quit number) lane = b_either tick lane _ _ (is_some (own (context_of script number) lane)) (b_same tick lane _ refl refl refl refl) (b_line tick lane (events.Miss words.Quit) tt)
+b_one script tick (Quit number) lane = b_either tick lane _ _ (is_some (context_at (context_of script number) lane)) (b_same tick lane _ refl refl refl refl) (b_line tick lane (events.Miss words.Quit) tt)
 b_one script tick (Cancel c) lane = b_none tick lane
 b_one script tick (Connect c slot proc) lane = b_none tick lane
 b_one script tick (Disconnect slot) lane = b_none tick lane
@@ -233,28 +233,28 @@ a_priority tick n priority None lane = a_line tick n lane (events.Miss words.Set
 a_priority tick n priority (Some place) lane =
     a_either tick n lane _ _ (is_none (priority_fault (row_at place lane))) (a_edit tick n lane place.context (reprioritised place.id priority) (edits_reprioritised place.id priority)) (a_line tick n lane (events.Miss words.SetPriority) tt)
 
-a_at_once : (tick n context proc : ℕ) (acquires : Option ℕ) (lane : Lane) → n ≡ calls lane.frames → Acts tick n lane (called_at_once tick context proc acquires lane)
-a_at_once tick n context proc acquires lane e = by (nat_lt (calls lane.frames) 32) refl
+a_at_once : (tick n context proc : ℕ) (acquires : Option ℕ) (lane : Lane) → n ≡ calls_in_progress lane.frames → Acts tick n lane (called_at_once tick context proc acquires lane)
+a_at_once tick n context proc acquires lane e = by (nat_lt (calls_in_progress lane.frames) 32) refl
   where
-    by : (b : Bool) → nat_lt (calls lane.frames) 32 ≡ b → Acts tick n lane (cond b (calling tick context proc acquires lane) (stopped Halted (written tick events.HaltDepth lane)))
+    by : (b : Bool) → nat_lt (calls_in_progress lane.frames) 32 ≡ b → Acts tick n lane (cond b (calling tick context proc acquires lane) (stopped Halted (written tick events.HaltDepth lane)))
     by true k =
         let told : Lane = written tick (events.Invoke context Direct) lane in
         a_trans tick n lane told _ (a_line tick n lane (events.Invoke context Direct) tt) (a_same tick n told _ refl refl)
     by false k =
         let halted : Lane = written tick events.HaltDepth lane in
-        a_trans tick n lane halted _ (a_line tick n lane events.HaltDepth (omega (arith, e, ltb-false (calls lane.frames) 32 k))) (a_same tick n halted _ refl refl)
+        a_trans tick n lane halted _ (a_line tick n lane events.HaltDepth (omega (arith, e, ltb-false (calls_in_progress lane.frames) 32 k))) (a_same tick n halted _ refl refl)
 
 a_attaching : (tick n now context proc : ℕ) (lane : Lane) → Acts tick n lane (attaching tick now context proc lane)
 a_attaching tick n now context proc lane =
     let there : Lane = edited context (attached (invoke_spec proc) now) lane in
     a_trans tick n lane there _ (a_edit tick n lane context (attached (invoke_spec proc) now) (edits_attached (invoke_spec proc) now)) (a_line tick n there (events.Invoke context Attached) tt)
 
-a_invoke : (tick n now context proc : ℕ) (lane : Lane) → n ≡ calls lane.frames → Acts tick n lane (invoke tick now context proc lane)
+a_invoke : (tick n now context proc : ℕ) (lane : Lane) → n ≡ calls_in_progress lane.frames → Acts tick n lane (invoke tick now context proc lane)
 a_invoke tick n now context proc lane e =
     let none : Lane = called_at_once tick context proc None lane in
     let some : Lane = called_at_once tick context proc (Some context) lane in
     let there : Lane = attaching tick now context proc lane in
-    a_either tick n lane (invoke_own tick now context proc lane) (written tick (events.Invoke context Posted) lane) (is_some (own context lane))
+    a_either tick n lane (invoke_own tick now context proc lane) (written tick (events.Invoke context Posted) lane) (is_some (context_at context lane))
     (a_either tick n lane none (cond (default_context lane == context) some there) (is_owned context lane) (a_at_once tick n context proc None lane e)
     (a_either tick n lane some there (default_context lane == context) (a_at_once tick n context proc (Some context) lane e) (a_attaching tick n now context proc lane)))
     (a_line tick n lane (events.Invoke context Posted) tt)
@@ -262,34 +262,34 @@ a_invoke tick n now context proc lane e =
 a_attach : (tick n now context slot : ℕ) (spec : SourceSpec) (lane : Lane) → Acts tick n lane (attach tick now context slot spec lane)
 a_attach tick n now context slot spec lane =
     let there : Lane = edited context (attached spec now) lane in
-    a_either tick n lane _ _ (is_some (own context lane))
+    a_either tick n lane _ _ (is_some (context_at context lane))
     (a_trans tick n lane there _ (a_edit tick n lane context (attached spec now) (edits_attached spec now)) (a_same tick n there _ refl refl))
     (a_line tick n lane (events.Miss words.Attach) tt)
 
-pub adds_acted : (script : Plan) (tick n : ℕ) (action : Action) (lane : Lane) → n ≡ calls lane.frames → Acts tick n lane (acted script tick action lane)
+pub adds_acted : (script : Plan) (tick n : ℕ) (action : Action) (lane : Lane) → n ≡ calls_in_progress lane.frames → Acts tick n lane (acted script tick action lane)
 adds_acted script tick n (Attach context slot spec) lane e = a_attach tick n (time_of script tick) context slot spec lane
 adds_acted script tick n (Child parent slot spec) lane e = a_child tick n (time_of script tick) slot spec (place_at parent lane) lane
 adds_acted script tick n (Destroy slot) lane e = of_brought tick n lane _ (b_source tick words.Destroy destroyed (place_at slot lane) lane edits_destroyed)
 adds_acted script tick n (SetReady slot us) lane e = of_brought tick n lane _ (b_source tick words.SetReady (λ id. ready_set id us) (place_at slot lane) lane (λ id. edits_ready_set id us))
 adds_acted script tick n (SetPriority slot priority) lane e = a_priority tick n priority (place_at slot lane) lane
-adds_acted script tick n (Iterate context) lane e = a_either tick n lane _ _ (is_some (own context lane)) (a_same tick n lane _ refl refl) (a_line tick n lane (events.Iterate context false) tt)
+adds_acted script tick n (Iterate context) lane e = a_either tick n lane _ _ (is_some (context_at context lane)) (a_same tick n lane _ refl refl) (a_line tick n lane (events.Iterate context false) tt)
 adds_acted script tick n (Pending context) lane e = a_line tick n lane _ tt
-adds_acted script tick n (Run number) lane e = a_either tick n lane _ _ (is_some (own (context_of script number) lane)) (a_same tick n lane _ refl refl) (a_line tick n lane (events.Miss words.Run) tt)
-adds_acted script tick n (Quit number) lane e = a_either tick n lane _ _ (is_some (own (context_of script number) lane)) (a_same tick n lane _ refl refl) (a_line tick n lane (events.Miss words.Quit) tt)
+adds_acted script tick n (Run number) lane e = a_either tick n lane _ _ (is_some (context_at (context_of script number) lane)) (a_same tick n lane _ refl refl) (a_line tick n lane (events.Miss words.Run) tt)
+adds_acted script tick n (Quit number) lane e = a_either tick n lane _ _ (is_some (context_at (context_of script number) lane)) (a_same tick n lane _ refl refl) (a_line tick n lane (events.Miss words.Quit) tt)
 adds_acted script tick n (Cancel c) lane e = of_brought tick n lane _ (b_cancel script tick c lane)
 adds_acted script tick n (Connect c slot proc) lane e = a_connect script tick n c slot proc lane
 adds_acted script tick n (Disconnect slot) lane e = a_disconnect tick n (handler_at slot lane) lane
 adds_acted script tick n (Task spec) lane e = a_same tick n lane _ refl refl
-adds_acted script tick n (Push context) lane e = a_either tick n lane _ _ (is_some (own context lane)) (a_same tick n lane _ refl refl) (a_line tick n lane (events.Miss words.Push) tt)
+adds_acted script tick n (Push context) lane e = a_either tick n lane _ _ (is_some (context_at context lane)) (a_same tick n lane _ refl refl) (a_line tick n lane (events.Miss words.Push) tt)
 adds_acted script tick n (Pop context) lane e = a_either tick n lane _ _ (is_on_top context lane.defaults) (a_same tick n lane _ refl refl) (a_line tick n lane (events.Miss words.Pop) tt)
 adds_acted script tick n ShowDefault lane e = a_line tick n lane (events.Default (default_context lane)) tt
 adds_acted script tick n (Acquire context) lane e =
     let there : Lane = with_context context acquired lane in
-    a_either tick n lane _ _ (is_some (own context lane))
+    a_either tick n lane _ _ (is_some (context_at context lane))
     (a_trans tick n lane there _ (change (OtherAt tick n) lane context acquired (λ c. edits_same c.rows)) (a_line tick n there (events.Acquire context true) tt))
     (a_line tick n lane (events.Acquire context false) tt)
 adds_acted script tick n (Release context) lane e =
-    a_either tick n lane _ _ (may_release (own context lane)) (change (OtherAt tick n) lane context released (λ c. edits_same c.rows)) (a_line tick n lane (events.Miss words.Release) tt)
+    a_either tick n lane _ _ (may_release (context_at context lane)) (change (OtherAt tick n) lane context released (λ c. edits_same c.rows)) (a_line tick n lane (events.Miss words.Release) tt)
 adds_acted script tick n (Invoke context proc) lane e = a_invoke tick n (time_of script tick) context proc lane e
 adds_acted script tick n (Give context to) lane e = a_same tick n lane lane refl refl
 adds_acted script tick n (Log m) lane e = a_line tick n lane (events.Log m) tt

@@ -27,7 +27,7 @@ use Rattle.lane_turn.specs.declared.line.Word.{Word}
 use Rattle.lane_turn.specs.declared.line.Word.TheVariants as words
 use Rattle.lane_turn.specs.declared.slot.Place.{Place}
 use Rattle.lane_turn.specs.Sources.{no_sources}
-use Rattle.lane_turn.specs.Lane.{Lane, known, own, next_id, with_rows, edited, written, place_at, row_at, set_running, viewing, noting}
+use Rattle.lane_turn.specs.Lane.{Lane, present, context_at, next_id, with_rows, edited, written, place_at, row_at, set_running, viewing, noting}
 use Rattle.lane_turn.specs.Acted.{missed, on_source, plain_acted, all_acted, handled, all_handled, cancel}
 use Rattle.lane_turn.specs.Deliver.{reply_spec, holding, received_body, received, received_all}
 use Rattle.lane_turn.specs.Turn.{opening, open_context, open_contexts_to, begun, turned}
@@ -39,7 +39,7 @@ use Rattle.lane_turn.proofs.Turns.{kept_finished}
 
 -- ---- whose contexts are
 
-pub own_held : (contexts : List (Option Context)) (i : ℕ) → is_some (known (slice_get contexts i)) ≡ slice_index_or (held_of contexts) i false
+pub own_held : (contexts : List (Option Context)) (i : ℕ) → is_some (present (slice_get contexts i)) ≡ slice_index_or (held_of contexts) i false
 own_held [] i = refl
 own_held (None ∷ contexts) zero = refl
 own_held (Some c ∷ contexts) zero = refl
@@ -95,7 +95,7 @@ open_at script lane zero i h = absurd (omega (arith, h))
 open_at script lane (suc k) i h = open_by script lane k i (nat_lt i k) refl h (λ lt. open_at script lane k i lt)
 
 abbrev has_it : ℕ → Lane → Bool
-has_it context lane = is_some (own context lane)
+has_it context lane = is_some (context_at context lane)
 
 held_open : (script : Plan) (context : ℕ) (numbers : List ℕ) → context < (sizes script).contexts → map (has_it context) (map (opening script) numbers) ≡ map (is_home script context) numbers
 held_open script context [] h = refl
@@ -113,7 +113,7 @@ held_tick script tick context letters (lane ∷ lanes) =
     ap (λ b. b ∷ map (has_it context) (map (received_all script tick letters) (map (turned script tick) lanes))) one
     ∙ ap (λ bs. has_it context lane ∷ bs) (held_tick script tick context letters lanes)
 
-pub held_at : (script : Plan) (tick context : ℕ) → context < (sizes script).contexts → map (λ lane. is_some (own context lane)) (lanes_at script tick) ≡ map (is_home script context) (range_with_len 0 (length script.lanes))
+pub held_at : (script : Plan) (tick context : ℕ) → context < (sizes script).contexts → map (λ lane. is_some (context_at context lane)) (lanes_at script tick) ≡ map (is_home script context) (range_with_len 0 (length script.lanes))
 held_at script zero context h = held_open script context (range_with_len 0 (length script.lanes)) h
 held_at script (suc tick) context h = held_tick script tick context (posted_at script tick (lanes_at script tick)) (lanes_at script tick) ∙ held_at script tick context h
 
@@ -122,7 +122,7 @@ held_at script (suc tick) context h = held_tick script tick context (posted_at s
 -- no line tells of an arrival, and no id is given
 record Calm (context : ℕ) (lane after : Lane) : Type 0 where
   pub lines : arrivals context after.trace ≡ arrivals context lane.trace
-  pub next : next_id (own context after) ≡ next_id (own context lane)
+  pub next : next_id (context_at context after) ≡ next_id (context_at context lane)
 
 calm_line : (context tick : ℕ) (event : Event) (lane : Lane) → arrival_of context event ≡ None → arrivals context (lane.trace ++ (record { tick = tick; event = event }) ∷ []) ≡ arrivals context lane.trace
 calm_line context tick event lane e =
@@ -133,7 +133,7 @@ calm_written : (context tick : ℕ) (event : Event) (lane : Lane) → arrival_of
 calm_written context tick event lane e = record { lines = calm_line context tick event lane e; next = refl }
 
 calm_same : (context : ℕ) (lane after : Lane) → after.trace ≡ lane.trace → after.contexts ≡ lane.contexts → Calm context lane after
-calm_same context lane after t c = record { lines = ap (arrivals context) t; next = ap (λ (cs : List (Option Context)). next_id (known (slice_get cs context))) c }
+calm_same context lane after t c = record { lines = ap (arrivals context) t; next = ap (λ (cs : List (Option Context)). next_id (present (slice_get cs context))) c }
 
 calm_trans : (context : ℕ) (a b c : Lane) → Calm context a b → Calm context b c → Calm context a c
 calm_trans context a b c h k = record { lines = k.lines ∙ h.lines; next = k.next ∙ h.next }
@@ -142,7 +142,7 @@ calm_either : (context : ℕ) (lane x y : Lane) (b : Bool) → Calm context lane
 calm_either context lane x y true p q = p
 calm_either context lane x y false p q = q
 
-next_kept : (f : Context → Context) → ((c : Context) → (f c).rows.next_id ≡ c.rows.next_id) → (contexts : List (Option Context)) (i j : ℕ) → next_id (known (slice_get (slice_set contexts i (option_map f (known (slice_get contexts i)))) j)) ≡ next_id (known (slice_get contexts j))
+next_kept : (f : Context → Context) → ((c : Context) → (f c).rows.next_id ≡ c.rows.next_id) → (contexts : List (Option Context)) (i j : ℕ) → next_id (present (slice_get (slice_set contexts i (option_map f (present (slice_get contexts i)))) j)) ≡ next_id (present (slice_get contexts j))
 next_kept f e [] i j = refl
 next_kept f e (None ∷ contexts) zero zero = refl
 next_kept f e (Some c ∷ contexts) zero zero = e c
@@ -169,7 +169,7 @@ calm_one context script tick (Iterate c) lane = calm_same context lane lane refl
 calm_one context script tick (Pending c) lane = calm_same context lane lane refl refl
 calm_one context script tick (Run number) lane = calm_same context lane lane refl refl
 calm_one context script tick (Quit number) lane =
-    calm_either context lane (set_running number false lane) (missed tick words.Quit lane) (is_some (own (context_of script number) lane))
+    calm_either context lane (set_running number false lane) (missed tick words.Quit lane) (is_some (context_at (context_of script number) lane))
     (calm_same context lane (set_running number false lane) refl refl) (calm_written context tick (events.Miss words.Quit) lane refl)
 calm_one context script tick (Cancel c) lane = calm_same context lane lane refl refl
 calm_one context script tick (Connect c slot proc) lane = calm_same context lane lane refl refl
@@ -213,15 +213,15 @@ calm_cancel context script tick c lane =
 -- ---- what a letter attaches
 
 -- a source in a context: the next id, and no other in another context
-next_other : (f : Context → Context) (contexts : List (Option Context)) (i j : ℕ) → i ≢ j → next_id (known (slice_get (slice_set contexts i (option_map f (known (slice_get contexts i)))) j)) ≡ next_id (known (slice_get contexts j))
+next_other : (f : Context → Context) (contexts : List (Option Context)) (i j : ℕ) → i ≢ j → next_id (present (slice_get (slice_set contexts i (option_map f (present (slice_get contexts i)))) j)) ≡ next_id (present (slice_get contexts j))
 next_other f [] i j h = refl
 next_other f (o ∷ contexts) zero zero h = absurd (h refl)
 next_other f (o ∷ contexts) zero (suc j) h = refl
 next_other f (o ∷ contexts) (suc i) zero h = refl
 next_other f (o ∷ contexts) (suc i) (suc j) h = next_other f contexts i j (λ e. h (ap suc e))
 
-pub next_more : (f : Context → Context) → ((c : Context) → (f c).rows.next_id ≡ c.rows.next_id + 1) → (contexts : List (Option Context)) (i : ℕ) → is_some (known (slice_get contexts i)) ≡ true
-    → next_id (known (slice_get (slice_set contexts i (option_map f (known (slice_get contexts i)))) i)) ≡ next_id (known (slice_get contexts i)) + 1
+pub next_more : (f : Context → Context) → ((c : Context) → (f c).rows.next_id ≡ c.rows.next_id + 1) → (contexts : List (Option Context)) (i : ℕ) → is_some (present (slice_get contexts i)) ≡ true
+    → next_id (present (slice_get (slice_set contexts i (option_map f (present (slice_get contexts i)))) i)) ≡ next_id (present (slice_get contexts i)) + 1
 next_more f e [] i h = let no : false ≡ true = h in cc
 next_more f e (None ∷ contexts) zero h = let no : false ≡ true = h in cc
 next_more f e (Some c ∷ contexts) zero h = e c
@@ -237,15 +237,15 @@ one_more false n = n
 
 -- what a letter does, that attaches a source to a context or not
 record Adds (context : ℕ) (attaches : Bool) (lane after : Lane) : Type 0 where
-  pub lines : arrivals context after.trace ≡ arrivals context lane.trace ++ one_id attaches (next_id (own context lane))
-  pub next : next_id (own context after) ≡ one_more attaches (next_id (own context lane))
+  pub lines : arrivals context after.trace ≡ arrivals context lane.trace ++ one_id attaches (next_id (context_at context lane))
+  pub next : next_id (context_at context after) ≡ one_more attaches (next_id (context_at context lane))
 
 adds_none : (context : ℕ) (lane after : Lane) → Calm context lane after → Adds context false lane after
 adds_none context lane after h = record { lines = h.lines ∙ sym (append-nil (arrivals context lane.trace)); next = h.next }
 
 -- a source that arrives, beside what is held for it
 abbrev attached_at : (tick now d : ℕ) → SourceSpec → Lane → Lane
-attached_at tick now d spec lane = written tick (events.Arrive d (next_id (own d lane))) (edited d (attached spec now) lane)
+attached_at tick now d spec lane = written tick (events.Arrive d (next_id (context_at d lane))) (edited d (attached spec now) lane)
 
 arrive_line : (context tick d id : ℕ) (ls : List Line) (b : Bool) → (d == context) ≡ b → arrivals context (ls ++ (record { tick = tick; event = events.Arrive d id }) ∷ []) ≡ arrivals context ls ++ one_id b id
 arrive_line context tick d id ls b e =
@@ -256,43 +256,43 @@ arrive_line context tick d id ls b e =
     by true = refl
     by false = refl
 
-adds_one : (context tick now d : ℕ) (spec : SourceSpec) (lane : Lane) → is_some (own d lane) ≡ true → ((d == context) ≡ true × d ≡ context) ⊎ ((d == context) ≡ false × d ≢ context)
+adds_one : (context tick now d : ℕ) (spec : SourceSpec) (lane : Lane) → is_some (context_at d lane) ≡ true → ((d == context) ≡ true × d ≡ context) ⊎ ((d == context) ≡ false × d ≢ context)
     → Adds context (d == context) lane (attached_at tick now d spec lane)
 adds_one context tick now d spec lane h (inl p) = record {
-  lines = arrive_line context tick d (next_id (own d lane)) lane.trace true p.0 ∙ ap (λ (n : ℕ). arrivals context lane.trace ++ next_id (own n lane) ∷ []) p.1 ∙ ap (λ b. arrivals context lane.trace ++ one_id b (next_id (own context lane))) (sym p.0);
-  next = subst (λ (n : ℕ). next_id (own n (edited d (attached spec now) lane)) ≡ next_id (own n lane) + 1) p.1 (next_more (with_rows (attached spec now)) (λ c. refl) lane.contexts d h) ∙ ap (λ b. one_more b (next_id (own context lane))) (sym p.0);
+  lines = arrive_line context tick d (next_id (context_at d lane)) lane.trace true p.0 ∙ ap (λ (n : ℕ). arrivals context lane.trace ++ next_id (context_at n lane) ∷ []) p.1 ∙ ap (λ b. arrivals context lane.trace ++ one_id b (next_id (context_at context lane))) (sym p.0);
+  next = subst (λ (n : ℕ). next_id (context_at n (edited d (attached spec now) lane)) ≡ next_id (context_at n lane) + 1) p.1 (next_more (with_rows (attached spec now)) (λ c. refl) lane.contexts d h) ∙ ap (λ b. one_more b (next_id (context_at context lane))) (sym p.0);
 }
 adds_one context tick now d spec lane h (inr p) = record {
-  lines = arrive_line context tick d (next_id (own d lane)) lane.trace false p.0 ∙ ap (λ b. arrivals context lane.trace ++ one_id b (next_id (own context lane))) (sym p.0);
-  next = next_other (with_rows (attached spec now)) lane.contexts d context p.1 ∙ ap (λ b. one_more b (next_id (own context lane))) (sym p.0);
+  lines = arrive_line context tick d (next_id (context_at d lane)) lane.trace false p.0 ∙ ap (λ b. arrivals context lane.trace ++ one_id b (next_id (context_at context lane))) (sym p.0);
+  next = next_other (with_rows (attached spec now)) lane.contexts d context p.1 ∙ ap (λ b. one_more b (next_id (context_at context lane))) (sym p.0);
 }
 
 abbrev Told : ℕ → ℕ → Type 0
 Told d context = ((d == context) ≡ true × d ≡ context) ⊎ ((d == context) ≡ false × d ≢ context)
 
 -- what is not of the lane is not the context that it has
-adds_elsewhere : (context d : ℕ) (lane : Lane) → is_some (own d lane) ≡ false → is_some (own context lane) ≡ true → Told d context → Adds context (d == context) lane lane
-adds_elsewhere context d lane e h (inl p) = let no : false ≡ true = sym e ∙ (ap (λ (n : ℕ). is_some (own n lane)) p.1 ∙ h) in cc
+adds_elsewhere : (context d : ℕ) (lane : Lane) → is_some (context_at d lane) ≡ false → is_some (context_at context lane) ≡ true → Told d context → Adds context (d == context) lane lane
+adds_elsewhere context d lane e h (inl p) = let no : false ≡ true = sym e ∙ (ap (λ (n : ℕ). is_some (context_at n lane)) p.1 ∙ h) in cc
 adds_elsewhere context d lane e h (inr p) = subst (λ b. Adds context b lane lane) (sym p.0) (adds_none context lane lane (calm_same context lane lane refl refl))
 
-attach_adds : (context tick now d : ℕ) (spec : SourceSpec) (lane : Lane) (b : Bool) → is_some (own d lane) ≡ b → is_some (own context lane) ≡ true → Adds context (d == context) lane (cond b (attached_at tick now d spec lane) lane)
+attach_adds : (context tick now d : ℕ) (spec : SourceSpec) (lane : Lane) (b : Bool) → is_some (context_at d lane) ≡ b → is_some (context_at context lane) ≡ true → Adds context (d == context) lane (cond b (attached_at tick now d spec lane) lane)
 attach_adds context tick now d spec lane true e h = adds_one context tick now d spec lane e (eqb_tells d context)
 attach_adds context tick now d spec lane false e h = adds_elsewhere context d lane e h (eqb_tells d context)
 
-reply_adds : (context tick now sender : ℕ) (reply : Reply) (lane : Lane) (b : Bool) → is_some (own reply.ctx lane) ≡ b → is_some (own context lane) ≡ true →
-    let id : ℕ = next_id (own reply.ctx lane) in
+reply_adds : (context tick now sender : ℕ) (reply : Reply) (lane : Lane) (b : Bool) → is_some (context_at reply.ctx lane) ≡ b → is_some (context_at context lane) ≡ true →
+    let id : ℕ = next_id (context_at reply.ctx lane) in
     Adds context (reply.ctx == context) lane (cond b (written tick (events.Arrive reply.ctx id) (holding reply.ctx id sender reply (edited reply.ctx (attached (reply_spec reply) now) lane))) lane)
 reply_adds context tick now sender reply lane true e h =
     let a = adds_one context tick now reply.ctx (reply_spec reply) lane e (eqb_tells reply.ctx context) in
     record { lines = a.lines; next = a.next }
 reply_adds context tick now sender reply lane false e h = adds_elsewhere context reply.ctx lane e h (eqb_tells reply.ctx context)
 
-letter_adds : (context : ℕ) (script : Plan) (tick sender : ℕ) (body : Mail) (lane : Lane) → is_some (own context lane) ≡ true → Adds context (is_for_body context body) lane (received_body script tick sender body lane)
-letter_adds context script tick sender (mails.Attach d spec) lane h = attach_adds context tick (time_of script tick) d spec lane (is_some (own d lane)) refl h
-letter_adds context script tick sender (mails.Complete reply) lane h = reply_adds context tick (time_of script tick) sender reply lane (is_some (own reply.ctx lane)) refl h
+letter_adds : (context : ℕ) (script : Plan) (tick sender : ℕ) (body : Mail) (lane : Lane) → is_some (context_at context lane) ≡ true → Adds context (is_for_body context body) lane (received_body script tick sender body lane)
+letter_adds context script tick sender (mails.Attach d spec) lane h = attach_adds context tick (time_of script tick) d spec lane (is_some (context_at d lane)) refl h
+letter_adds context script tick sender (mails.Complete reply) lane h = reply_adds context tick (time_of script tick) sender reply lane (is_some (context_at reply.ctx lane)) refl h
 letter_adds context script tick sender (mails.Cancelled c) lane h = adds_none context lane (cancel script tick c lane) (calm_cancel context script tick c lane)
 
-pub still_has : (context : ℕ) (script : Plan) (tick sender : ℕ) (body : Mail) (lane : Lane) → is_some (own context (received_body script tick sender body lane)) ≡ is_some (own context lane)
+pub still_has : (context : ℕ) (script : Plan) (tick sender : ℕ) (body : Mail) (lane : Lane) → is_some (context_at context (received_body script tick sender body lane)) ≡ is_some (context_at context lane)
 still_has context script tick sender body lane =
     let after : Lane = received_body script tick sender body lane in
     own_held after.contexts context ∙ (ap (λ bs. slice_index_or bs context false) (received_steady script tick sender body lane).holds ∙ sym (own_held lane.contexts context))
@@ -301,22 +301,22 @@ ids_step : (context n : ℕ) (letters : List Letter) (b : Bool) → one_id b n +
 ids_step context n letters true = refl
 ids_step context n letters false = refl
 
-all_add : (context : ℕ) (script : Plan) (tick : ℕ) (letters : List Letter) (lane : Lane) → is_some (own context lane) ≡ true
-    → arrivals context (received_all script tick letters lane).trace ≡ arrivals context lane.trace ++ ids_for context (next_id (own context lane)) letters
+all_add : (context : ℕ) (script : Plan) (tick : ℕ) (letters : List Letter) (lane : Lane) → is_some (context_at context lane) ≡ true
+    → arrivals context (received_all script tick letters lane).trace ≡ arrivals context lane.trace ++ ids_for context (next_id (context_at context lane)) letters
 all_add context script tick [] lane h = sym (append-nil (arrivals context lane.trace))
 all_add context script tick (l ∷ letters) lane h =
     let next : Lane = received script tick l lane in
-    let n : ℕ = next_id (own context lane) in
+    let n : ℕ = next_id (context_at context lane) in
     let b : Bool = is_for context l in
     let a : Adds context b lane next = letter_adds context script tick l.sender l.body lane h in
     let before : List ℕ = arrivals context lane.trace in
     all_add context script tick letters next (still_has context script tick l.sender l.body lane ∙ h)
-    ∙ (ap (λ ids. ids ++ ids_for context (next_id (own context next)) letters) a.lines
+    ∙ (ap (λ ids. ids ++ ids_for context (next_id (context_at context next)) letters) a.lines
     ∙ (ap (λ (k : ℕ). (before ++ one_id b n) ++ ids_for context k letters) a.next
     ∙ (append_assoc before (one_id b n) (ids_for context (one_more b n) letters)
     ∙ ap (λ ids. before ++ ids) (ids_step context n letters b))))
 
-pub arrive_once : (script : Plan) (tick context : ℕ) (letters : List Letter) (lane : Lane) (c : Context) → own context lane ≡ Some c
+pub arrive_once : (script : Plan) (tick context : ℕ) (letters : List Letter) (lane : Lane) (c : Context) → context_at context lane ≡ Some c
     → arrivals context (received_all script tick letters lane).trace ≡ arrivals context lane.trace ++ ids_for context c.rows.next_id letters
 arrive_once script tick context letters lane c e =
     all_add context script tick letters lane (ap (λ (o : Option Context). is_some o) e)
@@ -324,31 +324,31 @@ arrive_once script tick context letters lane c e =
 
 -- ---- what no letter attaches
 
-line_elsewhere : (context tick now d : ℕ) (spec : SourceSpec) (lane : Lane) → is_some (own d lane) ≡ true → is_some (own context lane) ≡ false → Told d context
+line_elsewhere : (context tick now d : ℕ) (spec : SourceSpec) (lane : Lane) → is_some (context_at d lane) ≡ true → is_some (context_at context lane) ≡ false → Told d context
     → arrivals context (attached_at tick now d spec lane).trace ≡ arrivals context lane.trace
-line_elsewhere context tick now d spec lane e h (inl p) = let no : true ≡ false = sym e ∙ (ap (λ (n : ℕ). is_some (own n lane)) p.1 ∙ h) in cc
-line_elsewhere context tick now d spec lane e h (inr p) = arrive_line context tick d (next_id (own d lane)) lane.trace false p.0 ∙ append-nil (arrivals context lane.trace)
+line_elsewhere context tick now d spec lane e h (inl p) = let no : true ≡ false = sym e ∙ (ap (λ (n : ℕ). is_some (context_at n lane)) p.1 ∙ h) in cc
+line_elsewhere context tick now d spec lane e h (inr p) = arrive_line context tick d (next_id (context_at d lane)) lane.trace false p.0 ∙ append-nil (arrivals context lane.trace)
 
-attach_elsewhere : (context tick now d : ℕ) (spec : SourceSpec) (lane : Lane) (b : Bool) → is_some (own d lane) ≡ b → is_some (own context lane) ≡ false
+attach_elsewhere : (context tick now d : ℕ) (spec : SourceSpec) (lane : Lane) (b : Bool) → is_some (context_at d lane) ≡ b → is_some (context_at context lane) ≡ false
     → arrivals context (cond b (attached_at tick now d spec lane) lane).trace ≡ arrivals context lane.trace
 attach_elsewhere context tick now d spec lane true e h = line_elsewhere context tick now d spec lane e h (eqb_tells d context)
 attach_elsewhere context tick now d spec lane false e h = refl
 
-reply_elsewhere : (context tick now sender : ℕ) (reply : Reply) (lane : Lane) (b : Bool) → is_some (own reply.ctx lane) ≡ b → is_some (own context lane) ≡ false →
-    let id : ℕ = next_id (own reply.ctx lane) in
+reply_elsewhere : (context tick now sender : ℕ) (reply : Reply) (lane : Lane) (b : Bool) → is_some (context_at reply.ctx lane) ≡ b → is_some (context_at context lane) ≡ false →
+    let id : ℕ = next_id (context_at reply.ctx lane) in
     arrivals context (cond b (written tick (events.Arrive reply.ctx id) (holding reply.ctx id sender reply (edited reply.ctx (attached (reply_spec reply) now) lane))) lane).trace ≡ arrivals context lane.trace
 reply_elsewhere context tick now sender reply lane true e h = line_elsewhere context tick now reply.ctx (reply_spec reply) lane e h (eqb_tells reply.ctx context)
 reply_elsewhere context tick now sender reply lane false e h = refl
 
-letter_elsewhere : (context : ℕ) (script : Plan) (tick sender : ℕ) (body : Mail) (lane : Lane) → is_some (own context lane) ≡ false → arrivals context (received_body script tick sender body lane).trace ≡ arrivals context lane.trace
-letter_elsewhere context script tick sender (mails.Attach d spec) lane h = attach_elsewhere context tick (time_of script tick) d spec lane (is_some (own d lane)) refl h
-letter_elsewhere context script tick sender (mails.Complete reply) lane h = reply_elsewhere context tick (time_of script tick) sender reply lane (is_some (own reply.ctx lane)) refl h
+letter_elsewhere : (context : ℕ) (script : Plan) (tick sender : ℕ) (body : Mail) (lane : Lane) → is_some (context_at context lane) ≡ false → arrivals context (received_body script tick sender body lane).trace ≡ arrivals context lane.trace
+letter_elsewhere context script tick sender (mails.Attach d spec) lane h = attach_elsewhere context tick (time_of script tick) d spec lane (is_some (context_at d lane)) refl h
+letter_elsewhere context script tick sender (mails.Complete reply) lane h = reply_elsewhere context tick (time_of script tick) sender reply lane (is_some (context_at reply.ctx lane)) refl h
 letter_elsewhere context script tick sender (mails.Cancelled c) lane h = (calm_cancel context script tick c lane).lines
 
-all_elsewhere : (context : ℕ) (script : Plan) (tick : ℕ) (letters : List Letter) (lane : Lane) → is_some (own context lane) ≡ false → arrivals context (received_all script tick letters lane).trace ≡ arrivals context lane.trace
+all_elsewhere : (context : ℕ) (script : Plan) (tick : ℕ) (letters : List Letter) (lane : Lane) → is_some (context_at context lane) ≡ false → arrivals context (received_all script tick letters lane).trace ≡ arrivals context lane.trace
 all_elsewhere context script tick [] lane h = refl
 all_elsewhere context script tick (l ∷ letters) lane h =
     all_elsewhere context script tick letters (received script tick l lane) (still_has context script tick l.sender l.body lane ∙ h) ∙ letter_elsewhere context script tick l.sender l.body lane h
 
-pub arrive_elsewhere : (script : Plan) (tick context : ℕ) (letters : List Letter) (lane : Lane) → own context lane ≡ None → arrivals context (received_all script tick letters lane).trace ≡ arrivals context lane.trace
+pub arrive_elsewhere : (script : Plan) (tick context : ℕ) (letters : List Letter) (lane : Lane) → context_at context lane ≡ None → arrivals context (received_all script tick letters lane).trace ≡ arrivals context lane.trace
 arrive_elsewhere script tick context letters lane e = all_elsewhere context script tick letters lane (ap (λ (o : Option Context). is_some o) e)

@@ -12,7 +12,7 @@ use Rattle.lane_turn.specs.declared.line.Event.TheVariants as events
 use Rattle.lane_turn.specs.Replies.{reply_held}
 use Rattle.lane_turn.specs.Frames.{advanced}
 use Rattle.lane_turn.specs.Sources.{no_sources}
-use Rattle.lane_turn.specs.Lane.{Lane, Turn, known, row_of}
+use Rattle.lane_turn.specs.Lane.{Lane, Turn, present, row_of}
 use Rattle.lane_turn.specs.Step.{step, body_of}
 use Rattle.lane_turn.specs.Turn.{begun, turned, open_context, open_contexts_to}
 use Rattle.lane_turn.specs.Deliver.{received_all}
@@ -43,7 +43,7 @@ counts_received script tick letters lane h =
     let acts = of_brought tick 0 lane after (brings_all script tick letters lane) in
     record { sits = sits_received script tick letters lane h.sits; counted = counted_acts tick 0 lane after acts.lines acts.rows h.counted }
 
-counted_pushed : (j : ℕ) (os : List (Option Context)) (o : Option Context) → ((i : ℕ) → CountedIn j [] (known (slice_get os i))) → CountedIn j [] o → (i : ℕ) → CountedIn j [] (known (slice_get (os ++ o ∷ []) i))
+counted_pushed : (j : ℕ) (os : List (Option Context)) (o : Option Context) → ((i : ℕ) → CountedIn j [] (present (slice_get os i))) → CountedIn j [] o → (i : ℕ) → CountedIn j [] (present (slice_get (os ++ o ∷ []) i))
 counted_pushed j [] o n p zero = p
 counted_pushed j [] o n p (suc i) = tt
 counted_pushed j (x ∷ os) o n p zero = n zero
@@ -53,7 +53,7 @@ counted_open : (j : ℕ) (script : Plan) (b : Bool) → CountedIn j [] (cond b (
 counted_open j script true = record { rows = tt; new = λ id l. refl }
 counted_open j script false = tt
 
-counted_all : (j : ℕ) (script : Plan) (lane n : ℕ) → (i : ℕ) → CountedIn j [] (known (slice_get (open_contexts_to script lane n) i))
+counted_all : (j : ℕ) (script : Plan) (lane n : ℕ) → (i : ℕ) → CountedIn j [] (present (slice_get (open_contexts_to script lane n) i))
 counted_all j script lane zero i = tt
 counted_all j script lane (suc n) i = counted_pushed j (open_contexts_to script lane n) (open_context script lane n) (counted_all j script lane n) (counted_open j script (home_of script n == lane)) i
 

@@ -9,15 +9,15 @@ use Rattle.source_rows.specs.declared.row.Row.{Row}
 use Rattle.post_office.specs.declared.letter.Letter.{Letter}
 use Rattle.post_office.specs.declared.letter.Body.{Body as Mail}
 use Rattle.lane_watch.specs.Tasks.{Started}
-use Rattle.lane_turn.specs.declared.parts.Status.{Status}
-use Rattle.lane_turn.specs.declared.parts.Status.TheVariants.{GoesOn, Ended, Halted}
+use Rattle.lane_turn.specs.declared.lane.Status.{Status}
+use Rattle.lane_turn.specs.declared.lane.Status.TheVariants.{GoesOn, Ended, Halted}
 use Rattle.lane_turn.specs.declared.layer.Call.{Call}
 use Rattle.lane_turn.specs.declared.layer.Top.{Top}
 use Rattle.lane_turn.specs.declared.layer.Top.TheVariants as tops
 use Rattle.lane_turn.specs.Frames.{top_of}
 use Rattle.lane_turn.specs.Lane.{Lane, Turn, taken, row_of, is_running}
 use Rattle.lane_turn.specs.Acted.{acted, sends}
-use Rattle.lane_turn.specs.Step.{step, step_polling, step_going, step_top, step_call, step_id, step_iteration, counted_by, dispatching, polled, letter, sent_with, posted_with}
+use Rattle.lane_turn.specs.Step.{step, step_polling, step_going, step_top, step_call, step_id, step_iteration, limited_by, dispatching, polled, letter, sent_with, posted_with}
 use Rattle.lane_turn.specs.Turn.{work, finish, finished}
 
 abbrev pub behind : List Letter → Turn → Turn
@@ -31,7 +31,7 @@ posted_behind : (front : List Letter) (tick : ℕ) (t : Turn) (mail : Option Mai
 posted_behind front tick t None = refl
 posted_behind front tick t (Some body) = append_assoc front t.posted (letter tick t.lane.number t.sent body ∷ [])
 
-counted_behind : (front : List Letter) (tick : ℕ) (mail : Option Mail) (f : Lane → Lane) (t : Turn) (left : ℕ) → counted_by tick mail f (behind front t) left ≡ behind front (counted_by tick mail f t left)
+counted_behind : (front : List Letter) (tick : ℕ) (mail : Option Mail) (f : Lane → Lane) (t : Turn) (left : ℕ) → limited_by tick mail f (behind front t) left ≡ behind front (limited_by tick mail f t left)
 counted_behind front tick mail f t zero = refl
 counted_behind front tick mail f t (suc n) = ap (λ (l : List Letter). record t { lane = f t.lane; left = n; sent = sent_with mail t.sent; posted = l }) (posted_behind front tick t mail)
 

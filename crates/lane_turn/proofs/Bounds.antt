@@ -5,7 +5,7 @@ use Rattle.std.specs.List.{AllByRecursion}
 use Rattle.source_rows.specs.declared.row.Row.{Row}
 use Rattle.source_rows.specs.Rows.{RowSet, row_of as row_with}
 use Rattle.context_core.specs.declared.context.Context.{Context}
-use Rattle.lane_turn.specs.Lane.{Lane, known, own, row_in, row_of}
+use Rattle.lane_turn.specs.Lane.{Lane, present, context_at, row_in, row_of}
 use Rattle.lane_turn.specs.Sound.{IsBounded, Bounded, IsWithin}
 
 -- a row that is found is within the bound of its lane
@@ -27,7 +27,7 @@ count_by_bound (Some r) h = let k = h r refl in omega (arith, k)
 pub count_fits : (id : ℕ) (s : RowSet) → IsBounded (2 ^ 62) s → IfSome (row_with id s.rows) (λ r. r.count < 2 ^ 63)
 count_fits id s b = count_by_bound (row_with id s.rows) (λ r e. found (2 ^ 62) (λ q. q.id == id) s.rows r b.counts e)
 
-pub bounded_at : (m : ℕ) (contexts : List (Option Context)) (i : ℕ) → AllByRecursion (Bounded m) contexts → Bounded m (known (slice_get contexts i))
+pub bounded_at : (m : ℕ) (contexts : List (Option Context)) (i : ℕ) → AllByRecursion (Bounded m) contexts → Bounded m (present (slice_get contexts i))
 bounded_at m [] i b = tt
 bounded_at m (o ∷ contexts) zero b = b.0
 bounded_at m (o ∷ contexts) (suc i) b = bounded_at m contexts i b.1
@@ -37,4 +37,4 @@ in_bounded m id row None b e = cc
 in_bounded m id row (Some c) b e = found m (λ r. r.id == id) c.rows.rows row b.sources.counts e
 
 pub row_within : (m context id : ℕ) (lane : Lane) (row : Row) → IsWithin m lane → Some row ≡ row_of context id lane → row.count ≤ m
-row_within m context id lane row w e = in_bounded m id row (own context lane) (bounded_at m lane.contexts context w.contexts) e
+row_within m context id lane row w e = in_bounded m id row (context_at context lane) (bounded_at m lane.contexts context w.contexts) e

@@ -11,7 +11,7 @@ use Rattle.post_office.specs.declared.letter.Letter.{Letter}
 use Rattle.post_office.specs.declared.letter.Body.{Body}
 use Rattle.post_office.specs.declared.letter.Body.TheVariants.{Attach, Complete, Cancelled}
 use Rattle.lane_turn.specs.declared.line.Event.TheVariants as events
-use Rattle.lane_turn.specs.Lane.{Lane, own, next_id, with_rows, edited, written}
+use Rattle.lane_turn.specs.Lane.{Lane, context_at, next_id, with_rows, edited, written}
 use Rattle.lane_turn.specs.Turn.{turned}
 use Rattle.lane_turn.specs.Deliver.{reply_spec, holding, arrived_source, received_body, received, received_all}
 use Rattle.lane_turn.specs.Owed.{one_for, lane_under}
@@ -43,13 +43,13 @@ with_true false y = refl
 gains_none : (s n : ℕ) (x : Bool) (lane after : Lane) → Leaves s n lane after → IsFresh lane → Gains s n (x && false) lane after
 gains_none s n x lane after h f = let m = left s n lane after h in (m.fresh f, omega (arith, m.sum, never x))
 
-reply_gains : (s n tick now sender : ℕ) (reply : Reply) (lane : Lane) (b : Bool) → is_some (own reply.ctx lane) ≡ b → IsFresh lane →
-    let id : ℕ = next_id (own reply.ctx lane) in
+reply_gains : (s n tick now sender : ℕ) (reply : Reply) (lane : Lane) (b : Bool) → is_some (context_at reply.ctx lane) ≡ b → IsFresh lane →
+    let id : ℕ = next_id (context_at reply.ctx lane) in
     Gains s n ((sender == s) && ((reply.task == n) && b)) lane (cond b (written tick (events.Arrive reply.ctx id) (holding reply.ctx id sender reply (edited reply.ctx (attached (reply_spec reply) now) lane))) lane)
 reply_gains s n tick now sender reply lane true e f =
-    let id : ℕ = next_id (own reply.ctx lane) in
+    let id : ℕ = next_id (context_at reply.ctx lane) in
     let there : Lane = edited reply.ctx (attached (reply_spec reply) now) lane in
-    let more : next_id (own reply.ctx there) ≡ id + 1 = next_more (with_rows (attached (reply_spec reply) now)) (λ c. refl) lane.contexts reply.ctx e in
+    let more : next_id (context_at reply.ctx there) ≡ id + 1 = next_more (with_rows (attached (reply_spec reply) now)) (λ c. refl) lane.contexts reply.ctx e in
     let rise = (edit s n lane reply.ctx (attached (reply_spec reply) now) (λ rows. omega arith)).rise in
     let told = results_other s n tick (events.Arrive reply.ctx id) lane.trace refl in
     let held = awaited_with s n (reply.ctx, id) (record { sender = sender; reply = reply }) lane.replies (next_new lane.contexts reply.ctx lane.replies f) in
@@ -59,13 +59,13 @@ reply_gains s n tick now sender reply lane false e f = (f, omega (arith, never_b
 pub leaves_arrived : (s n tick now context : ℕ) (spec : SourceSpec) (lane : Lane) → Leaves s n lane (arrived_source tick now context spec lane)
 leaves_arrived s n tick now context spec lane =
     let there : Lane = edited context (attached spec now) lane in
-    either s n lane _ _ (is_some (own context lane))
-    (leaves_trans s n lane there _ (edit s n lane context (attached spec now) (λ rows. omega arith)) (line s n there tick (events.Arrive context (next_id (own context lane))) refl))
+    either s n lane _ _ (is_some (context_at context lane))
+    (leaves_trans s n lane there _ (edit s n lane context (attached spec now) (λ rows. omega arith)) (line s n there tick (events.Arrive context (next_id (context_at context lane))) refl))
     (same s n lane lane refl refl refl refl refl)
 
 letter_gains : (s n : ℕ) (script : Plan) (tick sender : ℕ) (body : Body) (lane : Lane) → IsFresh lane → Gains s n ((sender == s) && brings n lane body) lane (received_body script tick sender body lane)
 letter_gains s n script tick sender (Attach context spec) lane f = gains_none s n (sender == s) lane _ (leaves_arrived s n tick (time_of script tick) context spec lane) f
-letter_gains s n script tick sender (Complete reply) lane f = reply_gains s n tick (time_of script tick) sender reply lane (is_some (own reply.ctx lane)) refl f
+letter_gains s n script tick sender (Complete reply) lane f = reply_gains s n tick (time_of script tick) sender reply lane (is_some (context_at reply.ctx lane)) refl f
 letter_gains s n script tick sender (Cancelled c) lane f = gains_none s n (sender == s) lane _ (leaves_cancel s n script tick c lane) f
 
 -- ---- a delivery
@@ -75,7 +75,7 @@ brought_cons s n home l ls = sum_by-cons (λ (l : Letter). cond ((l.sender == s)
 
 -- lanes that have the same contexts
 abbrev pub OwnAlike : Lane → Lane → Type 0
-OwnAlike lane home = (c : ℕ) → is_some (own c lane) ≡ is_some (own c home)
+OwnAlike lane home = (c : ℕ) → is_some (context_at c lane) ≡ is_some (context_at c home)
 
 brings_alike : (n : ℕ) (lane home : Lane) → OwnAlike lane home → (body : Body) → brings n lane body ≡ brings n home body
 brings_alike n lane home o (Attach context spec) = refl

@@ -15,7 +15,7 @@ use Rattle.lane_turn.specs.declared.line.Line.{Line}
 use Rattle.lane_turn.specs.declared.line.Event.{Event}
 use Rattle.lane_turn.specs.declared.line.Event.TheVariants as events
 use Rattle.lane_turn.specs.declared.replies.Awaited.{Awaited}
-use Rattle.lane_turn.specs.Lane.{Lane, known, own, with_rows, row_in, row_of}
+use Rattle.lane_turn.specs.Lane.{Lane, present, context_at, with_rows, row_in, row_of}
 use Rattle.lane_turn.specs.Step.{result_lines}
 use Rattle.lane_turn.specs.Stays.{is_dispatch_of, dispatches}
 use Rattle.lane_turn.specs.Traces.{Grows}
@@ -65,10 +65,10 @@ CountedIn i lines None = Unit {0}
 CountedIn i lines (Some c) = IsCounted i lines c.rows
 
 abbrev pub Counted : Lane → Type 0
-Counted lane = (i : ℕ) → CountedIn i lane.trace (known (slice_get lane.contexts i))
+Counted lane = (i : ℕ) → CountedIn i lane.trace (present (slice_get lane.contexts i))
 
 abbrev pub AllNumbered : Lane → Type 0
-AllNumbered lane = (i : ℕ) → NumberedIn (known (slice_get lane.contexts i))
+AllNumbered lane = (i : ℕ) → NumberedIn (present (slice_get lane.contexts i))
 
 equal : (a b : ℕ) → a ≡ b → (a == b) ≡ true
 equal a b e = ap (λ (n : ℕ). a == n) (sym e) ∙ same_self a
@@ -87,7 +87,7 @@ counted_edited i xs ys (Some c) None e same h = absurd e
 counted_edited i xs ys (Some c) (Some d) e same h = counted_edit i xs ys c.rows d.rows e same h
 
 pub counted_acts : (tick n : ℕ) (lane after : Lane) → Grows (OtherAt tick n) lane.trace after.trace → AllEdit lane.contexts after.contexts → Counted lane → Counted after
-counted_acts tick n lane after g e h i = counted_edited i lane.trace after.trace (known (slice_get lane.contexts i)) (known (slice_get after.contexts i)) (e i) (λ id. same_others tick n i id lane.trace after.trace g) (h i)
+counted_acts tick n lane after g e h i = counted_edited i lane.trace after.trace (present (slice_get lane.contexts i)) (present (slice_get after.contexts i)) (e i) (λ id. same_others tick n i id lane.trace after.trace g) (h i)
 
 -- ---- a dispatch
 
@@ -96,16 +96,16 @@ same_or_not i k o (inl p) = inl (p.1, refl)
 same_or_not i k o (inr p) = inr (p.1, refl)
 
 -- a change of one context: it is changed, and another is left
-set_cases : (g : Context → Context) (os : List (Option Context)) (k i : ℕ) → let now : Option Context = known (slice_get (slice_set os k (option_map g (known (slice_get os k)))) i) in
-    ((i ≡ k) × (now ≡ option_map g (known (slice_get os i)))) ⊎ ((i ≢ k) × (now ≡ known (slice_get os i)))
+set_cases : (g : Context → Context) (os : List (Option Context)) (k i : ℕ) → let now : Option Context = present (slice_get (slice_set os k (option_map g (present (slice_get os k)))) i) in
+    ((i ≡ k) × (now ≡ option_map g (present (slice_get os i)))) ⊎ ((i ≢ k) × (now ≡ present (slice_get os i)))
 set_cases g [] k i = same_or_not i k None (eqb_tells i k)
 set_cases g (o ∷ os) zero zero = inl (refl, refl)
 set_cases g (o ∷ os) zero (suc i) = inr ((λ e. absurd (omega (arith, e))), refl)
 set_cases g (o ∷ os) (suc k) zero = inr ((λ e. absurd (omega (arith, e))), refl)
 set_cases g (o ∷ os) (suc k) (suc i) = by (set_cases g os k i)
   where
-    by : let now : Option Context = known (slice_get (slice_set os k (option_map g (known (slice_get os k)))) i) in ((i ≡ k) × (now ≡ option_map g (known (slice_get os i)))) ⊎ ((i ≢ k) × (now ≡ known (slice_get os i)))
-        → ((suc i ≡ suc k) × (now ≡ option_map g (known (slice_get os i)))) ⊎ ((suc i ≢ suc k) × (now ≡ known (slice_get os i)))
+    by : let now : Option Context = present (slice_get (slice_set os k (option_map g (present (slice_get os k)))) i) in ((i ≡ k) × (now ≡ option_map g (present (slice_get os i)))) ⊎ ((i ≢ k) × (now ≡ present (slice_get os i)))
+        → ((suc i ≡ suc k) × (now ≡ option_map g (present (slice_get os i)))) ⊎ ((suc i ≢ suc k) × (now ≡ present (slice_get os i)))
     by (inl p) = inl (ap (λ (n : ℕ). suc n) p.0, p.1)
     by (inr p) = inr ((λ e. p.0 (omega (arith, e))), p.1)
 
@@ -154,19 +154,19 @@ there_in : (context id i : ℕ) (xs ys : List Line) (o : Option Context) → Ris
 there_in context id i xs ys None rise n h = tt
 there_in context id i xs ys (Some c) rise n h = counted_there context id i xs ys c.rows rise n h
 
-pub counted_dispatched : (context : ℕ) (row : Row) (lane after : Lane) → row_of context row.id lane ≡ Some row → after.contexts ≡ slice_set lane.contexts context (option_map (with_rows (counted_once row.id)) (own context lane))
+pub counted_dispatched : (context : ℕ) (row : Row) (lane after : Lane) → row_of context row.id lane ≡ Some row → after.contexts ≡ slice_set lane.contexts context (option_map (with_rows (counted_once row.id)) (context_at context lane))
     → ((i : ℕ) → Rise context row.id i lane.trace after.trace) → AllNumbered lane → Counted lane → Counted after
 counted_dispatched context row lane after f e rise n h i =
     let g : Context → Context = with_rows (counted_once row.id) in
-    subst (λ (os : List (Option Context)). CountedIn i after.trace (known (slice_get os i))) (sym e) (by (set_cases g lane.contexts context i))
+    subst (λ (os : List (Option Context)). CountedIn i after.trace (present (slice_get os i))) (sym e) (by (set_cases g lane.contexts context i))
   where
-    by : let now : Option Context = known (slice_get (slice_set lane.contexts context (option_map (with_rows (counted_once row.id)) (own context lane))) i) in
-        ((i ≡ context) × (now ≡ option_map (with_rows (counted_once row.id)) (known (slice_get lane.contexts i)))) ⊎ ((i ≢ context) × (now ≡ known (slice_get lane.contexts i))) → CountedIn i after.trace now
+    by : let now : Option Context = present (slice_get (slice_set lane.contexts context (option_map (with_rows (counted_once row.id)) (context_at context lane))) i) in
+        ((i ≡ context) × (now ≡ option_map (with_rows (counted_once row.id)) (present (slice_get lane.contexts i)))) ⊎ ((i ≢ context) × (now ≡ present (slice_get lane.contexts i))) → CountedIn i after.trace now
     by (inl p) =
-        let there : row_in row.id (known (slice_get lane.contexts i)) ≡ Some row = ap (λ (k : ℕ). row_in row.id (known (slice_get lane.contexts k))) p.0 ∙ f in
+        let there : row_in row.id (present (slice_get lane.contexts i)) ≡ Some row = ap (λ (k : ℕ). row_in row.id (present (slice_get lane.contexts k))) p.0 ∙ f in
         let risen : Rise i row.id i lane.trace after.trace = subst (λ (k : ℕ). Rise k row.id i lane.trace after.trace) (sym p.0) (rise i) in
-        subst (CountedIn i after.trace) (sym p.1) (here_in i row.id lane.trace after.trace (known (slice_get lane.contexts i)) row refl risen (n i) there (h i))
-    by (inr p) = subst (CountedIn i after.trace) (sym p.1) (there_in context row.id i lane.trace after.trace (known (slice_get lane.contexts i)) (rise i) p.0 (h i))
+        subst (CountedIn i after.trace) (sym p.1) (here_in i row.id lane.trace after.trace (present (slice_get lane.contexts i)) row refl risen (n i) there (h i))
+    by (inr p) = subst (CountedIn i after.trace) (sym p.1) (there_in context row.id i lane.trace after.trace (present (slice_get lane.contexts i)) (rise i) p.0 (h i))
 
 -- the count of a source that is found
 count_found : (i id : ℕ) (lines : List Line) (o : Option Context) (row : Row) → CountedIn i lines o → row_in id o ≡ Some row → row.count ≡ dispatches i row.id lines
@@ -174,4 +174,4 @@ count_found i id lines None row h e = let no : None ≡ Some row = e in cc
 count_found i id lines (Some c) row h e = are_same row.count (dispatches i row.id lines) (found (λ (r : Row). (r.count == dispatches i r.id lines) ≡ true) id row c.rows.rows h.rows e)
 
 pub count_of : (lane : Lane) (context id : ℕ) (row : Row) → Counted lane → row_of context id lane ≡ Some row → row.count ≡ dispatches context row.id lane.trace
-count_of lane context id row h e = count_found context id lane.trace (own context lane) row (h context) e
+count_of lane context id row h e = count_found context id lane.trace (context_at context lane) row (h context) e

@@ -11,7 +11,7 @@ use Rattle.source_rows.specs.Rows.{RowSet, added, attached, child_added, destroy
 use Rattle.source_rows.proofs.Lists.{all_push, all_map, all_filter}
 use Rattle.context_core.specs.declared.context.Context.{Context}
 use Rattle.lane_turn.specs.Sources.{restarted, restarted_row, restarted_kind, due_after}
-use Rattle.lane_turn.specs.Lane.{known}
+use Rattle.lane_turn.specs.Lane.{present}
 use Rattle.lane_turn.proofs.Follows.{Follows, FollowsIn, AllFollow, follows_same, follows_trans, follows_attached, follows_child, follows_destroyed, follows_ready_set, follows_reprioritised}
 
 -- what is so of ids and counts stays so, where it is so of all new ids with none
@@ -90,7 +90,7 @@ EditsIn (Some c) None = ⊥
 EditsIn (Some c) (Some d) = Edits c.rows d.rows
 
 abbrev pub AllEdit : (before now : List (Option Context)) → Type 0
-AllEdit before now = (i : ℕ) → EditsIn (known (slice_get before i)) (known (slice_get now i))
+AllEdit before now = (i : ℕ) → EditsIn (present (slice_get before i)) (present (slice_get now i))
 
 in_same : (o : Option Context) → EditsIn o o
 in_same None = tt
@@ -105,19 +105,19 @@ in_trans (Some a) (Some b) None h g = absurd g
 in_trans (Some a) (Some b) (Some c) h g = edits_trans a.rows b.rows c.rows h g
 
 pub all_same : (contexts : List (Option Context)) → AllEdit contexts contexts
-all_same contexts i = in_same (known (slice_get contexts i))
+all_same contexts i = in_same (present (slice_get contexts i))
 
 pub all_trans : (a b c : List (Option Context)) → AllEdit a b → AllEdit b c → AllEdit a c
-all_trans a b c h g i = in_trans (known (slice_get a i)) (known (slice_get b i)) (known (slice_get c i)) (h i) (g i)
+all_trans a b c h g i = in_trans (present (slice_get a i)) (present (slice_get b i)) (present (slice_get c i)) (h i) (g i)
 
 in_changed : (f : Context → Context) → ((c : Context) → Edits c.rows (f c).rows) → (o : Option Context) → EditsIn o (option_map f o)
 in_changed f e None = tt
 in_changed f e (Some c) = e c
 
-pub all_changed : (f : Context → Context) → ((c : Context) → Edits c.rows (f c).rows) → (contexts : List (Option Context)) (i : ℕ) → AllEdit contexts (slice_set contexts i (option_map f (known (slice_get contexts i))))
+pub all_changed : (f : Context → Context) → ((c : Context) → Edits c.rows (f c).rows) → (contexts : List (Option Context)) (i : ℕ) → AllEdit contexts (slice_set contexts i (option_map f (present (slice_get contexts i))))
 all_changed f e [] i j = tt
 all_changed f e (o ∷ contexts) zero zero = in_changed f e o
-all_changed f e (o ∷ contexts) zero (suc j) = in_same (known (slice_get contexts j))
+all_changed f e (o ∷ contexts) zero (suc j) = in_same (present (slice_get contexts j))
 all_changed f e (o ∷ contexts) (suc i) zero = in_same o
 all_changed f e (o ∷ contexts) (suc i) (suc j) = all_changed f e contexts i j
 
@@ -128,4 +128,4 @@ follow_in (Some c) None h = absurd h
 follow_in (Some c) (Some d) h = h.follows
 
 pub follow_all : (before now : List (Option Context)) → AllEdit before now → AllFollow before now
-follow_all before now h i = follow_in (known (slice_get before i)) (known (slice_get now i)) (h i)
+follow_all before now h i = follow_in (present (slice_get before i)) (present (slice_get now i)) (h i)

@@ -11,7 +11,7 @@ use Rattle.post_office.specs.declared.letter.Body.{Body}
 use Rattle.post_office.specs.declared.letter.Body.TheVariants.{Attach, Complete, Cancelled}
 use Rattle.std.specs.Prelude.{is_some}
 use Rattle.lane_turn.specs.declared.line.Event.TheVariants as events
-use Rattle.lane_turn.specs.Lane.{Lane, own, next_id, with_rows, edited, written}
+use Rattle.lane_turn.specs.Lane.{Lane, context_at, next_id, with_rows, edited, written}
 use Rattle.lane_turn.specs.Deliver.{reply_spec, holding, arrived, received_body, received, received_all}
 use Rattle.lane_turn.specs.Turn.{nest_work, row_count}
 use Rattle.lane_turn.specs.Sound.{Bounded, IsReady}
@@ -34,10 +34,10 @@ mild_beside lane a b h c f v = record {
 arrived_mild : (script : Plan) (tick sender : ℕ) (reply : Reply) (lane : Lane) → Mild lane (arrived script tick sender reply lane)
 arrived_mild script tick sender reply lane =
     let now : ℕ = time_of script tick in
-    let id : ℕ = next_id (own reply.ctx lane) in
+    let id : ℕ = next_id (context_at reply.ctx lane) in
     let there : Lane = edited reply.ctx (attached (reply_spec reply) now) lane in
     let after : Lane = written tick (events.Arrive reply.ctx id) (holding reply.ctx id sender reply there) in
-    either lane after lane (is_some (own reply.ctx lane))
+    either lane after lane (is_some (context_at reply.ctx lane))
     (mild_beside lane there after (mild_edit lane reply.ctx (attached (reply_spec reply) now) 1 2 (omega arith) (omega arith) (mild_attached (reply_spec reply) now)) refl refl refl)
     (quiet lane lane refl refl (omega arith))
 
@@ -45,8 +45,8 @@ received_mild : (script : Plan) (tick sender : ℕ) (body : Body) (lane : Lane) 
 received_mild script tick sender (Attach context spec) lane =
     let now : ℕ = time_of script tick in
     let there : Lane = edited context (attached spec now) lane in
-    let after : Lane = written tick (events.Arrive context (next_id (own context lane))) there in
-    either lane after lane (is_some (own context lane))
+    let after : Lane = written tick (events.Arrive context (next_id (context_at context lane))) there in
+    either lane after lane (is_some (context_at context lane))
     (mild_beside lane there after (mild_edit lane context (attached spec now) 1 2 (omega arith) (omega arith) (mild_attached spec now)) refl refl refl)
     (quiet lane lane refl refl (omega arith))
 received_mild script tick sender (Complete reply) lane = arrived_mild script tick sender reply lane

@@ -11,7 +11,7 @@ use Rattle.source_rows.specs.Rows.{RowSet, row_of, ready_set}
 use Rattle.context_core.specs.declared.context.Context.{Context}
 use Rattle.lane_turn.specs.Sources.{due_after, restarted, restarted_row, restarted_kind}
 use Rattle.lane_turn.specs.declared.line.Word.TheVariants as words
-use Rattle.lane_turn.specs.Lane.{Lane, known, with_rows, edited, handler_at, viewing}
+use Rattle.lane_turn.specs.Lane.{Lane, present, with_rows, edited, handler_at, viewing}
 use Rattle.lane_watch.specs.Watch.{Watched}
 use Rattle.lane_turn.specs.Acted.{missed, disconnect, disconnect_of}
 
@@ -22,7 +22,7 @@ edited_one edit o c now new e h k =
 pub edited_at : (edit : RowSet → RowSet) (lane : Lane) (context : ℕ) (o new : Option Context) → slice_get lane.contexts context ≡ Some o → new ≡ option_map (with_rows edit) o
     → record lane { contexts = slice_set lane.contexts context new } ≡ edited context edit lane
 edited_at edit lane context o new e n =
-    ap (λ (x : Option Context). record lane { contexts = slice_set lane.contexts context x }) (n ∙ ap (λ (s : Option (Option Context)). option_map (with_rows edit) (known s)) (sym e))
+    ap (λ (x : Option Context). record lane { contexts = slice_set lane.contexts context x }) (n ∙ ap (λ (s : Option (Option Context)). option_map (with_rows edit) (present s)) (sym e))
 
 -- a timeout that begins anew
 pub restarted_timeout : (now id ms : ℕ) (s : RowSet) (row : Row) → Some row ≡ row_of id s.rows → row.kind ≡ Timeout ms → ready_set id (due_after ms now) s ≡ restarted now id s

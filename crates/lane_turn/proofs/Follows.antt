@@ -9,7 +9,7 @@ use Rattle.source_rows.specs.Rows.{RowSet, added, attached, child_added, destroy
 use Rattle.source_rows.specs.Tree.{IdsRise}
 use Rattle.source_rows.proofs.Lists.{all_of, all_push, all_map, all_filter, pairs_push, pairs_map, pairs_filter}
 use Rattle.context_core.specs.declared.context.Context.{Context}
-use Rattle.lane_turn.specs.Lane.{known}
+use Rattle.lane_turn.specs.Lane.{present}
 
 -- the ids rise, and what comes next is new
 pub record IsNumbered (s : RowSet) : Type 0 where
@@ -103,7 +103,7 @@ FollowsIn (Some c) None = ⊥
 FollowsIn (Some c) (Some d) = Follows c.rows d.rows
 
 abbrev pub AllFollow : (before now : List (Option Context)) → Type 0
-AllFollow before now = (i : ℕ) → FollowsIn (known (slice_get before i)) (known (slice_get now i))
+AllFollow before now = (i : ℕ) → FollowsIn (present (slice_get before i)) (present (slice_get now i))
 
 pub in_same : (o : Option Context) → FollowsIn o o
 in_same None = tt
@@ -113,9 +113,9 @@ in_changed : (f : Context → Context) → ((c : Context) → Follows c.rows (f 
 in_changed f e None = tt
 in_changed f e (Some c) = e c
 
-pub all_changed : (f : Context → Context) → ((c : Context) → Follows c.rows (f c).rows) → (contexts : List (Option Context)) (i : ℕ) → AllFollow contexts (slice_set contexts i (option_map f (known (slice_get contexts i))))
+pub all_changed : (f : Context → Context) → ((c : Context) → Follows c.rows (f c).rows) → (contexts : List (Option Context)) (i : ℕ) → AllFollow contexts (slice_set contexts i (option_map f (present (slice_get contexts i))))
 all_changed f e [] i j = tt
 all_changed f e (o ∷ contexts) zero zero = in_changed f e o
-all_changed f e (o ∷ contexts) zero (suc j) = in_same (known (slice_get contexts j))
+all_changed f e (o ∷ contexts) zero (suc j) = in_same (present (slice_get contexts j))
 all_changed f e (o ∷ contexts) (suc i) zero = in_same o
 all_changed f e (o ∷ contexts) (suc i) (suc j) = all_changed f e contexts i j

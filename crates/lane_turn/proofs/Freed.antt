@@ -18,7 +18,7 @@ use Rattle.lane_turn.specs.declared.layer.Origin.{Origin}
 use Rattle.lane_turn.specs.declared.layer.Origin.TheVariants as origins
 use Rattle.lane_turn.specs.Frames.{Frame, CallOf, IterOf, LoopOf, blocked_by, blocked_in, busy}
 use Rattle.lane_turn.specs.Sources.{no_sources}
-use Rattle.lane_turn.specs.Lane.{Lane, Turn, known, own, row_in, row_of}
+use Rattle.lane_turn.specs.Lane.{Lane, Turn, present, context_at, row_in, row_of}
 use Rattle.lane_turn.specs.Step.{step}
 use Rattle.lane_turn.specs.Turn.{begun, turned, open_context, open_contexts_to}
 use Rattle.lane_turn.specs.Deliver.{received_all}
@@ -92,7 +92,7 @@ next_free id ids blocked (Some c) row h e = held_not id ids blocked row (row_in_
 -- ---- the invariant
 
 pub record Sits (lane : Lane) : Type 0 where
-  pub numbered : (i : ℕ) → NumberedIn (known (slice_get lane.contexts i))
+  pub numbered : (i : ℕ) → NumberedIn (present (slice_get lane.contexts i))
   pub waits : AllWait lane.contexts lane.frames
 
 numbered_in : (o p : Option Context) → FollowsIn o p → NumberedIn o → NumberedIn p
@@ -101,8 +101,8 @@ numbered_in None (Some d) f n = absurd f
 numbered_in (Some c) None f n = absurd f
 numbered_in (Some c) (Some d) f n = f.numbered n
 
-numbered_on : (before now : List (Option Context)) → AllFollow before now → ((i : ℕ) → NumberedIn (known (slice_get before i))) → (i : ℕ) → NumberedIn (known (slice_get now i))
-numbered_on before now f n i = numbered_in (known (slice_get before i)) (known (slice_get now i)) (f i) (n i)
+numbered_on : (before now : List (Option Context)) → AllFollow before now → ((i : ℕ) → NumberedIn (present (slice_get before i))) → (i : ℕ) → NumberedIn (present (slice_get now i))
+numbered_on before now f n i = numbered_in (present (slice_get before i)) (present (slice_get now i)) (f i) (n i)
 
 pub sits_step : (script : Plan) (tick : ℕ) (t u : Turn) → step script tick t ≡ Some u → Sits t.lane → Sits u.lane
 sits_step script tick t u e h =
@@ -121,7 +121,7 @@ sits_received script tick letters lane h =
       waits = subst (AllWait after.contexts) (sym b.frames) (wait_on lane.contexts after.contexts (follow_all lane.contexts after.contexts b.adds.rows) lane.frames h.waits);
     }
 
-numbered_pushed : (os : List (Option Context)) (o : Option Context) → ((i : ℕ) → NumberedIn (known (slice_get os i))) → NumberedIn o → (i : ℕ) → NumberedIn (known (slice_get (os ++ o ∷ []) i))
+numbered_pushed : (os : List (Option Context)) (o : Option Context) → ((i : ℕ) → NumberedIn (present (slice_get os i))) → NumberedIn o → (i : ℕ) → NumberedIn (present (slice_get (os ++ o ∷ []) i))
 numbered_pushed [] o n p zero = p
 numbered_pushed [] o n p (suc i) = tt
 numbered_pushed (x ∷ os) o n p zero = n zero
@@ -131,7 +131,7 @@ numbered_open : (script : Plan) (b : Bool) → NumberedIn (cond b (Some (no_sour
 numbered_open script true = record { rising = tt; given = tt }
 numbered_open script false = tt
 
-pub numbered_all : (script : Plan) (lane n : ℕ) → (i : ℕ) → NumberedIn (known (slice_get (open_contexts_to script lane n) i))
+pub numbered_all : (script : Plan) (lane n : ℕ) → (i : ℕ) → NumberedIn (present (slice_get (open_contexts_to script lane n) i))
 numbered_all script lane zero i = tt
 numbered_all script lane (suc n) i = numbered_pushed (open_contexts_to script lane n) (open_context script lane n) (numbered_all script lane n) (numbered_open script (home_of script n == lane)) i
 
@@ -148,7 +148,7 @@ sits_within script tick steps lane h = kept_finish script tick steps (λ t. Sits
 free_next : (lane : Lane) (context : ℕ) (row : Row) → Sits lane → IsNext lane context row → IsFree lane.frames context row
 free_next lane context row h n =
     let w = subst (AllWait lane.contexts) n.was h.waits in
-    let free = next_free row.id n.ids (busy context n.below) (own context lane) row w.1 n.there in
+    let free = next_free row.id n.ids (busy context n.below) (context_at context lane) row w.1 n.there in
     subst (λ (fs : List Frame). IsFree fs context row) (sym n.was) (each_recurs context n.below row.line free)
 
 free_told : (lane after : Lane) (event : Event) → Sits lane → TellsNext lane after event → IsOfFree lane event

@@ -3,8 +3,8 @@ use Rattle.std.proofs.Common.{◌≡◌, ℕ, zero, suc, ◌-◌, ◌≤◌, Opt
 use Rattle.loop_script.specs.declared.plan.Plan.{Plan}
 use Rattle.loop_script.specs.declared.action.Action.{Action}
 use Rattle.loop_script.specs.Parts.{actions_of}
-use Rattle.lane_turn.specs.declared.parts.Status.{Status}
-use Rattle.lane_turn.specs.declared.parts.Status.TheVariants.{GoesOn}
+use Rattle.lane_turn.specs.declared.lane.Status.{Status}
+use Rattle.lane_turn.specs.declared.lane.Status.TheVariants.{GoesOn}
 use Rattle.lane_turn.specs.declared.layer.Call.{Call}
 use Rattle.lane_turn.specs.declared.layer.Top.{Top}
 use Rattle.lane_turn.specs.declared.layer.Top.TheVariants as tops
@@ -12,7 +12,7 @@ use Rattle.lane_turn.specs.Frames.{top_of}
 use Rattle.lane_watch.specs.Tasks.{Started}
 use Rattle.post_office.specs.declared.letter.Body.{Body as Mail}
 use Rattle.lane_turn.specs.Lane.{Lane, Turn}
-use Rattle.lane_turn.specs.Step.{step, step_call, step_loop, step_top, step_going, step_polling, sending, counted, counted_by}
+use Rattle.lane_turn.specs.Step.{step, step_call, step_loop, step_top, step_going, step_polling, sending, limited, limited_by}
 use Rattle.lane_turn.specs.Turn.{stepped}
 
 pub call_stepped : (script : Plan) (tick : ℕ) (t : Turn) (call : Call) (a : Option Action) → t.unpolled ≡ [] → t.lane.status ≡ GoesOn → tops.Call call ≡ top_of t.lane.frames
@@ -26,11 +26,11 @@ pub loop_stepped : (script : Plan) (tick : ℕ) (t : Turn) (number context : ℕ
 loop_stepped script tick t number context p s e =
     ap (λ (top : Top). step_top script tick t top) e ∙ (ap (λ (s : Status). step_going script tick t s) (sym s) ∙ ap (λ (tasks : List Started). step_polling script tick t tasks) (sym p))
 
-counted_go : (tick : ℕ) (mail : Option Mail) (f : Lane → Lane) (t : Turn) (m : ℕ) → 1 ≤ m → record (sending tick mail t) { lane = f t.lane; left = m - 1 } ≡ counted_by tick mail f t m
+counted_go : (tick : ℕ) (mail : Option Mail) (f : Lane → Lane) (t : Turn) (m : ℕ) → 1 ≤ m → record (sending tick mail t) { lane = f t.lane; left = m - 1 } ≡ limited_by tick mail f t m
 counted_go tick mail f t zero h = absurd (omega (arith, h))
 counted_go tick mail f t (suc n) h =
     let left : suc n - 1 ≡ n = omega arith in
     rw left refl
 
-pub counted_one : (tick : ℕ) (mail : Option Mail) (f : Lane → Lane) (t : Turn) → 1 ≤ t.left → record (sending tick mail t) { lane = f t.lane; left = t.left - 1 } ≡ counted tick mail f t
+pub counted_one : (tick : ℕ) (mail : Option Mail) (f : Lane → Lane) (t : Turn) → 1 ≤ t.left → record (sending tick mail t) { lane = f t.lane; left = t.left - 1 } ≡ limited tick mail f t
 counted_one tick mail f t h = counted_go tick mail f t t.left h

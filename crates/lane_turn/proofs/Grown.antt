@@ -23,15 +23,15 @@ use Rattle.cancel_view.specs.declared.handler.Fired.{Fired}
 use Rattle.cancel_view.specs.Seen.{has, fired, cancelled, may_disconnect}
 use Rattle.context_core.specs.declared.context.Context.{Context}
 use Rattle.lane_turn.specs.declared.line.Event.TheVariants as events
-use Rattle.lane_turn.specs.declared.parts.Status.{Status}
-use Rattle.lane_turn.specs.declared.parts.Status.TheVariants.{GoesOn, Ended, Halted}
+use Rattle.lane_turn.specs.declared.lane.Status.{Status}
+use Rattle.lane_turn.specs.declared.lane.Status.TheVariants.{GoesOn, Ended, Halted}
 use Rattle.lane_turn.specs.declared.layer.Origin.{Origin}
 use Rattle.lane_turn.specs.declared.layer.Origin.TheVariants.{Start, Source, Invoke}
 use Rattle.lane_turn.specs.declared.layer.Call.{Call}
 use Rattle.lane_turn.specs.declared.slot.Place.{Place}
-use Rattle.lane_turn.specs.Frames.{Frame, CallOf, IterOf, LoopOf, calls}
+use Rattle.lane_turn.specs.Frames.{Frame, CallOf, IterOf, LoopOf, calls_in_progress}
 use Rattle.lane_turn.specs.Sources.{tree_levels, no_sources, restarted, restarted_row, restarted_kind, due_after}
-use Rattle.lane_turn.specs.Lane.{Lane, Turn, known, own, with_rows, with_context, edited, popped, taken, place_at, handler_at, row_of, row_in, row_at, is_running, written, viewing, noting, iterating}
+use Rattle.lane_turn.specs.Lane.{Lane, Turn, present, context_at, with_rows, with_context, edited, popped, taken, place_at, handler_at, row_of, row_in, row_at, is_running, written, viewing, noting, iterating}
 use Rattle.context_core.specs.Defaults.{acquired, released, is_on_top}
 use Rattle.lane_turn.specs.declared.line.Invoked.TheVariants.{Posted}
 use Rattle.lane_turn.specs.Owned.{default_context, is_owned, may_release, called_at_once, attaching, invoke_own, invoke, invoke_spec}
@@ -42,7 +42,7 @@ use Rattle.post_office.specs.declared.letter.Body.{Body as Mail}
 use Rattle.post_office.specs.declared.letter.Body.TheVariants as mails
 use Rattle.lane_turn.specs.declared.line.Word.{Word}
 use Rattle.lane_turn.specs.declared.line.Word.TheVariants as words
-use Rattle.lane_turn.specs.Step.{step, step_polling, step_call, step_id, returned, answered, counted_by, in_lane, dispatching}
+use Rattle.lane_turn.specs.Step.{step, step_polling, step_call, step_id, returned, answered, limited_by, with_lane, dispatching}
 use Rattle.lane_turn.specs.Turn.{begun, turned, opening, open_context, open_contexts_to}
 use Rattle.lane_turn.specs.Deliver.{reply_spec, received_body, received, received_all}
 use Rattle.lane_turn.specs.Tick.{posted_at, lanes_at, lane_within}
@@ -67,7 +67,7 @@ either levels x y false h k = k
 
 -- ---- an edit of one context
 
-grown_at : (levels : ℕ) (contexts : List (Option Context)) (i : ℕ) → AllByRecursion (Grown levels) contexts → Grown levels (known (slice_get contexts i))
+grown_at : (levels : ℕ) (contexts : List (Option Context)) (i : ℕ) → AllByRecursion (Grown levels) contexts → Grown levels (present (slice_get contexts i))
 grown_at levels [] i h = tt
 grown_at levels (o ∷ contexts) zero h = h.0
 grown_at levels (o ∷ contexts) (suc i) h = grown_at levels contexts i h.1
@@ -81,8 +81,8 @@ set_at levels o [] i g h = tt
 set_at levels o (x ∷ contexts) zero g h = (g, h.1)
 set_at levels o (x ∷ contexts) (suc i) g h = (h.0, set_at levels o contexts i g h.1)
 
-grown_edit : (levels : ℕ) (lane : Lane) (context : ℕ) (edit : RowSet → RowSet) → ((c : Context) → own context lane ≡ Some c → IsGrown levels (edit c.rows)) → AllGrown levels lane → AllGrown levels (edited context edit lane)
-grown_edit levels lane context edit f h = set_at levels (option_map (with_rows edit) (own context lane)) lane.contexts context (mapped levels edit (own context lane) f) h
+grown_edit : (levels : ℕ) (lane : Lane) (context : ℕ) (edit : RowSet → RowSet) → ((c : Context) → context_at context lane ≡ Some c → IsGrown levels (edit c.rows)) → AllGrown levels lane → AllGrown levels (edited context edit lane)
+grown_edit levels lane context edit f h = set_at levels (option_map (with_rows edit) (context_at context lane)) lane.contexts context (mapped levels edit (context_at context lane) f) h
 
 -- a change of one context that leaves its sources alone
 kept : (levels : ℕ) (change : Context → Context) (o : Option Context) → ((c : Context) → (change c).rows ≡ c.rows) → Grown levels o → Grown levels (option_map change o)
@@ -90,13 +90,13 @@ kept levels change None f g = tt
 kept levels change (Some c) f g = subst (IsGrown levels) (sym (f c)) g
 
 grown_change : (levels : ℕ) (lane : Lane) (context : ℕ) (change : Context → Context) → ((c : Context) → (change c).rows ≡ c.rows) → AllGrown levels lane → AllGrown levels (with_context context change lane)
-grown_change levels lane context change f h = set_at levels (option_map change (own context lane)) lane.contexts context (kept levels change (own context lane) f (grown_at levels lane.contexts context h)) h
+grown_change levels lane context change f h = set_at levels (option_map change (context_at context lane)) lane.contexts context (kept levels change (context_at context lane) f (grown_at levels lane.contexts context h)) h
 
 -- the sources of an own context stand so, and have few numbers
-pub own_grown : (levels : ℕ) (lane : Lane) (context : ℕ) (c : Context) → own context lane ≡ Some c → AllGrown levels lane → IsGrown levels c.rows
+pub own_grown : (levels : ℕ) (lane : Lane) (context : ℕ) (c : Context) → context_at context lane ≡ Some c → AllGrown levels lane → IsGrown levels c.rows
 own_grown levels lane context c e h = subst (Grown levels) e (grown_at levels lane.contexts context h)
 
-few_numbers : (lane : Lane) (context : ℕ) (c : Context) → own context lane ≡ Some c → AllBounded lane → c.rows.next_order < 2 ^ 63
+few_numbers : (lane : Lane) (context : ℕ) (c : Context) → context_at context lane ≡ Some c → AllBounded lane → c.rows.next_order < 2 ^ 63
 few_numbers lane context c e b = let at = (subst (Bounded (2 ^ 62)) e (bounded_at (2 ^ 62) lane.contexts context b)).sources.order in omega (arith, at)
 
 -- an edit that no sources are refused
@@ -211,20 +211,20 @@ grown_disconnect levels tick None lane h = h
 grown_disconnect levels tick (Some id) lane h = either levels _ _ (may_disconnect id lane.view) (λ _. h) h
 
 grown_at_once : (levels tick context proc : ℕ) (acquires : Option ℕ) (lane : Lane) → AllGrown levels lane → AllGrown levels (called_at_once tick context proc acquires lane)
-grown_at_once levels tick context proc acquires lane h = either levels _ _ (nat_lt (calls lane.frames) 32) (λ _. h) h
+grown_at_once levels tick context proc acquires lane h = either levels _ _ (nat_lt (calls_in_progress lane.frames) 32) (λ _. h) h
 
 grown_invoke : (levels tick now context proc : ℕ) (lane : Lane) → AllBounded lane → AllGrown levels lane → AllGrown levels (invoke tick now context proc lane)
 grown_invoke levels tick now context proc lane b h =
     let none : Lane = called_at_once tick context proc None lane in
     let some : Lane = called_at_once tick context proc (Some context) lane in
     let attached : Lane = attaching tick now context proc lane in
-    either levels (invoke_own tick now context proc lane) (written tick (events.Invoke context Posted) lane) (is_some (own context lane))
+    either levels (invoke_own tick now context proc lane) (written tick (events.Invoke context Posted) lane) (is_some (context_at context lane))
     (λ _. either levels none (cond (default_context lane == context) some attached) (is_owned context lane) (λ _. grown_at_once levels tick context proc None lane h)
     (either levels some attached (default_context lane == context) (λ _. grown_at_once levels tick context proc (Some context) lane h) (grown_attach levels now context (invoke_spec proc) lane b h)))
     h
 
 grown_acted : (levels : ℕ) (script : Plan) (tick : ℕ) (action : Action) (lane : Lane) → AllBounded lane → AllGrown levels lane → AllGrown levels (acted script tick action lane)
-grown_acted levels script tick (Attach context slot spec) lane b h = either levels _ _ (is_some (own context lane)) (λ _. grown_attach levels (time_of script tick) context spec lane b h) h
+grown_acted levels script tick (Attach context slot spec) lane b h = either levels _ _ (is_some (context_at context lane)) (λ _. grown_attach levels (time_of script tick) context spec lane b h) h
 grown_acted levels script tick (Child parent slot spec) lane b h = grown_child levels tick (time_of script tick) slot spec (place_at parent lane) lane b h
 grown_acted levels script tick (Destroy slot) lane b h = grown_source levels tick words.Destroy destroyed (grown_destroyed levels) (place_at slot lane) lane h
 grown_acted levels script tick (SetReady slot us) lane b h = grown_source levels tick words.SetReady (λ id. ready_set id us) (λ id. grown_ready_set levels id us) (place_at slot lane) lane h
@@ -237,11 +237,11 @@ grown_acted levels script tick (Cancel c) lane b h = grown_cancel levels script 
 grown_acted levels script tick (Connect c slot proc) lane b h = grown_connect levels script tick c slot proc lane h
 grown_acted levels script tick (Disconnect slot) lane b h = grown_disconnect levels tick (handler_at slot lane) lane h
 grown_acted levels script tick (Task spec) lane b h = h
-grown_acted levels script tick (Push context) lane b h = either levels _ _ (is_some (own context lane)) (λ _. h) h
+grown_acted levels script tick (Push context) lane b h = either levels _ _ (is_some (context_at context lane)) (λ _. h) h
 grown_acted levels script tick (Pop context) lane b h = either levels _ _ (is_on_top context lane.defaults) (λ _. h) h
 grown_acted levels script tick ShowDefault lane b h = h
-grown_acted levels script tick (Acquire context) lane b h = either levels _ _ (is_some (own context lane)) (λ _. grown_change levels lane context acquired (λ c. refl) h) h
-grown_acted levels script tick (Release context) lane b h = either levels _ _ (may_release (own context lane)) (λ _. grown_change levels lane context released (λ c. refl) h) h
+grown_acted levels script tick (Acquire context) lane b h = either levels _ _ (is_some (context_at context lane)) (λ _. grown_change levels lane context acquired (λ c. refl) h) h
+grown_acted levels script tick (Release context) lane b h = either levels _ _ (may_release (context_at context lane)) (λ _. grown_change levels lane context released (λ c. refl) h) h
 grown_acted levels script tick (Invoke context proc) lane b h = grown_invoke levels tick (time_of script tick) context proc lane b h
 grown_acted levels script tick (Give context to) lane b h = h
 grown_acted levels script tick (Log n) lane b h = h
@@ -249,7 +249,7 @@ grown_acted levels script tick (Log n) lane b h = h
 -- ---- the steps
 
 grown_dispatching : (levels tick context : ℕ) (row : Row) (lane : Lane) → AllGrown levels lane → AllGrown levels (dispatching tick context row lane)
-grown_dispatching levels tick context row lane h = either levels _ _ (nat_lt (calls lane.frames) 32) (λ _. grown_free levels lane context (counted row.id) (grown_counted levels row.id) h) h
+grown_dispatching levels tick context row lane h = either levels _ _ (nat_lt (calls_in_progress lane.frames) 32) (λ _. grown_free levels lane context (counted row.id) (grown_counted levels row.id) h) h
 
 grown_returned : (levels : ℕ) (script : Plan) (tick : ℕ) (body : Body) (origin : Origin) (lane : Lane) → AllGrown levels lane → AllGrown levels (returned script tick body origin lane)
 grown_returned levels script tick body Start lane h = h
@@ -263,7 +263,7 @@ grown_answered : (levels tick context : ℕ) (answer : Option Bool) (lane : Lane
 grown_answered levels tick context None lane h = h
 grown_answered levels tick context (Some any) lane h = h
 
-grown_counting : (levels tick : ℕ) (mail : Option Mail) (f : Lane → Lane) (t : Turn) (left : ℕ) → AllGrown levels t.lane → AllGrown levels (f t.lane) → AllGrown levels (counted_by tick mail f t left).lane
+grown_counting : (levels tick : ℕ) (mail : Option Mail) (f : Lane → Lane) (t : Turn) (left : ℕ) → AllGrown levels t.lane → AllGrown levels (f t.lane) → AllGrown levels (limited_by tick mail f t left).lane
 grown_counting levels tick mail f t zero h k = h
 grown_counting levels tick mail f t (suc left) h k = k
 
@@ -285,7 +285,7 @@ grown_id levels tick context t None b h = h
 grown_id levels tick context t (Some row) b h = grown_counting levels tick None (dispatching tick context row) t t.left h (grown_dispatching levels tick context row t.lane h)
 
 grown_loop : (levels : ℕ) (script : Plan) (tick number context : ℕ) (t : Turn) (runs iterated : Bool) (u : Turn)
-    → cond runs (cond iterated None (Some (record t { lane = iterating script tick context None t.lane; iterated = true }))) (Some (in_lane (λ lane. written tick (events.LoopEnd number) (popped lane)) t)) ≡ Some u → StaysGrown levels t u
+    → cond runs (cond iterated None (Some (record t { lane = iterating script tick context None t.lane; iterated = true }))) (Some (with_lane (λ lane. written tick (events.LoopEnd number) (popped lane)) t)) ≡ Some u → StaysGrown levels t u
 grown_loop levels script tick number context t true true u e b h = cc
 grown_loop levels script tick number context t true false u e b h = subst (λ (v : Turn). AllGrown levels v.lane) (some_same _ _ e) h
 grown_loop levels script tick number context t false iterated u e b h = subst (λ (v : Turn). AllGrown levels v.lane) (some_same _ _ e) h
@@ -346,9 +346,9 @@ grown_turned levels m script tick lane h r g =
 -- ---- the deliveries
 
 grown_received : (levels : ℕ) (script : Plan) (tick sender : ℕ) (body : Mail) (lane : Lane) → AllBounded lane → AllGrown levels lane → AllGrown levels (received_body script tick sender body lane)
-grown_received levels script tick sender (mails.Attach context spec) lane b h = either levels _ _ (is_some (own context lane)) (λ _. grown_attach levels (time_of script tick) context spec lane b h) h
+grown_received levels script tick sender (mails.Attach context spec) lane b h = either levels _ _ (is_some (context_at context lane)) (λ _. grown_attach levels (time_of script tick) context spec lane b h) h
 grown_received levels script tick sender (mails.Complete reply) lane b h =
-    either levels _ _ (is_some (own reply.ctx lane)) (λ _. grown_attach levels (time_of script tick) reply.ctx (reply_spec reply) lane b h) h
+    either levels _ _ (is_some (context_at reply.ctx lane)) (λ _. grown_attach levels (time_of script tick) reply.ctx (reply_spec reply) lane b h) h
 grown_received levels script tick sender (mails.Cancelled c) lane b h = grown_cancel levels script tick c lane h
 
 grown_received_all : (levels : ℕ) (script : Plan) (tick next m : ℕ) (letters : List Letter) (lane : Lane) → m + 2 * length letters ≤ 2 ^ 62 → IsReady script next m lane → AllGrown levels lane → AllGrown levels (received_all script tick letters lane)

@@ -17,19 +17,19 @@ use Rattle.lane_turn.specs.declared.line.Event.TheVariants as events
 use Rattle.lane_turn.specs.declared.slot.Place.{Place}
 use Rattle.lane_turn.specs.declared.line.Word.{Word}
 use Rattle.lane_turn.specs.declared.line.Word.TheVariants as words
-use Rattle.lane_turn.specs.declared.parts.Status.{Status}
-use Rattle.lane_turn.specs.declared.parts.Status.TheVariants.{GoesOn, Ended, Halted}
+use Rattle.lane_turn.specs.declared.lane.Status.{Status}
+use Rattle.lane_turn.specs.declared.lane.Status.TheVariants.{GoesOn, Ended, Halted}
 use Rattle.lane_turn.specs.declared.layer.Call.{Call}
 use Rattle.lane_turn.specs.declared.layer.Origin.{Origin}
 use Rattle.lane_turn.specs.declared.layer.Origin.TheVariants as origins
-use Rattle.lane_turn.specs.Frames.{Frame, CallOf, IterOf, LoopOf, advanced, advanced_one, emptied, emptied_one, calls}
-use Rattle.lane_turn.specs.Lane.{Lane, Turn, taken, pushed, popped, stopped, set_running, written, iterating, chosen, is_any, own, place_at, handler_at, row_in, row_of, is_running}
+use Rattle.lane_turn.specs.Frames.{Frame, CallOf, IterOf, LoopOf, advanced, advanced_one, emptied, emptied_one, calls_in_progress}
+use Rattle.lane_turn.specs.Lane.{Lane, Turn, taken, pushed, popped, stopped, set_running, written, iterating, chosen, is_any, context_at, place_at, handler_at, row_in, row_of, is_running}
 use Rattle.lane_watch.specs.Tasks.{Started}
 use Rattle.post_office.specs.declared.letter.Body.{Body as Mail}
 use Rattle.lane_turn.specs.declared.line.Invoked.TheVariants.{Posted}
 use Rattle.lane_turn.specs.Owned.{default_context, is_owned, calling, called_at_once, attaching, invoke_own, invoke}
 use Rattle.lane_turn.specs.Acted.{acted, sends, missed, child_of, on_source, set_priority_of, disconnect_of}
-use Rattle.lane_turn.specs.Step.{step, step_polling, step_call, step_id, returned, answered, counted_by, in_lane, dispatched, dispatching}
+use Rattle.lane_turn.specs.Step.{step, step_polling, step_call, step_id, returned, answered, limited_by, with_lane, dispatched, dispatching}
 use Rattle.lane_turn.proofs.Mild.{Plain, plain_cancel, plain_handled}
 use Rattle.lane_turn.specs.Depths.{begun_calls}
 use Rattle.lane_turn.proofs.Depths.{calls_begun, calls_advanced}
@@ -129,11 +129,11 @@ disconnect_on ch tick None lane fs h = h
 disconnect_on ch tick (Some id) lane fs h = by_either ch fs _ _ _ h h
 
 at_once_on : (ch : ℕ → List ℕ) (tick context proc : ℕ) (acquires : Option ℕ) (lane : Lane) → FramesGoOn ch lane.frames (called_at_once tick context proc acquires (taken lane)).frames
-at_once_on ch tick context proc acquires lane = by (nat_lt (calls (taken lane).frames) 32) refl
+at_once_on ch tick context proc acquires lane = by (nat_lt (calls_in_progress (taken lane).frames) 32) refl
   where
-    by : (b : Bool) → nat_lt (calls (taken lane).frames) 32 ≡ b → FramesGoOn ch lane.frames (cond b (calling tick context proc acquires (taken lane)) (stopped Halted (written tick events.HaltDepth (taken lane)))).frames
+    by : (b : Bool) → nat_lt (calls_in_progress (taken lane).frames) 32 ≡ b → FramesGoOn ch lane.frames (cond b (calling tick context proc acquires (taken lane)) (stopped Halted (written tick events.HaltDepth (taken lane)))).frames
     by true e =
-        let few : length (begun_calls lane.frames) < 32 = omega (arith, ltb-true (calls (advanced lane.frames)) 32 e, calls_advanced lane.frames, calls_begun lane.frames) in
+        let few : length (begun_calls lane.frames) < 32 = omega (arith, ltb-true (calls_in_progress (advanced lane.frames)) 32 e, calls_advanced lane.frames, calls_begun lane.frames) in
         let begun : Begun ch lane.frames (CallOf (record { origin = origins.Invoke acquires; body = Procedure proc; place = 0 }) ∷ advanced lane.frames) = (each_taken lane.frames, (few, tt)) in
         inr (inr begun)
     by false e = taken_on ch lane.frames
@@ -144,7 +144,7 @@ invoke_on ch tick now context proc lane =
     let none : Lane = called_at_once tick context proc None next in
     let some : Lane = called_at_once tick context proc (Some context) next in
     let attached : Lane = attaching tick now context proc next in
-    by_either ch lane.frames (invoke_own tick now context proc next) (written tick (events.Invoke context Posted) next) (is_some (own context next))
+    by_either ch lane.frames (invoke_own tick now context proc next) (written tick (events.Invoke context Posted) next) (is_some (context_at context next))
     (by_either ch lane.frames none (cond (default_context next == context) some attached) (is_owned context next) (at_once_on ch tick context proc None lane)
     (by_either ch lane.frames some attached (default_context next == context) (at_once_on ch tick context proc (Some context) lane) (taken_on ch lane.frames)))
     (taken_on ch lane.frames)
@@ -159,7 +159,7 @@ acted_on ch script tick (Iterate context) lane k = by_either ch lane.frames _ _ 
 acted_on ch script tick (Pending context) lane k = taken_on ch lane.frames
 acted_on ch script tick (Run number) lane k =
     let begun : Begun ch lane.frames (LoopOf number (context_of script number) ∷ advanced lane.frames) = (each_taken lane.frames, tt) in
-    by_either ch lane.frames (pushed (LoopOf number (context_of script number)) (set_running number true (taken lane))) (missed tick words.Run (taken lane)) (is_some (own (context_of script number) (taken lane)))
+    by_either ch lane.frames (pushed (LoopOf number (context_of script number)) (set_running number true (taken lane))) (missed tick words.Run (taken lane)) (is_some (context_at (context_of script number) (taken lane)))
     (inr (inr begun)) (taken_on ch lane.frames)
 acted_on ch script tick (Quit number) lane k = by_either ch lane.frames _ _ _ (taken_on ch lane.frames) (taken_on ch lane.frames)
 acted_on ch script tick (Cancel c) lane k = plain_on ch lane.frames (taken lane) _ (plain_cancel script tick c (taken lane)) (taken_on ch lane.frames)
@@ -182,7 +182,7 @@ some_turn t u e = cc
 abbrev On : (ℕ → List ℕ) → List Frame → Turn → Type 0
 On ch fs u = FramesGoOn ch fs u.lane.frames
 
-counted_on : (ch : ℕ → List ℕ) (tick : ℕ) (mail : Option Mail) (f : Lane → Lane) (t : Turn) (left : ℕ) → FramesGoOn ch t.lane.frames (f t.lane).frames → On ch t.lane.frames (counted_by tick mail f t left)
+counted_on : (ch : ℕ → List ℕ) (tick : ℕ) (mail : Option Mail) (f : Lane → Lane) (t : Turn) (left : ℕ) → FramesGoOn ch t.lane.frames (f t.lane).frames → On ch t.lane.frames (limited_by tick mail f t left)
 counted_on ch tick mail f t zero h = inl (each_same t.lane.frames)
 counted_on ch tick mail f t (suc n) h = h
 
@@ -231,19 +231,19 @@ id_on : (ch : ℕ → List ℕ) (rest : Turn) (tick : ℕ) (base : Lane) (below 
 id_on ch rest tick base below left iterated context id ids answer None e = inl (each_taken (IterOf context (id ∷ ids) answer ∷ below))
 id_on ch rest tick base below left iterated context id ids answer (Some row) e =
     let lane : Lane = going base (IterOf context (id ∷ ids) answer ∷ below) in
-    counted_on ch tick None (dispatching tick context row) (turn rest lane left iterated) left (by (nat_lt (calls lane.frames) 32) refl)
+    counted_on ch tick None (dispatching tick context row) (turn rest lane left iterated) left (by (nat_lt (calls_in_progress lane.frames) 32) refl)
   where
-    by : let lane : Lane = going base (IterOf context (id ∷ ids) answer ∷ below) in (b : Bool) → nat_lt (calls lane.frames) 32 ≡ b → FramesGoOn ch lane.frames (cond b (dispatched tick context row lane) (stopped Halted (written tick events.HaltDepth lane))).frames
+    by : let lane : Lane = going base (IterOf context (id ∷ ids) answer ∷ below) in (b : Bool) → nat_lt (calls_in_progress lane.frames) 32 ≡ b → FramesGoOn ch lane.frames (cond b (dispatched tick context row lane) (stopped Halted (written tick events.HaltDepth lane))).frames
     by true k =
         let lane : Lane = going base (IterOf context (id ∷ ids) answer ∷ below) in
-        let few : length (begun_calls lane.frames) < 32 = omega (arith, ltb-true (calls lane.frames) 32 k, calls_begun lane.frames) in
-        let begun : Begun ch lane.frames (dispatched tick context row lane).frames = (each_taken lane.frames, (few, record { ids = ids; answer = answer; below = below; was = ap (λ (i : ℕ). IterOf context (i ∷ ids) answer ∷ below) (sym (row_in_id id (own context lane) row e)); is = refl })) in
+        let few : length (begun_calls lane.frames) < 32 = omega (arith, ltb-true (calls_in_progress lane.frames) 32 k, calls_begun lane.frames) in
+        let begun : Begun ch lane.frames (dispatched tick context row lane).frames = (each_taken lane.frames, (few, record { ids = ids; answer = answer; below = below; was = ap (λ (i : ℕ). IterOf context (i ∷ ids) answer ∷ below) (sym (row_in_id id (context_at context lane) row e)); is = refl })) in
         inr (inr begun)
     by false k = inl (each_same (IterOf context (id ∷ ids) answer ∷ below))
 
 loop_on : (ch : ℕ → List ℕ) (rest : Turn) (script : Plan) (tick : ℕ) (base : Lane) (below : List Frame) (left : ℕ) (iterated : Bool) (number context : ℕ) (runs : Bool) (u : Turn)
     → let lane : Lane = going base (LoopOf number context ∷ below) in let t : Turn = turn rest lane left iterated in
-    ((c : ℕ) → chosen script tick c lane ≡ ch c) → cond runs (cond iterated None (Some (turn rest (iterating script tick context None t.lane) left true))) (Some (in_lane (λ lane. written tick (events.LoopEnd number) (popped lane)) t)) ≡ Some u → On ch lane.frames u
+    ((c : ℕ) → chosen script tick c lane ≡ ch c) → cond runs (cond iterated None (Some (turn rest (iterating script tick context None t.lane) left true))) (Some (with_lane (λ lane. written tick (events.LoopEnd number) (popped lane)) t)) ≡ Some u → On ch lane.frames u
 loop_on ch rest script tick base below left true number context true u k e = cc
 loop_on ch rest script tick base below left false number context true u k e =
     let fs : List Frame = LoopOf number context ∷ below in

@@ -13,7 +13,7 @@ use Rattle.lane_turn.specs.declared.layer.Top.{Top}
 use Rattle.lane_turn.specs.declared.layer.Top.TheVariants as tops
 use Rattle.lane_turn.specs.declared.layer.Layer.{Layer}
 use Rattle.lane_turn.specs.declared.layer.Layer.TheVariants as layers
-use Rattle.lane_turn.specs.Frames.{Frame, CallOf, IterOf, LoopOf, emptied, emptied_one, is_dispatch, depth, is_call, calls, blocked_in, busy, advanced, advanced_one, top_of, IsTaken}
+use Rattle.lane_turn.specs.Frames.{Frame, CallOf, IterOf, LoopOf, emptied, emptied_one, is_dispatch, depth, is_call, calls_in_progress, blocked_in, busy, advanced, advanced_one, top_of, IsTaken}
 use Rattle.lane_turn.specs.Nest.{level_at, is_level, is_live, ids_left, frame_of, frames_of, is_dispatch_layer, is_call_layer, blocked_by_layer, busy_layers, advanced_layer, advanced_layers, taken_layers, top_of_layers, HasRoomLayers}
 
 pub first_within : (xs : List Layer) (x : Layer) → xs ≢ [] → slice_get (xs ++ x ∷ []) 0 ≡ slice_get xs 0
@@ -95,7 +95,7 @@ call_same live level (layers.Call call) = refl
 call_same live level (layers.Iteration i) = refl
 call_same live level (layers.Loop number context) = refl
 
-pub calls_layers : (live : List (Option ℕ)) (ls : List Layer) → calls (frames_of live ls) ≡ count_by is_call_layer ls
+pub calls_layers : (live : List (Option ℕ)) (ls : List Layer) → calls_in_progress (frames_of live ls) ≡ count_by is_call_layer ls
 calls_layers live [] = refl
 calls_layers live (l ∷ ls) =
     omega (arith, sum_by-cons (λ f. one_if (is_call f)) (frame_of live (length ls) l) (frames_of live ls), sum_by-cons (λ a. one_if (is_call_layer a)) l ls, calls_layers live ls, ap one_if (call_same live (length ls) l))

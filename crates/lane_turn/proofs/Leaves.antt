@@ -30,9 +30,9 @@ use Rattle.lane_turn.specs.declared.line.Word.TheVariants as words
 use Rattle.lane_turn.specs.declared.layer.Origin.{Origin}
 use Rattle.lane_turn.specs.declared.layer.Origin.TheVariants.{Start, Source, Invoke as Invoked}
 use Rattle.lane_turn.specs.declared.slot.Place.{Place}
-use Rattle.lane_turn.specs.Frames.{calls}
+use Rattle.lane_turn.specs.Frames.{calls_in_progress}
 use Rattle.lane_turn.specs.Sources.{restarted, restarted_row, restarted_kind}
-use Rattle.lane_turn.specs.Lane.{Lane, known, own, next_id, with_rows, with_context, edited, row_at, place_at, handler_at, written, viewing, noting}
+use Rattle.lane_turn.specs.Lane.{Lane, present, context_at, next_id, with_rows, with_context, edited, row_at, place_at, handler_at, written, viewing, noting}
 use Rattle.lane_turn.specs.Owned.{default_context, is_owned, may_release, invoke_spec, calling, called_at_once, attaching, invoke_own, invoke}
 use Rattle.lane_turn.specs.Acted.{attach, acted, start_task, born, can_bear, child_of, on_source, set_priority_of, plain_acted, all_acted, handled, all_handled, cancel, connect, disconnect_of}
 use Rattle.lane_turn.specs.Step.{returned, answered}
@@ -42,7 +42,7 @@ use Rattle.lane_turn.proofs.Lists.{each-push}
 
 -- no context's next id falls
 abbrev pub Rises : (before after : List (Option Context)) → Type 0
-Rises before after = (i : ℕ) → next_id (known (slice_get before i)) ≤ next_id (known (slice_get after i))
+Rises before after = (i : ℕ) → next_id (present (slice_get before i)) ≤ next_id (present (slice_get after i))
 
 -- of m contexts are those that were pushed, and those to which tasks reply
 abbrev pub ArePlaced : ℕ → List Started → Type 0
@@ -69,7 +69,7 @@ results_other s n tick event lines e = results_push s n tick event lines ∙ (ap
 
 -- ---- contexts
 
-rises_changed : (f : Context → Context) → ((c : Context) → c.rows.next_id ≤ (f c).rows.next_id) → (contexts : List (Option Context)) (i j : ℕ) → next_id (known (slice_get contexts j)) ≤ next_id (known (slice_get (slice_set contexts i (option_map f (known (slice_get contexts i)))) j))
+rises_changed : (f : Context → Context) → ((c : Context) → c.rows.next_id ≤ (f c).rows.next_id) → (contexts : List (Option Context)) (i j : ℕ) → next_id (present (slice_get contexts j)) ≤ next_id (present (slice_get (slice_set contexts i (option_map f (present (slice_get contexts i)))) j))
 rises_changed f e [] i j = omega arith
 rises_changed f e (None ∷ contexts) zero zero = omega arith
 rises_changed f e (Some c ∷ contexts) zero zero = e c
@@ -98,7 +98,7 @@ change s n lane context f e = record {
   told = refl;
   replies = refl;
   rise = rises_changed f e lane.contexts context;
-  place = λ m z p. place_same m lane (with_context context f lane) (let size : length (slice_set lane.contexts context (option_map f (own context lane))) ≡ length lane.contexts = simp length-set in size) refl refl p;
+  place = λ m z p. place_same m lane (with_context context f lane) (let size : length (slice_set lane.contexts context (option_map f (context_at context lane))) ≡ length lane.contexts = simp length-set in size) refl refl p;
 }
 
 pub edit : (s n : ℕ) (lane : Lane) (context : ℕ) (f : RowSet → RowSet) → ((rows : RowSet) → rows.next_id ≤ (f rows).next_id) → Leaves s n lane (edited context f lane)
@@ -126,7 +126,7 @@ leaves_one s n script tick (SetPriority slot priority) lane = same s n lane lane
 leaves_one s n script tick (Iterate context) lane = same s n lane lane refl refl refl refl refl
 leaves_one s n script tick (Pending context) lane = same s n lane lane refl refl refl refl refl
 leaves_one s n script tick (Run number) lane = same s n lane lane refl refl refl refl refl
-leaves_one s n script tick (Quit number) lane = either s n lane _ _ (is_some (own (context_of script number) lane)) (same s n lane _ refl refl refl refl refl) (line s n lane tick (events.Miss words.Quit) refl)
+leaves_one s n script tick (Quit number) lane = either s n lane _ _ (is_some (context_at (context_of script number) lane)) (same s n lane _ refl refl refl refl refl) (line s n lane tick (events.Miss words.Quit) refl)
 leaves_one s n script tick (Cancel c) lane = same s n lane lane refl refl refl refl refl
 leaves_one s n script tick (Connect c slot proc) lane = same s n lane lane refl refl refl refl refl
 leaves_one s n script tick (Disconnect slot) lane = same s n lane lane refl refl refl refl refl
@@ -196,7 +196,7 @@ leaves_at_once : (s n tick context proc : ℕ) (acquires : Option ℕ) (lane : L
 leaves_at_once s n tick context proc acquires lane =
     let told : Lane = written tick (events.Invoke context Direct) lane in
     let halted : Lane = written tick events.HaltDepth lane in
-    either s n lane (calling tick context proc acquires lane) _ (nat_lt (calls lane.frames) 32)
+    either s n lane (calling tick context proc acquires lane) _ (nat_lt (calls_in_progress lane.frames) 32)
     (leaves_trans s n lane told _ (line s n lane tick (events.Invoke context Direct) refl) (same s n told _ refl refl refl refl refl))
     (leaves_trans s n lane halted _ (line s n lane tick events.HaltDepth refl) (same s n halted _ refl refl refl refl refl))
 
@@ -210,7 +210,7 @@ leaves_invoke s n tick now context proc lane =
     let none : Lane = called_at_once tick context proc None lane in
     let some : Lane = called_at_once tick context proc (Some context) lane in
     let there : Lane = attaching tick now context proc lane in
-    either s n lane (invoke_own tick now context proc lane) (written tick (events.Invoke context Posted) lane) (is_some (own context lane))
+    either s n lane (invoke_own tick now context proc lane) (written tick (events.Invoke context Posted) lane) (is_some (context_at context lane))
     (either s n lane none (cond (default_context lane == context) some there) (is_owned context lane) (leaves_at_once s n tick context proc None lane)
     (either s n lane some there (default_context lane == context) (leaves_at_once s n tick context proc (Some context) lane) (leaves_attaching s n tick now context proc lane)))
     (line s n lane tick (events.Invoke context Posted) refl)
@@ -218,11 +218,11 @@ leaves_invoke s n tick now context proc lane =
 leaves_attach : (s n tick now context slot : ℕ) (spec : SourceSpec) (lane : Lane) → Leaves s n lane (attach tick now context slot spec lane)
 leaves_attach s n tick now context slot spec lane =
     let there : Lane = edited context (attached spec now) lane in
-    either s n lane _ _ (is_some (own context lane))
+    either s n lane _ _ (is_some (context_at context lane))
     (leaves_trans s n lane there _ (edit s n lane context (attached spec now) (λ rows. omega arith)) (same s n there _ refl refl refl refl refl))
     (line s n lane tick (events.Miss words.Attach) refl)
 
-own_within : (contexts : List (Option Context)) (c : ℕ) → is_some (known (slice_get contexts c)) ≡ true → c < length contexts
+own_within : (contexts : List (Option Context)) (c : ℕ) → is_some (present (slice_get contexts c)) ≡ true → c < length contexts
 own_within [] c e = let no : false ≡ true = e in cc
 own_within (o ∷ contexts) zero e = omega arith
 own_within (o ∷ contexts) (suc c) e = omega (arith, own_within contexts c e)
@@ -233,7 +233,7 @@ each_front P zero (x ∷ xs) h = tt
 each_front P (suc k) [] h = tt
 each_front P (suc k) (x ∷ xs) h = (h.0, each_front P k xs h.1)
 
-leaves_push : (s n tick context : ℕ) (lane : Lane) (b : Bool) → is_some (own context lane) ≡ b → Leaves s n lane (cond b (record lane { defaults = pushed context lane.defaults }) (written tick (events.Miss words.Push) lane))
+leaves_push : (s n tick context : ℕ) (lane : Lane) (b : Bool) → is_some (context_at context lane) ≡ b → Leaves s n lane (cond b (record lane { defaults = pushed context lane.defaults }) (written tick (events.Miss words.Push) lane))
 leaves_push s n tick context lane true e = record {
   told = refl;
   replies = refl;
@@ -273,23 +273,23 @@ leaves_acted s n script tick (Child parent slot spec) lane = leaves_child s n ti
 leaves_acted s n script tick (Destroy slot) lane = leaves_source s n tick words.Destroy destroyed (place_at slot lane) lane (λ id rows. omega arith)
 leaves_acted s n script tick (SetReady slot us) lane = leaves_source s n tick words.SetReady (λ id. ready_set id us) (place_at slot lane) lane (λ id rows. omega arith)
 leaves_acted s n script tick (SetPriority slot priority) lane = leaves_priority s n tick priority (place_at slot lane) lane
-leaves_acted s n script tick (Iterate context) lane = either s n lane _ _ (is_some (own context lane)) (same s n lane _ refl refl refl refl refl) (line s n lane tick (events.Iterate context false) refl)
+leaves_acted s n script tick (Iterate context) lane = either s n lane _ _ (is_some (context_at context lane)) (same s n lane _ refl refl refl refl refl) (line s n lane tick (events.Iterate context false) refl)
 leaves_acted s n script tick (Pending context) lane = line s n lane tick _ refl
-leaves_acted s n script tick (Run number) lane = either s n lane _ _ (is_some (own (context_of script number) lane)) (same s n lane _ refl refl refl refl refl) (line s n lane tick (events.Miss words.Run) refl)
-leaves_acted s n script tick (Quit number) lane = either s n lane _ _ (is_some (own (context_of script number) lane)) (same s n lane _ refl refl refl refl refl) (line s n lane tick (events.Miss words.Quit) refl)
+leaves_acted s n script tick (Run number) lane = either s n lane _ _ (is_some (context_at (context_of script number) lane)) (same s n lane _ refl refl refl refl refl) (line s n lane tick (events.Miss words.Run) refl)
+leaves_acted s n script tick (Quit number) lane = either s n lane _ _ (is_some (context_at (context_of script number) lane)) (same s n lane _ refl refl refl refl refl) (line s n lane tick (events.Miss words.Quit) refl)
 leaves_acted s n script tick (Cancel c) lane = leaves_cancel s n script tick c lane
 leaves_acted s n script tick (Connect c slot proc) lane = leaves_connect s n script tick c slot proc lane
 leaves_acted s n script tick (Disconnect slot) lane = leaves_disconnect s n tick (handler_at slot lane) lane
 leaves_acted s n script tick (Task spec) lane = leaves_task s n tick spec lane
-leaves_acted s n script tick (Push context) lane = leaves_push s n tick context lane (is_some (own context lane)) refl
+leaves_acted s n script tick (Push context) lane = leaves_push s n tick context lane (is_some (context_at context lane)) refl
 leaves_acted s n script tick (Pop context) lane = either s n lane _ _ (is_on_top context lane.defaults) (leaves_popped s n context lane) (line s n lane tick (events.Miss words.Pop) refl)
 leaves_acted s n script tick ShowDefault lane = line s n lane tick (events.Default (default_context lane)) refl
 leaves_acted s n script tick (Acquire context) lane =
     let there : Lane = with_context context acquired lane in
-    either s n lane _ _ (is_some (own context lane))
+    either s n lane _ _ (is_some (context_at context lane))
     (leaves_trans s n lane there _ (change s n lane context acquired (λ c. omega arith)) (line s n there tick (events.Acquire context true) refl))
     (line s n lane tick (events.Acquire context false) refl)
-leaves_acted s n script tick (Release context) lane = either s n lane _ _ (may_release (own context lane)) (change s n lane context released (λ c. omega arith)) (line s n lane tick (events.Miss words.Release) refl)
+leaves_acted s n script tick (Release context) lane = either s n lane _ _ (may_release (context_at context lane)) (change s n lane context released (λ c. omega arith)) (line s n lane tick (events.Miss words.Release) refl)
 leaves_acted s n script tick (Invoke context proc) lane = leaves_invoke s n tick (time_of script tick) context proc lane
 leaves_acted s n script tick (Give context to) lane = same s n lane lane refl refl refl refl refl
 leaves_acted s n script tick (Log m) lane = line s n lane tick (events.Log m) refl

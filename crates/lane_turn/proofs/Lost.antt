@@ -15,7 +15,7 @@ use Rattle.post_office.specs.declared.letter.Letter.{Letter}
 use Rattle.post_office.specs.declared.letter.Body.{Body}
 use Rattle.post_office.specs.declared.letter.Body.TheVariants.{Attach, Complete, Cancelled}
 use Rattle.lane_turn.specs.declared.line.Event.TheVariants as events
-use Rattle.lane_turn.specs.Lane.{Lane, own, next_id, with_rows, edited, written}
+use Rattle.lane_turn.specs.Lane.{Lane, context_at, next_id, with_rows, edited, written}
 use Rattle.lane_turn.specs.Turn.{opening, turned, out_of}
 use Rattle.lane_turn.specs.Deliver.{reply_spec, holding, received_body, received, received_all}
 use Rattle.lane_turn.specs.Tick.{lanes_at, posted_at}
@@ -36,12 +36,12 @@ use Rattle.lane_turn.proofs.Taken.{over, over_none, over_cons, over_nil, over_ad
 received_placed : (m : ℕ) (script : Plan) (tick sender : ℕ) (body : Body) (lane : Lane) → 0 < m → IsPlaced m lane → IsPlaced m (received_body script tick sender body lane)
 received_placed m script tick sender (Attach context spec) lane z p = (leaves_arrived 0 0 tick (time_of script tick) context spec lane).place m z p
 received_placed m script tick sender (Cancelled c) lane z p = (leaves_cancel 0 0 script tick c lane).place m z p
-received_placed m script tick sender (Complete reply) lane z p = by (is_some (own reply.ctx lane))
+received_placed m script tick sender (Complete reply) lane z p = by (is_some (context_at reply.ctx lane))
   where
-    size : length (slice_set lane.contexts reply.ctx (option_map (with_rows (attached (reply_spec reply) (time_of script tick))) (own reply.ctx lane))) ≡ length lane.contexts
+    size : length (slice_set lane.contexts reply.ctx (option_map (with_rows (attached (reply_spec reply) (time_of script tick))) (context_at reply.ctx lane))) ≡ length lane.contexts
     size = simp length-set
 
-    by : (b : Bool) → IsPlaced m (cond b (written tick (events.Arrive reply.ctx (next_id (own reply.ctx lane))) (holding reply.ctx (next_id (own reply.ctx lane)) sender reply (edited reply.ctx (attached (reply_spec reply) (time_of script tick)) lane))) lane)
+    by : (b : Bool) → IsPlaced m (cond b (written tick (events.Arrive reply.ctx (next_id (context_at reply.ctx lane))) (holding reply.ctx (next_id (context_at reply.ctx lane)) sender reply (edited reply.ctx (attached (reply_spec reply) (time_of script tick)) lane))) lane)
     by true = place_same m lane _ size refl refl p
     by false = p
 
@@ -84,7 +84,7 @@ home_within number (lane ∷ lanes) c h =
     let sum = sum_by-cons (λ (l : LaneSpec). l.contexts) lane lanes in
     home_by number lane lanes c (nat_lt c lane.contexts) refl (λ le. home_within (number + 1) lanes (c - lane.contexts) (omega (arith, h, sum, le)))
 
-has_home : (script : Plan) (mail : ℕ → List Letter) (k c : ℕ) → c < (sizes script).contexts → is_some (own c (lane_under script mail (home_of script c) k)) ≡ true
+has_home : (script : Plan) (mail : ℕ → List Letter) (k c : ℕ) → c < (sizes script).contexts → is_some (context_at c (lane_under script mail (home_of script c) k)) ≡ true
 has_home script mail k c h =
     own_held (lane_under script mail (home_of script c) k).contexts c
     ∙ (ap (λ bs. slice_index_or bs c false) (held_under script mail (home_of script c) k)
@@ -110,8 +110,8 @@ one_brought : (s n : ℕ) (script : Plan) (mail : ℕ → List Letter) (k sender
 one_brought s n script mail k sender (Attach context spec) h = over_all (λ i. one_for ((sender == s) && false)) (λ i. never (sender == s)) (numbers script) ∙ sym (never (sender == s))
 one_brought s n script mail k sender (Cancelled c) h = over_all (λ i. one_for ((sender == s) && false)) (λ i. never (sender == s)) (numbers script) ∙ sym (never (sender == s))
 one_brought s n script mail k sender (Complete reply) h =
-    over_same (λ i. one_for ((sender == s) && ((reply.task == n) && is_some (own reply.ctx (lane_under script mail i k))))) (home_of script reply.ctx)
-    (λ l p. never_both (sender == s) (reply.task == n) _ (false_from_ne_true (is_some (own reply.ctx (lane_under script mail l k))) (λ e. p (own_home script mail l k reply.ctx e))))
+    over_same (λ i. one_for ((sender == s) && ((reply.task == n) && is_some (context_at reply.ctx (lane_under script mail i k))))) (home_of script reply.ctx)
+    (λ l p. never_both (sender == s) (reply.task == n) _ (false_from_ne_true (is_some (context_at reply.ctx (lane_under script mail l k))) (λ e. p (own_home script mail l k reply.ctx e))))
     0 (length script.lanes) (omega arith) (home_within 0 script.lanes reply.ctx h)
     ∙ (ap (λ b. one_for ((sender == s) && ((reply.task == n) && b))) (has_home script mail k reply.ctx h) ∙ with_true (sender == s) (reply.task == n))
 

@@ -23,7 +23,7 @@ use Rattle.lane_turn.specs.Frames.{Frame, CallOf, IterOf, LoopOf, emptied, busy}
 use Rattle.lane_turn.specs.Sources.{restarted, restarted_row, restarted_kind, due_after, own_ready_at, chosen_in}
 use Rattle.loop_script.specs.declared.source.Kind.{Kind}
 use Rattle.loop_script.specs.declared.source.Kind.TheVariants as kinds
-use Rattle.lane_turn.specs.Lane.{Lane, known, own, with_rows, with_context, edited, iterating, place_at, viewing, noting, set_running, written, chosen}
+use Rattle.lane_turn.specs.Lane.{Lane, present, context_at, with_rows, with_context, edited, iterating, place_at, viewing, noting, set_running, written, chosen}
 use Rattle.lane_turn.specs.Acted.{missed, born, on_source, plain_acted, all_acted, handled, all_handled, cancel}
 use Rattle.lane_turn.specs.declared.line.Word.{Word}
 use Rattle.lane_turn.specs.declared.line.Word.TheVariants as words
@@ -95,12 +95,12 @@ bounded_mapped : (k j m : ℕ) (change : Context → Context) → MildChange k j
 bounded_mapped k j m change e None b = tt
 bounded_mapped k j m change e (Some c) b = e.bounded m c b
 
-rows_changed : (k j : ℕ) (change : Context → Context) → MildChange k j change → (contexts : List (Option Context)) (i : ℕ) → row_count (slice_set contexts i (option_map change (known (slice_get contexts i)))) ≤ row_count contexts + k
+rows_changed : (k j : ℕ) (change : Context → Context) → MildChange k j change → (contexts : List (Option Context)) (i : ℕ) → row_count (slice_set contexts i (option_map change (present (slice_get contexts i)))) ≤ row_count contexts + k
 rows_changed k j change e [] i = omega arith
 rows_changed k j change e (o ∷ contexts) zero = omega (arith, rows_mapped k j change e o)
 rows_changed k j change e (o ∷ contexts) (suc i) = omega (arith, rows_changed k j change e contexts i)
 
-bounded_changed : (k j m : ℕ) (change : Context → Context) → MildChange k j change → (contexts : List (Option Context)) (i : ℕ) → AllByRecursion (Bounded m) contexts → AllByRecursion (Bounded (m + j)) (slice_set contexts i (option_map change (known (slice_get contexts i))))
+bounded_changed : (k j m : ℕ) (change : Context → Context) → MildChange k j change → (contexts : List (Option Context)) (i : ℕ) → AllByRecursion (Bounded m) contexts → AllByRecursion (Bounded (m + j)) (slice_set contexts i (option_map change (present (slice_get contexts i))))
 bounded_changed k j m change e [] i b = tt
 bounded_changed k j m change e (o ∷ contexts) zero b = (bounded_mapped k j m change e o b.0, each_bounded m (m + j) (omega arith) contexts b.1)
 bounded_changed k j m change e (o ∷ contexts) (suc i) b = (bounded_weaker m (m + j) (omega arith) o b.0, bounded_changed k j m change e contexts i b.1)
@@ -113,10 +113,10 @@ pub record MildEdit (k j : ℕ) (edit : RowSet → RowSet) : Type 0 where
 of_edit : (k j : ℕ) (edit : RowSet → RowSet) → MildEdit k j edit → MildChange k j (with_rows edit)
 of_edit k j edit e = record { rows = λ c. e.rows c.rows; bounded = λ m c b. record { sources = e.bounded m c.rows b.sources; acquires = omega (arith, b.acquires) } }
 
-pub rows_edited : (k j : ℕ) (edit : RowSet → RowSet) → MildEdit k j edit → (contexts : List (Option Context)) (i : ℕ) → row_count (slice_set contexts i (option_map (with_rows edit) (known (slice_get contexts i)))) ≤ row_count contexts + k
+pub rows_edited : (k j : ℕ) (edit : RowSet → RowSet) → MildEdit k j edit → (contexts : List (Option Context)) (i : ℕ) → row_count (slice_set contexts i (option_map (with_rows edit) (present (slice_get contexts i)))) ≤ row_count contexts + k
 rows_edited k j edit e contexts i = rows_changed k j (with_rows edit) (of_edit k j edit e) contexts i
 
-pub bounded_edited : (k j m : ℕ) (edit : RowSet → RowSet) → MildEdit k j edit → (contexts : List (Option Context)) (i : ℕ) → AllByRecursion (Bounded m) contexts → AllByRecursion (Bounded (m + j)) (slice_set contexts i (option_map (with_rows edit) (known (slice_get contexts i))))
+pub bounded_edited : (k j m : ℕ) (edit : RowSet → RowSet) → MildEdit k j edit → (contexts : List (Option Context)) (i : ℕ) → AllByRecursion (Bounded m) contexts → AllByRecursion (Bounded (m + j)) (slice_set contexts i (option_map (with_rows edit) (present (slice_get contexts i))))
 bounded_edited k j m edit e contexts i b = bounded_changed k j m (with_rows edit) (of_edit k j edit e) contexts i b
 
 -- the edits
@@ -257,7 +257,7 @@ work_emptied c (LoopOf number context ∷ frames) = omega (arith, work_emptied c
 pub length_emptied : (c : ℕ) (frames : List Frame) → length (emptied c frames) ≡ length frames
 length_emptied c frames = simp length-map
 
-rows_own : (contexts : List (Option Context)) (i : ℕ) → rows_in (known (slice_get contexts i)) ≤ row_count contexts
+rows_own : (contexts : List (Option Context)) (i : ℕ) → rows_in (present (slice_get contexts i)) ≤ row_count contexts
 rows_own [] i = omega arith
 rows_own (o ∷ contexts) zero = omega arith
 rows_own (o ∷ contexts) (suc i) = omega (arith, rows_own contexts i)
@@ -267,7 +267,7 @@ chosen_rows script tick view busy None = omega arith
 chosen_rows script tick view busy (Some c) = length-selected (own_ready_at script tick view) busy c.rows.rows
 
 pub length-chosen : (script : Plan) (tick context : ℕ) (lane : Lane) → length (chosen script tick context lane) ≤ row_count lane.contexts
-length-chosen script tick context lane = omega (arith, chosen_rows script tick lane.view (busy context lane.frames) (own context lane), rows_own lane.contexts context)
+length-chosen script tick context lane = omega (arith, chosen_rows script tick lane.view (busy context lane.frames) (context_at context lane), rows_own lane.contexts context)
 
 pub mild_iterating : (lane : Lane) (script : Plan) (tick context : ℕ) (answer : Option Bool) → Mild lane (iterating script tick context answer lane)
 mild_iterating lane script tick context answer =

@@ -16,13 +16,13 @@ use Rattle.post_office.specs.declared.letter.Body.{Body as Mail}
 use Rattle.post_office.specs.declared.letter.Body.TheVariants as mails
 use Rattle.lane_watch.specs.Tasks.{Started, first_seen, end_of_task, reply_of, reply_at, is_late_at, stays_at}
 use Rattle.lane_turn.specs.declared.line.Event.TheVariants as events
-use Rattle.lane_turn.specs.declared.parts.Status.{Status}
-use Rattle.lane_turn.specs.declared.parts.Status.TheVariants.{GoesOn, Ended, Halted}
+use Rattle.lane_turn.specs.declared.lane.Status.{Status}
+use Rattle.lane_turn.specs.declared.lane.Status.TheVariants.{GoesOn, Ended, Halted}
 use Rattle.lane_turn.specs.declared.layer.Call.{Call}
-use Rattle.lane_turn.specs.Frames.{Frame, CallOf, IterOf, LoopOf, calls}
-use Rattle.lane_turn.specs.Lane.{Lane, Turn, own, with_rows, written, stopped, popped, taken, row_of, iterating, is_running}
+use Rattle.lane_turn.specs.Frames.{Frame, CallOf, IterOf, LoopOf, calls_in_progress}
+use Rattle.lane_turn.specs.Lane.{Lane, Turn, context_at, with_rows, written, stopped, popped, taken, row_of, iterating, is_running}
 use Rattle.lane_turn.specs.Acted.{acted, sends}
-use Rattle.lane_turn.specs.Step.{step, step_polling, step_call, step_id, counted_by, in_lane, dispatched, dispatching, posted_with, letter, polled, mail_of, late_line, one_if}
+use Rattle.lane_turn.specs.Step.{step, step_polling, step_call, step_id, limited_by, with_lane, dispatched, dispatching, posted_with, letter, polled, mail_of, late_line, one_if}
 use Rattle.lane_turn.specs.Turn.{begun, finished, turned, out_of}
 use Rattle.lane_turn.specs.Owed.{one_for}
 use Rattle.lane_turn.specs.Taken.{results}
@@ -64,9 +64,9 @@ no_reply m (Some (mails.Cancelled c)) h = tt
 no_reply m (Some (mails.Complete reply)) h = absurd (omega (arith, h reply.task, ap one_for (eq-eqb reply.task reply.task refl)))
 
 place_dispatching : (m tick context : ℕ) (row : Row) (lane : Lane) → IsPlaced m lane → IsPlaced m (dispatching tick context row lane)
-place_dispatching m tick context row lane p = by (nat_lt (calls lane.frames) 32)
+place_dispatching m tick context row lane p = by (nat_lt (calls_in_progress lane.frames) 32)
   where
-    size : length (slice_set lane.contexts context (option_map (with_rows (counted_once row.id)) (own context lane))) ≡ length lane.contexts
+    size : length (slice_set lane.contexts context (option_map (with_rows (counted_once row.id)) (context_at context lane))) ≡ length lane.contexts
     size = simp length-set
 
     by : (b : Bool) → IsPlaced m (cond b (dispatched tick context row lane) (stopped Halted (written tick events.HaltDepth lane)))
@@ -85,7 +85,7 @@ some_same t u e = cc
 freely_on : (s n : ℕ) (t : Turn) (after : Lane) (iterated : Bool) → Leaves s n t.lane after → On s n t (record t { lane = after; iterated = iterated })
 freely_on s n t after iterated h = record { moves = left s n t.lane after h; homes = λ m z g. record { lane = h.place m z g.lane; unpolled = g.unpolled; posted = g.posted } }
 
-counted_on : (s n tick : ℕ) (mail : Option Mail) (f : Lane → Lane) (t : Turn) (left : ℕ) → ((m : ℕ) → IsHomedMail m mail) → Moves s n t.lane (f t.lane) → ((m : ℕ) → 0 < m → IsPlaced m t.lane → IsPlaced m (f t.lane)) → On s n t (counted_by tick mail f t left)
+counted_on : (s n tick : ℕ) (mail : Option Mail) (f : Lane → Lane) (t : Turn) (left : ℕ) → ((m : ℕ) → IsHomedMail m mail) → Moves s n t.lane (f t.lane) → ((m : ℕ) → 0 < m → IsPlaced m t.lane → IsPlaced m (f t.lane)) → On s n t (limited_by tick mail f t left)
 counted_on s n tick mail f t zero g h p =
     let halted : Lane = written tick events.HaltSteps t.lane in
     freely_on s n t (stopped Halted halted) t.iterated (leaves_trans s n t.lane halted (stopped Halted halted) (line s n t.lane tick events.HaltSteps refl) (same s n halted (stopped Halted halted) refl refl refl refl refl))
@@ -103,7 +103,7 @@ id_on s n tick t context None = freely_on s n t (taken t.lane) t.iterated (same 
 id_on s n tick t context (Some row) = counted_on s n tick None (dispatching tick context row) t t.left (λ m. tt) (moves_dispatching s n tick context row t.lane) (λ m z p. place_dispatching m tick context row t.lane p)
 
 loop_on : (s n : ℕ) (script : Plan) (tick : ℕ) (t : Turn) (number context : ℕ) (runs iterated : Bool) (u : Turn)
-    → cond runs (cond iterated None (Some (record t { lane = iterating script tick context None t.lane; iterated = true }))) (Some (in_lane (λ lane. written tick (events.LoopEnd number) (popped lane)) t)) ≡ Some u → On s n t u
+    → cond runs (cond iterated None (Some (record t { lane = iterating script tick context None t.lane; iterated = true }))) (Some (with_lane (λ lane. written tick (events.LoopEnd number) (popped lane)) t)) ≡ Some u → On s n t u
 loop_on s n script tick t number context true true u e = cc
 loop_on s n script tick t number context true false u e =
     let after : Lane = iterating script tick context None t.lane in

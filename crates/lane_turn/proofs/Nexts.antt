@@ -6,23 +6,23 @@ use Rattle.source_rows.specs.declared.row.Row.{Row}
 use Rattle.lane_turn.specs.declared.line.Line.{Line}
 use Rattle.lane_turn.specs.declared.line.Event.TheVariants as events
 use Rattle.lane_turn.specs.declared.layer.Caller.{Caller}
-use Rattle.lane_turn.specs.declared.parts.Status.TheVariants.{GoesOn, Halted}
+use Rattle.lane_turn.specs.declared.lane.Status.TheVariants.{GoesOn, Halted}
 use Rattle.lane_turn.specs.Replies.{reply_held}
-use Rattle.lane_turn.specs.Frames.{Frame, IterOf, calls, depth}
-use Rattle.lane_turn.specs.Lane.{Lane, Turn, own, row_of, written, stopped}
-use Rattle.lane_turn.specs.Step.{step, step_id, counted_by, dispatched, dispatching, result_lines}
+use Rattle.lane_turn.specs.Frames.{Frame, IterOf, calls_in_progress, depth}
+use Rattle.lane_turn.specs.Lane.{Lane, Turn, context_at, row_of, written, stopped}
+use Rattle.lane_turn.specs.Step.{step, step_id, limited_by, dispatched, dispatching, result_lines}
 use Rattle.lane_turn.specs.Depths.{callers, begun_calls}
 use Rattle.lane_turn.proofs.Depths.{depth_callers, callers_advanced, calls_begun}
 use Rattle.lane_turn.proofs.Iterations.{some_turn, turn, going, in_the_middle, row_in_id}
 
 -- what is counted is done, where the turn may count one more
-counted_lane : (tick context left : ℕ) (row : Row) (t : Turn) → 1 ≤ left → (counted_by tick None (dispatching tick context row) t left).lane ≡ dispatching tick context row t.lane
+counted_lane : (tick context left : ℕ) (row : Row) (t : Turn) → 1 ≤ left → (limited_by tick None (dispatching tick context row) t left).lane ≡ dispatching tick context row t.lane
 counted_lane tick context zero row t h = absurd (omega (arith, h))
 counted_lane tick context (suc left) row t h = refl
 
 begins : (tick context : ℕ) (row : Row) (lane : Lane) → length (begun_calls lane.frames) < 32 → dispatching tick context row lane ≡ dispatched tick context row lane
 begins tick context row lane h =
-    let few : nat_lt (calls lane.frames) 32 ≡ true = lt-ltb (calls lane.frames) 32 (omega (arith, h, calls_begun lane.frames)) in
+    let few : nat_lt (calls_in_progress lane.frames) 32 ≡ true = lt-ltb (calls_in_progress lane.frames) 32 (omega (arith, h, calls_begun lane.frames)) in
     ap (λ b. cond b (dispatched tick context row lane) (stopped Halted (written tick events.HaltDepth lane))) few
 
 line_of : (tick context : ℕ) (row : Row) (lane : Lane)
@@ -46,7 +46,7 @@ next_dispatched script tick t u context id ids answer below row p s f r l few e 
     let begun : length (begun_calls frames) < 32 = subst (λ (fs : List Frame). length (begun_calls fs) < 32) f few in
     let is : u.lane ≡ dispatched tick context row now.lane = ap (λ (v : Turn). v.lane) (sym (some_turn _ _ so)) ∙ (counted_lane tick context t.left row now l ∙ begins tick context row now.lane begun) in
     let told = line_of tick context row now.lane in
-    let same : row.id ≡ id = row_in_id id (own context t.lane) row (sym r) in (
+    let same : row.id ≡ id = row_in_id id (context_at context t.lane) row (sym r) in (
       told.0,
       subst (λ (lane : Lane). lane.trace ≡ t.lane.trace ++ (record { tick = tick; event = events.Dispatch context id row.priority (length (callers lane.frames)) }) ∷ told.0) (sym is)
           (subst (λ (i : ℕ). (dispatched tick context row now.lane).trace ≡ t.lane.trace ++ (record { tick = tick; event = events.Dispatch context i row.priority (length (callers (dispatched tick context row now.lane).frames)) }) ∷ told.0) same told.1),

@@ -15,14 +15,14 @@ use Rattle.lane_watch.specs.Tasks.{Started, reply_at, stays_at}
 use Rattle.lane_watch.specs.Watch.{AreDated}
 use Rattle.lane_watch.proofs.Dated.{dated_none}
 use Rattle.lane_turn.specs.declared.line.Event.TheVariants as events
-use Rattle.lane_turn.specs.declared.parts.Status.{Status}
-use Rattle.lane_turn.specs.declared.parts.Status.TheVariants.{GoesOn, Ended, Halted}
+use Rattle.lane_turn.specs.declared.lane.Status.{Status}
+use Rattle.lane_turn.specs.declared.lane.Status.TheVariants.{GoesOn, Ended, Halted}
 use Rattle.lane_turn.specs.declared.layer.Call.{Call}
 use Rattle.lane_turn.specs.Frames.{Frame, CallOf, IterOf, LoopOf}
-use Rattle.lane_turn.specs.Lane.{Lane, Turn, own, popped, taken, row_of, iterating, is_running, written}
+use Rattle.lane_turn.specs.Lane.{Lane, Turn, context_at, popped, taken, row_of, iterating, is_running, written}
 use Rattle.lane_turn.specs.Owned.{invoke_spec}
 use Rattle.lane_turn.specs.Acted.{acted, sends}
-use Rattle.lane_turn.specs.Step.{step, step_polling, step_call, step_id, counted_by, in_lane, dispatching, polled, posted_with, mail_of, one_if}
+use Rattle.lane_turn.specs.Step.{step, step_polling, step_call, step_id, limited_by, with_lane, dispatching, polled, posted_with, mail_of, one_if}
 use Rattle.lane_turn.specs.Turn.{begun, finished, turned, out_of}
 use Rattle.lane_turn.specs.Deliver.{received, received_all}
 use Rattle.lane_turn.specs.Tick.{posted_at, lanes_at}
@@ -44,7 +44,7 @@ sends_none n (Cancel c) lane = by (has c lane.view)
     by : (b : Bool) → mail_count n (cond b None (Some (mails.Cancelled c))) ≡ 0
     by true = refl
     by false = refl
-sends_none n (Invoke context proc) lane = by (is_some (own context lane))
+sends_none n (Invoke context proc) lane = by (is_some (context_at context lane))
   where
     by : (b : Bool) → mail_count n (cond b None (Some (mails.Attach context (invoke_spec proc)))) ≡ 0
     by true = refl
@@ -82,7 +82,7 @@ lane_owes k n total t after posted none c p h =
     let now : owed_by k n after.tasks t.unpolled ≡ 0 = ap (owed_by k n after.tasks) none in
     (changes_dated k t.lane after c h.dated, omega (arith, before, now, p, changes_owed k n t.lane after c h.dated, h.sum))
 
-counted_owes : (k n total : ℕ) (mail : Option Mail) (f : Lane → Lane) (t : Turn) (left : ℕ) → t.unpolled ≡ [] → mail_count n mail ≡ 0 → Changes k t.lane (f t.lane) → Owes k n total t → Owes k n total (counted_by k mail f t left)
+counted_owes : (k n total : ℕ) (mail : Option Mail) (f : Lane → Lane) (t : Turn) (left : ℕ) → t.unpolled ≡ [] → mail_count n mail ≡ 0 → Changes k t.lane (f t.lane) → Owes k n total t → Owes k n total (limited_by k mail f t left)
 counted_owes k n total mail f t zero none m c h = record { dated = h.dated; sum = h.sum }
 counted_owes k n total mail f t (suc left) none m c h =
     let posted : List Letter = posted_with k t.lane.number t.sent t.posted mail in
@@ -105,7 +105,7 @@ id_owes k n total t context None none h = freely_owes k n total t (taken t.lane)
 id_owes k n total t context (Some row) none h = counted_owes k n total None (dispatching k context row) t t.left none refl (inl (keeps_dispatching k context row t.lane)) h
 
 loop_owes : (script : Plan) (k n total : ℕ) (t : Turn) (number context : ℕ) (runs iterated : Bool) (u : Turn)
-    → cond runs (cond iterated None (Some (record t { lane = iterating script k context None t.lane; iterated = true }))) (Some (in_lane (λ lane. written k (events.LoopEnd number) (popped lane)) t)) ≡ Some u → t.unpolled ≡ [] → Owes k n total t → Owes k n total u
+    → cond runs (cond iterated None (Some (record t { lane = iterating script k context None t.lane; iterated = true }))) (Some (with_lane (λ lane. written k (events.LoopEnd number) (popped lane)) t)) ≡ Some u → t.unpolled ≡ [] → Owes k n total t → Owes k n total u
 loop_owes script k n total t number context true true u e none h = cc
 loop_owes script k n total t number context true false u e none h =
     let after : Lane = iterating script k context None t.lane in

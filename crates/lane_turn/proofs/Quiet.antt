@@ -5,15 +5,15 @@ use Rattle.loop_script.specs.declared.plan.Plan.{Plan}
 use Rattle.source_rows.specs.declared.row.Row.{Row}
 use Rattle.source_rows.specs.Rows.{is_under, in_order}
 use Rattle.lane_watch.specs.Watch.{GivesNothing}
-use Rattle.context_core.specs.Ready.{Own, is_free, calls, is_ready, ready_rows, is_most_urgent, selected}
-use Rattle.lane_turn.specs.declared.parts.Status.{Status}
-use Rattle.lane_turn.specs.declared.parts.Status.TheVariants.{GoesOn, Ended, Halted}
+use Rattle.context_core.specs.Ready.{Own, is_free, is_callable, is_ready, ready_rows, is_most_urgent, selected}
+use Rattle.lane_turn.specs.declared.lane.Status.{Status}
+use Rattle.lane_turn.specs.declared.lane.Status.TheVariants.{GoesOn, Ended, Halted}
 use Rattle.lane_turn.specs.declared.layer.Top.{Top}
 use Rattle.lane_turn.specs.declared.layer.Top.TheVariants as tops
 use Rattle.lane_turn.specs.Frames.{IterOf, top_of, emptied}
 use Rattle.lane_turn.specs.Lane.{Lane, Turn, chosen, is_running, iterating, written, popped}
 use Rattle.lane_turn.specs.declared.line.Event.TheVariants as events
-use Rattle.lane_turn.specs.Step.{step, step_polling, step_going, step_top, in_lane, late_line}
+use Rattle.lane_turn.specs.Step.{step, step_polling, step_going, step_top, with_lane, late_line}
 use Rattle.lane_turn.specs.Turn.{begun, finished}
 use Rattle.lane_turn.specs.Polls.{after_polls, letters_of}
 use Rattle.lane_turn.specs.Quiet.{at_tick, IsQuiet, IsIdle, IsIdleTop}
@@ -40,10 +40,10 @@ none_pass : (p : Row → Bool) (rows : List Row) → ((r : Row) → p r ≡ fals
 none_pass p [] h = refl
 none_pass p (r ∷ rows) h = rw (h r) (none_pass p rows h)
 
-pub none_selected : (own : Own) (busy : List ℕ) (rows : List Row) → list_any (calls own busy) rows ≡ false → selected own busy rows ≡ []
+pub none_selected : (own : Own) (busy : List ℕ) (rows : List Row) → list_any (is_callable own busy) rows ≡ false → selected own busy rows ≡ []
 none_selected own busy rows h =
     let ready : ready_rows own busy rows ≡ [] =
-    none_pass (is_ready own busy rows) rows (λ r. ap (λ (b : Bool). is_free busy r && b) (none_of_both (λ q. is_under r.id q) (calls own busy) rows h) ∙ and_false (is_free busy r)) in
+    none_pass (is_ready own busy rows) rows (λ r. ap (λ (b : Bool). is_free busy r && b) (none_of_both (λ q. is_under r.id q) (is_callable own busy) rows h) ∙ and_false (is_free busy r)) in
     ap (λ (rs : List Row). map (λ r. r.id) (in_order (filter (is_most_urgent rs) rs))) ready
 
 -- ---- the turn once its tasks are polled: they told nothing
@@ -93,12 +93,12 @@ module _ (script : Plan) (tick : ℕ) (lane : Lane) where
       let within : Turn = record (still tick lane true) { lane = record rest { frames = IterOf context [] None ∷ lane.frames } } in
       let begins : step script tick (still tick lane false) ≡ Some within =
       takes (still tick lane false) (tops.Loop number context) refl s e
-      ∙ (ap (λ (b : Bool). cond b (Some (record (still tick lane true) { lane = iterating script tick context None rest })) (Some (in_lane (λ (l : Lane). written tick (events.LoopEnd number) (popped l)) (still tick lane false)))) idle.0
+      ∙ (ap (λ (b : Bool). cond b (Some (record (still tick lane true) { lane = iterating script tick context None rest })) (Some (with_lane (λ (l : Lane). written tick (events.LoopEnd number) (popped l)) (still tick lane false)))) idle.0
       ∙ (λ i. Some (record (still tick lane true) { lane = record rest { frames = IterOf context (idle.1 i) None ∷ idle.2 i } }))) in
       let ends : step script tick within ≡ Some (still tick lane true) = takes within (tops.Iteration context None None) refl s refl in
       let rests : step script tick (still tick lane true) ≡ None =
       takes (still tick lane true) (tops.Loop number context) refl s e
-      ∙ ap (λ (b : Bool). cond b None (Some (in_lane (λ (l : Lane). written tick (events.LoopEnd number) (popped l)) (still tick lane true)))) idle.0 in
+      ∙ ap (λ (b : Bool). cond b None (Some (with_lane (λ (l : Lane). written tick (events.LoopEnd number) (popped l)) (still tick lane true)))) idle.0 in
       on script tick (still tick lane false) within begins ∙ (on script tick within (still tick lane true) ends ∙ over script tick (still tick lane true) rests)
 
   -- whatever is innermost, the turn ends as it began

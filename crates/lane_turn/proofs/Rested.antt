@@ -4,8 +4,8 @@ use Rattle.loop_script.specs.declared.plan.Plan.{Plan}
 use Rattle.post_office.specs.declared.letter.Letter.{Letter}
 use Rattle.lane_watch.specs.Tasks.{Started, is_late_at}
 use Rattle.lane_turn.specs.declared.line.Line.{Line}
-use Rattle.lane_turn.specs.declared.parts.Status.{Status}
-use Rattle.lane_turn.specs.declared.parts.Status.TheVariants.{GoesOn, Ended, Halted}
+use Rattle.lane_turn.specs.declared.lane.Status.{Status}
+use Rattle.lane_turn.specs.declared.lane.Status.TheVariants.{GoesOn, Ended, Halted}
 use Rattle.lane_turn.specs.Lane.{Lane, Turn}
 use Rattle.lane_turn.specs.Step.{step, step_polling, step_going, polled}
 use Rattle.lane_turn.specs.Turn.{begun, turned}

@@ -17,7 +17,7 @@ use Rattle.context_core.specs.declared.context.Context.{Context}
 use Rattle.context_core.specs.Ready.{Own, is_ready, is_most_urgent, ready_rows, selected}
 use Rattle.lane_turn.specs.Frames.{Frame, CallOf, IterOf, LoopOf, busy}
 use Rattle.lane_turn.specs.Sources.{own_ready_at, tree_levels, chosen_in}
-use Rattle.lane_turn.specs.Lane.{Lane, own, chosen}
+use Rattle.lane_turn.specs.Lane.{Lane, context_at, chosen}
 use Rattle.lane_turn.specs.Levels.{Grown, OfAllLanes}
 use Rattle.lane_turn.specs.Tick.{lanes_at, lane_within}
 use Rattle.lane_turn.specs.Selected.{IsUrgent, GoesBefore, IsInOrder, HasEachOnce}
@@ -50,10 +50,10 @@ record Stands (rows : List Row) (r : Row) : Type 0 where
   siblings : AllByRecursion (Siblings r) rows
   apart : AllByRecursion (λ x. r.order ≡ x.order → r ≡ x) rows
 
-record Goes (own : Own) (blocked : List ℕ) (rows : List Row) (r : Row) : Type 0 where
+record Goes (context_at : Own) (blocked : List ℕ) (rows : List Row) (r : Row) : Type 0 where
   stands : Stands rows r
-  ready : is_ready own blocked rows r ≡ true
-  urgent : AllByRecursion (λ q. is_ready own blocked rows q ≡ true → int_le r.priority q.priority ≡ true) rows
+  ready : is_ready context_at blocked rows r ≡ true
+  urgent : AllByRecursion (λ q. is_ready context_at blocked rows q ≡ true → int_le r.priority q.priority ≡ true) rows
 
 all_stand : (rows : List Row) → IsForest rows → AllByRecursion (Stands rows) rows
 all_stand rows f =
@@ -78,17 +78,17 @@ passed_all f p (x ∷ rows) e = by (passed_all f p rows) (f x) refl e
     by ih false k e = (λ y. let no : false ≡ true = sym k ∙ y in cc, ih e)
 
 abbrev Chosen : Own → List ℕ → List Row → List Row
-Chosen own blocked rows = filter (is_most_urgent (ready_rows own blocked rows)) (ready_rows own blocked rows)
+Chosen context_at blocked rows = filter (is_most_urgent (ready_rows context_at blocked rows)) (ready_rows context_at blocked rows)
 
-all_go : (own : Own) (blocked : List ℕ) (rows : List Row) → IsForest rows → AllByRecursion (Goes own blocked rows) (in_order (Chosen own blocked rows))
-all_go own blocked rows f =
-    let ready = all_passed (Stands rows) (λ (r : Row). Stands rows r × (is_ready own blocked rows r ≡ true)) (is_ready own blocked rows) (λ r s e. (s, e)) rows (all_stand rows f) in
-    all_in_order (Goes own blocked rows) (Chosen own blocked rows)
-    (all_passed (λ (r : Row). Stands rows r × (is_ready own blocked rows r ≡ true)) (Goes own blocked rows) (is_most_urgent (ready_rows own blocked rows))
-    (λ r s e. record { stands = s.0; ready = s.1; urgent = passed_all (is_ready own blocked rows) (λ q. int_le r.priority q.priority) rows e }) (ready_rows own blocked rows) ready)
+all_go : (context_at : Own) (blocked : List ℕ) (rows : List Row) → IsForest rows → AllByRecursion (Goes context_at blocked rows) (in_order (Chosen context_at blocked rows))
+all_go context_at blocked rows f =
+    let ready = all_passed (Stands rows) (λ (r : Row). Stands rows r × (is_ready context_at blocked rows r ≡ true)) (is_ready context_at blocked rows) (λ r s e. (s, e)) rows (all_stand rows f) in
+    all_in_order (Goes context_at blocked rows) (Chosen context_at blocked rows)
+    (all_passed (λ (r : Row). Stands rows r × (is_ready context_at blocked rows r ≡ true)) (Goes context_at blocked rows) (is_most_urgent (ready_rows context_at blocked rows))
+    (λ r s e. record { stands = s.0; ready = s.1; urgent = passed_all (is_ready context_at blocked rows) (λ q. int_le r.priority q.priority) rows e }) (ready_rows context_at blocked rows) ready)
 
-pub all_urgent : (own : Own) (blocked : List ℕ) (rows : List Row) → IsForest rows → AllByRecursion (IsUrgent own blocked rows) (selected own blocked rows)
-all_urgent own blocked rows f = all_map (Goes own blocked rows) (IsUrgent own blocked rows) (λ r. r.id) (λ r g. (r, (g.stands).there, g.ready, g.urgent)) (in_order (Chosen own blocked rows)) (all_go own blocked rows f)
+pub all_urgent : (context_at : Own) (blocked : List ℕ) (rows : List Row) → IsForest rows → AllByRecursion (IsUrgent context_at blocked rows) (selected context_at blocked rows)
+all_urgent context_at blocked rows f = all_map (Goes context_at blocked rows) (IsUrgent context_at blocked rows) (λ r. r.id) (λ r g. (r, (g.stands).there, g.ready, g.urgent)) (in_order (Chosen context_at blocked rows)) (all_go context_at blocked rows f)
 
 least_both : (a b : ℤ) → int_le a b ≡ true → int_le b a ≡ true → a ≡ b
 least_both a b h k = omega (arith, ints, h, k)
@@ -110,30 +110,30 @@ by_number rows r q s t f p e false l = other (eqb_tells r.order q.order)
         let behind : stands_before q r ≡ true = found (Siblings q) r.id r rows t.siblings s.there (sym e) (sym p) (omega (arith, above, apart.1)) in
         let no : true ≡ false = sym behind ∙ f.0 in cc
 
-goes_before : (own : Own) (blocked : List ℕ) (rows : List Row) (r q : Row) → Goes own blocked rows r → Goes own blocked rows q → Follow r q → (r.priority ≡ q.priority) × (r.parent ≡ q.parent → r.order < q.order)
-goes_before own blocked rows r q g h f =
-    let to = found (λ (x : Row). is_ready own blocked rows x ≡ true → int_le r.priority x.priority ≡ true) q.id q rows g.urgent (h.stands).there h.ready in
-    let from = found (λ (x : Row). is_ready own blocked rows x ≡ true → int_le q.priority x.priority ≡ true) r.id r rows h.urgent (g.stands).there g.ready in
+goes_before : (context_at : Own) (blocked : List ℕ) (rows : List Row) (r q : Row) → Goes context_at blocked rows r → Goes context_at blocked rows q → Follow r q → (r.priority ≡ q.priority) × (r.parent ≡ q.parent → r.order < q.order)
+goes_before context_at blocked rows r q g h f =
+    let to = found (λ (x : Row). is_ready context_at blocked rows x ≡ true → int_le r.priority x.priority ≡ true) q.id q rows g.urgent (h.stands).there h.ready in
+    let from = found (λ (x : Row). is_ready context_at blocked rows x ≡ true → int_le q.priority x.priority ≡ true) r.id r rows h.urgent (g.stands).there g.ready in
     let same : r.priority ≡ q.priority = least_both r.priority q.priority to from in
     (same, λ e. by_number rows r q g.stands h.stands f same e (nat_lt r.order q.order) refl)
 
-of_ids : (own : Own) (blocked : List ℕ) (rows : List Row) (r q : Row) → Goes own blocked rows r → Goes own blocked rows q → Follow r q → GoesBefore rows r.id q.id
-of_ids own blocked rows r q g h f r' q' e k =
+of_ids : (context_at : Own) (blocked : List ℕ) (rows : List Row) (r q : Row) → Goes context_at blocked rows r → Goes context_at blocked rows q → Follow r q → GoesBefore rows r.id q.id
+of_ids context_at blocked rows r q g h f r' q' e k =
     let first : r ≡ r' = row_same r r' (sym (g.stands).there ∙ e) in
     let second : q ≡ q' = row_same q q' (sym (h.stands).there ∙ k) in
     subst (λ (x : Row). (x.priority ≡ q'.priority) × (x.parent ≡ q'.parent → x.order < q'.order)) first
-    (subst (λ (y : Row). (r.priority ≡ y.priority) × (r.parent ≡ y.parent → r.order < y.order)) second (goes_before own blocked rows r q g h f))
+    (subst (λ (y : Row). (r.priority ≡ y.priority) × (r.parent ≡ y.parent → r.order < y.order)) second (goes_before context_at blocked rows r q g h f))
 
-pub all_before : (own : Own) (blocked : List ℕ) (rows : List Row) → IsForest rows → Pairs (GoesBefore rows) (selected own blocked rows)
-all_before own blocked rows f =
+pub all_before : (context_at : Own) (blocked : List ℕ) (rows : List Row) → IsForest rows → Pairs (GoesBefore rows) (selected context_at blocked rows)
+all_before context_at blocked rows f =
     let D : Row → Row → Type 0 = λ r q. r.id ≢ q.id in
     let apart : Pairs D rows = pairs_with (λ (r : Row) (q : Row). r.id < q.id) D (λ (r : Row). Unit {0}) (λ r q a b l e. absurd (omega (arith, l, e))) rows (all_true (λ (r : Row). Unit {0}) (λ r. tt) rows) f.rising in
-    let chosen = pairs_filter D (is_most_urgent (ready_rows own blocked rows)) (ready_rows own blocked rows) (pairs_filter D (is_ready own blocked rows) rows apart) in
-    let both : Pairs Follow (in_order (Chosen own blocked rows)) = pairs_and (λ (r : Row) (q : Row). stands_before q r ≡ false) D (in_order (Chosen own blocked rows)) (sorted_in_order (Chosen own blocked rows)) (pairs_in_order D (λ r q e k. e (sym k)) (Chosen own blocked rows) chosen) in
-    pairs_map (λ (r : Row) (q : Row). GoesBefore rows r.id q.id) (GoesBefore rows) (λ r. r.id) (λ r q h. h) (in_order (Chosen own blocked rows))
-    (pairs_with Follow (λ (r : Row) (q : Row). GoesBefore rows r.id q.id) (Goes own blocked rows) (λ r q g h w. of_ids own blocked rows r q g h w) (in_order (Chosen own blocked rows)) (all_go own blocked rows f) both)
+    let chosen = pairs_filter D (is_most_urgent (ready_rows context_at blocked rows)) (ready_rows context_at blocked rows) (pairs_filter D (is_ready context_at blocked rows) rows apart) in
+    let both : Pairs Follow (in_order (Chosen context_at blocked rows)) = pairs_and (λ (r : Row) (q : Row). stands_before q r ≡ false) D (in_order (Chosen context_at blocked rows)) (sorted_in_order (Chosen context_at blocked rows)) (pairs_in_order D (λ r q e k. e (sym k)) (Chosen context_at blocked rows) chosen) in
+    pairs_map (λ (r : Row) (q : Row). GoesBefore rows r.id q.id) (GoesBefore rows) (λ r. r.id) (λ r q h. h) (in_order (Chosen context_at blocked rows))
+    (pairs_with Follow (λ (r : Row) (q : Row). GoesBefore rows r.id q.id) (Goes context_at blocked rows) (λ r q g h w. of_ids context_at blocked rows r q g h w) (in_order (Chosen context_at blocked rows)) (all_go context_at blocked rows f) both)
 
-lane_order : (script : Plan) (lane : Lane) → AllByRecursion (Grown (tree_levels script)) lane.contexts → (now context : ℕ) (c : Context) → own context lane ≡ Some c
+lane_order : (script : Plan) (lane : Lane) → AllByRecursion (Grown (tree_levels script)) lane.contexts → (now context : ℕ) (c : Context) → context_at context lane ≡ Some c
     → IsInOrder (own_ready_at script now lane.view) (busy context lane.frames) c.rows.rows (chosen script now context lane)
 lane_order script lane g now context c e =
     let f = ((own_grown (tree_levels script) lane context c e g).sound).forest in
@@ -142,8 +142,8 @@ lane_order script lane g now context c e =
     subst (λ (o : Option Context). IsInOrder from blocked c.rows.rows (chosen_in script now lane.view blocked o)) (sym e) (record { urgent = all_urgent from blocked c.rows.rows f; order = all_before from blocked c.rows.rows f })
 
 pub order_run : (script : Plan) → length script.lanes ≤ 64
-    → OfAllLanes script (λ lane. (now context : ℕ) (c : Context) → own context lane ≡ Some c → IsInOrder (own_ready_at script now lane.view) (busy context lane.frames) c.rows.rows (chosen script now context lane))
+    → OfAllLanes script (λ lane. (now context : ℕ) (c : Context) → context_at context lane ≡ Some c → IsInOrder (own_ready_at script now lane.view) (busy context lane.frames) c.rows.rows (chosen script now context lane))
 order_run script few tick steps h =
     each_as (λ lane. AllByRecursion (Grown (tree_levels script)) (lane_within script tick steps lane).contexts)
-    (λ lane. (now context : ℕ) (c : Context) → own context (lane_within script tick steps lane) ≡ Some c → IsInOrder (own_ready_at script now (lane_within script tick steps lane).view) (busy context (lane_within script tick steps lane).frames) c.rows.rows (chosen script now context (lane_within script tick steps lane)))
+    (λ lane. (now context : ℕ) (c : Context) → context_at context (lane_within script tick steps lane) ≡ Some c → IsInOrder (own_ready_at script now (lane_within script tick steps lane).view) (busy context (lane_within script tick steps lane).frames) c.rows.rows (chosen script now context (lane_within script tick steps lane)))
     (λ lane g. lane_order script (lane_within script tick steps lane) g) (lanes_at script tick) (grown_run script few tick steps h)

@@ -9,13 +9,13 @@ use Rattle.post_office.specs.declared.letter.Letter.{Letter}
 use Rattle.post_office.specs.declared.letter.Body.{Body as Mail}
 use Rattle.lane_watch.specs.Tasks.{Started, reply_at, stays_at}
 use Rattle.lane_turn.specs.declared.line.Event.TheVariants as events
-use Rattle.lane_turn.specs.declared.parts.Status.{Status}
-use Rattle.lane_turn.specs.declared.parts.Status.TheVariants.{GoesOn, Ended, Halted}
+use Rattle.lane_turn.specs.declared.lane.Status.{Status}
+use Rattle.lane_turn.specs.declared.lane.Status.TheVariants.{GoesOn, Ended, Halted}
 use Rattle.lane_turn.specs.declared.layer.Call.{Call}
 use Rattle.lane_turn.specs.Frames.{Frame, CallOf, IterOf, LoopOf}
 use Rattle.lane_turn.specs.Lane.{Lane, Turn, popped, taken, row_of, iterating, is_running, written}
 use Rattle.lane_turn.specs.Acted.{acted, sends}
-use Rattle.lane_turn.specs.Step.{step, step_polling, step_call, step_id, counted_by, in_lane, dispatching, polled, letter, sent_with, posted_with, mail_of, one_if}
+use Rattle.lane_turn.specs.Step.{step, step_polling, step_call, step_id, limited_by, with_lane, dispatching, polled, letter, sent_with, posted_with, mail_of, one_if}
 use Rattle.lane_turn.specs.Sound.{IsPaced}
 use Rattle.task_steps.specs.declared.entry.Reply.{Reply}
 use Rattle.cancel_view.specs.Seen.{has}
@@ -43,7 +43,7 @@ sent_most None n = omega arith
 sent_most (Some body) n = omega arith
 
 -- what is counted
-counted_sends : (tick : ℕ) (mail : Option Mail) (f : Lane → Lane) (t : Turn) (left : ℕ) → t.left ≡ left → Steady 1 mail t.lane (f t.lane) → Sends tick t (counted_by tick mail f t left)
+counted_sends : (tick : ℕ) (mail : Option Mail) (f : Lane → Lane) (t : Turn) (left : ℕ) → t.left ≡ left → Steady 1 mail t.lane (f t.lane) → Sends tick t (limited_by tick mail f t left)
 counted_sends tick mail f t zero e h = record {
   number = refl;
   now = refl;
@@ -96,7 +96,7 @@ id_sends tick t context None = freely_sends tick t (taken t.lane) t.iterated (st
 id_sends tick t context (Some row) = counted_sends tick None (dispatching tick context row) t t.left refl (steady_dispatching tick context row t.lane)
 
 loop_sends : (script : Plan) (tick : ℕ) (t : Turn) (number context : ℕ) (runs iterated : Bool) (u : Turn)
-    → cond runs (cond iterated None (Some (record t { lane = iterating script tick context None t.lane; iterated = true }))) (Some (in_lane (λ lane. written tick (events.LoopEnd number) (popped lane)) t)) ≡ Some u → Sends tick t u
+    → cond runs (cond iterated None (Some (record t { lane = iterating script tick context None t.lane; iterated = true }))) (Some (with_lane (λ lane. written tick (events.LoopEnd number) (popped lane)) t)) ≡ Some u → Sends tick t u
 loop_sends script tick t number context true true u e = cc
 loop_sends script tick t number context true false u e = subst (Sends tick t) (some_same _ _ e) (freely_sends tick t (iterating script tick context None t.lane) true (still 0 t.lane _ refl refl refl refl))
 loop_sends script tick t number context false iterated u e = subst (Sends tick t) (some_same _ _ e) (freely_sends tick t (written tick (events.LoopEnd number) (popped t.lane)) t.iterated (still 0 t.lane _ refl refl refl refl))

@@ -16,7 +16,7 @@ use Rattle.source_rows.proofs.Forest.{InForest, members}
 use Rattle.source_rows.proofs.Lists.{all_both}
 use Rattle.source_rows.proofs.Order.{all_in_order}
 use Rattle.source_rows.proofs.Steps.{awake_calls}
-use Rattle.context_core.specs.Ready.{own_ready, kind_ready, is_due, is_free, calls}
+use Rattle.context_core.specs.Ready.{own_ready, kind_ready, is_due, is_free, is_callable}
 use Rattle.context_core.proofs.Candidates.{any_kept}
 
 -- ---- the next ready time
@@ -108,11 +108,11 @@ own_awake level view now t r h own = by_awake (is_awake now r) refl
 
 -- what calls stands among what may be ready
 pub soon : (level : ℕ → ℕ) (view : ℕ → Bool) (now t : ℕ) (busy : List ℕ) (rows : List Row) → IsForest rows → Late t (next_ready now rows)
-    → list_any (calls (own_ready level view t) busy) (candidates now rows) ≡ list_any (calls (own_ready level view t) busy) rows
+    → list_any (is_callable (own_ready level view t) busy) (candidates now rows) ≡ list_any (is_callable (own_ready level view t) busy) rows
 soon level view now t busy rows forest late =
-    any_kept (calls (own_ready level view t) busy) (may_call now rows) (in_order rows)
-    (all_in_order (λ r. calls (own_ready level view t) busy r ≡ true → may_call now rows r ≡ true) rows
-    (all_both (InForest rows) (λ q. int_lt (pos now) q.ready ≡ true → is_due t q.ready ≡ false) (λ r. calls (own_ready level view t) busy r ≡ true → may_call now rows r ≡ true)
+    any_kept (is_callable (own_ready level view t) busy) (may_call now rows) (in_order rows)
+    (all_in_order (λ r. is_callable (own_ready level view t) busy r ≡ true → may_call now rows r ≡ true) rows
+    (all_both (InForest rows) (λ q. int_lt (pos now) q.ready ≡ true → is_due t q.ready ≡ false) (λ r. is_callable (own_ready level view t) busy r ≡ true → may_call now rows r ≡ true)
     (λ r g h c. awake_calls rows (members rows forest) now r g (own_awake level view now t r h (and_both (is_free busy r) (own_ready level view t r) c).1))
     rows (members rows forest) (late_all now t rows late)))
-    ∙ any_in_order (calls (own_ready level view t) busy) rows
+    ∙ any_in_order (is_callable (own_ready level view t) busy) rows

@@ -22,7 +22,7 @@ use Rattle.lane_turn.specs.declared.layer.Caller.{Caller}
 use Rattle.lane_turn.specs.declared.layer.Origin.TheVariants.{Source}
 use Rattle.lane_turn.specs.Frames.{CallOf}
 use Rattle.lane_turn.specs.Sources.{restarted, restarted_row, restarted_kind, due_after, tree_levels}
-use Rattle.lane_turn.specs.Lane.{Lane, Turn, known, own, with_rows, edited, popped, row_in, row_of}
+use Rattle.lane_turn.specs.Lane.{Lane, Turn, present, context_at, with_rows, edited, popped, row_in, row_of}
 use Rattle.lane_turn.specs.Step.{step, step_call, left_source}
 use Rattle.lane_turn.specs.Levels.{Grown}
 use Rattle.lane_turn.specs.Tick.{lanes_at, lane_within}
@@ -93,7 +93,7 @@ destroyed_there : (id : ℕ) (o : Option Context) → ((c : Context) → o ≡ S
 destroyed_there id None f = refl
 destroyed_there id (Some c) f = ap (λ (o : Option Row). is_some o) (none_with id c.rows.rows (under_selves c.rows.rows (f c refl)))
 
-pub own_set : (g : Context → Context) (os : List (Option Context)) (i : ℕ) → known (slice_get (slice_set os i (option_map g (known (slice_get os i)))) i) ≡ option_map g (known (slice_get os i))
+pub own_set : (g : Context → Context) (os : List (Option Context)) (i : ℕ) → present (slice_get (slice_set os i (option_map g (present (slice_get os i)))) i) ≡ option_map g (present (slice_get os i))
 own_set g [] i = refl
 own_set g (o ∷ os) zero = refl
 own_set g (o ∷ os) (suc i) = own_set g os i
@@ -112,17 +112,17 @@ and_right : (a b : Bool) → (a && b) ≡ true → b ≡ true
 and_right true b e = e
 and_right false b e = let no : false ≡ true = e in cc
 
-left_there : (script : Plan) (tick : ℕ) (body : Body) (caller : Caller) (lane : Lane) → ((c : Context) → own caller.context lane ≡ Some c → IsForest c.rows.rows) → (b : Bool) → (not caller.once && stays script body caller.number) ≡ b
+left_there : (script : Plan) (tick : ℕ) (body : Body) (caller : Caller) (lane : Lane) → ((c : Context) → context_at caller.context lane ≡ Some c → IsForest c.rows.rows) → (b : Bool) → (not caller.once && stays script body caller.number) ≡ b
     → IsThere caller.context caller.id (cond b (edited caller.context (restarted (time_of script tick) caller.id) lane) (edited caller.context (destroyed caller.id) lane)) ↔ (IsThere caller.context caller.id lane × (caller.once ≡ false) × Stays script body caller.number)
 left_there script tick body caller lane f true e =
     let same : is_some (row_of caller.context caller.id (edited caller.context (restarted (time_of script tick) caller.id) lane)) ≡ is_some (row_of caller.context caller.id lane) =
-    ap (λ (o : Option Context). is_some (row_in caller.id o)) (own_set (with_rows (restarted (time_of script tick) caller.id)) lane.contexts caller.context) ∙ restarted_there (time_of script tick) caller.id (own caller.context lane) in (
+    ap (λ (o : Option Context). is_some (row_in caller.id o)) (own_set (with_rows (restarted (time_of script tick) caller.id)) lane.contexts caller.context) ∙ restarted_there (time_of script tick) caller.id (context_at caller.context lane) in (
       λ there. (sym same ∙ there, not_false caller.once (and_left (not caller.once) (stays script body caller.number) e), (stays_tells script body caller.number).0 (and_right (not caller.once) (stays script body caller.number) e)),
       λ all. same ∙ all.0,
     )
 left_there script tick body caller lane f false e =
     let gone : is_some (row_of caller.context caller.id (edited caller.context (destroyed caller.id) lane)) ≡ false =
-    ap (λ (o : Option Context). is_some (row_in caller.id o)) (own_set (with_rows (destroyed caller.id)) lane.contexts caller.context) ∙ destroyed_there caller.id (own caller.context lane) f in (
+    ap (λ (o : Option Context). is_some (row_in caller.id o)) (own_set (with_rows (destroyed caller.id)) lane.contexts caller.context) ∙ destroyed_there caller.id (context_at caller.context lane) f in (
       λ there. let no : true ≡ false = sym there ∙ gone in cc,
       λ all. let both : (not caller.once && stays script body caller.number) ≡ true = ap (λ b. not b && stays script body caller.number) all.1 ∙ (stays_tells script body caller.number).1 all.2 in let no : true ≡ false = sym both ∙ e in cc,
     )

@@ -26,11 +26,11 @@ use Rattle.lane_turn.specs.declared.line.Word.TheVariants as words
 use Rattle.lane_turn.specs.declared.layer.Origin.{Origin}
 use Rattle.lane_turn.specs.declared.layer.Origin.TheVariants.{Start, Source, Invoke as Invoked}
 use Rattle.lane_turn.specs.declared.slot.Place.{Place}
-use Rattle.lane_turn.specs.Lane.{Lane, known, own, with_rows, stopped, place_at, handler_at, written, viewing, noting}
+use Rattle.lane_turn.specs.Lane.{Lane, present, context_at, with_rows, stopped, place_at, handler_at, written, viewing, noting}
 use Rattle.std.specs.Prelude.{nat_lt, is_some, slice_index_or, slice_get, option_map}
 use Rattle.lane_turn.specs.declared.line.Invoked.TheVariants.{Posted}
-use Rattle.lane_turn.specs.declared.parts.Status.TheVariants.{Halted}
-use Rattle.lane_turn.specs.Frames.{calls}
+use Rattle.lane_turn.specs.declared.lane.Status.TheVariants.{Halted}
+use Rattle.lane_turn.specs.Frames.{calls_in_progress}
 use Rattle.lane_turn.specs.Owned.{default_context, is_owned, calling, called_at_once, attaching, invoke_own, invoke, invoke_spec, invoke_sends}
 use Rattle.lane_turn.specs.Acted.{acted, born, sends, cancel_sends, child_of, on_source, set_priority_of, plain_acted, all_acted, handled, all_handled, cancel, connect, disconnect_of}
 use Rattle.lane_turn.specs.Step.{dispatching, returned, answered}
@@ -52,7 +52,7 @@ pub record Steady (k : ℕ) (mail : Option Mail) (lane after : Lane) : Type 0 wh
   pub holds : held_of after.contexts ≡ held_of lane.contexts
 
 -- a change of one context changes not whose they are
-pub kept_held : (change : Context → Context) (contexts : List (Option Context)) (i : ℕ) → held_of (slice_set contexts i (option_map change (known (slice_get contexts i)))) ≡ held_of contexts
+pub kept_held : (change : Context → Context) (contexts : List (Option Context)) (i : ℕ) → held_of (slice_set contexts i (option_map change (present (slice_get contexts i)))) ≡ held_of contexts
 kept_held change [] i = refl
 kept_held change (None ∷ contexts) zero = refl
 kept_held change (Some c ∷ contexts) zero = refl
@@ -272,7 +272,7 @@ steady_priority tick priority (Some place) lane = steady_either 1 None lane _ _ 
 
 steady_at_once : (tick context proc : ℕ) (acquires : Option ℕ) (lane : Lane) → Steady 1 None lane (called_at_once tick context proc acquires lane)
 steady_at_once tick context proc acquires lane =
-    steady_either 1 None lane (calling tick context proc acquires lane) (stopped Halted (written tick events.HaltDepth lane)) (nat_lt (calls lane.frames) 32) (still 1 lane _ refl refl refl refl) (still 1 lane _ refl refl refl refl)
+    steady_either 1 None lane (calling tick context proc acquires lane) (stopped Halted (written tick events.HaltDepth lane)) (nat_lt (calls_in_progress lane.frames) 32) (still 1 lane _ refl refl refl refl) (still 1 lane _ refl refl refl refl)
 
 steady_own : (tick now context proc : ℕ) (lane : Lane) → Steady 1 None lane (invoke_own tick now context proc lane)
 steady_own tick now context proc lane =
@@ -288,7 +288,7 @@ invoke_by tick now context proc lane true = steady_own tick now context proc lan
 invoke_by tick now context proc lane false = record { number = refl; tick = refl; view = refl; next = omega arith; few = omega arith; seen = λ c h. refl; holds = refl }
 
 steady_invoke : (tick now context proc : ℕ) (lane : Lane) → Steady 1 (invoke_sends context proc lane) lane (invoke tick now context proc lane)
-steady_invoke tick now context proc lane = invoke_by tick now context proc lane (is_some (own context lane))
+steady_invoke tick now context proc lane = invoke_by tick now context proc lane (is_some (context_at context lane))
 
 -- an action starts one task at most
 pub steady_acted : (script : Plan) (tick : ℕ) (action : Action) (lane : Lane) → Steady 1 (sends action lane) lane (acted script tick action lane)

@@ -9,8 +9,8 @@ use Rattle.loop_script.specs.Parts.{time_of, actions_of, stays}
 use Rattle.source_rows.specs.declared.row.Row.{Row}
 use Rattle.source_rows.specs.Rows.{RowSet, destroyed}
 use Rattle.lane_turn.specs.declared.line.Event.TheVariants as events
-use Rattle.lane_turn.specs.declared.parts.Status.{Status}
-use Rattle.lane_turn.specs.declared.parts.Status.TheVariants.{GoesOn, Ended, Halted}
+use Rattle.lane_turn.specs.declared.lane.Status.{Status}
+use Rattle.lane_turn.specs.declared.lane.Status.TheVariants.{GoesOn, Ended, Halted}
 use Rattle.lane_turn.specs.declared.layer.Call.{Call}
 use Rattle.lane_turn.specs.declared.layer.Origin.{Origin}
 use Rattle.lane_turn.specs.declared.layer.Origin.TheVariants.{Start, Source, Invoke}
@@ -21,7 +21,7 @@ use Rattle.lane_turn.specs.Lane.{Lane, Turn, popped, taken, row_of, iterating, i
 use Rattle.lane_watch.specs.Tasks.{Started}
 use Rattle.post_office.specs.declared.letter.Body.{Body as Mail}
 use Rattle.lane_turn.specs.Acted.{acted, sends}
-use Rattle.lane_turn.specs.Step.{step, step_polling, polled, step_call, step_id, returned, answered, counted_by, in_lane, dispatching}
+use Rattle.lane_turn.specs.Step.{step, step_polling, polled, step_call, step_id, returned, answered, limited_by, with_lane, dispatching}
 use Rattle.lane_turn.specs.Turn.{work, work_of, while_going, nest_work, row_count}
 use Rattle.lane_turn.specs.Sound.{IsSound, IsWithin, Bounded}
 use Rattle.lane_turn.proofs.Measure.{pays, lessens, begins}
@@ -59,7 +59,7 @@ halted s a g = let e : while_going s a ≡ suc a = ap (λ x. while_going x a) g 
 
 -- the three kinds of step
 counted_goes : (rest : Turn) (n tick : ℕ) (mail : Option Mail) (f : Lane → Lane) (lane : Lane) (left : ℕ) (iterated : Bool) → lane.status ≡ GoesOn → Mild lane (f lane)
-    → Goes n (turn rest lane left iterated) (counted_by tick mail f (turn rest lane left iterated) left)
+    → Goes n (turn rest lane left iterated) (limited_by tick mail f (turn rest lane left iterated) left)
 counted_goes rest n tick mail f lane zero iterated g h = record {
   falls = omega (arith, halted lane.status (work_of 0 (row_count lane.contexts) (nest_work lane.frames) iterated) g);
   keeps = λ s. record { bound = s.bound; fits = omega (arith, s.fits); within = record { contexts = s.within.contexts; frames = s.within.frames; handlers = s.within.handlers } };
@@ -153,7 +153,7 @@ id_goes rest n tick base below left iterated context id ids answer (Some row) =
 
 loop_goes : (rest : Turn) (script : Plan) (n tick : ℕ) (base : Lane) (below : List Frame) (left : ℕ) (iterated : Bool) (number context : ℕ) (runs : Bool) (u : Turn)
     → let t : Turn = turn rest (going base (LoopOf number context ∷ below)) left iterated in
-    cond runs (cond iterated None (Some (turn rest (iterating script tick context None t.lane) left true))) (Some (in_lane (λ lane. written tick (events.LoopEnd number) (popped lane)) t)) ≡ Some u → Goes n t u
+    cond runs (cond iterated None (Some (turn rest (iterating script tick context None t.lane) left true))) (Some (with_lane (λ lane. written tick (events.LoopEnd number) (popped lane)) t)) ≡ Some u → Goes n t u
 loop_goes rest script n tick base below left true number context true u e = cc
 loop_goes rest script n tick base below left false number context true u e =
     subst (Goes n _) (some_same _ _ e) (begun_goes rest n (going base (LoopOf number context ∷ below)) script left tick context None refl)

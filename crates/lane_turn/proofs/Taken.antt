@@ -11,7 +11,7 @@ use Rattle.loop_script.specs.References.{sizes}
 use Rattle.post_office.specs.declared.letter.Letter.{Letter}
 use Rattle.post_office.specs.declared.letter.Body.{Body}
 use Rattle.post_office.specs.declared.letter.Body.TheVariants.{Attach, Complete, Cancelled}
-use Rattle.lane_turn.specs.Lane.{Lane, own}
+use Rattle.lane_turn.specs.Lane.{Lane, context_at}
 use Rattle.lane_turn.specs.Turn.{opening, turned, out_of}
 use Rattle.lane_turn.specs.Tick.{lanes_at, posted_at}
 use Rattle.lane_turn.specs.Arrivals.{held_of}
@@ -46,7 +46,7 @@ over_one f h most e t a (suc m) = by (eqb_tells a h) (over_one f h most e t (a +
 
 -- ---- which lane has a context
 
-open_home : (script : Plan) (lane c : ℕ) (b : Bool) → nat_lt c (sizes script).contexts ≡ b → is_some (own c (opening script lane)) ≡ true → lane ≡ home_of script c
+open_home : (script : Plan) (lane c : ℕ) (b : Bool) → nat_lt c (sizes script).contexts ≡ b → is_some (context_at c (opening script lane)) ≡ true → lane ≡ home_of script c
 open_home script lane c true e h =
     let at = own_held (opening script lane).contexts c ∙ open_at script lane (sizes script).contexts c (ltb-true c (sizes script).contexts e) in
     sym (eqb-true (home_of script c) lane (sym at ∙ h))
@@ -59,7 +59,7 @@ pub held_under : (script : Plan) (mail : ℕ → List Letter) (lane k : ℕ) →
 held_under script mail lane zero = refl
 held_under script mail lane (suc k) = held_received script k (mail k) (turned script k (lane_under script mail lane k)) ∙ (held_turned script k (lane_under script mail lane k) ∙ held_under script mail lane k)
 
-pub own_home : (script : Plan) (mail : ℕ → List Letter) (lane k c : ℕ) → is_some (own c (lane_under script mail lane k)) ≡ true → lane ≡ home_of script c
+pub own_home : (script : Plan) (mail : ℕ → List Letter) (lane k c : ℕ) → is_some (context_at c (lane_under script mail lane k)) ≡ true → lane ≡ home_of script c
 own_home script mail lane k c h =
     let same = own_held (lane_under script mail lane k).contexts c ∙ (ap (λ bs. slice_index_or bs c false) (held_under script mail lane k) ∙ sym (own_held (opening script lane).contexts c)) in
     open_home script lane c (nat_lt c (sizes script).contexts) refl (sym same ∙ h)
@@ -93,9 +93,9 @@ one_brought : (s n : ℕ) (script : Plan) (mail : ℕ → List Letter) (k a m se
 one_brought s n script mail k a m sender (Attach context spec) = over_one (λ i. one_for ((sender == s) && false)) 0 _ (λ l p. never (sender == s)) (omega arith) a m
 one_brought s n script mail k a m sender (Cancelled c) = over_one (λ i. one_for ((sender == s) && false)) 0 _ (λ l p. never (sender == s)) (omega arith) a m
 one_brought s n script mail k a m sender (Complete reply) =
-    over_one (λ i. one_for ((sender == s) && ((reply.task == n) && is_some (own reply.ctx (lane_under script mail i k))))) (home_of script reply.ctx) _
-    (λ l p. never_both (sender == s) (reply.task == n) _ (false_from_ne_true (is_some (own reply.ctx (lane_under script mail l k))) (λ e. p (own_home script mail l k reply.ctx e))))
-    (most_of (sender == s) (reply.task == n) (is_some (own reply.ctx (lane_under script mail (home_of script reply.ctx) k))))
+    over_one (λ i. one_for ((sender == s) && ((reply.task == n) && is_some (context_at reply.ctx (lane_under script mail i k))))) (home_of script reply.ctx) _
+    (λ l p. never_both (sender == s) (reply.task == n) _ (false_from_ne_true (is_some (context_at reply.ctx (lane_under script mail l k))) (λ e. p (own_home script mail l k reply.ctx e))))
+    (most_of (sender == s) (reply.task == n) (is_some (context_at reply.ctx (lane_under script mail (home_of script reply.ctx) k))))
     a m
 
 all_brought : (s n : ℕ) (script : Plan) (mail : ℕ → List Letter) (k a m : ℕ) (ls : List Letter) → over (λ i. brought s n (lane_under script mail i k) ls) (range_with_len a m) ≤ sent s n ls

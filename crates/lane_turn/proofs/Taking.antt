@@ -15,11 +15,11 @@ use Rattle.context_core.specs.declared.context.Context.{Context}
 use Rattle.cancel_view.specs.Seen.{Seen}
 use Rattle.lane_turn.specs.declared.line.Line.{Line}
 use Rattle.lane_turn.specs.declared.line.Event.TheVariants as events
-use Rattle.lane_turn.specs.declared.parts.Status.TheVariants.{Halted}
+use Rattle.lane_turn.specs.declared.lane.Status.TheVariants.{Halted}
 use Rattle.lane_turn.specs.declared.replies.Awaited.{Awaited}
 use Rattle.lane_turn.specs.Replies.{Replies, by_source, reply_held, without_reply}
-use Rattle.lane_turn.specs.Frames.{calls, depth}
-use Rattle.lane_turn.specs.Lane.{Lane, known, next_id, edited, written, stopped, taken}
+use Rattle.lane_turn.specs.Frames.{calls_in_progress, depth}
+use Rattle.lane_turn.specs.Lane.{Lane, present, next_id, edited, written, stopped, taken}
 use Rattle.lane_turn.specs.Step.{dispatching, result_lines, result_of}
 use Rattle.lane_turn.specs.Owed.{one_for}
 use Rattle.lane_turn.specs.Taken.{is_result, results, is_awaited, awaited}
@@ -58,7 +58,7 @@ awaited_with s n k a (e ∷ es) h = by (awaited_with s n k a es h.1) (by_source 
 -- ---- the ids of what is held were given
 
 abbrev pub IsGiven : List (Option Context) → ℕ × ℕ → Type 0
-IsGiven contexts k = k.1 < next_id (known (slice_get contexts k.0))
+IsGiven contexts k = k.1 < next_id (present (slice_get contexts k.0))
 
 abbrev pub AreGiven : List (Option Context) → Replies → Type 0
 AreGiven contexts es = AllByRecursion (λ e. IsGiven contexts e.0) es
@@ -85,14 +85,14 @@ given_with contexts k a (e ∷ es) g h = by (given_with contexts k a es g h.1) (
     by r Greater = (h.0, r)
 
 -- so what is given next is new
-pub next_new : (contexts : List (Option Context)) (c : ℕ) (es : Replies) → AreGiven contexts es → IsNew (c, next_id (known (slice_get contexts c))) es
+pub next_new : (contexts : List (Option Context)) (c : ℕ) (es : Replies) → AreGiven contexts es → IsNew (c, next_id (present (slice_get contexts c))) es
 next_new contexts c [] h = tt
 next_new contexts c (e ∷ es) h = (not_same, next_new contexts c es h.1)
   where
-    not_same : by_source (c, next_id (known (slice_get contexts c))) e.0 ≢ Equal
+    not_same : by_source (c, next_id (present (slice_get contexts c))) e.0 ≢ Equal
     not_same q =
-        let p : (c, next_id (known (slice_get contexts c))) ≡ e.0 = exact_pairs nat_cmp nat_cmp exact_unsigned exact_unsigned (c, next_id (known (slice_get contexts c))) e.0 q in
-        let l : next_id (known (slice_get contexts c)) < next_id (known (slice_get contexts c)) = subst (IsGiven contexts) (sym p) h.0 in
+        let p : (c, next_id (present (slice_get contexts c))) ≡ e.0 = exact_pairs nat_cmp nat_cmp exact_unsigned exact_unsigned (c, next_id (present (slice_get contexts c))) e.0 q in
+        let l : next_id (present (slice_get contexts c)) < next_id (present (slice_get contexts c)) = subst (IsGiven contexts) (sym p) h.0 in
         absurd (omega (arith, l))
 
 -- ---- what moves a reply from what is held to what is told
@@ -141,7 +141,7 @@ moves_dispatching s n tick context row lane =
     let there : Lane = edited context (counted_once row.id) (taken lane) in
     let told : Lane = written tick (events.Dispatch context row.id row.priority (depth lane.frames + 1)) there in
     let halted : Lane = written tick events.HaltDepth lane in
-    moves_either s n lane _ (stopped Halted halted) (nat_lt (calls lane.frames) 32)
+    moves_either s n lane _ (stopped Halted halted) (nat_lt (calls_in_progress lane.frames) 32)
     (moves_trans s n lane told _
     (left s n lane told
     (leaves_trans s n lane (taken lane) told (same s n lane (taken lane) refl refl refl refl refl)

@@ -11,7 +11,7 @@ use Rattle.post_office.specs.declared.letter.Body.TheVariants as mails
 use Rattle.lane_turn.specs.declared.line.Line.{Line}
 use Rattle.lane_turn.specs.declared.line.Event.{Event}
 use Rattle.lane_turn.specs.declared.line.Event.TheVariants as events
-use Rattle.lane_turn.specs.Lane.{Lane, Turn, own, next_id, edited, written}
+use Rattle.lane_turn.specs.Lane.{Lane, Turn, context_at, next_id, edited, written}
 use Rattle.lane_turn.specs.Step.{step}
 use Rattle.lane_turn.specs.Turn.{begun, turned}
 use Rattle.lane_turn.specs.Deliver.{reply_spec, holding, received_body, received, received_all}
@@ -39,15 +39,15 @@ turn_grows script tick lane =
 brings_body : (script : Plan) (tick sender : ℕ) (body : Mail) (lane : Lane) → Brings tick lane (received_body script tick sender body lane)
 brings_body script tick sender (mails.Attach context spec) lane =
     let there : Lane = edited context (attached spec (time_of script tick)) lane in
-    let id : ℕ = next_id (own context lane) in
-    b_either tick lane (written tick (events.Arrive context id) there) lane (is_some (own context lane))
+    let id : ℕ = next_id (context_at context lane) in
+    b_either tick lane (written tick (events.Arrive context id) there) lane (is_some (context_at context lane))
     (b_trans tick lane there _ (b_edit tick lane context (attached spec (time_of script tick)) (edits_attached spec (time_of script tick))) (b_line tick there (events.Arrive context id) tt))
     (b_none tick lane)
 brings_body script tick sender (mails.Complete reply) lane =
     let there : Lane = edited reply.ctx (attached (reply_spec reply) (time_of script tick)) lane in
-    let id : ℕ = next_id (own reply.ctx lane) in
+    let id : ℕ = next_id (context_at reply.ctx lane) in
     let held : Lane = holding reply.ctx id sender reply there in
-    b_either tick lane (written tick (events.Arrive reply.ctx id) held) lane (is_some (own reply.ctx lane))
+    b_either tick lane (written tick (events.Arrive reply.ctx id) held) lane (is_some (context_at reply.ctx lane))
     (b_trans tick lane held _
     (b_trans tick lane there held (b_edit tick lane reply.ctx (attached (reply_spec reply) (time_of script tick)) (edits_attached (reply_spec reply) (time_of script tick)))
     (record { adds = same (BroughtAt tick) there held refl refl; status = refl; frames = refl }))

@@ -15,7 +15,7 @@ use Rattle.context_core.specs.Ready.{Own, is_ready, is_most_urgent, ready_rows, 
 use Rattle.loop_script.specs.declared.plan.Plan.{Plan}
 use Rattle.cancel_view.specs.Seen.{Seen}
 use Rattle.lane_turn.specs.Frames.{Frame, CallOf, IterOf, LoopOf, blocked_by, blocked_in, busy}
-use Rattle.lane_turn.specs.Lane.{Lane, known, chosen}
+use Rattle.lane_turn.specs.Lane.{Lane, present, chosen}
 use Rattle.lane_turn.specs.Sources.{own_ready_at, chosen_in}
 use Rattle.lane_turn.specs.Iterations.{IsRest, Later, EachLater, Begun, MayBegin, FramesGoOn}
 use Rattle.lane_turn.proofs.Follows.{IsNumbered, Follows, FollowsIn, AllFollow}
@@ -46,7 +46,7 @@ Differ ids = Pairs (λ i j. i ≢ j) ids
 abbrev pub AllWait : List (Option Context) → List Frame → Type 0
 AllWait contexts [] = Unit {0}
 AllWait contexts (CallOf call ∷ below) = AllWait contexts below
-AllWait contexts (IterOf c ids answer ∷ below) = Differ ids × WaitsIn ids (busy c below) (known (slice_get contexts c)) × AllWait contexts below
+AllWait contexts (IterOf c ids answer ∷ below) = Differ ids × WaitsIn ids (busy c below) (present (slice_get contexts c)) × AllWait contexts below
 AllWait contexts (LoopOf number c ∷ below) = AllWait contexts below
 
 -- ---- an edit of the sources
@@ -75,7 +75,7 @@ waits_in ids blocked (Some c) (Some d) f h = waits_follow ids blocked c.rows d.r
 pub wait_on : (before now : List (Option Context)) → AllFollow before now → (fs : List Frame) → AllWait before fs → AllWait now fs
 wait_on before now f [] h = tt
 wait_on before now f (CallOf call ∷ below) h = wait_on before now f below h
-wait_on before now f (IterOf c ids answer ∷ below) h = (h.0, waits_in ids (busy c below) (known (slice_get before c)) (known (slice_get now c)) (f c) h.1, wait_on before now f below h.2)
+wait_on before now f (IterOf c ids answer ∷ below) h = (h.0, waits_in ids (busy c below) (present (slice_get before c)) (present (slice_get now c)) (f c) h.1, wait_on before now f below h.2)
 wait_on before now f (LoopOf number c ∷ below) h = wait_on before now f below h
 
 -- ---- frames later on
@@ -128,12 +128,12 @@ waits_rest zero ids blocked o d h = (d, h)
 waits_rest (suc k) [] blocked o d h = (d, h)
 waits_rest (suc k) (i ∷ ids) blocked o d h = waits_rest k ids blocked o d.1 (waits_in_fewer i ids blocked o h)
 
-iter_later : (contexts : List (Option Context)) (c c' : ℕ) (ids left : List ℕ) (was is : List ℕ) → c ≡ c' → IsRest left ids → is ≡ was → Differ ids → WaitsIn ids was (known (slice_get contexts c)) → Differ left × WaitsIn left is (known (slice_get contexts c'))
+iter_later : (contexts : List (Option Context)) (c c' : ℕ) (ids left : List ℕ) (was is : List ℕ) → c ≡ c' → IsRest left ids → is ≡ was → Differ ids → WaitsIn ids was (present (slice_get contexts c)) → Differ left × WaitsIn left is (present (slice_get contexts c'))
 iter_later contexts c c' ids left was is e r b d h =
     let k : ℕ = r.0 in
-    let both = waits_rest k ids was (known (slice_get contexts c)) d h in
-    subst (λ (n : ℕ). Differ left × WaitsIn left is (known (slice_get contexts n))) e
-    (subst (λ (xs : List ℕ). Differ left × WaitsIn left xs (known (slice_get contexts c))) (sym b) (subst (λ (xs : List ℕ). Differ xs × WaitsIn xs was (known (slice_get contexts c))) (sym r.1) both))
+    let both = waits_rest k ids was (present (slice_get contexts c)) d h in
+    subst (λ (n : ℕ). Differ left × WaitsIn left is (present (slice_get contexts n))) e
+    (subst (λ (xs : List ℕ). Differ left × WaitsIn left xs (present (slice_get contexts c))) (sym b) (subst (λ (xs : List ℕ). Differ xs × WaitsIn xs was (present (slice_get contexts c))) (sym r.1) both))
 
 busy_of : (c c' : ℕ) (fs gs : List Frame) → c ≡ c' → EachLater fs gs → busy c' gs ≡ busy c fs
 busy_of c c' fs gs e h = ap (λ (n : ℕ). busy n gs) (sym e) ∙ busy_each c fs gs h
@@ -223,20 +223,20 @@ chosen_waits script tick view blocked (Some c) n = (selected_differ (own_ready_a
 
 -- ---- frames that go on
 
-begun_wait : (script : Plan) (tick : ℕ) (lane : Lane) (f : Frame) (now : List Frame) → ((i : ℕ) → NumberedIn (known (slice_get lane.contexts i))) → EachLater lane.frames now → MayBegin (λ c. chosen script tick c lane) lane.frames now f → AllWait lane.contexts now → AllWait lane.contexts (f ∷ now)
+begun_wait : (script : Plan) (tick : ℕ) (lane : Lane) (f : Frame) (now : List Frame) → ((i : ℕ) → NumberedIn (present (slice_get lane.contexts i))) → EachLater lane.frames now → MayBegin (λ c. chosen script tick c lane) lane.frames now f → AllWait lane.contexts now → AllWait lane.contexts (f ∷ now)
 begun_wait script tick lane (CallOf call) now n l b h = h
 begun_wait script tick lane (IterOf c ids answer) now n l b h =
-    let both = chosen_waits script tick lane.view (busy c lane.frames) (known (slice_get lane.contexts c)) (n c) in
+    let both = chosen_waits script tick lane.view (busy c lane.frames) (present (slice_get lane.contexts c)) (n c) in
     let same : busy c now ≡ busy c lane.frames = busy_each c lane.frames now l in
-    let here : Differ ids × WaitsIn ids (busy c lane.frames) (known (slice_get lane.contexts c)) = subst (λ (xs : List ℕ). Differ xs × WaitsIn xs (busy c lane.frames) (known (slice_get lane.contexts c))) (sym b.1) both in
-    (here.0, subst (λ (xs : List ℕ). WaitsIn ids xs (known (slice_get lane.contexts c))) (sym same) here.1, h)
+    let here : Differ ids × WaitsIn ids (busy c lane.frames) (present (slice_get lane.contexts c)) = subst (λ (xs : List ℕ). Differ xs × WaitsIn xs (busy c lane.frames) (present (slice_get lane.contexts c))) (sym b.1) both in
+    (here.0, subst (λ (xs : List ℕ). WaitsIn ids xs (present (slice_get lane.contexts c))) (sym same) here.1, h)
 begun_wait script tick lane (LoopOf number c) now n l b h = h
 
-begins_wait : (script : Plan) (tick : ℕ) (lane : Lane) (now : List Frame) → ((i : ℕ) → NumberedIn (known (slice_get lane.contexts i))) → Begun (λ c. chosen script tick c lane) lane.frames now → AllWait lane.contexts lane.frames → AllWait lane.contexts now
+begins_wait : (script : Plan) (tick : ℕ) (lane : Lane) (now : List Frame) → ((i : ℕ) → NumberedIn (present (slice_get lane.contexts i))) → Begun (λ c. chosen script tick c lane) lane.frames now → AllWait lane.contexts lane.frames → AllWait lane.contexts now
 begins_wait script tick lane [] n b h = absurd b
 begins_wait script tick lane (f ∷ now) n b h = begun_wait script tick lane f now n b.0 b.1 (wait_later lane.contexts lane.frames now b.0 h)
 
-pub frames_wait : (script : Plan) (tick : ℕ) (lane : Lane) (now : List Frame) → ((i : ℕ) → NumberedIn (known (slice_get lane.contexts i))) → FramesGoOn (λ c. chosen script tick c lane) lane.frames now → AllWait lane.contexts lane.frames → AllWait lane.contexts now
+pub frames_wait : (script : Plan) (tick : ℕ) (lane : Lane) (now : List Frame) → ((i : ℕ) → NumberedIn (present (slice_get lane.contexts i))) → FramesGoOn (λ c. chosen script tick c lane) lane.frames now → AllWait lane.contexts lane.frames → AllWait lane.contexts now
 frames_wait script tick lane now n (inl l) h = wait_later lane.contexts lane.frames now l h
 frames_wait script tick lane now n (inr (inl l)) h = wait_later lane.contexts (drop 1 lane.frames) now l (wait_below lane.contexts lane.frames h)
 frames_wait script tick lane now n (inr (inr b)) h = begins_wait script tick lane now n b h

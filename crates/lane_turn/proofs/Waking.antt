@@ -11,7 +11,7 @@ use Rattle.loop_script.specs.declared.level.Level.{Level}
 use Rattle.loop_script.specs.Level.{come, to_come, change_after, last, least}
 use Rattle.loop_script.specs.Parts.{levels_of, level_of, next_change_of}
 use Rattle.source_rows.specs.declared.row.Row.{Row}
-use Rattle.context_core.specs.Ready.{Own, is_due, is_blocked, calls}
+use Rattle.context_core.specs.Ready.{Own, is_due, is_blocked, is_callable}
 
 -- ---- what a descriptor shows between two changes
 
@@ -76,12 +76,12 @@ not_due (negsuc n) us k some h = refl
 
 -- ---- where no free source is ready by itself
 
-pub any_free : (own : Own) (busy : List ℕ) (r : Row) (rows : List Row) → (is_blocked busy r ≡ false → own r ≡ false) → list_any (calls own busy) rows ≡ list_any (calls own busy) (r ∷ rows)
+pub any_free : (own : Own) (busy : List ℕ) (r : Row) (rows : List Row) → (is_blocked busy r ≡ false → own r ≡ false) → list_any (is_callable own busy) rows ≡ list_any (is_callable own busy) (r ∷ rows)
 any_free own busy r rows h = by_test (is_blocked busy r) refl
   where
-    by_test : (b : Bool) → is_blocked busy r ≡ b → list_any (calls own busy) rows ≡ ((not (is_blocked busy r) && own r) || list_any (calls own busy) rows)
-    by_test true e = sym (ap (λ (b : Bool). (not b && own r) || list_any (calls own busy) rows) e)
-    by_test false e = sym ((λ i. (not (e i) && own r) || list_any (calls own busy) rows) ∙ ap (λ (b : Bool). b || list_any (calls own busy) rows) (h e))
+    by_test : (b : Bool) → is_blocked busy r ≡ b → list_any (is_callable own busy) rows ≡ ((not (is_blocked busy r) && own r) || list_any (is_callable own busy) rows)
+    by_test true e = sym (ap (λ (b : Bool). (not b && own r) || list_any (is_callable own busy) rows) e)
+    by_test false e = sym ((λ i. (not (e i) && own r) || list_any (is_callable own busy) rows) ∙ ap (λ (b : Bool). b || list_any (is_callable own busy) rows) (h e))
 
 -- ---- what is looked up in a list
 

@@ -21,7 +21,7 @@ use Rattle.lane_turn.specs.Owned.{default_context, push, pop, show_default, acqu
 use Rattle.post_office.specs.declared.letter.Body.{Body as Mail}
 use Rattle.post_office.specs.declared.letter.Body.TheVariants as mails
 use Rattle.lane_watch.specs.Watch.{starting}
-use Rattle.lane_turn.specs.Lane.{Lane, written, pushed, set_running, own, edited, place_at, handler_at, row_at, next_place, named, viewing, noting, chosen, is_any, iterating}
+use Rattle.lane_turn.specs.Lane.{Lane, written, pushed, set_running, context_at, edited, place_at, handler_at, row_at, next_place, set_slot, viewing, noting, chosen, is_any, iterating}
 
 abbrev pub missed : ℕ → Word → Lane → Lane
 missed tick word lane = written tick (events.Miss word) lane
@@ -29,8 +29,8 @@ missed tick word lane = written tick (events.Miss word) lane
 -- a slot names the source that a context gets
 abbrev pub attach : ℕ → ℕ → ℕ → ℕ → SourceSpec → Lane → Lane
 attach tick now context slot spec lane =
-    if is_some (own context lane)
-    then named slot (Source (next_place context lane)) (edited context (attached spec now) lane)
+    if is_some (context_at context lane)
+    then set_slot slot (Source (next_place context lane)) (edited context (attached spec now) lane)
     else missed tick words.Attach lane
 
 -- a source below the one of an id
@@ -43,13 +43,13 @@ can_bear_in id None = false
 can_bear_in id (Some context) = is_none (child_fault context.rows.levels (row_with id context.rows.rows))
 
 abbrev pub can_bear : Place → Lane → Bool
-can_bear place lane = can_bear_in place.id (own place.context lane)
+can_bear place lane = can_bear_in place.id (context_at place.context lane)
 
 abbrev pub child_of : ℕ → ℕ → ℕ → SourceSpec → Option Place → Lane → Lane
 child_of tick now slot spec None lane = missed tick words.Child lane
 child_of tick now slot spec (Some place) lane =
     if can_bear place lane
-    then named slot (Source (next_place place.context lane)) (edited place.context (born spec now place.id) lane)
+    then set_slot slot (Source (next_place place.context lane)) (edited place.context (born spec now place.id) lane)
     else missed tick words.Child lane
 
 abbrev pub child : ℕ → ℕ → ℕ → ℕ → SourceSpec → Lane → Lane
@@ -80,7 +80,7 @@ set_priority tick slot priority lane = set_priority_of tick priority (place_at s
 
 abbrev pub iterate : Plan → ℕ → ℕ → Lane → Lane
 iterate script tick context lane =
-    if is_some (own context lane)
+    if is_some (context_at context lane)
     then iterating script tick context (Some (is_any (chosen script tick context lane))) lane
     else written tick (events.Iterate context false) lane
 
@@ -89,10 +89,10 @@ pending script tick context lane = written tick (events.Pending context (is_any 
 
 abbrev pub run : ℕ → ℕ → ℕ → Lane → Lane
 run tick number context lane =
-    if is_some (own context lane) then pushed (LoopOf number context) (set_running number true lane) else missed tick words.Run lane
+    if is_some (context_at context lane) then pushed (LoopOf number context) (set_running number true lane) else missed tick words.Run lane
 
 abbrev pub quit : ℕ → ℕ → ℕ → Lane → Lane
-quit tick number context lane = if is_some (own context lane) then set_running number false lane else missed tick words.Quit lane
+quit tick number context lane = if is_some (context_at context lane) then set_running number false lane else missed tick words.Quit lane
 
 -- what a handler does of an action: no handler holds others
 abbrev pub plain_acted : Plan → ℕ → Action → Lane → Lane
@@ -124,8 +124,8 @@ cancel script tick c lane =
 abbrev pub connect : Plan → ℕ → ℕ → ℕ → ℕ → Lane → Lane
 connect script tick c slot proc lane =
     if has c lane.view
-    then named slot (Handler 0) (handled script tick (record { id = 0; proc = proc }) lane)
-    else named slot (Handler lane.view.next_id) (viewing (connected c proc lane.view) lane)
+    then set_slot slot (Handler 0) (handled script tick (record { id = 0; proc = proc }) lane)
+    else set_slot slot (Handler lane.view.next_id) (viewing (connected c proc lane.view) lane)
 
 abbrev pub disconnect_of : ℕ → Option ℕ → Lane → Lane
 disconnect_of tick None lane = missed tick words.Disconnect lane

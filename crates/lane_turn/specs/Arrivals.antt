@@ -11,7 +11,7 @@ use Rattle.post_office.specs.declared.letter.Body.TheVariants.{Attach, Complete,
 use Rattle.lane_turn.specs.declared.line.Line.{Line}
 use Rattle.lane_turn.specs.declared.line.Event.{Event}
 use Rattle.lane_turn.specs.declared.line.Event.TheVariants as events
-use Rattle.lane_turn.specs.Lane.{Lane, own}
+use Rattle.lane_turn.specs.Lane.{Lane, context_at}
 use Rattle.lane_turn.specs.Deliver.{received_all}
 use Rattle.lane_turn.specs.Tick.{lanes_at}
 
@@ -47,10 +47,10 @@ ids_for context next (letter ∷ letters) = if is_for context letter then next �
 
 pub record LettersArrive : Type 0 where
   -- at each tick a context is the lane's to which the script gives it, and no other's
-  pub held : (script : Plan) (tick context : ℕ) → context < (sizes script).contexts → map (λ lane. is_some (own context lane)) (lanes_at script tick) ≡ map (is_home script context) (range_with_len 0 (length script.lanes))
+  pub held : (script : Plan) (tick context : ℕ) → context < (sizes script).contexts → map (λ lane. is_some (context_at context lane)) (lanes_at script tick) ≡ map (is_home script context) (range_with_len 0 (length script.lanes))
   -- a letter for a context is attached once, by the lane that has it, with the next id, in the order of the letters
-  pub once : (script : Plan) (tick context : ℕ) (letters : List Letter) (lane : Lane) (c : Context) → own context lane ≡ Some c
+  pub once : (script : Plan) (tick context : ℕ) (letters : List Letter) (lane : Lane) (c : Context) → context_at context lane ≡ Some c
       → arrivals context (received_all script tick letters lane).trace ≡ arrivals context lane.trace ++ ids_for context c.rows.next_id letters
   -- and by no other
-  pub others : (script : Plan) (tick context : ℕ) (letters : List Letter) (lane : Lane) → own context lane ≡ None
+  pub others : (script : Plan) (tick context : ℕ) (letters : List Letter) (lane : Lane) → context_at context lane ≡ None
       → arrivals context (received_all script tick letters lane).trace ≡ arrivals context lane.trace

@@ -10,7 +10,7 @@ use Rattle.post_office.specs.declared.letter.Letter.{Letter}
 use Rattle.post_office.specs.declared.letter.Body.{Body}
 use Rattle.post_office.specs.declared.letter.Body.TheVariants.{Attach, Complete, Cancelled}
 use Rattle.lane_turn.specs.declared.line.Event.TheVariants as events
-use Rattle.lane_turn.specs.Lane.{Lane, own, edited, next_id, written}
+use Rattle.lane_turn.specs.Lane.{Lane, context_at, edited, next_id, written}
 use Rattle.lane_turn.specs.Replies.{with_reply}
 use Rattle.lane_turn.specs.Acted.{cancel}
 
@@ -25,16 +25,16 @@ holding context id sender reply lane = record lane { replies = with_reply contex
 -- a reply is attached by the lane that has its context
 abbrev pub arrived : Plan → (tick sender : ℕ) → Reply → Lane → Lane
 arrived script tick sender reply lane =
-    if is_some (own reply.ctx lane)
-    then written tick (events.Arrive reply.ctx (next_id (own reply.ctx lane)))
-    (holding reply.ctx (next_id (own reply.ctx lane)) sender reply (edited reply.ctx (attached (reply_spec reply) (time_of script tick)) lane))
+    if is_some (context_at reply.ctx lane)
+    then written tick (events.Arrive reply.ctx (next_id (context_at reply.ctx lane)))
+    (holding reply.ctx (next_id (context_at reply.ctx lane)) sender reply (edited reply.ctx (attached (reply_spec reply) (time_of script tick)) lane))
     else lane
 
 -- so is the source of an invoked procedure
 abbrev pub arrived_source : (tick now context : ℕ) → SourceSpec → Lane → Lane
 arrived_source tick now context spec lane =
-    if is_some (own context lane)
-    then written tick (events.Arrive context (next_id (own context lane))) (edited context (attached spec now) lane)
+    if is_some (context_at context lane)
+    then written tick (events.Arrive context (next_id (context_at context lane))) (edited context (attached spec now) lane)
     else lane
 
 -- a cancellation that the lane has not seen is seen; no letter is sent for it

@@ -51,18 +51,18 @@ is_dispatch (IterOf context ids answer) = false
 is_dispatch (LoopOf number context) = false
 
 -- the calls in progress but the one of `start`
-abbrev pub is_other : Origin → Bool
-is_other Start = false
-is_other (Source caller) = true
-is_other (Invoke acquired) = true
+abbrev pub is_dispatch_or_invoke : Origin → Bool
+is_dispatch_or_invoke Start = false
+is_dispatch_or_invoke (Source caller) = true
+is_dispatch_or_invoke (Invoke acquired) = true
 
 abbrev pub is_call : Frame → Bool
-is_call (CallOf call) = is_other call.origin
+is_call (CallOf call) = is_dispatch_or_invoke call.origin
 is_call (IterOf context ids answer) = false
 is_call (LoopOf number context) = false
 
-abbrev pub calls : List Frame → ℕ
-calls frames = count_by is_call frames
+abbrev pub calls_in_progress : List Frame → ℕ
+calls_in_progress frames = count_by is_call frames
 
 abbrev pub depth : List Frame → ℕ
 depth frames = count_by is_dispatch frames

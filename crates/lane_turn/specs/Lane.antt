@@ -7,7 +7,7 @@ use Rattle.context_core.specs.declared.context.Context.{Context}
 use Rattle.context_core.specs.Defaults.{Defaults}
 use Rattle.lane_turn.specs.declared.line.Line.{Line}
 use Rattle.lane_turn.specs.declared.line.Event.{Event}
-use Rattle.lane_turn.specs.declared.parts.Status.{Status}
+use Rattle.lane_turn.specs.declared.lane.Status.{Status}
 use Rattle.lane_turn.specs.declared.slot.Place.{Place}
 use Rattle.lane_turn.specs.declared.slot.Held.{Held}
 use Rattle.lane_turn.specs.declared.slot.Held.TheVariants.{Source, Handler}
@@ -45,7 +45,7 @@ pub record Turn : Type 0 where
   pub posted : List Letter
 
 -- a lane between calls, and whether it is spent: a call of it ran out of memory
-pub record Kept : Type 0 where
+pub record State : Type 0 where
   pub lane : Lane
   pub spent : Bool
 
@@ -73,19 +73,19 @@ abbrev pub is_running : ℕ → Lane → Bool
 is_running number lane = unwrap_or (slice_get lane.running number) false
 
 -- a context of the lane
-abbrev pub known : Option (Option Context) → Option Context
-known None = None
-known (Some context) = context
+abbrev pub present : Option (Option Context) → Option Context
+present None = None
+present (Some context) = context
 
-abbrev pub own : ℕ → Lane → Option Context
-own context lane = known (slice_get lane.contexts context)
+abbrev pub context_at : ℕ → Lane → Option Context
+context_at context lane = present (slice_get lane.contexts context)
 
 -- an edit of the sources of an own context, or of the context itself; with another's nothing changes
 abbrev pub with_rows : (RowSet → RowSet) → Context → Context
 with_rows edit context = record context { rows = edit context.rows }
 
 abbrev pub with_context : ℕ → (Context → Context) → Lane → Lane
-with_context context change lane = record lane { contexts = slice_set lane.contexts context (option_map change (own context lane)) }
+with_context context change lane = record lane { contexts = slice_set lane.contexts context (option_map change (context_at context lane)) }
 
 abbrev pub edited : ℕ → (RowSet → RowSet) → Lane → Lane
 edited context edit lane = with_context context (with_rows edit) lane
@@ -95,7 +95,7 @@ row_in id None = None
 row_in id (Some context) = row_with id context.rows.rows
 
 abbrev pub row_of : ℕ → ℕ → Lane → Option Row
-row_of context id lane = row_in id (own context lane)
+row_of context id lane = row_in id (context_at context lane)
 
 -- what a slot names
 abbrev pub held : Option (Option Held) → Option Held
@@ -128,10 +128,10 @@ next_id None = 0
 next_id (Some context) = context.rows.next_id
 
 abbrev pub next_place : ℕ → Lane → Place
-next_place context lane = record { context = context; id = next_id (own context lane) }
+next_place context lane = record { context = context; id = next_id (context_at context lane) }
 
-abbrev pub named : ℕ → Held → Lane → Lane
-named slot thing lane = record lane { slots = slice_set lane.slots slot (Some thing) }
+abbrev pub set_slot : ℕ → Held → Lane → Lane
+set_slot slot thing lane = record lane { slots = slice_set lane.slots slot (Some thing) }
 
 -- another view
 abbrev pub viewing : Seen → Lane → Lane
@@ -143,7 +143,7 @@ noting tick c lane = record lane { tasks = record lane.tasks { came = slice_set 
 
 -- the ids that an iteration of a context would dispatch at a tick
 abbrev pub chosen : Plan → ℕ → ℕ → Lane → List ℕ
-chosen script tick context lane = chosen_in script tick lane.view (busy context lane.frames) (own context lane)
+chosen script tick context lane = chosen_in script tick lane.view (busy context lane.frames) (context_at context lane)
 
 abbrev pub is_any : List ℕ → Bool
 is_any [] = false

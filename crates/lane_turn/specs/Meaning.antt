@@ -1,11 +1,11 @@
--- The lane that the parts stand for.
+-- The lane that its fields stand for.
 use Rattle.std.specs.Prelude.{List, []}
 use Rattle.post_office.specs.declared.letter.Letter.{Letter}
-use Rattle.lane_turn.specs.declared.parts.Parts.{Parts}
+use Rattle.lane_turn.specs.declared.lane.Lane.{Lane as Fields}
 use Rattle.lane_turn.specs.declared.step.Progress.{Progress}
 use Rattle.lane_turn.specs.Lane.{Lane, Turn}
 
-abbrev pub lane_of : Parts → Lane
+abbrev pub lane_of : Fields → Lane
 lane_of p = record {
   number = p.number;
   contexts = p.contexts.items;
@@ -21,7 +21,7 @@ lane_of p = record {
 }
 
 -- the turn once its tasks are polled, with what the post holds
-abbrev pub turn_of : Parts → Progress → List Letter → Turn
+abbrev pub turn_of : Fields → Progress → List Letter → Turn
 turn_of p progress letters = record {
   lane = lane_of p;
   unpolled = [];

@@ -8,7 +8,7 @@ use Rattle.lane_turn.specs.declared.layer.Origin.{Origin}
 use Rattle.lane_turn.specs.declared.layer.Origin.TheVariants.{Start, Source, Invoke}
 use Rattle.lane_turn.specs.declared.layer.Top.{Top}
 use Rattle.lane_turn.specs.declared.layer.Top.TheVariants as tops
-use Rattle.lane_turn.specs.Frames.{Frame, CallOf, IterOf, LoopOf, blocked_by, is_acquired_by, is_source, is_other, top_of}
+use Rattle.lane_turn.specs.Frames.{Frame, CallOf, IterOf, LoopOf, blocked_by, is_acquired_by, is_source, is_dispatch_or_invoke, top_of}
 
 -- the level of the live iteration of a context
 abbrev pub known_level : Option (Option ℕ) → Option ℕ
@@ -61,7 +61,7 @@ is_dispatch_layer (layers.Iteration i) = false
 is_dispatch_layer (layers.Loop number context) = false
 
 abbrev pub is_call_layer : Layer → Bool
-is_call_layer (layers.Call call) = is_other call.origin
+is_call_layer (layers.Call call) = is_dispatch_or_invoke call.origin
 is_call_layer (layers.Iteration i) = false
 is_call_layer (layers.Loop number context) = false
 

@@ -13,9 +13,9 @@ use Rattle.lane_turn.specs.declared.line.Event.TheVariants as events
 use Rattle.lane_turn.specs.declared.line.Invoked.TheVariants.{Direct, Attached, Posted}
 use Rattle.lane_turn.specs.declared.line.Word.TheVariants as words
 use Rattle.lane_turn.specs.declared.layer.Origin.TheVariants.{Invoke}
-use Rattle.lane_turn.specs.declared.parts.Status.TheVariants.{Halted}
-use Rattle.lane_turn.specs.Frames.{CallOf, owns, calls}
-use Rattle.lane_turn.specs.Lane.{Lane, written, pushed as begun, stopped, own, with_context, edited}
+use Rattle.lane_turn.specs.declared.lane.Status.TheVariants.{Halted}
+use Rattle.lane_turn.specs.Frames.{CallOf, owns, calls_in_progress}
+use Rattle.lane_turn.specs.Lane.{Lane, written, pushed as begun, stopped, context_at, with_context, edited}
 
 -- the thread-default context: what was pushed last, else the first context of all
 abbrev pub default_context : Lane → ℕ
@@ -27,7 +27,7 @@ has_ground context None lane = false
 has_ground context (Some c) lane = is_acquired c || is_pushed context lane.defaults || list_any (owns context) lane.frames
 
 abbrev pub is_owned : ℕ → Lane → Bool
-is_owned context lane = has_ground context (own context lane) lane
+is_owned context lane = has_ground context (context_at context lane) lane
 
 -- what was acquired can be released
 abbrev pub may_release : Option Context → Bool
@@ -36,7 +36,7 @@ may_release (Some context) = is_acquired context
 
 abbrev pub push : ℕ → ℕ → Lane → Lane
 push tick context lane =
-    if is_some (own context lane)
+    if is_some (context_at context lane)
     then record lane { defaults = pushed context lane.defaults }
     else written tick (events.Miss words.Push) lane
 
@@ -51,13 +51,13 @@ show_default tick lane = written tick (events.Default (default_context lane)) la
 
 abbrev pub acquire : ℕ → ℕ → Lane → Lane
 acquire tick context lane =
-    if is_some (own context lane)
+    if is_some (context_at context lane)
     then written tick (events.Acquire context true) (with_context context acquired lane)
     else written tick (events.Acquire context false) lane
 
 abbrev pub release : ℕ → ℕ → Lane → Lane
 release tick context lane =
-    if may_release (own context lane) then with_context context released lane else written tick (events.Miss words.Release) lane
+    if may_release (context_at context lane) then with_context context released lane else written tick (events.Miss words.Release) lane
 
 -- the source of a procedure that is invoked where it can't be called at once
 abbrev pub invoke_spec : ℕ → SourceSpec
@@ -71,7 +71,7 @@ calling tick context proc acquires lane =
 
 abbrev pub called_at_once : (tick context proc : ℕ) → Option ℕ → Lane → Lane
 called_at_once tick context proc acquires lane =
-    if nat_lt (calls lane.frames) 32
+    if nat_lt (calls_in_progress lane.frames) 32
     then calling tick context proc acquires lane
     else stopped Halted (written tick events.HaltDepth lane)
 
@@ -88,7 +88,7 @@ invoke_own tick now context proc lane =
 
 abbrev pub invoke : (tick now context proc : ℕ) → Lane → Lane
 invoke tick now context proc lane =
-    if is_some (own context lane) then invoke_own tick now context proc lane else written tick (events.Invoke context Posted) lane
+    if is_some (context_at context lane) then invoke_own tick now context proc lane else written tick (events.Invoke context Posted) lane
 
 abbrev pub invoke_sends : (context proc : ℕ) → Lane → Option Mail
-invoke_sends context proc lane = if is_some (own context lane) then None else Some (Attach context (invoke_spec proc))
+invoke_sends context proc lane = if is_some (context_at context lane) then None else Some (Attach context (invoke_spec proc))

@@ -5,7 +5,7 @@ use Rattle.lane_watch.specs.Watch.{GivesNothing, at_tick as polled_at}
 use Rattle.task_steps.specs.Run.{IsAfter}
 use Rattle.lane_turn.specs.declared.layer.Top.{Top}
 use Rattle.lane_turn.specs.declared.layer.Top.TheVariants as tops
-use Rattle.lane_turn.specs.declared.parts.Status.TheVariants.{GoesOn}
+use Rattle.lane_turn.specs.declared.lane.Status.TheVariants.{GoesOn}
 use Rattle.lane_turn.specs.Frames.{Frame, CallOf, IterOf, LoopOf, top_of, emptied}
 use Rattle.lane_turn.specs.Lane.{Lane, is_any, is_running, chosen}
 use Rattle.lane_turn.specs.Turn.{turned, out_of}

@@ -10,7 +10,7 @@ use Rattle.source_rows.specs.declared.row.Row.{Row}
 use Rattle.lane_turn.specs.declared.line.Line.{Line}
 use Rattle.lane_turn.specs.declared.line.Event.{Event}
 use Rattle.lane_turn.specs.declared.line.Event.TheVariants as events
-use Rattle.lane_turn.specs.declared.parts.Status.TheVariants.{GoesOn}
+use Rattle.lane_turn.specs.declared.lane.Status.TheVariants.{GoesOn}
 use Rattle.lane_turn.specs.declared.layer.Caller.{Caller}
 use Rattle.lane_turn.specs.declared.layer.Origin.TheVariants.{Source}
 use Rattle.lane_turn.specs.Frames.{Frame, CallOf}

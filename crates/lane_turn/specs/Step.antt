@@ -9,15 +9,15 @@ use Rattle.source_rows.specs.declared.row.Row.{Row}
 use Rattle.source_rows.specs.Rows.{destroyed, counted as counted_once}
 use Rattle.lane_turn.specs.declared.line.Line.{Line}
 use Rattle.lane_turn.specs.declared.line.Event.TheVariants as events
-use Rattle.lane_turn.specs.declared.parts.Status.{Status}
-use Rattle.lane_turn.specs.declared.parts.Status.TheVariants.{GoesOn, Ended, Halted}
+use Rattle.lane_turn.specs.declared.lane.Status.{Status}
+use Rattle.lane_turn.specs.declared.lane.Status.TheVariants.{GoesOn, Ended, Halted}
 use Rattle.lane_turn.specs.declared.layer.Call.{Call}
 use Rattle.lane_turn.specs.declared.layer.Caller.{Caller}
 use Rattle.lane_turn.specs.declared.layer.Origin.{Origin}
 use Rattle.lane_turn.specs.declared.layer.Origin.TheVariants.{Start, Source, Invoke}
 use Rattle.lane_turn.specs.declared.layer.Top.{Top}
 use Rattle.lane_turn.specs.declared.layer.Top.TheVariants as tops
-use Rattle.lane_turn.specs.Frames.{CallOf, top_of, depth, calls}
+use Rattle.lane_turn.specs.Frames.{CallOf, top_of, depth, calls_in_progress}
 use Rattle.lane_turn.specs.Sources.{restarted}
 use Rattle.lane_turn.specs.Lane.{Lane, Turn, written, pushed, popped, taken, stopped, is_running, edited, row_of, iterating}
 use Rattle.lane_turn.specs.Acted.{acted, sends}
@@ -72,7 +72,7 @@ dispatched tick context row lane = dispatched_at tick context row (depth lane.fr
 
 abbrev pub dispatching : ℕ → ℕ → Row → Lane → Lane
 dispatching tick context row lane =
-    if nat_lt (calls lane.frames) 32 then dispatched tick context row lane else stopped Halted (written tick events.HaltDepth lane)
+    if nat_lt (calls_in_progress lane.frames) 32 then dispatched tick context row lane else stopped Halted (written tick events.HaltDepth lane)
 
 -- a source after its call: one that stays begins anew, one that does not is destroyed, as that of a reply is
 abbrev pub left_source : Plan → ℕ → Body → Caller → Lane → Lane
@@ -93,8 +93,8 @@ answered tick context None lane = lane
 answered tick context (Some any) lane = written tick (events.Iterate context any) lane
 
 -- the same change within a turn
-abbrev pub in_lane : (Lane → Lane) → Turn → Turn
-in_lane f t = record t { lane = f t.lane }
+abbrev pub with_lane : (Lane → Lane) → Turn → Turn
+with_lane f t = record t { lane = f t.lane }
 
 -- a letter of the turn: they are numbered from 0
 abbrev pub letter : (tick sender number : ℕ) → Mail → Letter
@@ -112,24 +112,24 @@ abbrev pub sending : ℕ → Option Mail → Turn → Turn
 sending tick mail t = record t { sent = sent_with mail t.sent; posted = posted_with tick t.lane.number t.sent t.posted mail }
 
 -- what is counted is done, and sends what it sends, where the turn may count one more; else the lane is halted
-abbrev pub counted_by : ℕ → Option Mail → (Lane → Lane) → Turn → ℕ → Turn
-counted_by tick mail f t zero = in_lane (λ lane. stopped Halted (written tick events.HaltSteps lane)) t
-counted_by tick mail f t (suc n) = record (sending tick mail t) { lane = f t.lane; left = n }
+abbrev pub limited_by : ℕ → Option Mail → (Lane → Lane) → Turn → ℕ → Turn
+limited_by tick mail f t zero = with_lane (λ lane. stopped Halted (written tick events.HaltSteps lane)) t
+limited_by tick mail f t (suc n) = record (sending tick mail t) { lane = f t.lane; left = n }
 
-abbrev pub counted : ℕ → Option Mail → (Lane → Lane) → Turn → Turn
-counted tick mail f t = counted_by tick mail f t t.left
+abbrev pub limited : ℕ → Option Mail → (Lane → Lane) → Turn → Turn
+limited tick mail f t = limited_by tick mail f t t.left
 
 abbrev pub step_call : Plan → ℕ → Turn → Call → Option Action → Turn
-step_call script tick t call (Some action) = counted tick (sends action (taken t.lane)) (λ lane. acted script tick action (taken lane)) t
-step_call script tick t call None = in_lane (λ lane. returned script tick call.body call.origin (popped lane)) t
+step_call script tick t call (Some action) = limited tick (sends action (taken t.lane)) (λ lane. acted script tick action (taken lane)) t
+step_call script tick t call None = with_lane (λ lane. returned script tick call.body call.origin (popped lane)) t
 
 -- a destroyed source is passed over, and not counted
 abbrev pub step_id : ℕ → Turn → ℕ → Option Row → Turn
-step_id tick t context None = in_lane taken t
-step_id tick t context (Some row) = counted tick None (dispatching tick context row) t
+step_id tick t context None = with_lane taken t
+step_id tick t context (Some row) = limited tick None (dispatching tick context row) t
 
 abbrev pub step_iteration : ℕ → Turn → ℕ → Option Bool → Option ℕ → Turn
-step_iteration tick t context answer None = in_lane (λ lane. answered tick context answer (popped lane)) t
+step_iteration tick t context answer None = with_lane (λ lane. answered tick context answer (popped lane)) t
 step_iteration tick t context answer (Some id) = step_id tick t context (row_of context id t.lane)
 
 -- a loop takes one iteration; where one was taken in this tick the lane rests
@@ -137,7 +137,7 @@ abbrev pub step_loop : Plan → ℕ → Turn → ℕ → ℕ → Option Turn
 step_loop script tick t number context =
     if is_running number t.lane
     then if t.iterated then None else Some (record t { lane = iterating script tick context None t.lane; iterated = true })
-    else Some (in_lane (λ lane. written tick (events.LoopEnd number) (popped lane)) t)
+    else Some (with_lane (λ lane. written tick (events.LoopEnd number) (popped lane)) t)
 
 -- whether what comes next is an id whose source is destroyed
 abbrev pub is_passed : Lane → Top → Bool

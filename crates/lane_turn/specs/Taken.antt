@@ -10,7 +10,7 @@ use Rattle.lane_turn.specs.declared.line.Event.{Event}
 use Rattle.lane_turn.specs.declared.line.Event.TheVariants as events
 use Rattle.lane_turn.specs.declared.replies.Awaited.{Awaited}
 use Rattle.lane_turn.specs.Replies.{Replies}
-use Rattle.lane_turn.specs.Lane.{Lane, own}
+use Rattle.lane_turn.specs.Lane.{Lane, context_at}
 use Rattle.lane_turn.specs.Tick.{posted_at, lanes_at}
 use Rattle.lane_turn.specs.Owed.{lane_under, posted_before}
 
@@ -36,7 +36,7 @@ accounted sender number lane = results sender number lane.trace + awaited sender
 -- how many letters bring a lane a reply of the task: it goes to a context of the lane
 abbrev pub brings : (number : ℕ) → Lane → Body → Bool
 brings number lane (Attach context spec) = false
-brings number lane (Complete reply) = (reply.task == number) && is_some (own reply.ctx lane)
+brings number lane (Complete reply) = (reply.task == number) && is_some (context_at reply.ctx lane)
 brings number lane (Cancelled c) = false
 
 abbrev pub brought : (sender number : ℕ) → Lane → List Letter → ℕ

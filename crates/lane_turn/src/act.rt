@@ -1,18 +1,18 @@
 //! What each action does.
 ghost use Rattle.std.specs.Prelude.{◌≡◌, ◌+◌, ◌^◌, ◌<◌, ◌≤◌, true, length, OnOk};
 ghost use Rattle.loop_script.specs.References.{sizes, action_refers};
-ghost use Rattle.lane_turn.specs.Acted.{attach as attached_to, child as child_born, destroy as destroyed_at, set_ready as ready_set_at, set_priority as priority_set_at, iterate as iterated, pending as asked, run as run_to, quit as quit_to, start_task, acted};
+ghost use Rattle.lane_turn.specs.Acted.{attach, child, destroy, set_ready, set_priority, iterate, pending, run, quit, start_task, acted};
 ghost use Rattle.task_steps.specs.Book.{IsIn};
 ghost use Rattle.lane_turn.specs.Sound.{IsWithin};
 ghost use Rattle.lane_turn.specs.Meaning.{lane_of};
 
 use crate::line::{Event, Word};
-use crate::parts::Parts;
+use crate::lane::Lane;
 use crate::slot::{Held, Place};
 use loop_script::{Action, Script, SourceSpec, TaskSpec};
 use std::alloc::{AllocError, Global};
 
-impl Parts {
+impl Lane {
     fn act_attach(
         &mut self,
         tick: u32,
@@ -23,13 +23,13 @@ impl Parts {
     ) -> Result<(), AllocError>
         requires within { IsWithin (2 ^ 62) (lane_of self.old) }
         requires now { now ≤ 2 ^ 62 }
-        ensures { OnOk result (lane_of self.new ≡ attached_to tick now context slot spec (lane_of self.old)) }
+        ensures { OnOk result (lane_of self.new ≡ attach tick now context slot spec (lane_of self.old)) }
     {
         if !self.has(context) {
             return self.miss(tick, Word::Attach);
         }
         let id = self.attach(context, spec, now)?;
-        self.name(slot, Held::Source(Place { context, id }));
+        self.set_slot(slot, Held::Source(Place { context, id }));
         Ok(())
     }
 
@@ -43,7 +43,7 @@ impl Parts {
     ) -> Result<(), AllocError>
         requires within { IsWithin (2 ^ 62) (lane_of self.old) }
         requires now { now ≤ 2 ^ 62 }
-        ensures { OnOk result (lane_of self.new ≡ child_born tick now parent slot spec (lane_of self.old)) }
+        ensures { OnOk result (lane_of self.new ≡ child tick now parent slot spec (lane_of self.old)) }
     {
         let Some(place) = self.place(parent) else {
             return self.miss(tick, Word::Child);
@@ -52,14 +52,14 @@ impl Parts {
             None => self.miss(tick, Word::Child),
             Some(id) => {
                 let context = place.context;
-                self.name(slot, Held::Source(Place { context, id }));
+                self.set_slot(slot, Held::Source(Place { context, id }));
                 Ok(())
             }
         }
     }
 
     pub(crate) fn act_destroy(&mut self, tick: u32, slot: u8) -> Result<(), AllocError>
-        ensures { OnOk result (lane_of self.new ≡ destroyed_at tick slot (lane_of self.old)) }
+        ensures { OnOk result (lane_of self.new ≡ destroy tick slot (lane_of self.old)) }
     {
         let Some(place) = self.place(slot) else {
             return self.miss(tick, Word::Destroy);
@@ -77,7 +77,7 @@ impl Parts {
         slot: u8,
         ready: i64,
     ) -> Result<(), AllocError>
-        ensures { OnOk result (lane_of self.new ≡ ready_set_at tick slot ready (lane_of self.old)) }
+        ensures { OnOk result (lane_of self.new ≡ set_ready tick slot ready (lane_of self.old)) }
     {
         let Some(place) = self.place(slot) else {
             return self.miss(tick, Word::SetReady);
@@ -91,7 +91,7 @@ impl Parts {
 
     fn act_set_priority(&mut self, tick: u32, slot: u8, priority: i32) -> Result<(), AllocError>
         requires { IsWithin (2 ^ 62) (lane_of self.old) }
-        ensures { OnOk result (lane_of self.new ≡ priority_set_at tick slot priority (lane_of self.old)) }
+        ensures { OnOk result (lane_of self.new ≡ set_priority tick slot priority (lane_of self.old)) }
     {
         let Some(place) = self.place(slot) else {
             return self.miss(tick, Word::SetPriority);
@@ -111,7 +111,7 @@ impl Parts {
         context: u32,
     ) -> Result<(), AllocError>
         requires within { IsWithin (2 ^ 62) (lane_of self.old) }
-        ensures { OnOk result (lane_of self.new ≡ iterated script.now tick context (lane_of self.old)) }
+        ensures { OnOk result (lane_of self.new ≡ iterate script.now tick context (lane_of self.old)) }
     {
         if !self.has(context) {
             return self.write(tick, Event::Iterate(context, false));
@@ -128,14 +128,14 @@ impl Parts {
         tick: u32,
         context: u32,
     ) -> Result<(), AllocError>
-        ensures { OnOk result (lane_of self.new ≡ asked script.now tick context (lane_of self.old)) }
+        ensures { OnOk result (lane_of self.new ≡ pending script.now tick context (lane_of self.old)) }
     {
         let ids = self.choose(alloc, script, tick, context)?;
         self.write(tick, Event::Pending(context, !ids.is_empty()))
     }
 
     fn act_run(&mut self, tick: u32, number: u32, context: u32) -> Result<(), AllocError>
-        ensures { OnOk result (lane_of self.new ≡ run_to tick number context (lane_of self.old)) }
+        ensures { OnOk result (lane_of self.new ≡ run tick number context (lane_of self.old)) }
     {
         if self.has(context) {
             self.set_running(number, true);
@@ -151,7 +151,7 @@ impl Parts {
         number: u32,
         context: u32,
     ) -> Result<(), AllocError>
-        ensures { OnOk result (lane_of self.new ≡ quit_to tick number context (lane_of self.old)) }
+        ensures { OnOk result (lane_of self.new ≡ quit tick number context (lane_of self.old)) }
     {
         if self.has(context) {
             self.set_running(number, false);
@@ -194,10 +194,14 @@ impl Parts {
     {
         let now = script.now(tick);
         match action {
-            Action::Attach(context, slot, spec) => {
+            Action::Attach {
+                context,
+                slot,
+                spec,
+            } => {
                 self.act_attach(tick, now, *context, *slot, *spec)
             }
-            Action::Child(parent, slot, spec) => self.act_child(tick, now, *parent, *slot, *spec),
+            Action::Child { parent, slot, spec } => self.act_child(tick, now, *parent, *slot, *spec),
             Action::Destroy(slot) => self.act_destroy(tick, *slot),
             Action::SetReady(slot, us) => self.act_set_ready(tick, *slot, *us),
             Action::SetPriority(slot, priority) => self.act_set_priority(tick, *slot, *priority),
@@ -206,7 +210,11 @@ impl Parts {
             Action::Run(number) => self.act_run(tick, *number, script.loop_context(*number)),
             Action::Quit(number) => self.act_quit(tick, *number, script.loop_context(*number)),
             Action::Cancel(c) => self.act_cancel(alloc, script, tick, *c),
-            Action::Connect(c, slot, proc) => self.act_connect(script, tick, *c, *slot, *proc),
+            Action::Connect {
+                cancellable,
+                slot,
+                proc,
+            } => self.act_connect(script, tick, *cancellable, *slot, *proc),
             Action::Disconnect(slot) => self.act_disconnect(tick, *slot),
             Action::Task(spec) => self.act_task(tick, spec),
             Action::Push(context) => self.act_push(tick, *context),
@@ -214,7 +222,7 @@ impl Parts {
             Action::ShowDefault => self.act_show_default(tick),
             Action::Acquire(context) => self.act_acquire(tick, *context),
             Action::Release(context) => self.act_release(tick, *context),
-            Action::Invoke(context, proc) => self.act_invoke(tick, now, *context, *proc),
+            Action::Invoke { context, proc } => self.act_invoke(tick, now, *context, *proc),
             Action::Log(n) => self.write(tick, Event::Log(*n)),
             _ => Ok(()),
         }

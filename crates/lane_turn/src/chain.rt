@@ -75,7 +75,7 @@ impl Chain {
     }
 
     /// How many calls are in progress but the one of `start`.
-    pub(crate) fn calls(&self) -> u64
+    pub(crate) fn calls_in_progress(&self) -> u64
         ensures { result ≡ count_by is_call_layer self.now }
     {
         self.tally.calls

@@ -5,7 +5,7 @@ ghost use Rattle.lane_turn.specs.Sound.{IsWithin, IsReady};
 ghost use Rattle.lane_turn.specs.Meaning.{lane_of};
 
 use crate::line::Event;
-use crate::parts::Parts;
+use crate::lane::Lane;
 use crate::replies::Awaited;
 use loop_script::{Kind, Script, SourceSpec};
 use post_office::{Body, Letter};
@@ -24,7 +24,7 @@ fn reply_spec(reply: &Reply) -> SourceSpec
     }
 }
 
-impl Parts {
+impl Lane {
     /// Attaches the source of a reply, where its context is the lane's.
     fn arrive(
         &mut self,

@@ -1,7 +1,7 @@
 //! What a lane is in the middle of. Contracts see a flat list of frames, the innermost first.
 ghost use Rattle.std.specs.Prelude.{◌≡◌, ℕ, ◌∷◌, ◌<◌, ◌≤◌, ◌^◌, ◌==◌, [], Some, drop, length, OnOk, IfOk, if◌then◌else◌};
 ghost use Rattle.std.specs.List.{list_any};
-ghost use Rattle.lane_turn.specs.Frames.{CallOf, IterOf, LoopOf, top_of, advanced, emptied, depth, calls, busy, owns, HasRoom, IsTaken};
+ghost use Rattle.lane_turn.specs.Frames.{CallOf, IterOf, LoopOf, top_of, advanced, emptied, depth, calls_in_progress, busy, owns, HasRoom, IsTaken};
 ghost use Rattle.lane_turn.specs.Nest.{level_at};
 ghost use Rattle.lane_turn.specs.Quiet.{has_rest};
 
@@ -73,11 +73,11 @@ impl Frames {
 
     /// How many calls are in progress but the one of `start`.
     #[tactic(auto, using(crate::proofs::Layers::calls_layers, crate::proofs::Layers::length_frames))]
-    pub fn calls(&self) -> u64
+    pub fn calls_in_progress(&self) -> u64
         requires { length self.now < 2 ^ 63 }
-        ensures { result ≡ calls self.now }
+        ensures { result ≡ calls_in_progress self.now }
     {
-        self.chain.calls()
+        self.chain.calls_in_progress()
     }
 
     /// The sources of a context that calls in progress block.

@@ -1,19 +1,19 @@
 //! What is cancelled, connected and disconnected.
 ghost use Rattle.std.specs.Prelude.{◌≡◌, ◌+◌, ◌^◌, ◌≤◌, true, IsTrue, IsOk, OnOk};
 ghost use Rattle.loop_script.specs.References.{sizes, action_refers};
-ghost use Rattle.lane_turn.specs.Acted.{plain_acted, handled, all_handled, cancel as cancelled_at, connect as connected_to, disconnect as disconnected_at};
+ghost use Rattle.lane_turn.specs.Acted.{plain_acted, handled, all_handled, cancel, connect, disconnect};
 ghost use Rattle.cancel_view.specs.Seen.{has};
 ghost use Rattle.lane_turn.specs.Sound.{IsWithin};
 ghost use Rattle.lane_turn.specs.Meaning.{lane_of};
 
 use crate::line::{Event, Word};
-use crate::parts::Parts;
+use crate::lane::Lane;
 use crate::slot::Held;
 use cancel_view::{Connected, Fired};
 use loop_script::{Action, Body, Script};
 use std::alloc::{AllocError, Global};
 
-impl Parts {
+impl Lane {
     /// Does what a handler does of an action.
     fn act_plain(&mut self, script: &Script, tick: u32, action: &Action) -> Result<(), AllocError>
         requires { action_refers (sizes script.now) action.now ≡ true }
@@ -62,7 +62,7 @@ impl Parts {
         c: u32,
     ) -> Result<(), AllocError>
         requires { (lane_of self.old).tasks.tick ≡ tick + 1 }
-        ensures cancelled { OnOk result (lane_of self.new ≡ cancelled_at script.now tick c (lane_of self.old)) }
+        ensures cancelled { OnOk result (lane_of self.new ≡ cancel script.now tick c (lane_of self.old)) }
         ensures again { IsTrue (has c (lane_of self.old).view) → IsOk result }
     {
         match self.watch.cancel(alloc, tick, c) {
@@ -84,24 +84,24 @@ impl Parts {
         proc: u32,
     ) -> Result<(), AllocError>
         requires { IsWithin (2 ^ 62) (lane_of self.old) }
-        ensures { OnOk result (lane_of self.new ≡ connected_to script.now tick c slot proc (lane_of self.old)) }
+        ensures { OnOk result (lane_of self.new ≡ connect script.now tick c slot proc (lane_of self.old)) }
     {
         match self.watch.connect(c, proc) {
             Err(_) => Err(AllocError),
             Ok(Connected::Id(id)) => {
-                self.name(slot, Held::Handler(id));
+                self.set_slot(slot, Held::Handler(id));
                 Ok(())
             }
             Ok(Connected::Already) => {
                 self.call_handler(script, tick, Fired { id: 0, proc })?;
-                self.name(slot, Held::Handler(0));
+                self.set_slot(slot, Held::Handler(0));
                 Ok(())
             }
         }
     }
 
     pub(crate) fn act_disconnect(&mut self, tick: u32, slot: u8) -> Result<(), AllocError>
-        ensures { OnOk result (lane_of self.new ≡ disconnected_at tick slot (lane_of self.old)) }
+        ensures { OnOk result (lane_of self.new ≡ disconnect tick slot (lane_of self.old)) }
     {
         let Some(id) = self.handler(slot) else {
             return self.miss(tick, Word::Disconnect);

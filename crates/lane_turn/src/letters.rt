@@ -7,7 +7,7 @@ ghost use Rattle.lane_turn.specs.Sound.{IsWithin};
 ghost use Rattle.lane_turn.specs.Meaning.{lane_of, turn_of};
 
 use crate::owned::invoke_spec;
-use crate::parts::Parts;
+use crate::lane::Lane;
 use crate::step::Progress;
 use loop_script::{Action, Script};
 use post_office::{Body, Letter, Post};
@@ -43,7 +43,7 @@ impl Progress {
     }
 }
 
-impl Parts {
+impl Lane {
     /// What an action sends.
     fn sends(&self, action: &Action) -> Option<Body>
         ensures { result ≡ sends action.now (lane_of self.now) }
@@ -54,7 +54,7 @@ impl Parts {
             } else {
                 Some(Body::Cancelled(*c))
             },
-            Action::Invoke(context, proc) => if self.has(*context) {
+            Action::Invoke { context, proc } => if self.has(*context) {
                 None
             } else {
                 Some(Body::Attach(*context, invoke_spec(*proc)))

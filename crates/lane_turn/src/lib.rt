@@ -9,13 +9,13 @@ mod chain;
 mod deliver;
 mod frames;
 mod handlers;
+mod lane;
 mod laws;
 mod layer;
 mod letters;
 mod line;
 mod nest;
 mod owned;
-mod parts;
 mod replies;
 mod select;
 mod slot;
@@ -32,5 +32,5 @@ pub use laws::{
     sources_stay_as_kept, traces_grow, turns_end, views_agree,
 };
 pub use line::{Event, Invoked, Line, Word};
-pub use parts::Status;
+pub use lane::Status;
 pub use state::{LaneFault, LaneState};

@@ -1,14 +1,14 @@
 //! Who owns a context, and what is done where it is owned or not.
 ghost use Rattle.std.specs.Prelude.{◌≡◌, ◌≤◌, ◌^◌, true, false, None, option_map, OnOk};
 ghost use Rattle.context_core.specs.Defaults.{acquired, released};
-ghost use Rattle.lane_turn.specs.Lane.{own, with_context};
-ghost use Rattle.lane_turn.specs.Owned.{default_context, is_owned, may_release, push as pushed_to, pop as popped_from, show_default, acquire as acquired_at, release as released_at, invoke_spec, called_at_once, invoke as invoked};
+ghost use Rattle.lane_turn.specs.Lane.{context_at, with_context};
+ghost use Rattle.lane_turn.specs.Owned.{default_context, is_owned, may_release, push, pop, show_default, acquire, release, invoke_spec, called_at_once, invoke};
 ghost use Rattle.lane_turn.specs.Sound.{Bounded, IsWithin};
 ghost use Rattle.lane_turn.specs.Meaning.{lane_of};
 
 use crate::layer::{Call, Origin};
 use crate::line::{Event, Invoked, Word};
-use crate::parts::Parts;
+use crate::lane::Lane;
 use context_core::Context;
 use loop_script::{Body, Kind, SourceSpec};
 use std::alloc::AllocError;
@@ -47,7 +47,7 @@ fn release_in(context: &mut Option<Context>) -> bool
     }
 }
 
-impl Parts {
+impl Lane {
     /// The thread-default context.
     pub(crate) fn default_context(&self) -> u32
         ensures { result ≡ default_context (lane_of self.now) }
@@ -79,7 +79,7 @@ impl Parts {
 
     /// Releases a context of the lane, and answers whether it was acquired.
     fn release(&mut self, context: u32) -> bool
-        ensures may { result ≡ may_release (own context (lane_of self.old)) }
+        ensures may { result ≡ may_release (context_at context (lane_of self.old)) }
         ensures released { result ≡ true → lane_of self.new ≡ with_context context released (lane_of self.old) }
         ensures none { result ≡ false → lane_of self.new ≡ lane_of self.old }
     {
@@ -90,7 +90,7 @@ impl Parts {
     }
 
     pub(crate) fn act_push(&mut self, tick: u32, context: u32) -> Result<(), AllocError>
-        ensures { OnOk result (lane_of self.new ≡ pushed_to tick context (lane_of self.old)) }
+        ensures { OnOk result (lane_of self.new ≡ push tick context (lane_of self.old)) }
     {
         if !self.has(context) {
             return self.write(tick, Event::Miss(Word::Push));
@@ -99,7 +99,7 @@ impl Parts {
     }
 
     pub(crate) fn act_pop(&mut self, tick: u32, context: u32) -> Result<(), AllocError>
-        ensures { OnOk result (lane_of self.new ≡ popped_from tick context (lane_of self.old)) }
+        ensures { OnOk result (lane_of self.new ≡ pop tick context (lane_of self.old)) }
     {
         if self.defaults.pop(context) {
             Ok(())
@@ -117,7 +117,7 @@ impl Parts {
 
     pub(crate) fn act_acquire(&mut self, tick: u32, context: u32) -> Result<(), AllocError>
         requires { IsWithin (2 ^ 62) (lane_of self.old) }
-        ensures { OnOk result (lane_of self.new ≡ acquired_at tick context (lane_of self.old)) }
+        ensures { OnOk result (lane_of self.new ≡ acquire tick context (lane_of self.old)) }
     {
         let has = self.has(context);
         if has {
@@ -127,7 +127,7 @@ impl Parts {
     }
 
     pub(crate) fn act_release(&mut self, tick: u32, context: u32) -> Result<(), AllocError>
-        ensures { OnOk result (lane_of self.new ≡ released_at tick context (lane_of self.old)) }
+        ensures { OnOk result (lane_of self.new ≡ release tick context (lane_of self.old)) }
     {
         if self.release(context) {
             Ok(())
@@ -148,7 +148,7 @@ impl Parts {
         requires { IsWithin (2 ^ 62) (lane_of self.old) }
         ensures { OnOk result (lane_of self.new ≡ called_at_once tick context proc acquires (lane_of self.old)) }
     {
-        if self.frames.calls() >= 32 {
+        if self.frames.calls_in_progress() >= 32 {
             return self.halt(tick, Event::HaltDepth);
         }
         self.write(tick, Event::Invoke(context, Invoked::Direct))?;
@@ -168,7 +168,7 @@ impl Parts {
     ) -> Result<(), AllocError>
         requires within { IsWithin (2 ^ 62) (lane_of self.old) }
         requires now { now ≤ 2 ^ 62 }
-        ensures { OnOk result (lane_of self.new ≡ invoked tick now context proc (lane_of self.old)) }
+        ensures { OnOk result (lane_of self.new ≡ invoke tick now context proc (lane_of self.old)) }
     {
         if !self.has(context) {
             return self.write(tick, Event::Invoke(context, Invoked::Posted));

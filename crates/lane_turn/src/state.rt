@@ -13,7 +13,7 @@ ghost use Rattle.lane_turn.specs.Sound.{IsReady};
 use crate::frames::Frames;
 use crate::layer::{Call, Origin};
 use crate::line::Line;
-use crate::parts::{Parts, Status};
+use crate::lane::{Lane, Status};
 use crate::slot::Held;
 use crate::wakes::{sooner, tick_of};
 use context_core::{Context, DefaultStack};
@@ -57,21 +57,21 @@ impl From<AllocError> for LaneFault {
 pub struct LaneState {
     alloc: Global,
     /// In a box, so that a lane that is handed on is not copied.
-    parts: Box<Parts>,
+    lane: Box<Lane>,
     spent: bool,
 }
 
 impl Model for LaneState {
-    ghost use Rattle.lane_turn.specs.Lane.{Kept};
+    ghost use Rattle.lane_turn.specs.Lane.{State};
     ghost use Rattle.std.specs.Coded.{codes};
     ghost use Rattle.loop_script.specs.contracts.tree.TaskTree as task_tree;
     ghost use Rattle.lane_turn.specs.Meaning.{lane_of};
 
-    ghost Value = { Kept };
+    ghost Value = { State };
 
     ghost coded = { Prim.hlevel (codes, task_tree.the_row.coded) };
 
-    ghost view = { λ s. record { lane = lane_of s.parts.value; spent = s.spent } };
+    ghost view = { λ s. record { lane = lane_of s.lane.value; spent = s.spent } };
 }
 
 /// The contexts of a script, of which those of the lane have no source yet.
@@ -143,9 +143,9 @@ fn open_loops(alloc: Global, loops: u32) -> Result<Vec<bool>, AllocError>
     Ok(running)
 }
 
-/// The parts of a lane that holds its start call.
-fn open_parts(alloc: Global, script: &Script, lane: u32) -> Result<Parts, AllocError>
-    ensures { IfOk result (λ parts. lane_of parts ≡ opening script.now lane) }
+/// A lane that holds its start call.
+fn open_lane(alloc: Global, script: &Script, lane: u32) -> Result<Lane, AllocError>
+    ensures { IfOk result (λ lane. lane_of lane ≡ opening script.now lane) }
 {
     let mut frames = Frames::new(alloc);
     frames.begin_call(Call {
@@ -153,7 +153,7 @@ fn open_parts(alloc: Global, script: &Script, lane: u32) -> Result<Parts, AllocE
         body: Body::Start(lane),
         place: 0,
     })?;
-    Ok(Parts {
+    Ok(Lane {
         number: lane,
         contexts: open_contexts(alloc, script, lane)?,
         slots: open_slots(alloc, SLOTS)?,
@@ -168,11 +168,11 @@ fn open_parts(alloc: Global, script: &Script, lane: u32) -> Result<Parts, AllocE
 }
 
 /// The same in a box.
-fn boxed_parts(alloc: Global, script: &Script, lane: u32) -> Result<Box<Parts>, AllocError>
-    ensures { IfOk result (λ parts. lane_of parts.value ≡ opening script.now lane) }
+fn boxed_lane(alloc: Global, script: &Script, lane: u32) -> Result<Box<Lane>, AllocError>
+    ensures { IfOk result (λ lane. lane_of lane.value ≡ opening script.now lane) }
 {
-    let parts = open_parts(alloc, script, lane)?;
-    Ok(Box::new(alloc, parts)?)
+    let opened = open_lane(alloc, script, lane)?;
+    Ok(Box::new(alloc, opened)?)
 }
 
 impl LaneState {
@@ -182,11 +182,11 @@ impl LaneState {
         ensures ready { IfOk result (λ s. IsReady script.now 0 1 s.lane) }
         ensures memory { result ≢ Err LaneFault.Spent }
     {
-        match boxed_parts(alloc, script, lane) {
+        match boxed_lane(alloc, script, lane) {
             Err(_) => Err(LaneFault::OutOfMemory),
-            Ok(parts) => Ok(LaneState {
+            Ok(lane) => Ok(LaneState {
                 alloc,
-                parts,
+                lane,
                 spent: false,
             }),
         }
@@ -222,7 +222,7 @@ impl LaneState {
             return Err(LaneFault::Spent);
         }
         self.spent = true;
-        match self.parts.take_turn(self.alloc, script, tick, post) {
+        match self.lane.take_turn(self.alloc, script, tick, post) {
             Err(_) => Err(LaneFault::OutOfMemory),
             Ok(()) => {
                 self.spent = false;
@@ -255,7 +255,7 @@ impl LaneState {
             return Err(LaneFault::Spent);
         }
         self.spent = true;
-        match self.parts.take_letters(self.alloc, script, tick, letters) {
+        match self.lane.take_letters(self.alloc, script, tick, letters) {
             Err(_) => Err(LaneFault::OutOfMemory),
             Ok(()) => {
                 self.spent = false;
@@ -281,8 +281,8 @@ impl LaneState {
         }
         let from = tick + 1;
         let wake = sooner(
-            self.parts.watch.next_wake(),
-            self.parts.step_wake(script, from),
+            self.lane.watch.next_wake(),
+            self.lane.step_wake(script, from),
         );
         tick_of(wake, from, script.ticks())
     }
@@ -306,7 +306,7 @@ impl LaneState {
             return Err(LaneFault::Spent);
         }
         self.spent = true;
-        if self.parts.watch.pass_to(self.alloc, tick).is_err() {
+        if self.lane.watch.pass_to(self.alloc, tick).is_err() {
             return Err(LaneFault::OutOfMemory);
         }
         self.spent = false;
@@ -317,14 +317,14 @@ impl LaneState {
     pub fn trace(&self) -> &[Line]
         ensures { result.now ≡ self.now.lane.trace }
     {
-        self.parts.trace.as_slice()
+        self.lane.trace.as_slice()
     }
 
     /// Whether the lane is halted: it takes no further step.
     pub fn halted(&self) -> bool
         ensures { IsTrue result ↔ (self.now.lane.status ≡ Status.Halted) }
     {
-        self.parts.status == Status::Halted
+        self.lane.status == Status::Halted
     }
 }
 
@@ -332,6 +332,6 @@ impl Numbered for LaneState {
     ghost number_of = { λ s. s.lane.number };
 
     fn number(&self) -> u32 {
-        self.parts.number
+        self.lane.number
     }
 }

@@ -1,7 +1,7 @@
 //! One step of what is innermost.
 ghost use Rattle.std.specs.Prelude.{◌≡◌, ◌≢◌, ◌+◌, ◌^◌, ◌≤◌, ◌<◌, List, length, IsTrue, IsOk, OnOk, IfOk, is_some, slice_get, unwrap_or};
 ghost use Rattle.loop_script.specs.Parts.{actions_of, time_of};
-ghost use Rattle.lane_turn.specs.Frames.{HasRoom, top_of, calls};
+ghost use Rattle.lane_turn.specs.Frames.{HasRoom, top_of, calls_in_progress};
 ghost use Rattle.lane_turn.specs.Lane.{popped, taken};
 ghost use Rattle.lane_turn.specs.Step.{body_of, result_of, taking, dispatching, dispatched_at, answered, returned, left_source, step_call, step_iteration, step_loop, step, is_passed};
 ghost use Rattle.lane_turn.specs.Turn.{stepped};
@@ -12,7 +12,7 @@ ghost use Rattle.lane_turn.specs.Meaning.{lane_of, turn_of};
 
 use crate::layer::{Call, Caller, Origin, Top};
 use crate::line::Event;
-use crate::parts::{Parts, Status};
+use crate::lane::{Lane, Status};
 use crate::replies::Awaited;
 use cancel_view::View;
 use loop_script::{Body, Outcome, Script};
@@ -63,7 +63,7 @@ fn body(call: Option<u32>) -> Body
     }
 }
 
-impl Parts {
+impl Lane {
     /// A source's call returns: the source begins anew, or is destroyed.
     fn leave_source(&mut self, script: &Script, tick: u32, body: Body, caller: Caller)
         ensures { lane_of self.new ≡ left_source script.now tick body caller (lane_of self.old) }
@@ -176,7 +176,7 @@ impl Parts {
         ensures { OnOk result (lane_of self.new ≡ dispatching tick context row (lane_of self.old)) }
     {
         let depth = self.frames.depth();
-        if self.frames.calls() >= 32 {
+        if self.frames.calls_in_progress() >= 32 {
             return self.halt(tick, Event::HaltDepth);
         }
         self.frames.advance();
@@ -285,7 +285,7 @@ impl Parts {
         requires sent { progress.old.sent < 2 ^ 63 }
         requires goes { self.old.status ≡ Status.GoesOn }
         requires left { 1 ≤ progress.old.left }
-        requires calls { calls (lane_of self.old).frames < 32 }
+        requires calls { calls_in_progress (lane_of self.old).frames < 32 }
         ensures more { IfOk result (λ more. more ≡ is_some (step script.now tick (turn_of self.old progress.old (P.letters post.old)))) }
         ensures next { OnOk result (turn_of self.new progress.new (P.letters post.new) ≡ stepped script.now tick (turn_of self.old progress.old (P.letters post.old))) }
         ensures home { P.home post.new ≡ P.home post.old }
@@ -350,7 +350,7 @@ impl Parts {
             Status::GoesOn => {}
             _ => return Ok(false),
         }
-        if progress.left > 0 && self.frames.calls() < 32 {
+        if progress.left > 0 && self.frames.calls_in_progress() < 32 {
             return self.step_freely(alloc, script, tick, progress, post);
         }
         match self.frames.top() {

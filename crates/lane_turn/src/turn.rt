@@ -7,7 +7,7 @@ ghost use Rattle.lane_turn.specs.Sound.{IsReady};
 ghost use Rattle.lane_turn.specs.Meaning.{lane_of, turn_of};
 
 use crate::line::Event;
-use crate::parts::{Parts, Status};
+use crate::lane::{Lane, Status};
 use crate::step::Progress;
 use loop_script::Script;
 use post_office::{Body, Post};
@@ -39,7 +39,7 @@ impl Progress {
     }
 }
 
-impl Parts {
+impl Lane {
     /// Writes the lines of tasks whose body ends after its reply or with it.
     fn write_late(&mut self, tick: u32, numbers: &[u64]) -> Result<(), AllocError>
         ensures late { OnOk result (lane_of self.new ≡ record (lane_of self.old) { trace = (lane_of self.old).trace ++ map (late_line tick (lane_of self.old).number) numbers.now }) }

@@ -12,7 +12,7 @@ ghost use Rattle.lane_turn.specs.Meaning.{lane_of};
 
 use crate::frames::Frames;
 use crate::layer::Top;
-use crate::parts::{Parts, Status};
+use crate::lane::{Lane, Status};
 use cancel_view::View;
 use context_core::Context;
 use loop_script::{Kind, Script};
@@ -191,7 +191,7 @@ fn wake_in(
     }
 }
 
-impl Parts {
+impl Lane {
     /// When an iteration of a context may select something, from a tick on.
     fn select_wake(&self, script: &Script, number: u32, from: u32) -> Option<u64>
         ensures { (k : ℕ) → from ≤ k → IsAfter k result → chosen script.now k number (lane_of self.now) ≡ [] }

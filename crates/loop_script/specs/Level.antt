@@ -7,6 +7,7 @@ use Rattle.loop_script.specs.Number.{whole, bits}
 use Rattle.loop_script.specs.Array.{part, arity}
 use Rattle.loop_script.specs.Rows.{rows}
 use Rattle.loop_script.specs.declared.level.Level.{Level}
+use Rattle.loop_script.specs.Bounds.{most_ticks}
 
 unfoldable pub level : Option Data → Read Level
 level d = do
@@ -16,7 +17,7 @@ level d = do
   done (record { tick = tick; bits = bits })
 
 unfoldable pub levels : Option Data → Read (List Level)
-levels d = rows 0 4096 level d
+levels d = rows 0 most_ticks level d
 
 -- each tick is above all before it
 abbrev pub rises : List Level → Bool

@@ -1,3 +1,4 @@
+pub mod Bounds
 pub mod Read
 pub mod Seen
 pub mod Number

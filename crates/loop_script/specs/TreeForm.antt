@@ -6,6 +6,7 @@ use Rattle.loop_script.specs.Number.{whole, integer}
 use Rattle.loop_script.specs.Array.{part, arity, word}
 use Rattle.loop_script.specs.Words.{choice}
 use Rattle.loop_script.specs.Tree.{Tree, value, fail, sleep, check, seq, both, first, within}
+use Rattle.loop_script.specs.Bounds.{longest_time}
 
 -- the reading of the part n, from those of all parts
 abbrev pub part_reading : ℕ → List (Read Tree) → Read Tree
@@ -27,7 +28,7 @@ fail_form d = do
 unfoldable pub sleep_form : Option Data → Read Tree
 sleep_form d = do
   _ ← arity 2 d
-  us ← whole 0 1000000000000000 (part 1 d)
+  us ← whole 0 longest_time (part 1 d)
   done (sleep us)
 
 unfoldable pub check_form : Option Data → Read Tree
@@ -46,7 +47,7 @@ pair_from join d parts = do
 abbrev pub within_from : Option Data → (ℕ → Read Tree) → Read Tree
 within_from d parts = do
   _ ← arity 3 d
-  us ← whole 0 1000000000000000 (part 1 d)
+  us ← whole 0 longest_time (part 1 d)
   a ← parts 2
   done (within us a)
 

@@ -10,9 +10,17 @@ use crate::task::TaskSpec;
 #[derive(Drop)]
 pub enum Action {
     /// Attaches a source to a context, and sets a slot to it.
-    Attach(u32, u8, SourceSpec),
+    Attach {
+        context: u32,
+        slot: u8,
+        spec: SourceSpec,
+    },
     /// Adds a child to the source of a slot, and sets a second slot to it. The priority is the parent's.
-    Child(u8, u8, SourceSpec),
+    Child {
+        parent: u8,
+        slot: u8,
+        spec: SourceSpec,
+    },
     /// Destroys the source of a slot.
     Destroy(u8),
     /// Sets the ready time of the source of a slot.
@@ -30,7 +38,11 @@ pub enum Action {
     /// Cancels a cancellable.
     Cancel(u32),
     /// Connects a procedure to a cancellable, and sets a slot to the handler.
-    Connect(u32, u8, u32),
+    Connect {
+        cancellable: u32,
+        slot: u8,
+        proc: u32,
+    },
     /// Disconnects the handler of a slot.
     Disconnect(u8),
     /// Starts a task.
@@ -46,9 +58,15 @@ pub enum Action {
     /// Releases a context.
     Release(u32),
     /// Invokes a procedure in a context.
-    Invoke(u32, u32),
+    Invoke {
+        context: u32,
+        proc: u32,
+    },
     /// Hands a context over to a lane.
-    Give(u32, u32),
+    Give {
+        context: u32,
+        lane: u32,
+    },
     /// Writes a number.
     Log(u32),
 }

@@ -74,7 +74,11 @@ fn read_attach(value: Option<&Value>, faults: &mut Faults) -> Action
     let context = index_number(part_of(value, 1), faults);
     let slot = slot_number(part_of(value, 2), faults);
     let spec = read_source(part_of(value, 3), faults);
-    Action::Attach(context, slot, spec)
+    Action::Attach {
+        context,
+        slot,
+        spec,
+    }
 }
 
 #[tactic(auto, unfolding(crate::specs::Action::child))]
@@ -86,7 +90,7 @@ fn read_child_action(value: Option<&Value>, faults: &mut Faults) -> Action
     let parent = slot_number(part_of(value, 1), faults);
     let slot = slot_number(part_of(value, 2), faults);
     let spec = read_child(part_of(value, 3), faults);
-    Action::Child(parent, slot, spec)
+    Action::Child { parent, slot, spec }
 }
 
 #[tactic(auto, unfolding(crate::specs::Action::destroy))]
@@ -171,10 +175,14 @@ fn read_connect(value: Option<&Value>, faults: &mut Faults) -> Action
     ensures faults { faults.new ≡ after faults.old (connect (seen value.entry)) }
 {
     check_arity(value, 4, faults);
-    let c = index_number(part_of(value, 1), faults);
+    let cancellable = index_number(part_of(value, 1), faults);
     let slot = slot_number(part_of(value, 2), faults);
     let proc = index_number(part_of(value, 3), faults);
-    Action::Connect(c, slot, proc)
+    Action::Connect {
+        cancellable,
+        slot,
+        proc,
+    }
 }
 
 #[tactic(auto, unfolding(crate::specs::Action::disconnect))]
@@ -252,7 +260,7 @@ fn read_invoke(value: Option<&Value>, faults: &mut Faults) -> Action
     check_arity(value, 3, faults);
     let context = index_number(part_of(value, 1), faults);
     let proc = index_number(part_of(value, 2), faults);
-    Action::Invoke(context, proc)
+    Action::Invoke { context, proc }
 }
 
 #[tactic(auto, unfolding(crate::specs::Action::log))]

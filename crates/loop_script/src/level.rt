@@ -1,7 +1,8 @@
 //! What the descriptors of a script show over the ticks.
 ghost use Rattle.std.specs.Prelude.{◌≡◌, true};
-ghost use Rattle.loop_script.specs.Level.{rises as rising, come, to_come, bits_at as shown_at, change_after as next_after};
+ghost use Rattle.loop_script.specs.Level.{rises, come, to_come, bits_at, change_after};
 
+use crate::bounds::MOST_TICKS;
 use crate::faults::Faults;
 use crate::form::{Form, rows_within};
 use crate::items::Items;
@@ -51,20 +52,20 @@ impl Form for Items<Level> {
         value: Option<&Value>,
         faults: &mut Faults,
     ) -> Result<Items<Level>, AllocError> {
-        rows_within(alloc, value, 0, 4096, faults)
+        rows_within(alloc, value, 0, MOST_TICKS, faults)
     }
 }
 
 /// Whether each tick is above the one before it.
 pub(crate) fn rises(levels: &[Level]) -> bool
-    ensures { result ≡ rising levels.now }
+    ensures { result ≡ rises levels.now }
 {
     levels.is_sorted_by(|a, b| a.tick < b.tick)
 }
 
 /// The levels that have come by a tick, and those that are to come.
 fn parted(levels: &[Level], tick: u32) -> (&[Level], &[Level])
-    requires { rising levels.now ≡ true }
+    requires { rises levels.now ≡ true }
     ensures come { result.0.now ≡ come tick levels.now }
     ensures to_come { result.1.now ≡ to_come tick levels.now }
 {
@@ -73,8 +74,8 @@ fn parted(levels: &[Level], tick: u32) -> (&[Level], &[Level])
 
 /// The bits at a tick; none before the first level.
 pub(crate) fn bits_at(levels: &[Level], tick: u32) -> u8
-    requires { rising levels.now ≡ true }
-    ensures { result ≡ shown_at tick levels.now }
+    requires { rises levels.now ≡ true }
+    ensures { result ≡ bits_at tick levels.now }
 {
     parted(levels, tick).0.last().map_or(0, |level| level.bits)
 }
@@ -82,8 +83,8 @@ pub(crate) fn bits_at(levels: &[Level], tick: u32) -> u8
 /// The first tick after this one at which there is a level.
 #[tactic(auto, using(crate::proofs::Rising::first_to_come))]
 pub(crate) fn change_after(levels: &[Level], tick: u32) -> Option<u32>
-    requires { rising levels.now ≡ true }
-    ensures { result ≡ next_after tick levels.now }
+    requires { rises levels.now ≡ true }
+    ensures { result ≡ change_after tick levels.now }
 {
     parted(levels, tick).1.first().map(|level| level.tick)
 }

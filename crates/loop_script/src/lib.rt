@@ -6,6 +6,7 @@
 mod action;
 mod action_form;
 mod body;
+mod bounds;
 mod fault;
 mod faults;
 mod form;

@@ -1,10 +1,12 @@
 //! What a script says as a whole, and its reading.
 ghost use Rattle.std.specs.Prelude.{◌≡◌, ◌≤◌, length, sum_by, IfOk, OnOk};
+ghost use Rattle.loop_script.specs.Bounds.{most_items, most_lanes};
 ghost use Rattle.loop_script.specs.Read.{after};
 ghost use Rattle.loop_script.specs.Plan.{actions, few_contexts, keep_or, lanes, plan};
 ghost use Rattle.loop_script.specs.Limits.{IsBounded};
 ghost use Rattle.loop_script.specs.Seen.{seen};
 
+use crate::bounds::{LONGEST_TICK, MOST_ITEMS, MOST_LANES, MOST_PROCS, MOST_TICKS};
 use crate::action::Action;
 use crate::faults::Faults;
 use crate::form::{Form, rows_or_none, rows_within};
@@ -65,7 +67,7 @@ impl Form for LaneSpec {
         faults: &mut Faults,
     ) -> Result<LaneSpec, AllocError> {
         only_keys(value, &["contexts", "start"], faults);
-        let contexts = whole_number(field_of(value, "contexts"), 1, 256, faults);
+        let contexts = whole_number(field_of(value, "contexts"), 1, MOST_ITEMS as u64, faults);
         let start = read_actions(alloc, field_of(value, "start"), faults)?;
         Ok(LaneSpec {
             contexts: contexts as u32,
@@ -122,7 +124,7 @@ fn read_actions(
     ensures value { IfOk result (λ xs. xs ≡ (actions (seen value.entry)).value) }
     ensures faults { OnOk result (faults.new ≡ after faults.old (actions (seen value.entry))) }
 {
-    rows_within(alloc, value, 0, 256, faults)
+    rows_within(alloc, value, 0, MOST_ITEMS, faults)
 }
 
 #[tactic(auto, unfolding(crate::specs::Plan::lanes))]
@@ -133,22 +135,22 @@ fn read_lanes(
 ) -> Result<Items<LaneSpec>, AllocError>
     ensures value { IfOk result (λ xs. xs ≡ (lanes (seen value.entry)).value) }
     ensures faults { OnOk result (faults.new ≡ after faults.old (lanes (seen value.entry))) }
-    ensures few { IfOk result (λ xs. length xs ≤ 64) }
-    ensures contexts { IfOk result (λ xs. sum_by (λ l. l.contexts) xs ≤ 256) }
+    ensures few { IfOk result (λ xs. length xs ≤ most_lanes) }
+    ensures contexts { IfOk result (λ xs. sum_by (λ l. l.contexts) xs ≤ most_items) }
 {
-    let lanes = rows_within(alloc, value, 1, 64, faults)?;
+    let lanes = rows_within(alloc, value, 1, MOST_LANES, faults)?;
     Ok(with_few_contexts(alloc, lanes, faults))
 }
 
 /// The lanes, where they have few enough contexts together.
 fn with_few_contexts(alloc: Global, lanes: Items<LaneSpec>, faults: &mut Faults) -> Items<LaneSpec>
-    requires { length lanes ≤ 64 }
+    requires { length lanes ≤ most_lanes }
     ensures value { result ≡ (few_contexts lanes).value }
     ensures faults { faults.new ≡ after faults.old (few_contexts lanes) }
-    ensures few { length result ≤ 64 }
-    ensures contexts { sum_by (λ l. l.contexts) result ≤ 256 }
+    ensures few { length result ≤ most_lanes }
+    ensures contexts { sum_by (λ l. l.contexts) result ≤ most_items }
 {
-    if context_count(lanes.as_slice()) <= 256 {
+    if context_count(lanes.as_slice()) <= MOST_ITEMS as u64 {
         lanes
     } else {
         faults.limit = true;
@@ -182,13 +184,13 @@ impl Plan {
             faults,
         );
         let version = whole_number(field_of(value, "version"), 1, 2, faults);
-        let ticks = whole_number(field_of(value, "ticks"), 1, 4096, faults);
-        let tick_us = whole_number(field_of(value, "tick_us"), 1, 1_000_000_000, faults);
+        let ticks = whole_number(field_of(value, "ticks"), 1, MOST_TICKS as u64, faults);
+        let tick_us = whole_number(field_of(value, "tick_us"), 1, LONGEST_TICK, faults);
         let lanes = read_lanes(alloc, field_of(value, "lanes"), faults)?;
-        let cancellables = optional_count(field_of(value, "cancellables"), 256, faults);
-        let fds = rows_or_none(alloc, field_of(value, "fds"), 256, faults)?;
-        let loops = rows_or_none(alloc, field_of(value, "loops"), 256, faults)?;
-        let procs = rows_or_none(alloc, field_of(value, "procs"), 1024, faults)?;
+        let cancellables = optional_count(field_of(value, "cancellables"), MOST_ITEMS as u64, faults);
+        let fds = rows_or_none(alloc, field_of(value, "fds"), MOST_ITEMS, faults)?;
+        let loops = rows_or_none(alloc, field_of(value, "loops"), MOST_ITEMS, faults)?;
+        let procs = rows_or_none(alloc, field_of(value, "procs"), MOST_PROCS, faults)?;
         Ok(Plan {
             version: version as u32,
             ticks: ticks as u32,

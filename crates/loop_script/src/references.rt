@@ -1,7 +1,8 @@
 //! Whether each number of a script names something of it.
 ghost use Rattle.std.specs.Prelude.{◌≡◌, ◌≤◌, length, sum_by, nat_lt};
 ghost use Rattle.std.specs.List.{list_all};
-ghost use Rattle.loop_script.specs.References.{sizes as sizes_of, option_refers, kind_refers, action_refers, source_refers, task_refers, plan_refers};
+ghost use Rattle.loop_script.specs.Bounds.{most_lanes};
+ghost use Rattle.loop_script.specs.References.{sizes, option_refers, kind_refers, action_refers, source_refers, task_refers, plan_refers};
 
 use crate::action::Action;
 use crate::plan::{LaneSpec, Plan, Proc};
@@ -72,10 +73,10 @@ impl Action {
         ensures { result ≡ action_refers sizes.now self.now }
     {
         match self {
-            Action::Attach(context, _, spec) => {
+            Action::Attach { context, spec, .. } => {
                 sizes.has_context(*context) && spec.refers_within(sizes)
             }
-            Action::Child(_, _, spec) => spec.refers_within(sizes),
+            Action::Child { spec, .. } => spec.refers_within(sizes),
             Action::Iterate(context) => sizes.has_context(*context),
             Action::Pending(context) => sizes.has_context(*context),
             Action::Push(context) => sizes.has_context(*context),
@@ -85,14 +86,14 @@ impl Action {
             Action::Run(number) => (*number as usize) < sizes.loops,
             Action::Quit(number) => (*number as usize) < sizes.loops,
             Action::Cancel(c) => *c < sizes.cancellables,
-            Action::Connect(c, _, proc) => {
-                *c < sizes.cancellables && (*proc as usize) < sizes.procs
+            Action::Connect { cancellable, proc, .. } => {
+                *cancellable < sizes.cancellables && (*proc as usize) < sizes.procs
             }
             Action::Task(spec) => spec.refers_within(sizes),
-            Action::Invoke(context, proc) => {
+            Action::Invoke { context, proc } => {
                 sizes.has_context(*context) && (*proc as usize) < sizes.procs
             }
-            Action::Give(context, lane) => {
+            Action::Give { context, lane } => {
                 sizes.has_context(*context) && (*lane as usize) < sizes.lanes
             }
             Action::Destroy(_) => true,
@@ -113,7 +114,7 @@ fn actions_refer_within(actions: &[Action], sizes: &Sizes) -> bool
 
 impl Plan {
     pub(crate) fn refers_within(&self) -> bool
-        requires { length self.now.lanes ≤ 64 }
+        requires { length self.now.lanes ≤ most_lanes }
         ensures { result ≡ plan_refers self.now }
     {
         let sizes = self.sizes();
@@ -123,8 +124,8 @@ impl Plan {
     }
 
     fn sizes(&self) -> Sizes
-        requires { length self.now.lanes ≤ 64 }
-        ensures { result ≡ sizes_of self.now }
+        requires { length self.now.lanes ≤ most_lanes }
+        ensures { result ≡ sizes self.now }
     {
         Sizes {
             lanes: self.lanes.as_slice().len(),
@@ -159,7 +160,7 @@ fn loops_refer_within(loops: &[u32], sizes: &Sizes) -> bool
 
 /// How many contexts the lanes have together.
 pub(crate) fn context_count(lanes: &[LaneSpec]) -> u64
-    requires { length lanes.now ≤ 64 }
+    requires { length lanes.now ≤ most_lanes }
     ensures { result ≡ sum_by (λ l. l.contexts) lanes.now }
 {
     lanes.iter().map(|lane| u64::from(lane.contexts)).sum()

@@ -1,8 +1,8 @@
 //! Whether a script keeps the rules on its parts beside one another.
 ghost use Rattle.std.specs.Prelude.{◌≡◌};
 ghost use Rattle.std.specs.List.{list_all};
-ghost use Rattle.loop_script.specs.Level.{rises as rising};
-ghost use Rattle.loop_script.specs.Rules.{is_plain as is_plain_action, is_handler as is_handler_among, goes_at_once as goes_at_once_among, action_rules, plan_rules};
+ghost use Rattle.loop_script.specs.Level.{rises};
+ghost use Rattle.loop_script.specs.Rules.{is_plain, is_handler, goes_at_once, action_rules, plan_rules};
 
 use crate::action::Action;
 use crate::items::Items;
@@ -22,7 +22,7 @@ impl Plan {
 }
 
 fn all_rise(fds: &[Items<Level>]) -> bool
-    ensures { result ≡ list_all rising fds.now }
+    ensures { result ≡ list_all rises fds.now }
 {
     fds.iter().all(|levels| rises(levels.as_slice()))
 }
@@ -53,8 +53,8 @@ fn keeps_rules(action: &Action, procs: &[Proc]) -> bool
     ensures { result ≡ action_rules procs.now action.now }
 {
     match action {
-        Action::Connect(_, _, proc) => is_handler(procs, *proc),
-        Action::Invoke(_, proc) => goes_at_once(procs, *proc),
+        Action::Connect { proc, .. } => is_handler(procs, *proc),
+        Action::Invoke { proc, .. } => goes_at_once(procs, *proc),
         Action::Task(spec) => spec.check || !spec.return_on_cancel,
         _ => true,
     }
@@ -62,7 +62,7 @@ fn keeps_rules(action: &Action, procs: &[Proc]) -> bool
 
 /// Whether a procedure is of plain actions alone.
 fn is_handler(procs: &[Proc], proc: u32) -> bool
-    ensures { result ≡ is_handler_among procs.now proc }
+    ensures { result ≡ is_handler procs.now proc }
 {
     proc_actions(procs, proc)
         .iter()
@@ -71,7 +71,7 @@ fn is_handler(procs: &[Proc], proc: u32) -> bool
 
 /// Whether a source goes after its first call of a procedure.
 fn goes_at_once(procs: &[Proc], proc: u32) -> bool
-    ensures { result ≡ goes_at_once_among procs.now proc }
+    ensures { result ≡ goes_at_once procs.now proc }
 {
     match procs.get(proc as usize) {
         Some(found) => !is_kept(found.keep, 1),
@@ -81,7 +81,7 @@ fn goes_at_once(procs: &[Proc], proc: u32) -> bool
 
 /// Whether a handler may do this.
 fn is_plain(action: &Action) -> bool
-    ensures { result ≡ is_plain_action action.now }
+    ensures { result ≡ is_plain action.now }
 {
     matches!(
         action,

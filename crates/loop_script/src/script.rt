@@ -1,6 +1,7 @@
 //! A script that was read, and what it tells.
 ghost use Rattle.std.specs.Prelude.{◌≡◌, ◌≤◌, ◌<◌, ◌^◌, length, slice_get, Some, true};
 ghost use Rattle.std.specs.List.{list_all};
+ghost use Rattle.loop_script.specs.Bounds.{most_lanes, most_items, most_ticks, longest_tick, latest};
 ghost use Rattle.loop_script.specs.Script.{Answers, IsRead, verdict};
 ghost use Rattle.loop_script.specs.Limits.{IsBounded};
 ghost use Rattle.loop_script.specs.Level.{rises};
@@ -67,7 +68,7 @@ impl Script {
     /// How many ticks the script runs.
     pub fn ticks(&self) -> u32
         ensures ticks { result ≡ self.now.ticks }
-        ensures few { result ≤ 4096 }
+        ensures few { result ≤ most_ticks }
     {
         self.plan.ticks
     }
@@ -76,7 +77,7 @@ impl Script {
     pub fn tick_us(&self) -> u64
         ensures tick_us { result ≡ self.now.tick_us }
         ensures some { 0 < result }
-        ensures short { result ≤ 1000000000 }
+        ensures short { result ≤ longest_tick }
     {
         self.plan.tick_us
     }
@@ -84,7 +85,7 @@ impl Script {
     /// The time at a tick, in microseconds.
     pub fn now(&self, tick: u32) -> u64
         ensures now { result ≡ time_of self.now tick }
-        ensures small { result ≤ 2 ^ 62 }
+        ensures small { result ≤ latest }
     {
         u64::from(tick) * self.plan.tick_us
     }
@@ -92,7 +93,7 @@ impl Script {
     /// How many lanes there are.
     pub fn lanes(&self) -> u32
         ensures lanes { result ≡ length self.now.lanes }
-        ensures few { result ≤ 64 }
+        ensures few { result ≤ most_lanes }
     {
         self.plan.lanes.as_slice().len() as u32
     }
@@ -108,7 +109,7 @@ impl Script {
     /// How many contexts the lanes have together.
     pub fn contexts(&self) -> u32
         ensures contexts { result ≡ (sizes self.now).contexts }
-        ensures few { result ≤ 256 }
+        ensures few { result ≤ most_items }
     {
         context_count(self.plan.lanes.as_slice()) as u32
     }
@@ -123,7 +124,7 @@ impl Script {
     /// How many loops there are.
     pub fn loops(&self) -> u32
         ensures loops { result ≡ length self.now.loops }
-        ensures few { result ≤ 256 }
+        ensures few { result ≤ most_items }
     {
         self.plan.loops.as_slice().len() as u32
     }
@@ -139,7 +140,7 @@ impl Script {
     /// How many cancellables there are.
     pub fn cancellables(&self) -> u32
         ensures cancellables { result ≡ self.now.cancellables }
-        ensures few { result ≤ 256 }
+        ensures few { result ≤ most_items }
     {
         self.plan.cancellables
     }
@@ -238,7 +239,7 @@ pub(crate) fn is_kept(keep: Option<u32>, n: u64) -> bool
 
 /// The place of the lane that holds a context.
 fn home_among(lanes: &[LaneSpec], context: u32) -> u32
-    requires { length lanes.now ≤ 64 }
+    requires { length lanes.now ≤ most_lanes }
     ensures { result ≡ home_in 0 lanes.now context }
 {
     let mut left = context;

@@ -1,7 +1,7 @@
 //! The sources of a script, and their reading.
 ghost use Rattle.std.specs.Prelude.{◌≡◌};
 ghost use Rattle.loop_script.specs.Read.{after};
-ghost use Rattle.loop_script.specs.Source.{kind, idle, timeout, ready, fd, cancel, source_spec, child_spec, usual_priority as priority_of, priority_or};
+ghost use Rattle.loop_script.specs.Source.{kind, idle, timeout, ready, fd, cancel, source_spec, child_spec, usual_priority, priority_or};
 ghost use Rattle.loop_script.specs.Seen.{seen};
 
 use crate::faults::Faults;
@@ -89,7 +89,7 @@ fn read_priority(value: Option<&Value>, kind: Kind, faults: &mut Faults) -> i32
 
 /// The priority of a source that gives none.
 fn usual_priority(kind: Kind) -> i32
-    ensures { result ≡ priority_of kind }
+    ensures { result ≡ usual_priority kind }
 {
     match kind {
         Kind::Idle => 200,

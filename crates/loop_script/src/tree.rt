@@ -75,26 +75,27 @@ impl TaskTree {
 
 impl TaskTree {
     ghost use Rattle.std.specs.Prelude.{◌≤◌};
-    ghost use Rattle.loop_script.specs.Tree.{value as value_tree, fail as fail_tree, sleep as sleep_tree, check as check_tree, seq as seq_tree, both as both_tree, first as first_tree, within as within_tree};
+    ghost use Rattle.loop_script.specs.Bounds.{longest_time};
+    ghost use Rattle.loop_script.specs.Tree.{value, fail, sleep, check, seq, both, first, within};
     ghost use Rattle.loop_script.specs.TreeDepth.{fits_in};
 
-    pub(crate) fn value(value: i64) -> TaskTree
-        ensures { result ≡ value_tree value }
+    pub(crate) fn value(n: i64) -> TaskTree
+        ensures { result ≡ value n }
     {
         TaskTree {
-            node: Node::Value(value),
+            node: Node::Value(n),
         }
     }
 
     pub(crate) fn fail() -> TaskTree
-        ensures { result ≡ fail_tree }
+        ensures { result ≡ fail }
     {
         TaskTree { node: Node::Fail }
     }
 
     pub(crate) fn sleep(us: u64) -> TaskTree
-        requires { us ≤ 1000000000000000 }
-        ensures { result ≡ sleep_tree us }
+        requires { us ≤ longest_time }
+        ensures { result ≡ sleep us }
     {
         TaskTree {
             node: Node::Sleep(us),
@@ -102,13 +103,13 @@ impl TaskTree {
     }
 
     pub(crate) fn check() -> TaskTree
-        ensures { result ≡ check_tree }
+        ensures { result ≡ check }
     {
         TaskTree { node: Node::Check }
     }
 
     pub(crate) fn seq(alloc: Global, a: TaskTree, b: TaskTree) -> Result<TaskTree, AllocError>
-        ensures { IfOk result (λ t. t ≡ seq_tree a b) }
+        ensures { IfOk result (λ t. t ≡ seq a b) }
     {
         let a = Box::new(alloc, a)?;
         let b = Box::new(alloc, b)?;
@@ -118,7 +119,7 @@ impl TaskTree {
     }
 
     pub(crate) fn both(alloc: Global, a: TaskTree, b: TaskTree) -> Result<TaskTree, AllocError>
-        ensures { IfOk result (λ t. t ≡ both_tree a b) }
+        ensures { IfOk result (λ t. t ≡ both a b) }
     {
         let a = Box::new(alloc, a)?;
         let b = Box::new(alloc, b)?;
@@ -128,7 +129,7 @@ impl TaskTree {
     }
 
     pub(crate) fn first(alloc: Global, a: TaskTree, b: TaskTree) -> Result<TaskTree, AllocError>
-        ensures { IfOk result (λ t. t ≡ first_tree a b) }
+        ensures { IfOk result (λ t. t ≡ first a b) }
     {
         let a = Box::new(alloc, a)?;
         let b = Box::new(alloc, b)?;
@@ -138,8 +139,8 @@ impl TaskTree {
     }
 
     pub(crate) fn within(alloc: Global, us: u64, a: TaskTree) -> Result<TaskTree, AllocError>
-        requires { us ≤ 1000000000000000 }
-        ensures { IfOk result (λ t. t ≡ within_tree us a) }
+        requires { us ≤ longest_time }
+        ensures { IfOk result (λ t. t ≡ within us a) }
     {
         let a = Box::new(alloc, a)?;
         Ok(TaskTree {

@@ -5,6 +5,7 @@ ghost use Rattle.loop_script.specs.Read.{after};
 ghost use Rattle.loop_script.specs.TreeForm.{tree, value_form, fail_form, sleep_form, check_form, seq_form, both_form, first_form, within_form};
 ghost use Rattle.loop_script.specs.Seen.{seen};
 
+use crate::bounds::LONGEST_TIME;
 use crate::faults::Faults;
 use crate::number::{signed_number, whole_number};
 use crate::part::{check_arity, part_of, word_of};
@@ -70,7 +71,7 @@ fn read_sleep(value: &Value, faults: &mut Faults) -> TaskTree
     ensures faults { faults.new ≡ after faults.old (sleep_form (Some (view value.now))) }
 {
     check_arity(Some(value), 2, faults);
-    TaskTree::sleep(whole_number(part_of(Some(value), 1), 0, 1_000_000_000_000_000, faults))
+    TaskTree::sleep(whole_number(part_of(Some(value), 1), 0, LONGEST_TIME, faults))
 }
 
 #[tactic(auto, unfolding(crate::specs::TreeForm::check_form))]
@@ -125,7 +126,7 @@ fn read_within(alloc: Global, value: &Value, faults: &mut Faults) -> Result<Task
     ensures faults { OnOk result (faults.new ≡ after faults.old (within_form (Some (view value.now)))) }
 {
     check_arity(Some(value), 3, faults);
-    let us = whole_number(part_of(Some(value), 1), 0, 1_000_000_000_000_000, faults);
+    let us = whole_number(part_of(Some(value), 1), 0, LONGEST_TIME, faults);
     let a = read_tree(alloc, part_of(Some(value), 2), faults)?;
     TaskTree::within(alloc, us, a)
 }

@@ -1,6 +1,6 @@
 //! One poll of all tasks.
 ghost use Rattle.std.specs.Prelude.{◌≡◌, ◌+◌, ◌<◌, ◌++◌, ◌∷◌, [], if◌then◌else◌, option_to_list, length, IsOk, OnOk, map};
-ghost use Rattle.task_steps.specs.Book.{IsIn, HasGrown, replies_next, sees as sees_in};
+ghost use Rattle.task_steps.specs.Book.{IsIn, HasGrown, replies_next, sees};
 ghost use Rattle.task_steps.specs.BookInside.{wake_of_all};
 ghost use Rattle.task_steps.specs.Task.{task_of};
 ghost use Rattle.std.specs.List.{list_any};
@@ -14,7 +14,7 @@ use std::alloc::AllocError;
 /// Whether the view has the cancellable.
 fn sees(view: &View, cancel: Option<u32>) -> bool
     requires { IsIn view.now cancel }
-    ensures { result ≡ sees_in view.now cancel }
+    ensures { result ≡ sees view.now cancel }
 {
     match cancel {
         None => false,

@@ -1,6 +1,6 @@
 //! Where a run stands.
 ghost use Rattle.std.specs.Prelude.{◌≡◌};
-ghost use Rattle.task_steps.specs.Run.{set_to as stage_set_to, seen_from as first_seen_from, clear_to as last_clear_to};
+ghost use Rattle.task_steps.specs.Run.{set_to, seen_from, clear_to};
 
 /// Where a run stands between its calls; a run is begun in the tick that is set first.
 #[derive(Clone, Copy, Debug, PartialEq, Eq)]
@@ -17,7 +17,7 @@ pub enum Stage {
 
 /// The stage of a run whose tick is set.
 pub(crate) fn set_to(stage: Stage, tick: u32) -> Stage
-    ensures { result ≡ stage_set_to tick stage }
+    ensures { result ≡ set_to tick stage }
 {
     match stage {
         Stage::Fresh => Stage::Set { begun: tick, tick },
@@ -29,7 +29,7 @@ pub(crate) fn set_to(stage: Stage, tick: u32) -> Stage
 
 /// The first tick that was seen as cancelled, with one more that is seen.
 pub(crate) fn seen_from(tick: u32, cancelled: bool, before: Option<u32>) -> Option<u32>
-    ensures { result ≡ first_seen_from tick cancelled before }
+    ensures { result ≡ seen_from tick cancelled before }
 {
     match before {
         Some(from) => Some(from),
@@ -39,7 +39,7 @@ pub(crate) fn seen_from(tick: u32, cancelled: bool, before: Option<u32>) -> Opti
 
 /// The last tick that was seen as not cancelled, with one more that is seen.
 pub(crate) fn clear_to(tick: u32, cancelled: bool, before: Option<u32>) -> Option<u32>
-    ensures { result ≡ last_clear_to tick cancelled before }
+    ensures { result ≡ clear_to tick cancelled before }
 {
     if cancelled { before } else { Some(tick) }
 }

@@ -1,7 +1,7 @@
 //! A task's tree as steps that are polled.
 ghost use Rattle.std.specs.Prelude.{◌≡◌, ◌+◌, ◌<◌, ◌≤◌, IfOk};
-ghost use Rattle.task_steps.specs.End.{both_of as outcome_of_both};
-ghost use Rattle.task_steps.specs.Rest.{Polled, InTime, StandsFor, wake_of, sooner as sooner_of};
+ghost use Rattle.task_steps.specs.End.{both_of};
+ghost use Rattle.task_steps.specs.Rest.{Polled, InTime, StandsFor, wake_of, sooner};
 
 use crate::time::Time;
 use crate::wait::wait_of;
@@ -31,7 +31,7 @@ pub(crate) enum Steps {
 
 /// The outcome of two parts that are both waited for: the first fault, else that of the second.
 fn both_of(a: Outcome, b: Outcome) -> Outcome
-    ensures { result ≡ outcome_of_both a b }
+    ensures { result ≡ both_of a b }
 {
     match a {
         Outcome::Ok(_) => b,
@@ -41,7 +41,7 @@ fn both_of(a: Outcome, b: Outcome) -> Outcome
 
 /// The lesser of two ticks, where there are such.
 pub(crate) fn sooner(a: Option<u64>, b: Option<u64>) -> Option<u64>
-    ensures { result ≡ sooner_of a b }
+    ensures { result ≡ sooner a b }
 {
     match (a, b) {
         (None, _) => b,

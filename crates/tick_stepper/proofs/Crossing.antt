@@ -29,11 +29,11 @@ use Rattle.context_core.specs.contracts.context.Context as Context
 use Rattle.lane_turn.proofs.line.Line.TheSendSync as line
 use Rattle.lane_turn.proofs.slot.Held.TheSendSync as held
 use Rattle.lane_turn.proofs.replies.Awaited.TheSendSync as awaited
-use Rattle.lane_turn.proofs.parts.Status.TheSendSync as status
+use Rattle.lane_turn.proofs.lane.Status.TheSendSync as status
 use Rattle.std.proofs.option.Option.TheSendSync as option
 use Rattle.lane_turn.specs.contracts.tally.Tally as Tally
 use Rattle.lane_turn.specs.contracts.chain.Chain as Chain
-use Rattle.lane_turn.specs.contracts.parts.Parts as Parts
+use Rattle.lane_turn.specs.contracts.lane.Lane as Lane
 use Rattle.lane_turn.specs.contracts.frames.Frames as Frames
 use Rattle.lane_turn.specs.contracts.state.LaneState as LaneState
 use Rattle.post_office.proofs.work_queue.WorkPass.TheSendSync as work_pass
@@ -101,17 +101,17 @@ frames_send = search (chain_send, sendable, crosses) depth 60 fits 10000
 context_send : IsSend Context.the_row
 context_send = search (rows_send, sendable, crosses) depth 60
 
-parts_send : IsSend (Parts.the_field).row
-parts_send = search (context_send, watch_send, frames_send, line.the_send, line.the_field_send, held.the_send, held.the_field_send, awaited.the_send, awaited.the_field_send, status.the_send, status.the_field_send, option.the_field_send, BTreeMap-send, sendable, crosses) depth 60 fits 20000
+lane_send : IsSend (Lane.the_field).row
+lane_send = search (context_send, watch_send, frames_send, line.the_send, line.the_field_send, held.the_send, held.the_field_send, awaited.the_send, awaited.the_field_send, status.the_send, status.the_field_send, option.the_field_send, BTreeMap-send, sendable, crosses) depth 60 fits 20000
 
-lane_send : IsSend LaneState.the_row
-lane_send = search (parts_send, sendable, crosses) depth 60
+state_send : IsSend LaneState.the_row
+state_send = search (lane_send, sendable, crosses) depth 60
 
 pub share_send : IsSend Share.the_row
-share_send = search (lane_send, sendable, crosses) depth 60 fits 10000
+share_send = search (state_send, sendable, crosses) depth 60 fits 10000
 
 pub numbered_send : IsSend Numbered.the_row
-numbered_send = search (lane_send, sendable, crosses) depth 60 fits 10000
+numbered_send = search (state_send, sendable, crosses) depth 60 fits 10000
 
 -- ---- passes
 

@@ -2,7 +2,7 @@
 use Rattle.std.proofs.Common.{◌≡◌, ℕ, zero, suc, ◌<◌, ◌^◌, false, List, [], ◌∷◌, length, get_or, sym, subst, arith}
 use Rattle.std.specs.List.{AllByRecursion}
 use Rattle.loop_script.specs.declared.plan.Plan.{Plan}
-use Rattle.lane_turn.specs.Lane.{Lane, Kept}
+use Rattle.lane_turn.specs.Lane.{Lane, State}
 use Rattle.lane_turn.specs.Sound.{IsReady}
 use Rattle.tick_stepper.specs.declared.share.Numbered.{Numbered}
 use Rattle.tick_stepper.specs.Share.{unspent, IsReadyOne}
@@ -24,5 +24,5 @@ named_here script tick i step old now d ready e h =
     let there : IsReadyOne script tick (get_or old i d) = each_at (IsReadyOne script tick) i old d ready h in
     subst (λ (one : Numbered). one.number ≡ one.state.lane.number) (sym (one_is step i old now d e h)) there.named
 
-pub kept_is : (kept : Kept) (lane : Lane) → kept.lane ≡ lane → kept.spent ≡ false → kept ≡ unspent lane
+pub kept_is : (kept : State) (lane : Lane) → kept.lane ≡ lane → kept.spent ≡ false → kept ≡ unspent lane
 kept_is kept lane e f = λ i. record { lane = e i; spent = f i }

@@ -3,7 +3,7 @@ use Rattle.std.specs.Prelude.{◌≡◌, ℕ, ◌+◌, ◌^◌, ◌<◌, ◌==�
 use Rattle.std.specs.List.{AllByRecursion, filter, flat_map}
 use Rattle.loop_script.specs.declared.plan.Plan.{Plan}
 use Rattle.post_office.specs.declared.letter.Letter.{Letter}
-use Rattle.lane_turn.specs.Lane.{Lane, Kept}
+use Rattle.lane_turn.specs.Lane.{Lane, State}
 use Rattle.lane_turn.specs.Turn.{turned, out_of}
 use Rattle.lane_turn.specs.Sound.{IsReady}
 use Rattle.tick_stepper.specs.Crew.{worker_of}
@@ -14,7 +14,7 @@ use Rattle.tick_stepper.specs.declared.share.Share.{Share}
 use Rattle.lane_turn.specs.declared.state.LaneFault.{LaneFault}
 
 -- a lane of which no call was refused memory
-abbrev pub unspent : Lane → Kept
+abbrev pub unspent : Lane → State
 unspent lane = record { lane = lane; spent = false }
 
 -- a lane with its number, and lanes with theirs

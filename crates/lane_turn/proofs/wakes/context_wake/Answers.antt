@@ -1,7 +1,7 @@
 use Rattle.std.proofs.Common.{◌∙◌, ℕ, ap, sym, subst, ◌≡◌, List}
 use Rattle.std.specs.List.{list_any}
 use Rattle.loop_script.specs.Parts.{level_of, time_of}
-use Rattle.context_core.specs.Ready.{Own, calls, in_view}
+use Rattle.context_core.specs.Ready.{Own, is_callable, in_view}
 use Rattle.source_rows.specs.Rows.{RowSet}
 use Rattle.source_rows.specs.Tree.{IsForest}
 use Rattle.lane_turn.specs.Frames.{busy}
@@ -18,7 +18,7 @@ rows-preserved c = λ k le after.
     let blocks : List ℕ = busy c.args.number c.args.frames.now in
     let both = c.sooner-wake.ensures k after in
     any_free own blocks c.in-Some.row.now c.next.new.self (c.free_wake.ensures k le both.1)
-    ∙ (ap (list_any (calls own blocks)) (sym c.in-Some.ensures.steps) ∙ c.rows.invariant k le both.0)
+    ∙ (ap (list_any (is_callable own blocks)) (sym c.in-Some.ensures.steps) ∙ c.rows.invariant k le both.0)
 
 pub returns : goal.returns
 returns c = λ k le after.
@@ -28,6 +28,6 @@ returns c = λ k le after.
     let same : c.rows-2.result.now ≡ c.args.context.now.rows = c.rows-2.ensures in
     let forest = subst (λ (s : RowSet). IsForest s.rows) same c.candidates-row-items.ensures.forest in
     let both = c.sooner.ensures k after in
-    let none = sym (c.rows.invariant k le both.0) ∙ ap (list_any (calls own blocks)) c.in-None.ensures.steps.0 in
+    let none = sym (c.rows.invariant k le both.0) ∙ ap (list_any (is_callable own blocks)) c.in-None.ensures.steps.0 in
     none_selected own blocks rows
     (sym (soon (λ fd. level_of c.args.script.now fd k) (in_view c.args.view.now) (time_of c.args.script.now c.args.from) (time_of c.args.script.now k) blocks rows forest (c.next_due.ensures k both.1)) ∙ none)

@@ -1,5 +1,5 @@
 use Rattle.std.proofs.Common.{◌≡◌, ◌+◌, ap, ◌∙◌, arith, get_or}
-use Rattle.lane_turn.specs.Lane.{Kept}
+use Rattle.lane_turn.specs.Lane.{State}
 use Rattle.lane_turn.specs.Deliver.{received_all}
 use Rattle.tick_stepper.specs.Share.{stepped_one, unspent}
 use Rattle.tick_stepper.specs.declared.share.Numbered.{Numbered}
@@ -17,10 +17,10 @@ loop-lane-preserved c =
     let d : Numbered = c.lane-item.result in
     let it : Numbered = get_or c.loop-lane.lanes c.loop-lane.lane-index d in
     let done = c.in_ok-deliver.ensures in
-    let now : Kept = c.deliver.new.self in
+    let now : State = c.deliver.new.self in
     let took : now ≡ unspent (step it.state.lane) = kept_is now (step it.state.lane) done.delivered done.lasts in
     one_more (stepped_one step) c.loop-lane.lane-index c.args.lanes.now c.loop-lane.lanes d (record { number = it.number; state = now }) c.loop-lane.invariant (omega arith)
-    (ap (λ (k : Kept). record { number = it.number; state = k }) took)
+    (ap (λ (k : State). record { number = it.number; state = k }) took)
 
 pub returns : goal.returns
 returns c = c.loop-lane.invariant ∙ stepped_all (stepped_one (received_all c.args.script.now c.args.tick c.args.letters.now)) c.loop-lane.lane-index c.args.lanes.now (omega arith)

@@ -2,7 +2,7 @@ use Rattle.std.proofs.Common.{rules, ◌≡◌, ◌+◌, ◌++◌, [], ◌∷◌
 use Rattle.std.proofs.lemmas.List.{map_push}
 use Rattle.std.proofs.lemmas.List.FromFn.{map-range_with_len_more}
 use Rattle.std.specs.List.{range_with_len, AllByRecursion}
-use Rattle.lane_turn.specs.Lane.{Kept}
+use Rattle.lane_turn.specs.Lane.{State}
 use Rattle.lane_turn.specs.Turn.{opening}
 use Rattle.tick_stepper.specs.declared.share.Numbered.{Numbered}
 use Rattle.tick_stepper.specs.declared.rest.Resting.{Resting}
@@ -20,6 +20,6 @@ loop-number-preserved c =
     let pushed : c.push.new.self.items ≡ c.loop-number.lanes.items ++ one ∷ [] = search rules in
     record {
       lanes = ap (map (λ (o : Resting). o.lane)) pushed ∙ (map_push (λ (o : Resting). o.lane) c.loop-number.lanes.items one
-          ∙ (ap (λ (ls : List Numbered). ls ++ one.lane ∷ []) c.loop-number.invariant.lanes ∙ (ap (λ (k : Kept). numbered (map made (range_with_len 0 n)) ++ (record { number = n; state = k }) ∷ []) c.in_ok-state.ensures.opening ∙ sym more)));
+          ∙ (ap (λ (ls : List Numbered). ls ++ one.lane ∷ []) c.loop-number.invariant.lanes ∙ (ap (λ (k : State). numbered (map made (range_with_len 0 n)) ++ (record { number = n; state = k }) ∷ []) c.in_ok-state.ensures.opening ∙ sym more)));
       due = subst (AllByRecursion (λ (o : Resting). o.next ≡ Some 0)) (sym pushed) (all_of_both (λ (o : Resting). o.next ≡ Some 0) c.loop-number.lanes.items (one ∷ []) c.loop-number.invariant.due (refl, tt));
     }

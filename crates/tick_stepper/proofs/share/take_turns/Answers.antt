@@ -1,5 +1,5 @@
 use Rattle.std.proofs.Common.{◌≡◌, ap, ◌∙◌, arith, get_or}
-use Rattle.lane_turn.specs.Lane.{Kept}
+use Rattle.lane_turn.specs.Lane.{State}
 use Rattle.lane_turn.specs.Turn.{turned}
 use Rattle.tick_stepper.specs.Share.{turned_one, out_of_one, unspent}
 use Rattle.tick_stepper.specs.declared.share.Numbered.{Numbered}
@@ -24,11 +24,11 @@ loop-lane-preserved g c =
     let d : Numbered = c.lane-item.result in
     let it : Numbered = get_or c.loop-lane.lanes i d in
     let done = c.in_ok-turn.ensures in
-    let now : Kept = c.turn.new.state in
+    let now : State = c.turn.new.state in
     let is = one_is (turned_one script tick) i old c.loop-lane.lanes d c.loop-lane.invariant.lanes (omega arith) in
     let took : now ≡ unspent (turned script tick it.state.lane) = kept_is now (turned script tick it.state.lane) done.turned done.lasts in
     record {
-      lanes = one_more (turned_one script tick) i old c.loop-lane.lanes d (record { number = it.number; state = now }) c.loop-lane.invariant.lanes (omega arith) (ap (λ (k : Kept). record { number = it.number; state = k }) took);
+      lanes = one_more (turned_one script tick) i old c.loop-lane.lanes d (record { number = it.number; state = now }) c.loop-lane.invariant.lanes (omega arith) (ap (λ (k : State). record { number = it.number; state = k }) took);
       letters = gives_on (out_of_one script tick) i old d it c.args.tray.now c.loop-lane.tray c.turn.new.post (omega arith) is c.loop-lane.invariant.letters done.letters;
     }
 

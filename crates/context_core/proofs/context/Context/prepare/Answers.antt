@@ -5,7 +5,7 @@ use Rattle.source_rows.specs.Rows.{in_order}
 use Rattle.std.specs.List.{find}
 use Rattle.source_rows.specs.Candidates.{candidates}
 use Rattle.context_core.proofs.Candidates.{find_candidates}
-use Rattle.context_core.specs.Ready.{in_view, own_ready, calls}
+use Rattle.context_core.specs.Ready.{in_view, own_ready, is_callable}
 use Rattle.context_core.specs.Phases.{shown}
 use Rattle.context_core.proofs.Called.{first_called}
 use Rattle.context_core.proofs.Phased.{found_here, none_here}
@@ -15,7 +15,7 @@ pub returns-clause-priority : goal.returns-clause-priority
 returns-clause-priority c =
     let own = own_ready (shown []) (in_view c.args.view.now) c.args.now in
     first_called own c.args.busy.now c.args.self.now.rows.rows c.candidates-row-items.ensures.forest c.candidates-row-items.ensures.one_tree _
-    (none_here (calls own c.args.busy.now) c.rows.row-iterator (in_order c.args.self.now.rows.rows) c.in-None.ensures.steps.0 c.rows.invariant)
+    (none_here (is_callable own c.args.busy.now) c.rows.row-iterator (in_order c.args.self.now.rows.rows) c.in-None.ensures.steps.0 c.rows.invariant)
 
 pub returns-then-calls-clause-priority : goal.returns-then-calls-clause-priority
 returns-then-calls-clause-priority c =
@@ -24,11 +24,11 @@ returns-then-calls-clause-priority c =
     let same : to_z w32 (of_z w32 c.in-Some.row.now.priority) ≡ c.in-Some.row.now.priority = simp to_z-of_z in
     ap (λ (z : ℤ). Some z) same
     ∙ first_called own c.args.busy.now c.args.self.now.rows.rows c.candidates-row-items.ensures.forest c.candidates-row-items.ensures.one_tree _
-    (found_here (calls own c.args.busy.now) c.rows.row-iterator c.next.new.self (in_order c.args.self.now.rows.rows) c.in-Some.row.now (sym c.calls.ensures ∙ c.if-calls.true) c.in-Some.ensures.steps c.rows.invariant)
+    (found_here (is_callable own c.args.busy.now) c.rows.row-iterator c.next.new.self (in_order c.args.self.now.rows.rows) c.in-Some.row.now (sym c.is_callable.ensures ∙ c.if-calls.true) c.in-Some.ensures.steps c.rows.invariant)
 
 pub rows-init : goal.rows-init
 rows-init c =
     let rows = c.args.self.now.rows.rows in
     let it : c.into_iter-row-iterator.result ≡ candidates c.args.now rows = search rules in
-    ap (find (calls (own_ready (shown []) (in_view c.args.view.now) c.args.now) c.args.busy.now)) it
+    ap (find (is_callable (own_ready (shown []) (in_view c.args.view.now) c.args.now) c.args.busy.now)) it
     ∙ find_candidates (shown []) (in_view c.args.view.now) c.args.now c.args.busy.now rows c.candidates-row-items.ensures.forest
