@@ -169,8 +169,8 @@ mild_acted script tick (Log n) lane = quiet lane _ refl refl (omega arith)
 work_taken : (frames : List Frame) → nest_work (advanced frames) ≤ nest_work frames
 work_taken [] = omega arith
 work_taken (CallOf call ∷ frames) = omega arith
-work_taken (IterOf c [] answer ∷ frames) = omega arith
-work_taken (IterOf c (id ∷ ids) answer ∷ frames) = omega arith
+work_taken (IterOf c [] asker ∷ frames) = omega arith
+work_taken (IterOf c (id ∷ ids) asker ∷ frames) = omega arith
 work_taken (LoopOf number context ∷ frames) = omega arith
 
 length_taken : (frames : List Frame) → length (advanced frames) ≡ length frames

@@ -33,6 +33,8 @@ use Rattle.lane_turn.proofs.Counted.{AllNumbered, Counted, one_more, counted_act
 use Rattle.lane_turn.proofs.Depths.{depth_callers, callers_advanced, few_dispatches, calls_begun, calls_advanced}
 use Rattle.lane_turn.proofs.Iterations.{row_in_id}
 use Rattle.lane_turn.proofs.Adds.{grows_line, grows_trans, grows_as, IsOther, OtherAt, Acts, adds_acted, adds_returned, adds_answered, line, same, trans}
+use Rattle.lane_turn.specs.declared.layer.Asker.{Asker}
+use Rattle.lane_turn.specs.declared.layer.Asker.TheVariants as askers
 
 -- ---- a step
 
@@ -43,9 +45,9 @@ call_to context row once = record { origin = origins.Source (record { context = 
 -- the next source of the innermost iteration
 pub record IsNext (lane : Lane) (context : ℕ) (row : Row) : Type 0 where
   pub ids : List ℕ
-  pub answer : Option Bool
+  pub asker : Asker
   pub below : List Frame
-  pub was : lane.frames ≡ IterOf context (row.id ∷ ids) answer ∷ below
+  pub was : lane.frames ≡ IterOf context (row.id ∷ ids) asker ∷ below
   pub there : row_of context row.id lane ≡ Some row
 
 -- it is dispatched
@@ -135,23 +137,23 @@ does_call script tick t call (Some a) =
     does_counted tick (sends a (taken t.lane)) (λ lane. acted script tick a (taken lane)) t t.left (after_taken tick t.lane (taken t.lane) _ refl refl (adds_acted script tick (calls_in_progress t.lane.frames) a (taken t.lane) (sym (calls_advanced t.lane.frames))))
 does_call script tick t call None = after_taken tick t.lane (popped t.lane) _ refl refl (adds_returned script tick (calls_in_progress t.lane.frames) call.body call.origin (popped t.lane))
 
-does_id : (tick : ℕ) (t : Turn) (context id : ℕ) (ids : List ℕ) (answer : Option Bool) (below : List Frame) (r : Option Row) → t.lane.frames ≡ IterOf context (id ∷ ids) answer ∷ below → row_of context id t.lane ≡ r → On tick t (step_id tick t context r)
-does_id tick t context id ids answer below None f e = of_same tick t.lane (taken t.lane) refl refl
-does_id tick t context id ids answer below (Some row) f e =
+does_id : (tick : ℕ) (t : Turn) (context id : ℕ) (ids : List ℕ) (asker : Asker) (below : List Frame) (r : Option Row) → t.lane.frames ≡ IterOf context (id ∷ ids) asker ∷ below → row_of context id t.lane ≡ r → On tick t (step_id tick t context r)
+does_id tick t context id ids asker below None f e = of_same tick t.lane (taken t.lane) refl refl
+does_id tick t context id ids asker below (Some row) f e =
     let same : row.id ≡ id = row_in_id id (context_at context t.lane) row (sym e) in
     let next : IsNext t.lane context row = record {
       ids = ids;
-      answer = answer;
+      asker = asker;
       below = below;
-      was = f ∙ ap (λ (i : ℕ). IterOf context (i ∷ ids) answer ∷ below) (sym same);
+      was = f ∙ ap (λ (i : ℕ). IterOf context (i ∷ ids) asker ∷ below) (sym same);
       there = ap (λ (i : ℕ). row_of context i t.lane) same ∙ e;
     } in
     does_counted tick None (dispatching tick context row) t t.left (does_dispatching tick context row t.lane next)
 
 does_loop : (script : Plan) (tick : ℕ) (t : Turn) (number context : ℕ) (runs iterated : Bool) (u : Turn)
-    → cond runs (cond iterated None (Some (record t { lane = iterating script tick context None t.lane; iterated = true }))) (Some (with_lane (λ lane. written tick (events.LoopEnd number) (popped lane)) t)) ≡ Some u → On tick t u
+    → cond runs (cond iterated None (Some (record t { lane = iterating script tick context askers.Loop t.lane; iterated = true }))) (Some (with_lane (λ lane. written tick (events.LoopEnd number) (popped lane)) t)) ≡ Some u → On tick t u
 does_loop script tick t number context true true u e = cc
-does_loop script tick t number context true false u e = subst (On tick t) (some_same _ _ e) (of_same tick t.lane (iterating script tick context None t.lane) refl refl)
+does_loop script tick t number context true false u e = subst (On tick t) (some_same _ _ e) (of_same tick t.lane (iterating script tick context askers.Loop t.lane) refl refl)
 does_loop script tick t number context false iterated u e =
     subst (On tick t) (some_same _ _ e) (after_taken tick t.lane (popped t.lane) _ refl refl (line (OtherAt tick (calls_in_progress t.lane.frames)) (popped t.lane) tick (events.LoopEnd number) (refl, tt)))
 
@@ -163,12 +165,12 @@ does_step script tick t [] GoesOn u e = cc
 does_step script tick t (CallOf call ∷ below) GoesOn u e =
     let now : Turn = turn t (CallOf call ∷ below) GoesOn in
     subst (On tick now) (some_same _ _ e) (does_call script tick now call (slice_get (actions_of script call.body) call.place))
-does_step script tick t (IterOf context [] answer ∷ below) GoesOn u e =
-    let now : Turn = turn t (IterOf context [] answer ∷ below) GoesOn in
-    subst (On tick now) (some_same _ _ e) (after_taken tick now.lane (popped now.lane) _ refl refl (adds_answered tick (calls_in_progress now.lane.frames) context answer (popped now.lane)))
-does_step script tick t (IterOf context (id ∷ ids) answer ∷ below) GoesOn u e =
-    let now : Turn = turn t (IterOf context (id ∷ ids) answer ∷ below) GoesOn in
-    subst (On tick now) (some_same _ _ e) (does_id tick now context id ids answer below (row_of context id now.lane) refl refl)
+does_step script tick t (IterOf context [] asker ∷ below) GoesOn u e =
+    let now : Turn = turn t (IterOf context [] asker ∷ below) GoesOn in
+    subst (On tick now) (some_same _ _ e) (after_taken tick now.lane (popped now.lane) _ refl refl (adds_answered tick (calls_in_progress now.lane.frames) context asker (popped now.lane)))
+does_step script tick t (IterOf context (id ∷ ids) asker ∷ below) GoesOn u e =
+    let now : Turn = turn t (IterOf context (id ∷ ids) asker ∷ below) GoesOn in
+    subst (On tick now) (some_same _ _ e) (does_id tick now context id ids asker below (row_of context id now.lane) refl refl)
 does_step script tick t (LoopOf number context ∷ below) GoesOn u e =
     let now : Turn = turn t (LoopOf number context ∷ below) GoesOn in
     does_loop script tick now number context (is_running number now.lane) now.iterated u e

@@ -33,6 +33,8 @@ use Rattle.lane_turn.specs.Step.{returned, answered}
 use Rattle.lane_turn.specs.Traces.{Grows}
 use Rattle.lane_turn.specs.Rest.{IsBrought}
 use Rattle.lane_turn.proofs.Counts.{Edits, AllEdit, edits_attached, edits_child, edits_destroyed, edits_ready_set, edits_reprioritised, edits_restarted, edits_same, all_same, all_trans, all_changed}
+use Rattle.lane_turn.specs.declared.layer.Asker.{Asker}
+use Rattle.lane_turn.specs.declared.layer.Asker.TheVariants as askers
 
 -- ---- lines
 
@@ -306,6 +308,6 @@ adds_returned script tick n body (Source caller) lane =
     (a_edit tick n lane caller.context (restarted (time_of script tick) caller.id) (edits_restarted (time_of script tick) caller.id))
     (a_edit tick n lane caller.context (destroyed caller.id) (edits_destroyed caller.id))
 
-pub adds_answered : (tick n context : ℕ) (answer : Option Bool) (lane : Lane) → Acts tick n lane (answered tick context answer lane)
-adds_answered tick n context None lane = a_same tick n lane lane refl refl
-adds_answered tick n context (Some any) lane = a_line tick n lane (events.Iterate context any) tt
+pub adds_answered : (tick n context : ℕ) (asker : Asker) (lane : Lane) → Acts tick n lane (answered tick context asker lane)
+adds_answered tick n context askers.Loop lane = a_same tick n lane lane refl refl
+adds_answered tick n context (askers.Iterate any) lane = a_line tick n lane (events.Iterate context any) tt

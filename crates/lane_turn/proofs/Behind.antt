@@ -19,6 +19,7 @@ use Rattle.lane_turn.specs.Lane.{Lane, Turn, taken, row_of, is_running}
 use Rattle.lane_turn.specs.Acted.{acted, sends}
 use Rattle.lane_turn.specs.Step.{step, step_polling, step_going, step_top, step_call, step_id, step_iteration, limited_by, dispatching, polled, letter, sent_with, posted_with}
 use Rattle.lane_turn.specs.Turn.{work, finish, finished}
+use Rattle.lane_turn.specs.declared.layer.Asker.{Asker}
 
 abbrev pub behind : List Letter → Turn → Turn
 behind front t = record t { posted = front ++ t.posted }
@@ -43,9 +44,9 @@ id_behind : (front : List Letter) (tick : ℕ) (t : Turn) (context : ℕ) (r : O
 id_behind front tick t context None = refl
 id_behind front tick t context (Some row) = counted_behind front tick None (dispatching tick context row) t t.left
 
-iteration_behind : (front : List Letter) (tick : ℕ) (t : Turn) (context : ℕ) (answer : Option Bool) (next : Option ℕ) → step_iteration tick (behind front t) context answer next ≡ behind front (step_iteration tick t context answer next)
-iteration_behind front tick t context answer None = refl
-iteration_behind front tick t context answer (Some id) = id_behind front tick t context (row_of context id t.lane)
+iteration_behind : (front : List Letter) (tick : ℕ) (t : Turn) (context : ℕ) (asker : Asker) (next : Option ℕ) → step_iteration tick (behind front t) context asker next ≡ behind front (step_iteration tick t context asker next)
+iteration_behind front tick t context asker None = refl
+iteration_behind front tick t context asker (Some id) = id_behind front tick t context (row_of context id t.lane)
 
 loop_behind : (front : List Letter) (runs iterated : Bool) (u v : Turn) → cond runs (cond iterated None (Some (behind front u))) (Some (behind front v)) ≡ opt front (cond runs (cond iterated None (Some u)) (Some v))
 loop_behind front true true u v = refl
@@ -55,7 +56,7 @@ loop_behind front false iterated u v = refl
 top_behind : (front : List Letter) (script : Plan) (tick : ℕ) (t : Turn) (top : Top) → step_top script tick (behind front t) top ≡ opt front (step_top script tick t top)
 top_behind front script tick t tops.Nothing = refl
 top_behind front script tick t (tops.Call call) = ap (λ (u : Turn). Some u) (call_behind front script tick t call (slice_get (actions_of script call.body) call.place))
-top_behind front script tick t (tops.Iteration context next answer) = ap (λ (u : Turn). Some u) (iteration_behind front tick t context answer next)
+top_behind front script tick t (tops.Iteration context next asker) = ap (λ (u : Turn). Some u) (iteration_behind front tick t context asker next)
 top_behind front script tick t (tops.Loop number context) = loop_behind front (is_running number t.lane) t.iterated _ _
 
 going_behind : (front : List Letter) (script : Plan) (tick : ℕ) (t : Turn) (status : Status) → step_going script tick (behind front t) status ≡ opt front (step_going script tick t status)

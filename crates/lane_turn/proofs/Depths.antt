@@ -16,13 +16,13 @@ call_depth (origins.Invoke acquired) cs n e = omega (arith, e)
 pub depth_callers : (fs : List Frame) → depth fs ≡ length (callers fs)
 depth_callers [] = refl
 depth_callers (CallOf call ∷ fs) = sum_by-cons (λ (f : Frame). cond (is_dispatch f) 1 0) (CallOf call) fs ∙ call_depth call.origin (callers fs) (depth fs) (depth_callers fs)
-depth_callers (IterOf context ids answer ∷ fs) = omega (arith, sum_by-cons (λ (f : Frame). cond (is_dispatch f) 1 0) (IterOf context ids answer) fs, depth_callers fs)
+depth_callers (IterOf context ids asker ∷ fs) = omega (arith, sum_by-cons (λ (f : Frame). cond (is_dispatch f) 1 0) (IterOf context ids asker) fs, depth_callers fs)
 depth_callers (LoopOf number context ∷ fs) = omega (arith, sum_by-cons (λ (f : Frame). cond (is_dispatch f) 1 0) (LoopOf number context) fs, depth_callers fs)
 
 pub callers_advanced : (fs : List Frame) → callers (advanced fs) ≡ callers fs
 callers_advanced [] = refl
 callers_advanced (CallOf call ∷ fs) = refl
-callers_advanced (IterOf context ids answer ∷ fs) = refl
+callers_advanced (IterOf context ids asker ∷ fs) = refl
 callers_advanced (LoopOf number context ∷ fs) = refl
 
 fewer : (origin : Origin) → cond (is_source origin) 1 0 ≤ cond (is_dispatch_or_invoke origin) 1 0
@@ -34,8 +34,8 @@ pub few_dispatches : (fs : List Frame) → depth fs ≤ calls_in_progress fs
 few_dispatches [] = omega arith
 few_dispatches (CallOf call ∷ fs) =
     omega (arith, sum_by-cons (λ (f : Frame). cond (is_dispatch f) 1 0) (CallOf call) fs, sum_by-cons (λ (f : Frame). cond (is_call f) 1 0) (CallOf call) fs, few_dispatches fs, fewer call.origin)
-few_dispatches (IterOf context ids answer ∷ fs) =
-    omega (arith, sum_by-cons (λ (f : Frame). cond (is_dispatch f) 1 0) (IterOf context ids answer) fs, sum_by-cons (λ (f : Frame). cond (is_call f) 1 0) (IterOf context ids answer) fs, few_dispatches fs)
+few_dispatches (IterOf context ids asker ∷ fs) =
+    omega (arith, sum_by-cons (λ (f : Frame). cond (is_dispatch f) 1 0) (IterOf context ids asker) fs, sum_by-cons (λ (f : Frame). cond (is_call f) 1 0) (IterOf context ids asker) fs, few_dispatches fs)
 few_dispatches (LoopOf number context ∷ fs) =
     omega (arith, sum_by-cons (λ (f : Frame). cond (is_dispatch f) 1 0) (LoopOf number context) fs, sum_by-cons (λ (f : Frame). cond (is_call f) 1 0) (LoopOf number context) fs, few_dispatches fs)
 
@@ -48,11 +48,11 @@ calls_begun (CallOf call ∷ fs) = sum_by-cons (λ (f : Frame). cond (is_call f)
     by origins.Start e = omega (arith, e)
     by (origins.Source caller) e = omega (arith, e)
     by (origins.Invoke acquired) e = omega (arith, e)
-calls_begun (IterOf context ids answer ∷ fs) = omega (arith, sum_by-cons (λ (f : Frame). cond (is_call f) 1 0) (IterOf context ids answer) fs, calls_begun fs)
+calls_begun (IterOf context ids asker ∷ fs) = omega (arith, sum_by-cons (λ (f : Frame). cond (is_call f) 1 0) (IterOf context ids asker) fs, calls_begun fs)
 calls_begun (LoopOf number context ∷ fs) = omega (arith, sum_by-cons (λ (f : Frame). cond (is_call f) 1 0) (LoopOf number context) fs, calls_begun fs)
 
 pub calls_advanced : (fs : List Frame) → calls_in_progress (advanced fs) ≡ calls_in_progress fs
 calls_advanced [] = refl
 calls_advanced (CallOf call ∷ fs) = sum_by-cons (λ (f : Frame). cond (is_call f) 1 0) (CallOf (record call { place = call.place + 1 })) fs ∙ sym (sum_by-cons (λ (f : Frame). cond (is_call f) 1 0) (CallOf call) fs)
-calls_advanced (IterOf context ids answer ∷ fs) = sum_by-cons (λ (f : Frame). cond (is_call f) 1 0) (IterOf context (drop 1 ids) answer) fs ∙ sym (sum_by-cons (λ (f : Frame). cond (is_call f) 1 0) (IterOf context ids answer) fs)
+calls_advanced (IterOf context ids asker ∷ fs) = sum_by-cons (λ (f : Frame). cond (is_call f) 1 0) (IterOf context (drop 1 ids) asker) fs ∙ sym (sum_by-cons (λ (f : Frame). cond (is_call f) 1 0) (IterOf context ids asker) fs)
 calls_advanced (LoopOf number context ∷ fs) = refl

@@ -67,7 +67,7 @@ recur_call c i (origins.Source caller) xs cs ih e = recur_source c i caller xs c
 recur_each : (c i : ℕ) (fs : List Frame) → list_any (λ b. b == i) (filter_map (blocked_in c) fs) ≡ false → MayRecur fs c i
 recur_each c i [] e = tt
 recur_each c i (CallOf call ∷ fs) e = recur_call c i call.origin (filter_map (blocked_in c) fs) (callers fs) (recur_each c i fs) e
-recur_each c i (IterOf d ids answer ∷ fs) e = recur_each c i fs e
+recur_each c i (IterOf d ids asker ∷ fs) e = recur_each c i fs e
 recur_each c i (LoopOf number d ∷ fs) e = recur_each c i fs e
 
 recurs : (c i : ℕ) (fs : List Frame) → list_any (λ b. b == i) (busy c fs) ≡ false → MayRecur fs c i

@@ -54,6 +54,8 @@ use Rattle.lane_turn.proofs.Turns.{IsTidy, tidy_on, begun_tidy, kept_finish, kep
 use Rattle.lane_turn.proofs.Runs.{most_at, ready_at, posted_fits, AllReady}
 use Rattle.lane_turn.proofs.Turns.{ready-turned}
 use Rattle.lane_turn.proofs.Delivered.{ready_received}
+use Rattle.lane_turn.specs.declared.layer.Asker.{Asker}
+use Rattle.lane_turn.specs.declared.layer.Asker.TheVariants as askers
 
 abbrev AllGrown : ℕ → Lane → Type 0
 AllGrown levels lane = AllByRecursion (Grown levels) lane.contexts
@@ -259,9 +261,9 @@ grown_returned levels script tick body (Source caller) lane h =
     (λ _. grown_free levels lane caller.context (restarted (time_of script tick) caller.id) (grown_restarted levels (time_of script tick) caller.id) h)
     (grown_free levels lane caller.context (destroyed caller.id) (grown_destroyed levels caller.id) h)
 
-grown_answered : (levels tick context : ℕ) (answer : Option Bool) (lane : Lane) → AllGrown levels lane → AllGrown levels (answered tick context answer lane)
-grown_answered levels tick context None lane h = h
-grown_answered levels tick context (Some any) lane h = h
+grown_answered : (levels tick context : ℕ) (asker : Asker) (lane : Lane) → AllGrown levels lane → AllGrown levels (answered tick context asker lane)
+grown_answered levels tick context askers.Loop lane h = h
+grown_answered levels tick context (askers.Iterate any) lane h = h
 
 grown_counting : (levels tick : ℕ) (mail : Option Mail) (f : Lane → Lane) (t : Turn) (left : ℕ) → AllGrown levels t.lane → AllGrown levels (f t.lane) → AllGrown levels (limited_by tick mail f t left).lane
 grown_counting levels tick mail f t zero h k = h
@@ -285,7 +287,7 @@ grown_id levels tick context t None b h = h
 grown_id levels tick context t (Some row) b h = grown_counting levels tick None (dispatching tick context row) t t.left h (grown_dispatching levels tick context row t.lane h)
 
 grown_loop : (levels : ℕ) (script : Plan) (tick number context : ℕ) (t : Turn) (runs iterated : Bool) (u : Turn)
-    → cond runs (cond iterated None (Some (record t { lane = iterating script tick context None t.lane; iterated = true }))) (Some (with_lane (λ lane. written tick (events.LoopEnd number) (popped lane)) t)) ≡ Some u → StaysGrown levels t u
+    → cond runs (cond iterated None (Some (record t { lane = iterating script tick context askers.Loop t.lane; iterated = true }))) (Some (with_lane (λ lane. written tick (events.LoopEnd number) (popped lane)) t)) ≡ Some u → StaysGrown levels t u
 grown_loop levels script tick number context t true true u e b h = cc
 grown_loop levels script tick number context t true false u e b h = subst (λ (v : Turn). AllGrown levels v.lane) (some_same _ _ e) h
 grown_loop levels script tick number context t false iterated u e b h = subst (λ (v : Turn). AllGrown levels v.lane) (some_same _ _ e) h
@@ -297,11 +299,11 @@ grown_step_by rest levels script tick base [] GoesOn left iterated u e b h = cc
 grown_step_by rest levels script tick base (CallOf call ∷ below) GoesOn left iterated u e b h =
     let t : Turn = turn rest (record base { frames = CallOf call ∷ below; status = GoesOn }) left iterated in
     subst (λ (v : Turn). AllGrown levels v.lane) (some_same _ _ e) (grown_call levels script tick t call (slice_get (actions_of script call.body) call.place) b h)
-grown_step_by rest levels script tick base (IterOf context [] answer ∷ below) GoesOn left iterated u e b h =
-    let t : Turn = turn rest (record base { frames = IterOf context [] answer ∷ below; status = GoesOn }) left iterated in
-    subst (λ (v : Turn). AllGrown levels v.lane) (some_same _ _ e) (grown_answered levels tick context answer (popped t.lane) h)
-grown_step_by rest levels script tick base (IterOf context (id ∷ ids) answer ∷ below) GoesOn left iterated u e b h =
-    let t : Turn = turn rest (record base { frames = IterOf context (id ∷ ids) answer ∷ below; status = GoesOn }) left iterated in
+grown_step_by rest levels script tick base (IterOf context [] asker ∷ below) GoesOn left iterated u e b h =
+    let t : Turn = turn rest (record base { frames = IterOf context [] asker ∷ below; status = GoesOn }) left iterated in
+    subst (λ (v : Turn). AllGrown levels v.lane) (some_same _ _ e) (grown_answered levels tick context asker (popped t.lane) h)
+grown_step_by rest levels script tick base (IterOf context (id ∷ ids) asker ∷ below) GoesOn left iterated u e b h =
+    let t : Turn = turn rest (record base { frames = IterOf context (id ∷ ids) asker ∷ below; status = GoesOn }) left iterated in
     subst (λ (v : Turn). AllGrown levels v.lane) (some_same _ _ e) (grown_id levels tick context t (row_of context id t.lane) b h)
 grown_step_by rest levels script tick base (LoopOf number context ∷ below) GoesOn left iterated u e b h =
     let t : Turn = turn rest (record base { frames = LoopOf number context ∷ below; status = GoesOn }) left iterated in

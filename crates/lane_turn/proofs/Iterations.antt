@@ -34,12 +34,14 @@ use Rattle.lane_turn.proofs.Mild.{Plain, plain_cancel, plain_handled}
 use Rattle.lane_turn.specs.Depths.{begun_calls}
 use Rattle.lane_turn.proofs.Depths.{calls_begun, calls_advanced}
 use Rattle.lane_turn.specs.Iterations.{IsRest, Later, EachLater, IsOver, TellsAny, Begun, FramesGoOn}
+use Rattle.lane_turn.specs.declared.layer.Asker.{Asker}
+use Rattle.lane_turn.specs.declared.layer.Asker.TheVariants as askers
 
 -- ---- frames later on
 
 later_same : (f : Frame) → Later f f
 later_same (CallOf call) = (refl, refl)
-later_same (IterOf context ids answer) = (refl, (0, refl), refl)
+later_same (IterOf context ids asker) = (refl, (0, refl), refl)
 later_same (LoopOf number context) = (refl, refl)
 
 each_same : (fs : List Frame) → EachLater fs fs
@@ -48,7 +50,7 @@ each_same (f ∷ fs) = (later_same f, each_same fs)
 
 later_taken : (f : Frame) → Later f (advanced_one f)
 later_taken (CallOf call) = (refl, refl)
-later_taken (IterOf context ids answer) = (refl, (1, refl), refl)
+later_taken (IterOf context ids asker) = (refl, (1, refl), refl)
 later_taken (LoopOf number context) = (refl, refl)
 
 each_taken : (fs : List Frame) → EachLater fs (advanced fs)
@@ -65,14 +67,14 @@ left_or_none false ids left h = h
 
 later_emptied : (c : ℕ) (f g : Frame) → Later f g → Later f (emptied_one c g)
 later_emptied c (CallOf call) (CallOf call') h = h
-later_emptied c (IterOf context ids answer) (IterOf context' left answer') h = (h.0, left_or_none (context' == c) ids left h.1, h.2)
+later_emptied c (IterOf context ids asker) (IterOf context' left answer') h = (h.0, left_or_none (context' == c) ids left h.1, h.2)
 later_emptied c (LoopOf number context) (LoopOf number' context') h = h
-later_emptied c (CallOf call) (IterOf context ids answer) h = absurd h
+later_emptied c (CallOf call) (IterOf context ids asker) h = absurd h
 later_emptied c (CallOf call) (LoopOf number context) h = absurd h
-later_emptied c (IterOf context ids answer) (CallOf call) h = absurd h
-later_emptied c (IterOf context ids answer) (LoopOf number context') h = absurd h
+later_emptied c (IterOf context ids asker) (CallOf call) h = absurd h
+later_emptied c (IterOf context ids asker) (LoopOf number context') h = absurd h
 later_emptied c (LoopOf number context) (CallOf call) h = absurd h
-later_emptied c (LoopOf number context) (IterOf context' ids answer) h = absurd h
+later_emptied c (LoopOf number context) (IterOf context' ids asker) h = absurd h
 
 each_emptied : (c : ℕ) (fs gs : List Frame) → EachLater fs gs → EachLater fs (emptied c gs)
 each_emptied c [] [] h = tt
@@ -86,7 +88,7 @@ none_if false c d ids e h = elim (eqb_tells d c) [ inl t ↦ let no = sym e ∙ 
 
 over_one : (c : ℕ) (f : Frame) → IsOver c (emptied_one c f)
 over_one c (CallOf call) = tt
-over_one c (IterOf d ids answer) = λ h. none_if (d == c) c d ids refl h
+over_one c (IterOf d ids asker) = λ h. none_if (d == c) c d ids refl h
 over_one c (LoopOf number d) = tt
 
 each_over : (c : ℕ) (fs : List Frame) → AllByRecursion (IsOver c) (emptied c fs)
@@ -102,8 +104,8 @@ by_either ch fs x y false h k = k
 taken_on : (ch : ℕ → List ℕ) (fs : List Frame) → FramesGoOn ch fs (advanced fs)
 taken_on ch fs = inl (each_taken fs)
 
-iterated_on : (ch : ℕ → List ℕ) (fs : List Frame) (c : ℕ) (ids : List ℕ) (answer : Option Bool) → ids ≡ ch c → TellsAny ids answer → FramesGoOn ch fs (IterOf c ids answer ∷ emptied c (advanced fs))
-iterated_on ch fs c ids answer e a = inr (inr (each_emptied c fs (advanced fs) (each_taken fs), (each_over c (advanced fs), e, a)))
+iterated_on : (ch : ℕ → List ℕ) (fs : List Frame) (c : ℕ) (ids : List ℕ) (asker : Asker) → ids ≡ ch c → TellsAny ids asker → FramesGoOn ch fs (IterOf c ids asker ∷ emptied c (advanced fs))
+iterated_on ch fs c ids asker e a = inr (inr (each_emptied c fs (advanced fs) (each_taken fs), (each_over c (advanced fs), e, a)))
 
 tells_any : (ids : List ℕ) → TellsAny ids (Some (is_any ids))
 tells_any [] = refl
@@ -191,9 +193,9 @@ returned_on ch script tick body origins.Start lane fs h = h
 returned_on ch script tick body (origins.Source caller) lane fs h = by_either ch fs _ _ _ h h
 returned_on ch script tick body (origins.Invoke acquired) lane fs h = h
 
-answered_on : (ch : ℕ → List ℕ) (tick context : ℕ) (answer : Option Bool) (lane : Lane) (fs : List Frame) → FramesGoOn ch fs lane.frames → FramesGoOn ch fs (answered tick context answer lane).frames
-answered_on ch tick context None lane fs h = h
-answered_on ch tick context (Some any) lane fs h = h
+answered_on : (ch : ℕ → List ℕ) (tick context : ℕ) (asker : Asker) (lane : Lane) (fs : List Frame) → FramesGoOn ch fs lane.frames → FramesGoOn ch fs (answered tick context asker lane).frames
+answered_on ch tick context askers.Loop lane fs h = h
+answered_on ch tick context (askers.Iterate any) lane fs h = h
 
 ended_on : (ch : ℕ → List ℕ) (fs : List Frame) → FramesGoOn ch fs (drop 1 fs)
 ended_on ch fs = inr (inl (each_same (drop 1 fs)))
@@ -225,25 +227,25 @@ turn rest lane left iterated = record rest { lane = lane; unpolled = []; left = 
 abbrev pub going : Lane → List Frame → Lane
 going base frames = record base { frames = frames; status = GoesOn }
 
-id_on : (ch : ℕ → List ℕ) (rest : Turn) (tick : ℕ) (base : Lane) (below : List Frame) (left : ℕ) (iterated : Bool) (context id : ℕ) (ids : List ℕ) (answer : Option Bool) (r : Option Row)
-    → let lane : Lane = going base (IterOf context (id ∷ ids) answer ∷ below) in
+id_on : (ch : ℕ → List ℕ) (rest : Turn) (tick : ℕ) (base : Lane) (below : List Frame) (left : ℕ) (iterated : Bool) (context id : ℕ) (ids : List ℕ) (asker : Asker) (r : Option Row)
+    → let lane : Lane = going base (IterOf context (id ∷ ids) asker ∷ below) in
     r ≡ row_of context id lane → On ch lane.frames (step_id tick (turn rest lane left iterated) context r)
-id_on ch rest tick base below left iterated context id ids answer None e = inl (each_taken (IterOf context (id ∷ ids) answer ∷ below))
-id_on ch rest tick base below left iterated context id ids answer (Some row) e =
-    let lane : Lane = going base (IterOf context (id ∷ ids) answer ∷ below) in
+id_on ch rest tick base below left iterated context id ids asker None e = inl (each_taken (IterOf context (id ∷ ids) asker ∷ below))
+id_on ch rest tick base below left iterated context id ids asker (Some row) e =
+    let lane : Lane = going base (IterOf context (id ∷ ids) asker ∷ below) in
     counted_on ch tick None (dispatching tick context row) (turn rest lane left iterated) left (by (nat_lt (calls_in_progress lane.frames) 32) refl)
   where
-    by : let lane : Lane = going base (IterOf context (id ∷ ids) answer ∷ below) in (b : Bool) → nat_lt (calls_in_progress lane.frames) 32 ≡ b → FramesGoOn ch lane.frames (cond b (dispatched tick context row lane) (stopped Halted (written tick events.HaltDepth lane))).frames
+    by : let lane : Lane = going base (IterOf context (id ∷ ids) asker ∷ below) in (b : Bool) → nat_lt (calls_in_progress lane.frames) 32 ≡ b → FramesGoOn ch lane.frames (cond b (dispatched tick context row lane) (stopped Halted (written tick events.HaltDepth lane))).frames
     by true k =
-        let lane : Lane = going base (IterOf context (id ∷ ids) answer ∷ below) in
+        let lane : Lane = going base (IterOf context (id ∷ ids) asker ∷ below) in
         let few : length (begun_calls lane.frames) < 32 = omega (arith, ltb-true (calls_in_progress lane.frames) 32 k, calls_begun lane.frames) in
-        let begun : Begun ch lane.frames (dispatched tick context row lane).frames = (each_taken lane.frames, (few, record { ids = ids; answer = answer; below = below; was = ap (λ (i : ℕ). IterOf context (i ∷ ids) answer ∷ below) (sym (row_in_id id (context_at context lane) row e)); is = refl })) in
+        let begun : Begun ch lane.frames (dispatched tick context row lane).frames = (each_taken lane.frames, (few, record { ids = ids; asker = asker; below = below; was = ap (λ (i : ℕ). IterOf context (i ∷ ids) asker ∷ below) (sym (row_in_id id (context_at context lane) row e)); is = refl })) in
         inr (inr begun)
-    by false k = inl (each_same (IterOf context (id ∷ ids) answer ∷ below))
+    by false k = inl (each_same (IterOf context (id ∷ ids) asker ∷ below))
 
 loop_on : (ch : ℕ → List ℕ) (rest : Turn) (script : Plan) (tick : ℕ) (base : Lane) (below : List Frame) (left : ℕ) (iterated : Bool) (number context : ℕ) (runs : Bool) (u : Turn)
     → let lane : Lane = going base (LoopOf number context ∷ below) in let t : Turn = turn rest lane left iterated in
-    ((c : ℕ) → chosen script tick c lane ≡ ch c) → cond runs (cond iterated None (Some (turn rest (iterating script tick context None t.lane) left true))) (Some (with_lane (λ lane. written tick (events.LoopEnd number) (popped lane)) t)) ≡ Some u → On ch lane.frames u
+    ((c : ℕ) → chosen script tick c lane ≡ ch c) → cond runs (cond iterated None (Some (turn rest (iterating script tick context askers.Loop t.lane) left true))) (Some (with_lane (λ lane. written tick (events.LoopEnd number) (popped lane)) t)) ≡ Some u → On ch lane.frames u
 loop_on ch rest script tick base below left true number context true u k e = cc
 loop_on ch rest script tick base below left false number context true u k e =
     let fs : List Frame = LoopOf number context ∷ below in
@@ -256,12 +258,12 @@ step_on : (ch : ℕ → List ℕ) (rest : Turn) (script : Plan) (tick : ℕ) (ba
 step_on ch rest script tick base [] GoesOn left iterated u k e = cc
 step_on ch rest script tick base (CallOf call ∷ below) GoesOn left iterated u k e =
     subst (On ch (CallOf call ∷ below)) (some_turn _ _ e) (call_on ch script tick (turn rest (going base (CallOf call ∷ below)) left iterated) call (slice_get (actions_of script call.body) call.place) k)
-step_on ch rest script tick base (IterOf context [] answer ∷ below) GoesOn left iterated u k e =
-    let fs : List Frame = IterOf context [] answer ∷ below in
-    subst (On ch fs) (some_turn _ _ e) (answered_on ch tick context answer (popped (going base fs)) fs (ended_on ch fs))
-step_on ch rest script tick base (IterOf context (id ∷ ids) answer ∷ below) GoesOn left iterated u k e =
-    let lane : Lane = going base (IterOf context (id ∷ ids) answer ∷ below) in
-    subst (On ch lane.frames) (some_turn _ _ e) (id_on ch rest tick base below left iterated context id ids answer (row_of context id lane) refl)
+step_on ch rest script tick base (IterOf context [] asker ∷ below) GoesOn left iterated u k e =
+    let fs : List Frame = IterOf context [] asker ∷ below in
+    subst (On ch fs) (some_turn _ _ e) (answered_on ch tick context asker (popped (going base fs)) fs (ended_on ch fs))
+step_on ch rest script tick base (IterOf context (id ∷ ids) asker ∷ below) GoesOn left iterated u k e =
+    let lane : Lane = going base (IterOf context (id ∷ ids) asker ∷ below) in
+    subst (On ch lane.frames) (some_turn _ _ e) (id_on ch rest tick base below left iterated context id ids asker (row_of context id lane) refl)
 step_on ch rest script tick base (LoopOf number context ∷ below) GoesOn left iterated u k e =
     loop_on ch rest script tick base below left iterated number context (is_running number (going base (LoopOf number context ∷ below))) u k e
 step_on ch rest script tick base frames Ended left iterated u k e = cc
@@ -277,7 +279,7 @@ goes_on script tick t u e = polling_on (λ context. chosen script tick context t
 -- ---- what an `iterate` is told
 
 told_at : (script : Plan) (tick : ℕ) (rest : Turn) (base : Lane) (below : List Frame) (left : ℕ) (iterated : Bool) (context : ℕ) (any : Bool) (u : Turn)
-    → step script tick (turn rest (going base (IterOf context [] (Some any) ∷ below)) left iterated) ≡ Some u → (u.lane.frames ≡ below) × (u.lane.trace ≡ base.trace ++ (record { tick = tick; event = events.Iterate context any }) ∷ [])
+    → step script tick (turn rest (going base (IterOf context [] (askers.Iterate any) ∷ below)) left iterated) ≡ Some u → (u.lane.frames ≡ below) × (u.lane.trace ≡ base.trace ++ (record { tick = tick; event = events.Iterate context any }) ∷ [])
 told_at script tick rest base below left iterated context any u e =
     let same = sym (some_turn _ _ e) in
     (ap (λ (v : Turn). v.lane.frames) same, ap (λ (v : Turn). v.lane.trace) same)
@@ -289,6 +291,6 @@ in_the_middle script tick t u frames p s f e =
     subst (λ (fs : List Frame). step script tick (at [] GoesOn fs) ≡ Some u) f
     (subst (λ (x : Status). step script tick (at [] x t.lane.frames) ≡ Some u) s (subst (λ (tasks : List Started). step script tick (at tasks t.lane.status t.lane.frames) ≡ Some u) p e))
 
-pub told_answer : (script : Plan) (tick : ℕ) (t u : Turn) (context : ℕ) (any : Bool) (below : List Frame) → t.unpolled ≡ [] → t.lane.status ≡ GoesOn → t.lane.frames ≡ IterOf context [] (Some any) ∷ below
+pub told_answer : (script : Plan) (tick : ℕ) (t u : Turn) (context : ℕ) (any : Bool) (below : List Frame) → t.unpolled ≡ [] → t.lane.status ≡ GoesOn → t.lane.frames ≡ IterOf context [] (askers.Iterate any) ∷ below
     → step script tick t ≡ Some u → (u.lane.frames ≡ below) × (u.lane.trace ≡ t.lane.trace ++ (record { tick = tick; event = events.Iterate context any }) ∷ [])
-told_answer script tick t u context any below p s f e = told_at script tick t t.lane below t.left t.iterated context any u (in_the_middle script tick t u (IterOf context [] (Some any) ∷ below) p s f e)
+told_answer script tick t u context any below p s f e = told_at script tick t t.lane below t.left t.iterated context any u (in_the_middle script tick t u (IterOf context [] (askers.Iterate any) ∷ below) p s f e)

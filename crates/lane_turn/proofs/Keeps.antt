@@ -32,6 +32,8 @@ use Rattle.lane_turn.specs.Owned.{default_context, is_owned, may_release, callin
 use Rattle.lane_turn.specs.Acted.{acted, can_bear, child_of, on_source, set_priority_of, plain_acted, all_acted, handled, all_handled, cancel, connect, disconnect_of}
 use Rattle.lane_turn.specs.Step.{dispatching, returned, answered}
 use Rattle.lane_turn.specs.Deliver.{received_body}
+use Rattle.lane_turn.specs.declared.layer.Asker.{Asker}
+use Rattle.lane_turn.specs.declared.layer.Asker.TheVariants as askers
 
 pub record Keeps (lane after : Lane) : Type 0 where
   pub tasks : after.tasks ≡ lane.tasks
@@ -202,6 +204,6 @@ keeps_returned script tick body Start lane = keep lane _ refl refl
 keeps_returned script tick body (Invoked acquired) lane = keep lane _ refl refl
 keeps_returned script tick body (Source caller) lane = either lane _ _ (not caller.once && stays script body caller.number) (keep lane _ refl refl) (keep lane _ refl refl)
 
-pub keeps_answered : (tick context : ℕ) (answer : Option Bool) (lane : Lane) → Keeps lane (answered tick context answer lane)
-keeps_answered tick context None lane = keep lane _ refl refl
-keeps_answered tick context (Some any) lane = keep lane _ refl refl
+pub keeps_answered : (tick context : ℕ) (asker : Asker) (lane : Lane) → Keeps lane (answered tick context asker lane)
+keeps_answered tick context askers.Loop lane = keep lane _ refl refl
+keeps_answered tick context (askers.Iterate any) lane = keep lane _ refl refl

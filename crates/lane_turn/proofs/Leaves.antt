@@ -39,6 +39,8 @@ use Rattle.lane_turn.specs.Step.{returned, answered}
 use Rattle.lane_turn.specs.Owed.{one_for}
 use Rattle.lane_turn.specs.Taken.{is_result, results}
 use Rattle.lane_turn.proofs.Lists.{each-push}
+use Rattle.lane_turn.specs.declared.layer.Asker.{Asker}
+use Rattle.lane_turn.specs.declared.layer.Asker.TheVariants as askers
 
 -- no context's next id falls
 abbrev pub Rises : (before after : List (Option Context)) → Type 0
@@ -318,6 +320,6 @@ leaves_returned s n script tick body (Source caller) lane =
     (edit s n lane caller.context (restarted now caller.id) (λ rows. row_rises now caller.id (row_with caller.id rows.rows) rows))
     (edit s n lane caller.context (destroyed caller.id) (λ rows. omega arith))
 
-pub leaves_answered : (s n tick context : ℕ) (answer : Option Bool) (lane : Lane) → Leaves s n lane (answered tick context answer lane)
-leaves_answered s n tick context None lane = same s n lane lane refl refl refl refl refl
-leaves_answered s n tick context (Some any) lane = line s n lane tick (events.Iterate context any) refl
+pub leaves_answered : (s n tick context : ℕ) (asker : Asker) (lane : Lane) → Leaves s n lane (answered tick context asker lane)
+leaves_answered s n tick context askers.Loop lane = same s n lane lane refl refl refl refl refl
+leaves_answered s n tick context (askers.Iterate any) lane = line s n lane tick (events.Iterate context any) refl

@@ -30,6 +30,7 @@ use Rattle.lane_turn.specs.declared.line.Word.TheVariants as words
 use Rattle.lane_turn.specs.Turn.{nest_work, rows_in, row_count}
 use Rattle.lane_turn.specs.Sound.{IsBounded, IsBoundedContext, Bounded, IsWithin}
 use Rattle.lane_turn.proofs.Lists.{each-push, each-filter, each_weaker, length-selected}
+use Rattle.lane_turn.specs.declared.layer.Asker.{Asker}
 
 -- it adds a row, as many ids as there were rows and two frames, and 2 to each counter.
 pub record Mild (lane after : Lane) : Type 0 where
@@ -251,7 +252,7 @@ emptied_by false ids n m h = omega arith
 pub work_emptied : (c : ℕ) (frames : List Frame) → nest_work (emptied c frames) ≤ nest_work frames
 work_emptied c [] = omega arith
 work_emptied c (CallOf call ∷ frames) = omega (arith, work_emptied c frames)
-work_emptied c (IterOf d ids answer ∷ frames) = emptied_by (d == c) ids (nest_work (emptied c frames)) (nest_work frames) (work_emptied c frames)
+work_emptied c (IterOf d ids asker ∷ frames) = emptied_by (d == c) ids (nest_work (emptied c frames)) (nest_work frames) (work_emptied c frames)
 work_emptied c (LoopOf number context ∷ frames) = omega (arith, work_emptied c frames)
 
 pub length_emptied : (c : ℕ) (frames : List Frame) → length (emptied c frames) ≡ length frames
@@ -269,8 +270,8 @@ chosen_rows script tick view busy (Some c) = length-selected (own_ready_at scrip
 pub length-chosen : (script : Plan) (tick context : ℕ) (lane : Lane) → length (chosen script tick context lane) ≤ row_count lane.contexts
 length-chosen script tick context lane = omega (arith, chosen_rows script tick lane.view (busy context lane.frames) (context_at context lane), rows_own lane.contexts context)
 
-pub mild_iterating : (lane : Lane) (script : Plan) (tick context : ℕ) (answer : Option Bool) → Mild lane (iterating script tick context answer lane)
-mild_iterating lane script tick context answer =
+pub mild_iterating : (lane : Lane) (script : Plan) (tick context : ℕ) (asker : Asker) → Mild lane (iterating script tick context asker lane)
+mild_iterating lane script tick context asker =
     begins_frame lane _ refl refl (omega (arith, work_emptied context lane.frames, length-chosen script tick context lane)) (omega (arith, length_emptied context lane.frames))
 
 pub mild_change : (lane : Lane) (context : ℕ) (change : Context → Context) (k j : ℕ) → k ≤ 1 → j ≤ 2 → MildChange k j change → Mild lane (with_context context change lane)

@@ -32,6 +32,7 @@ use Rattle.lane_turn.proofs.Taking.{Moves, left, moves_trans, moves_dispatching}
 use Rattle.lane_turn.proofs.Owing.{mail_count}
 use Rattle.lane_turn.proofs.Owed.{sends_none}
 use Rattle.lane_turn.proofs.Turns.{kept_finished}
+use Rattle.lane_turn.specs.declared.layer.Asker.TheVariants as askers
 
 -- ---- where replies go
 
@@ -103,10 +104,10 @@ id_on s n tick t context None = freely_on s n t (taken t.lane) t.iterated (same 
 id_on s n tick t context (Some row) = counted_on s n tick None (dispatching tick context row) t t.left (λ m. tt) (moves_dispatching s n tick context row t.lane) (λ m z p. place_dispatching m tick context row t.lane p)
 
 loop_on : (s n : ℕ) (script : Plan) (tick : ℕ) (t : Turn) (number context : ℕ) (runs iterated : Bool) (u : Turn)
-    → cond runs (cond iterated None (Some (record t { lane = iterating script tick context None t.lane; iterated = true }))) (Some (with_lane (λ lane. written tick (events.LoopEnd number) (popped lane)) t)) ≡ Some u → On s n t u
+    → cond runs (cond iterated None (Some (record t { lane = iterating script tick context askers.Loop t.lane; iterated = true }))) (Some (with_lane (λ lane. written tick (events.LoopEnd number) (popped lane)) t)) ≡ Some u → On s n t u
 loop_on s n script tick t number context true true u e = cc
 loop_on s n script tick t number context true false u e =
-    let after : Lane = iterating script tick context None t.lane in
+    let after : Lane = iterating script tick context askers.Loop t.lane in
     subst (On s n t) (some_same _ _ e) (freely_on s n t after true (same s n t.lane after refl refl refl refl refl))
 loop_on s n script tick t number context false iterated u e =
     let over : Lane = popped t.lane in
@@ -120,12 +121,12 @@ step_on s n script tick t [] GoesOn u e = cc
 step_on s n script tick t (CallOf call ∷ below) GoesOn u e =
     let now : Turn = turn t (CallOf call ∷ below) GoesOn in
     subst (On s n now) (some_same _ _ e) (call_on s n script tick now call (slice_get (actions_of script call.body) call.place))
-step_on s n script tick t (IterOf context [] answer ∷ below) GoesOn u e =
-    let now : Turn = turn t (IterOf context [] answer ∷ below) GoesOn in
+step_on s n script tick t (IterOf context [] asker ∷ below) GoesOn u e =
+    let now : Turn = turn t (IterOf context [] asker ∷ below) GoesOn in
     let over : Lane = popped now.lane in
-    subst (On s n now) (some_same _ _ e) (freely_on s n now _ now.iterated (leaves_trans s n now.lane over _ (same s n now.lane over refl refl refl refl refl) (leaves_answered s n tick context answer over)))
-step_on s n script tick t (IterOf context (id ∷ ids) answer ∷ below) GoesOn u e =
-    let now : Turn = turn t (IterOf context (id ∷ ids) answer ∷ below) GoesOn in
+    subst (On s n now) (some_same _ _ e) (freely_on s n now _ now.iterated (leaves_trans s n now.lane over _ (same s n now.lane over refl refl refl refl refl) (leaves_answered s n tick context asker over)))
+step_on s n script tick t (IterOf context (id ∷ ids) asker ∷ below) GoesOn u e =
+    let now : Turn = turn t (IterOf context (id ∷ ids) asker ∷ below) GoesOn in
     subst (On s n now) (some_same _ _ e) (id_on s n tick now context (row_of context id now.lane))
 step_on s n script tick t (LoopOf number context ∷ below) GoesOn u e =
     let now : Turn = turn t (LoopOf number context ∷ below) GoesOn in

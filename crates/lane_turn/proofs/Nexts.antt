@@ -14,6 +14,7 @@ use Rattle.lane_turn.specs.Step.{step, step_id, limited_by, dispatched, dispatch
 use Rattle.lane_turn.specs.Depths.{callers, begun_calls}
 use Rattle.lane_turn.proofs.Depths.{depth_callers, callers_advanced, calls_begun}
 use Rattle.lane_turn.proofs.Iterations.{some_turn, turn, going, in_the_middle, row_in_id}
+use Rattle.lane_turn.specs.declared.layer.Asker.{Asker}
 
 -- what is counted is done, where the turn may count one more
 counted_lane : (tick context left : ℕ) (row : Row) (t : Turn) → 1 ≤ left → (limited_by tick None (dispatching tick context row) t left).lane ≡ dispatching tick context row t.lane
@@ -35,11 +36,11 @@ line_of tick context row lane =
           ∙ ap (λ (n : ℕ). lane.trace ++ (record { tick = tick; event = events.Dispatch context row.id row.priority n }) ∷ more) deep,
     )
 
-pub next_dispatched : (script : Plan) (tick : ℕ) (t u : Turn) (context id : ℕ) (ids : List ℕ) (answer : Option Bool) (below : List Frame) (row : Row) → t.unpolled ≡ [] → t.lane.status ≡ GoesOn → t.lane.frames ≡ IterOf context (id ∷ ids) answer ∷ below
+pub next_dispatched : (script : Plan) (tick : ℕ) (t u : Turn) (context id : ℕ) (ids : List ℕ) (asker : Asker) (below : List Frame) (row : Row) → t.unpolled ≡ [] → t.lane.status ≡ GoesOn → t.lane.frames ≡ IterOf context (id ∷ ids) asker ∷ below
     → row_of context id t.lane ≡ Some row → 1 ≤ t.left → length (begun_calls t.lane.frames) < 32 → step script tick t ≡ Some u
     → (more : List Line) × (u.lane.trace ≡ t.lane.trace ++ (record { tick = tick; event = events.Dispatch context id row.priority (length (callers u.lane.frames)) }) ∷ more)
-next_dispatched script tick t u context id ids answer below row p s f r l few e =
-    let frames : List Frame = IterOf context (id ∷ ids) answer ∷ below in
+next_dispatched script tick t u context id ids asker below row p s f r l few e =
+    let frames : List Frame = IterOf context (id ∷ ids) asker ∷ below in
     let now : Turn = turn t (going t.lane frames) t.left t.iterated in
     let at : step script tick now ≡ Some u = in_the_middle script tick t u frames p s f e in
     let so : Some (step_id tick now context (Some row)) ≡ Some u = ap (λ (o : Option Row). Some (step_id tick now context o)) (sym r) ∙ at in
@@ -52,10 +53,10 @@ next_dispatched script tick t u context id ids answer below row p s f r l few e 
           (subst (λ (i : ℕ). (dispatched tick context row now.lane).trace ≡ t.lane.trace ++ (record { tick = tick; event = events.Dispatch context i row.priority (length (callers (dispatched tick context row now.lane).frames)) }) ∷ told.0) same told.1),
     )
 
-pub next_passed : (script : Plan) (tick : ℕ) (t u : Turn) (context id : ℕ) (ids : List ℕ) (answer : Option Bool) (below : List Frame) → t.unpolled ≡ [] → t.lane.status ≡ GoesOn → t.lane.frames ≡ IterOf context (id ∷ ids) answer ∷ below
-    → row_of context id t.lane ≡ None → step script tick t ≡ Some u → (u.lane.frames ≡ IterOf context ids answer ∷ below) × (u.lane.trace ≡ t.lane.trace)
-next_passed script tick t u context id ids answer below p s f r e =
-    let frames : List Frame = IterOf context (id ∷ ids) answer ∷ below in
+pub next_passed : (script : Plan) (tick : ℕ) (t u : Turn) (context id : ℕ) (ids : List ℕ) (asker : Asker) (below : List Frame) → t.unpolled ≡ [] → t.lane.status ≡ GoesOn → t.lane.frames ≡ IterOf context (id ∷ ids) asker ∷ below
+    → row_of context id t.lane ≡ None → step script tick t ≡ Some u → (u.lane.frames ≡ IterOf context ids asker ∷ below) × (u.lane.trace ≡ t.lane.trace)
+next_passed script tick t u context id ids asker below p s f r e =
+    let frames : List Frame = IterOf context (id ∷ ids) asker ∷ below in
     let now : Turn = turn t (going t.lane frames) t.left t.iterated in
     let at : step script tick now ≡ Some u = in_the_middle script tick t u frames p s f e in
     let so : Some (step_id tick now context None) ≡ Some u = ap (λ (o : Option Row). Some (step_id tick now context o)) (sym r) ∙ at in

@@ -31,6 +31,7 @@ use Rattle.lane_turn.proofs.Keeps.{Keeps, Changes, keep, acted_changes, received
 use Rattle.lane_turn.proofs.Owing.{Owes, mail_count, polled_one, replied_posted, owed_push, owed_if, changes_owed, changes_dated}
 use Rattle.lane_turn.proofs.Turns.{kept_finished}
 use Rattle.lane_turn.proofs.Finish.{no_step_left}
+use Rattle.lane_turn.specs.declared.layer.Asker.TheVariants as askers
 
 -- ---- a step
 
@@ -105,10 +106,10 @@ id_owes k n total t context None none h = freely_owes k n total t (taken t.lane)
 id_owes k n total t context (Some row) none h = counted_owes k n total None (dispatching k context row) t t.left none refl (inl (keeps_dispatching k context row t.lane)) h
 
 loop_owes : (script : Plan) (k n total : ℕ) (t : Turn) (number context : ℕ) (runs iterated : Bool) (u : Turn)
-    → cond runs (cond iterated None (Some (record t { lane = iterating script k context None t.lane; iterated = true }))) (Some (with_lane (λ lane. written k (events.LoopEnd number) (popped lane)) t)) ≡ Some u → t.unpolled ≡ [] → Owes k n total t → Owes k n total u
+    → cond runs (cond iterated None (Some (record t { lane = iterating script k context askers.Loop t.lane; iterated = true }))) (Some (with_lane (λ lane. written k (events.LoopEnd number) (popped lane)) t)) ≡ Some u → t.unpolled ≡ [] → Owes k n total t → Owes k n total u
 loop_owes script k n total t number context true true u e none h = cc
 loop_owes script k n total t number context true false u e none h =
-    let after : Lane = iterating script k context None t.lane in
+    let after : Lane = iterating script k context askers.Loop t.lane in
     subst (Owes k n total) (some_same _ _ e) (freely_owes k n total t after true none (keep t.lane after refl refl) h)
 loop_owes script k n total t number context false iterated u e none h =
     let after : Lane = written k (events.LoopEnd number) (popped t.lane) in
@@ -122,12 +123,12 @@ step_owes script k n total t [] GoesOn u e h = cc
 step_owes script k n total t (CallOf call ∷ below) GoesOn u e h =
     let now : Turn = turn t (CallOf call ∷ below) GoesOn in
     subst (Owes k n total) (some_same _ _ e) (call_owes script k n total now call (slice_get (actions_of script call.body) call.place) refl h)
-step_owes script k n total t (IterOf context [] answer ∷ below) GoesOn u e h =
-    let now : Turn = turn t (IterOf context [] answer ∷ below) GoesOn in
-    let a = keeps_answered k context answer (popped now.lane) in
+step_owes script k n total t (IterOf context [] asker ∷ below) GoesOn u e h =
+    let now : Turn = turn t (IterOf context [] asker ∷ below) GoesOn in
+    let a = keeps_answered k context asker (popped now.lane) in
     subst (Owes k n total) (some_same _ _ e) (freely_owes k n total now _ now.iterated refl (keep now.lane _ a.tasks a.members) h)
-step_owes script k n total t (IterOf context (id ∷ ids) answer ∷ below) GoesOn u e h =
-    let now : Turn = turn t (IterOf context (id ∷ ids) answer ∷ below) GoesOn in
+step_owes script k n total t (IterOf context (id ∷ ids) asker ∷ below) GoesOn u e h =
+    let now : Turn = turn t (IterOf context (id ∷ ids) asker ∷ below) GoesOn in
     subst (Owes k n total) (some_same _ _ e) (id_owes k n total now context (row_of context id now.lane) refl h)
 step_owes script k n total t (LoopOf number context ∷ below) GoesOn u e h =
     let now : Turn = turn t (LoopOf number context ∷ below) GoesOn in

@@ -17,10 +17,10 @@ own_within context (y ∷ xs) x =
     ap (λ b. owns_layer context y || b) (own_within context xs x)
     ∙ either_first (owns_layer context y) (owns_layer context x) (list_any (owns_layer context) xs)
 
-own_one : (context : ℕ) (live : List (Option ℕ)) (level : ℕ) (layer : Layer) → owns context (frame_of live level layer) ≡ owns_layer context layer
-own_one context live level (layers.Call call) = refl
-own_one context live level (layers.Iteration i) = refl
-own_one context live level (layers.Loop number c) = refl
+own_one : (context : ℕ) (live : List (Option ℕ)) (height : ℕ) (layer : Layer) → owns context (frame_of live height layer) ≡ owns_layer context layer
+own_one context live height (layers.Call call) = refl
+own_one context live height (layers.Iteration i) = refl
+own_one context live height (layers.Loop number c) = refl
 
 pub own_layers : (context : ℕ) (live : List (Option ℕ)) (xs : List Layer) → list_any (owns context) (frames_of live xs) ≡ list_any (owns_layer context) xs
 own_layers context live [] = refl

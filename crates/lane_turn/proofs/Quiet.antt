@@ -19,6 +19,7 @@ use Rattle.lane_turn.specs.Polls.{after_polls, letters_of}
 use Rattle.lane_turn.specs.Quiet.{at_tick, IsQuiet, IsIdle, IsIdleTop}
 use Rattle.lane_turn.proofs.Finish.{finished_on, finished_now}
 use Rattle.lane_turn.proofs.Polls.{polls_at_once}
+use Rattle.lane_turn.specs.declared.layer.Asker.TheVariants as askers
 
 -- ---- where no source calls, none is selected
 
@@ -93,7 +94,7 @@ module _ (script : Plan) (tick : ℕ) (lane : Lane) where
       let within : Turn = record (still tick lane true) { lane = record rest { frames = IterOf context [] None ∷ lane.frames } } in
       let begins : step script tick (still tick lane false) ≡ Some within =
       takes (still tick lane false) (tops.Loop number context) refl s e
-      ∙ (ap (λ (b : Bool). cond b (Some (record (still tick lane true) { lane = iterating script tick context None rest })) (Some (with_lane (λ (l : Lane). written tick (events.LoopEnd number) (popped l)) (still tick lane false)))) idle.0
+      ∙ (ap (λ (b : Bool). cond b (Some (record (still tick lane true) { lane = iterating script tick context askers.Loop rest })) (Some (with_lane (λ (l : Lane). written tick (events.LoopEnd number) (popped l)) (still tick lane false)))) idle.0
       ∙ (λ i. Some (record (still tick lane true) { lane = record rest { frames = IterOf context (idle.1 i) None ∷ idle.2 i } }))) in
       let ends : step script tick within ≡ Some (still tick lane true) = takes within (tops.Iteration context None None) refl s refl in
       let rests : step script tick (still tick lane true) ≡ None =
@@ -108,7 +109,7 @@ module _ (script : Plan) (tick : ℕ) (lane : Lane) where
   by_top : (top : Top) → lane.status ≡ GoesOn → top_of lane.frames ≡ top → IsIdleTop script tick lane top → Ends
   by_top tops.Nothing s e idle = (false, over script tick (still tick lane false) (takes (still tick lane false) tops.Nothing refl s e))
   by_top (tops.Call call) s e idle = absurd idle
-  by_top (tops.Iteration context next answer) s e idle = absurd idle
+  by_top (tops.Iteration context next asker) s e idle = absurd idle
   by_top (tops.Loop number context) s e idle = (true, loop_rests number context s e idle)
 
   by_status : (status : Status) → lane.status ≡ status → IsIdle script tick lane → Ends

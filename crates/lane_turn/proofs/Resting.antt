@@ -72,14 +72,14 @@ length_last : (xs : List Layer) (x : Layer) → length (xs ++ x ∷ []) ≡ suc 
 length_last [] x = refl
 length_last (y ∷ xs) x = ap suc (length_last xs x)
 
-pub rest_within : (level context : ℕ) (live : List (Option ℕ)) (xs : List Layer) (x : Layer)
-    → list_any (has_rest context) (frames_from level live (xs ++ x ∷ [])) ≡ (has_rest context (frame_of live level x) || list_any (has_rest context) (frames_from (level + 1) live xs))
-rest_within level context live [] x = let at : level + 0 ≡ level = omega arith in ap (λ (n : ℕ). has_rest context (frame_of live n x) || false) at
-rest_within level context live (y ∷ xs) x =
-    let at : level + length (xs ++ x ∷ []) ≡ level + 1 + length xs = let l = length_last xs x in omega arith in
-    ap (λ (n : ℕ). has_rest context (frame_of live n y) || list_any (has_rest context) (frames_from level live (xs ++ x ∷ []))) at
-    ∙ (ap (λ (b : Bool). has_rest context (frame_of live (level + 1 + length xs) y) || b) (rest_within level context live xs x)
-    ∙ either_first (has_rest context (frame_of live (level + 1 + length xs) y)) (has_rest context (frame_of live level x)) (list_any (has_rest context) (frames_from (level + 1) live xs)))
+pub rest_within : (height context : ℕ) (live : List (Option ℕ)) (xs : List Layer) (x : Layer)
+    → list_any (has_rest context) (frames_from height live (xs ++ x ∷ [])) ≡ (has_rest context (frame_of live height x) || list_any (has_rest context) (frames_from (height + 1) live xs))
+rest_within height context live [] x = let at : height + 0 ≡ height = omega arith in ap (λ (n : ℕ). has_rest context (frame_of live n x) || false) at
+rest_within height context live (y ∷ xs) x =
+    let at : height + length (xs ++ x ∷ []) ≡ height + 1 + length xs = let l = length_last xs x in omega arith in
+    ap (λ (n : ℕ). has_rest context (frame_of live n y) || list_any (has_rest context) (frames_from height live (xs ++ x ∷ []))) at
+    ∙ (ap (λ (b : Bool). has_rest context (frame_of live (height + 1 + length xs) y) || b) (rest_within height context live xs x)
+    ∙ either_first (has_rest context (frame_of live (height + 1 + length xs) y)) (has_rest context (frame_of live height x)) (list_any (has_rest context) (frames_from (height + 1) live xs)))
 
 frames_are : (live : List (Option ℕ)) (ls : List Layer) → frames_from 0 live ls ≡ frames_of live ls
 frames_are live [] = refl
@@ -109,7 +109,7 @@ none_taken false ids h = refl
 pub no_rest : (context : ℕ) (frames : List Frame) → list_any (has_rest context) frames ≡ false → emptied context frames ≡ frames
 no_rest context [] h = refl
 no_rest context (CallOf call ∷ below) h = ap (λ (fs : List Frame). CallOf call ∷ fs) (no_rest context below h)
-no_rest context (IterOf c ids answer ∷ below) h =
+no_rest context (IterOf c ids asker ∷ below) h =
     let here = none_taken (c == context) ids (or_left (c == context && is_any ids) (list_any (has_rest context) below) h) in
-    λ i. IterOf c (here i) answer ∷ no_rest context below (or_right (c == context && is_any ids) (list_any (has_rest context) below) h) i
+    λ i. IterOf c (here i) asker ∷ no_rest context below (or_right (c == context && is_any ids) (list_any (has_rest context) below) h) i
 no_rest context (LoopOf number c ∷ below) h = ap (λ (fs : List Frame). LoopOf number c ∷ fs) (no_rest context below h)

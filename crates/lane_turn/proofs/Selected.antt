@@ -31,7 +31,7 @@ use Rattle.lane_turn.proofs.Freed.{Sits, sits_run, sits_within}
 once_each : (lane : Lane) (fs : List Frame) → AllWait lane.contexts fs → AllByRecursion HasEachOnce fs
 once_each lane [] h = tt
 once_each lane (CallOf call ∷ below) h = (tt, once_each lane below h)
-once_each lane (IterOf c ids answer ∷ below) h = (h.0, once_each lane below h.2)
+once_each lane (IterOf c ids asker ∷ below) h = (h.0, once_each lane below h.2)
 once_each lane (LoopOf number c ∷ below) h = (tt, once_each lane below h)
 
 pub once_run : (script : Plan) (tick steps : ℕ) → AllByRecursion (λ lane. AllByRecursion HasEachOnce (lane_within script tick steps lane).frames) (lanes_at script tick)

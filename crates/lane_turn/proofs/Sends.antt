@@ -22,6 +22,7 @@ use Rattle.cancel_view.specs.Seen.{has}
 use Rattle.lane_turn.specs.Arrivals.{held_of}
 use Rattle.lane_turn.specs.Letters.{AreNumbered}
 use Rattle.lane_turn.proofs.Steady.{Steady, told_by, still, steady_trans, steady_acted, steady_dispatching, steady_returned, steady_answered}
+use Rattle.lane_turn.specs.declared.layer.Asker.TheVariants as askers
 
 -- a step sends one letter at most, the next of the turn, and starts one task at most where it counts one
 pub record Sends (tick : ℕ) (t u : Turn) : Type 0 where
@@ -96,9 +97,9 @@ id_sends tick t context None = freely_sends tick t (taken t.lane) t.iterated (st
 id_sends tick t context (Some row) = counted_sends tick None (dispatching tick context row) t t.left refl (steady_dispatching tick context row t.lane)
 
 loop_sends : (script : Plan) (tick : ℕ) (t : Turn) (number context : ℕ) (runs iterated : Bool) (u : Turn)
-    → cond runs (cond iterated None (Some (record t { lane = iterating script tick context None t.lane; iterated = true }))) (Some (with_lane (λ lane. written tick (events.LoopEnd number) (popped lane)) t)) ≡ Some u → Sends tick t u
+    → cond runs (cond iterated None (Some (record t { lane = iterating script tick context askers.Loop t.lane; iterated = true }))) (Some (with_lane (λ lane. written tick (events.LoopEnd number) (popped lane)) t)) ≡ Some u → Sends tick t u
 loop_sends script tick t number context true true u e = cc
-loop_sends script tick t number context true false u e = subst (Sends tick t) (some_same _ _ e) (freely_sends tick t (iterating script tick context None t.lane) true (still 0 t.lane _ refl refl refl refl))
+loop_sends script tick t number context true false u e = subst (Sends tick t) (some_same _ _ e) (freely_sends tick t (iterating script tick context askers.Loop t.lane) true (still 0 t.lane _ refl refl refl refl))
 loop_sends script tick t number context false iterated u e = subst (Sends tick t) (some_same _ _ e) (freely_sends tick t (written tick (events.LoopEnd number) (popped t.lane)) t.iterated (still 0 t.lane _ refl refl refl refl))
 
 abbrev turn : Turn → List Frame → Status → Turn
@@ -109,11 +110,11 @@ step_sends script tick t [] GoesOn u e = cc
 step_sends script tick t (CallOf call ∷ below) GoesOn u e =
     let now : Turn = turn t (CallOf call ∷ below) GoesOn in
     subst (Sends tick now) (some_same _ _ e) (call_sends script tick now call (slice_get (actions_of script call.body) call.place))
-step_sends script tick t (IterOf context [] answer ∷ below) GoesOn u e =
-    let now : Turn = turn t (IterOf context [] answer ∷ below) GoesOn in
-    subst (Sends tick now) (some_same _ _ e) (freely_sends tick now _ now.iterated (popped_too now.lane _ (steady_answered tick context answer (popped now.lane))))
-step_sends script tick t (IterOf context (id ∷ ids) answer ∷ below) GoesOn u e =
-    let now : Turn = turn t (IterOf context (id ∷ ids) answer ∷ below) GoesOn in
+step_sends script tick t (IterOf context [] asker ∷ below) GoesOn u e =
+    let now : Turn = turn t (IterOf context [] asker ∷ below) GoesOn in
+    subst (Sends tick now) (some_same _ _ e) (freely_sends tick now _ now.iterated (popped_too now.lane _ (steady_answered tick context asker (popped now.lane))))
+step_sends script tick t (IterOf context (id ∷ ids) asker ∷ below) GoesOn u e =
+    let now : Turn = turn t (IterOf context (id ∷ ids) asker ∷ below) GoesOn in
     subst (Sends tick now) (some_same _ _ e) (id_sends tick now context (row_of context id now.lane))
 step_sends script tick t (LoopOf number context ∷ below) GoesOn u e =
     let now : Turn = turn t (LoopOf number context ∷ below) GoesOn in

@@ -34,6 +34,8 @@ use Rattle.lane_turn.specs.Frames.{calls_in_progress}
 use Rattle.lane_turn.specs.Owned.{default_context, is_owned, calling, called_at_once, attaching, invoke_own, invoke, invoke_spec, invoke_sends}
 use Rattle.lane_turn.specs.Acted.{acted, born, sends, cancel_sends, child_of, on_source, set_priority_of, plain_acted, all_acted, handled, all_handled, cancel, connect, disconnect_of}
 use Rattle.lane_turn.specs.Step.{dispatching, returned, answered}
+use Rattle.lane_turn.specs.declared.layer.Asker.{Asker}
+use Rattle.lane_turn.specs.declared.layer.Asker.TheVariants as askers
 
 -- what a letter may tell that a lane has seen cancelled
 abbrev pub told_by : ℕ → Option Mail → Bool
@@ -322,6 +324,6 @@ steady_returned script tick body Start lane = still 0 lane _ refl refl refl refl
 steady_returned script tick body (Invoked acquired) lane = still 0 lane _ refl refl refl refl
 steady_returned script tick body (Source caller) lane = steady_either 0 None lane _ _ _ (still 0 lane _ refl refl refl (kept_held (with_rows (restarted (time_of script tick) caller.id)) lane.contexts caller.context)) (still 0 lane _ refl refl refl (kept_held (with_rows (destroyed caller.id)) lane.contexts caller.context))
 
-pub steady_answered : (tick context : ℕ) (answer : Option Bool) (lane : Lane) → Steady 0 None lane (answered tick context answer lane)
-steady_answered tick context None lane = still 0 lane _ refl refl refl refl
-steady_answered tick context (Some any) lane = still 0 lane _ refl refl refl refl
+pub steady_answered : (tick context : ℕ) (asker : Asker) (lane : Lane) → Steady 0 None lane (answered tick context asker lane)
+steady_answered tick context askers.Loop lane = still 0 lane _ refl refl refl refl
+steady_answered tick context (askers.Iterate any) lane = still 0 lane _ refl refl refl refl

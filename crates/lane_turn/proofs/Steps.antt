@@ -27,6 +27,8 @@ use Rattle.lane_turn.specs.Sound.{IsSound, IsWithin, Bounded}
 use Rattle.lane_turn.proofs.Measure.{pays, lessens, begins}
 use Rattle.lane_turn.proofs.Acts.{mild_acted, mild_taken, mild_dispatching}
 use Rattle.lane_turn.proofs.Mild.{Mild, MildEdit, rows_edited, bounded_edited, mild_destroyed, mild_restarted, work_emptied, each_bounded, length_emptied, length-chosen}
+use Rattle.lane_turn.specs.declared.layer.Asker.{Asker}
+use Rattle.lane_turn.specs.declared.layer.Asker.TheVariants as askers
 
 -- a turn from t to u leaves less to do, and keeps the counters' bound
 pub record Goes (n : ℕ) (t u : Turn) : Type 0 where
@@ -75,9 +77,9 @@ less_goes rest n lane after left iterated g h = record {
   keeps = λ s. record { bound = s.bound; fits = s.fits; within = h.within s.bound s.within };
 }
 
-begun_goes : (rest : Turn) (n : ℕ) (lane : Lane) (script : Plan) (left tick context : ℕ) (answer : Option Bool) → lane.status ≡ GoesOn → Goes n (turn rest lane left false) (turn rest (iterating script tick context answer lane) left true)
-begun_goes rest n lane script left tick context answer g = record {
-  falls = omega (arith, fall lane.status lane.status _ _ g (begins left (row_count lane.contexts) (nest_work lane.frames) (nest_work (iterating script tick context answer lane).frames) (omega (arith, work_emptied context lane.frames, length-chosen script tick context lane))));
+begun_goes : (rest : Turn) (n : ℕ) (lane : Lane) (script : Plan) (left tick context : ℕ) (asker : Asker) → lane.status ≡ GoesOn → Goes n (turn rest lane left false) (turn rest (iterating script tick context asker lane) left true)
+begun_goes rest n lane script left tick context asker g = record {
+  falls = omega (arith, fall lane.status lane.status _ _ g (begins left (row_count lane.contexts) (nest_work lane.frames) (nest_work (iterating script tick context asker lane).frames) (omega (arith, work_emptied context lane.frames, length-chosen script tick context lane))));
   keeps = λ s. record {
     bound = s.bound + 1;
     fits = omega (arith, s.fits);
@@ -137,23 +139,23 @@ call_goes rest script n tick base below left iterated call (Some a) =
 call_goes rest script n tick base below left iterated call None =
     less_goes rest n (going base (CallOf call ∷ below)) _ left iterated refl (returned_less script tick base below call call.body call.origin)
 
-answered_less : (tick : ℕ) (base : Lane) (below : List Frame) (context : ℕ) (answer asked : Option Bool)
-    → let lane : Lane = going base (IterOf context [] answer ∷ below) in Less lane (answered tick context asked (popped lane))
-answered_less tick base below context answer None = ends (going base (IterOf context [] answer ∷ below)) _ (omega arith) (omega arith) refl refl refl
-answered_less tick base below context answer (Some any) = ends (going base (IterOf context [] answer ∷ below)) _ (omega arith) (omega arith) refl refl refl
+answered_less : (tick : ℕ) (base : Lane) (below : List Frame) (context : ℕ) (asker asked : Asker)
+    → let lane : Lane = going base (IterOf context [] asker ∷ below) in Less lane (answered tick context asked (popped lane))
+answered_less tick base below context asker askers.Loop = ends (going base (IterOf context [] asker ∷ below)) _ (omega arith) (omega arith) refl refl refl
+answered_less tick base below context asker (askers.Iterate any) = ends (going base (IterOf context [] asker ∷ below)) _ (omega arith) (omega arith) refl refl refl
 
-id_goes : (rest : Turn) (n tick : ℕ) (base : Lane) (below : List Frame) (left : ℕ) (iterated : Bool) (context id : ℕ) (ids : List ℕ) (answer : Option Bool) (r : Option Row)
-    → let t : Turn = turn rest (going base (IterOf context (id ∷ ids) answer ∷ below)) left iterated in Goes n t (step_id tick t context r)
-id_goes rest n tick base below left iterated context id ids answer None =
-    less_goes rest n (going base (IterOf context (id ∷ ids) answer ∷ below)) _ left iterated refl
+id_goes : (rest : Turn) (n tick : ℕ) (base : Lane) (below : List Frame) (left : ℕ) (iterated : Bool) (context id : ℕ) (ids : List ℕ) (asker : Asker) (r : Option Row)
+    → let t : Turn = turn rest (going base (IterOf context (id ∷ ids) asker ∷ below)) left iterated in Goes n t (step_id tick t context r)
+id_goes rest n tick base below left iterated context id ids asker None =
+    less_goes rest n (going base (IterOf context (id ∷ ids) asker ∷ below)) _ left iterated refl
     (record { rows = omega arith; frames = omega arith; within = λ m i. record { contexts = i.contexts; frames = omega (arith, i.frames); handlers = i.handlers } })
-id_goes rest n tick base below left iterated context id ids answer (Some row) =
-    let lane : Lane = going base (IterOf context (id ∷ ids) answer ∷ below) in
+id_goes rest n tick base below left iterated context id ids asker (Some row) =
+    let lane : Lane = going base (IterOf context (id ∷ ids) asker ∷ below) in
     counted_goes rest n tick None (dispatching tick context row) lane left iterated refl (mild_dispatching lane tick context row)
 
 loop_goes : (rest : Turn) (script : Plan) (n tick : ℕ) (base : Lane) (below : List Frame) (left : ℕ) (iterated : Bool) (number context : ℕ) (runs : Bool) (u : Turn)
     → let t : Turn = turn rest (going base (LoopOf number context ∷ below)) left iterated in
-    cond runs (cond iterated None (Some (turn rest (iterating script tick context None t.lane) left true))) (Some (with_lane (λ lane. written tick (events.LoopEnd number) (popped lane)) t)) ≡ Some u → Goes n t u
+    cond runs (cond iterated None (Some (turn rest (iterating script tick context askers.Loop t.lane) left true))) (Some (with_lane (λ lane. written tick (events.LoopEnd number) (popped lane)) t)) ≡ Some u → Goes n t u
 loop_goes rest script n tick base below left true number context true u e = cc
 loop_goes rest script n tick base below left false number context true u e =
     subst (Goes n _) (some_same _ _ e) (begun_goes rest n (going base (LoopOf number context ∷ below)) script left tick context None refl)
@@ -166,11 +168,11 @@ step_goes : (rest : Turn) (script : Plan) (n tick : ℕ) (base : Lane) (frames :
 step_goes rest script n tick base [] GoesOn left iterated u e = cc
 step_goes rest script n tick base (CallOf call ∷ below) GoesOn left iterated u e =
     subst (Goes n _) (some_same _ _ e) (call_goes rest script n tick base below left iterated call (slice_get (actions_of script call.body) call.place))
-step_goes rest script n tick base (IterOf context [] answer ∷ below) GoesOn left iterated u e =
-    subst (Goes n _) (some_same _ _ e) (less_goes rest n (going base (IterOf context [] answer ∷ below)) _ left iterated refl (answered_less tick base below context answer answer))
-step_goes rest script n tick base (IterOf context (id ∷ ids) answer ∷ below) GoesOn left iterated u e =
-    let lane : Lane = going base (IterOf context (id ∷ ids) answer ∷ below) in
-    subst (Goes n _) (some_same _ _ e) (id_goes rest n tick base below left iterated context id ids answer (row_of context id lane))
+step_goes rest script n tick base (IterOf context [] asker ∷ below) GoesOn left iterated u e =
+    subst (Goes n _) (some_same _ _ e) (less_goes rest n (going base (IterOf context [] asker ∷ below)) _ left iterated refl (answered_less tick base below context asker asker))
+step_goes rest script n tick base (IterOf context (id ∷ ids) asker ∷ below) GoesOn left iterated u e =
+    let lane : Lane = going base (IterOf context (id ∷ ids) asker ∷ below) in
+    subst (Goes n _) (some_same _ _ e) (id_goes rest n tick base below left iterated context id ids asker (row_of context id lane))
 step_goes rest script n tick base (LoopOf number context ∷ below) GoesOn left iterated u e =
     let lane : Lane = going base (LoopOf number context ∷ below) in
     loop_goes rest script n tick base below left iterated number context (is_running number lane) u e

@@ -46,7 +46,7 @@ Differ ids = Pairs (λ i j. i ≢ j) ids
 abbrev pub AllWait : List (Option Context) → List Frame → Type 0
 AllWait contexts [] = Unit {0}
 AllWait contexts (CallOf call ∷ below) = AllWait contexts below
-AllWait contexts (IterOf c ids answer ∷ below) = Differ ids × WaitsIn ids (busy c below) (present (slice_get contexts c)) × AllWait contexts below
+AllWait contexts (IterOf c ids asker ∷ below) = Differ ids × WaitsIn ids (busy c below) (present (slice_get contexts c)) × AllWait contexts below
 AllWait contexts (LoopOf number c ∷ below) = AllWait contexts below
 
 -- ---- an edit of the sources
@@ -75,21 +75,21 @@ waits_in ids blocked (Some c) (Some d) f h = waits_follow ids blocked c.rows d.r
 pub wait_on : (before now : List (Option Context)) → AllFollow before now → (fs : List Frame) → AllWait before fs → AllWait now fs
 wait_on before now f [] h = tt
 wait_on before now f (CallOf call ∷ below) h = wait_on before now f below h
-wait_on before now f (IterOf c ids answer ∷ below) h = (h.0, waits_in ids (busy c below) (present (slice_get before c)) (present (slice_get now c)) (f c) h.1, wait_on before now f below h.2)
+wait_on before now f (IterOf c ids asker ∷ below) h = (h.0, waits_in ids (busy c below) (present (slice_get before c)) (present (slice_get now c)) (f c) h.1, wait_on before now f below h.2)
 wait_on before now f (LoopOf number c ∷ below) h = wait_on before now f below h
 
 -- ---- frames later on
 
 blocked_later : (c : ℕ) (f g : Frame) → Later f g → blocked_in c g ≡ blocked_in c f
 blocked_later c (CallOf call) (CallOf call') h = ap (blocked_by c) h.0
-blocked_later c (IterOf d ids answer) (IterOf d' left answer') h = refl
+blocked_later c (IterOf d ids asker) (IterOf d' left answer') h = refl
 blocked_later c (LoopOf number d) (LoopOf number' d') h = refl
-blocked_later c (CallOf call) (IterOf d ids answer) h = absurd h
+blocked_later c (CallOf call) (IterOf d ids asker) h = absurd h
 blocked_later c (CallOf call) (LoopOf number d) h = absurd h
-blocked_later c (IterOf d ids answer) (CallOf call) h = absurd h
-blocked_later c (IterOf d ids answer) (LoopOf number d') h = absurd h
+blocked_later c (IterOf d ids asker) (CallOf call) h = absurd h
+blocked_later c (IterOf d ids asker) (LoopOf number d') h = absurd h
 blocked_later c (LoopOf number d) (CallOf call) h = absurd h
-blocked_later c (LoopOf number d) (IterOf d' ids answer) h = absurd h
+blocked_later c (LoopOf number d) (IterOf d' ids asker) h = absurd h
 
 blocked_each : (c : ℕ) (fs gs : List Frame) → EachLater fs gs → filter_map (blocked_in c) gs ≡ filter_map (blocked_in c) fs
 blocked_each c [] [] h = refl
@@ -143,22 +143,22 @@ wait_later contexts [] [] l h = tt
 wait_later contexts [] (g ∷ gs) l h = absurd l
 wait_later contexts (f ∷ fs) [] l h = absurd l
 wait_later contexts (CallOf call ∷ fs) (CallOf call' ∷ gs) l h = wait_later contexts fs gs l.1 h
-wait_later contexts (IterOf c ids answer ∷ fs) (IterOf c' left answer' ∷ gs) l h =
+wait_later contexts (IterOf c ids asker ∷ fs) (IterOf c' left answer' ∷ gs) l h =
     let e = l.0 in
     let both = iter_later contexts c c' ids left (busy c fs) (busy c' gs) e.0 e.1 (busy_of c c' fs gs e.0 l.1) h.0 h.1 in
     (both.0, both.1, wait_later contexts fs gs l.1 h.2)
 wait_later contexts (LoopOf number c ∷ fs) (LoopOf number' c' ∷ gs) l h = wait_later contexts fs gs l.1 h
-wait_later contexts (CallOf call ∷ fs) (IterOf c ids answer ∷ gs) l h = absurd l.0
+wait_later contexts (CallOf call ∷ fs) (IterOf c ids asker ∷ gs) l h = absurd l.0
 wait_later contexts (CallOf call ∷ fs) (LoopOf number c ∷ gs) l h = absurd l.0
-wait_later contexts (IterOf c ids answer ∷ fs) (CallOf call ∷ gs) l h = absurd l.0
-wait_later contexts (IterOf c ids answer ∷ fs) (LoopOf number c' ∷ gs) l h = absurd l.0
+wait_later contexts (IterOf c ids asker ∷ fs) (CallOf call ∷ gs) l h = absurd l.0
+wait_later contexts (IterOf c ids asker ∷ fs) (LoopOf number c' ∷ gs) l h = absurd l.0
 wait_later contexts (LoopOf number c ∷ fs) (CallOf call ∷ gs) l h = absurd l.0
-wait_later contexts (LoopOf number c ∷ fs) (IterOf c' ids answer ∷ gs) l h = absurd l.0
+wait_later contexts (LoopOf number c ∷ fs) (IterOf c' ids asker ∷ gs) l h = absurd l.0
 
 wait_below : (contexts : List (Option Context)) (fs : List Frame) → AllWait contexts fs → AllWait contexts (drop 1 fs)
 wait_below contexts [] h = tt
 wait_below contexts (CallOf call ∷ below) h = h
-wait_below contexts (IterOf c ids answer ∷ below) h = h.2
+wait_below contexts (IterOf c ids asker ∷ below) h = h.2
 wait_below contexts (LoopOf number c ∷ below) h = h
 
 -- ---- what is selected
@@ -225,7 +225,7 @@ chosen_waits script tick view blocked (Some c) n = (selected_differ (own_ready_a
 
 begun_wait : (script : Plan) (tick : ℕ) (lane : Lane) (f : Frame) (now : List Frame) → ((i : ℕ) → NumberedIn (present (slice_get lane.contexts i))) → EachLater lane.frames now → MayBegin (λ c. chosen script tick c lane) lane.frames now f → AllWait lane.contexts now → AllWait lane.contexts (f ∷ now)
 begun_wait script tick lane (CallOf call) now n l b h = h
-begun_wait script tick lane (IterOf c ids answer) now n l b h =
+begun_wait script tick lane (IterOf c ids asker) now n l b h =
     let both = chosen_waits script tick lane.view (busy c lane.frames) (present (slice_get lane.contexts c)) (n c) in
     let same : busy c now ≡ busy c lane.frames = busy_each c lane.frames now l in
     let here : Differ ids × WaitsIn ids (busy c lane.frames) (present (slice_get lane.contexts c)) = subst (λ (xs : List ℕ). Differ xs × WaitsIn xs (busy c lane.frames) (present (slice_get lane.contexts c))) (sym b.1) both in

@@ -6,6 +6,7 @@ use Rattle.loop_script.specs.declared.plan.Plan.{Plan}
 use Rattle.loop_script.specs.declared.source.SourceSpec.{SourceSpec}
 use Rattle.loop_script.specs.declared.task.TaskSpec.{TaskSpec}
 use Rattle.loop_script.specs.Parts.{time_of, context_of, actions_of}
+use Rattle.lane_turn.specs.declared.layer.Asker.TheVariants as askers
 use Rattle.lane_turn.specs.declared.line.Event.TheVariants as events
 use Rattle.lane_turn.specs.declared.line.Word.{Word}
 use Rattle.lane_turn.specs.declared.line.Word.TheVariants as words
@@ -81,7 +82,7 @@ set_priority tick slot priority lane = set_priority_of tick priority (place_at s
 abbrev pub iterate : Plan → ℕ → ℕ → Lane → Lane
 iterate script tick context lane =
     if is_some (context_at context lane)
-    then iterating script tick context (Some (is_any (chosen script tick context lane))) lane
+    then iterating script tick context (askers.Iterate (is_any (chosen script tick context lane))) lane
     else written tick (events.Iterate context false) lane
 
 abbrev pub pending : Plan → ℕ → ℕ → Lane → Lane

@@ -21,7 +21,7 @@ caller_of (Invoke acquired) = None
 
 abbrev pub caller_in : Frame → Option Caller
 caller_in (CallOf call) = caller_of call.origin
-caller_in (IterOf context ids answer) = None
+caller_in (IterOf context ids asker) = None
 caller_in (LoopOf number context) = None
 
 -- the dispatches in progress, over all contexts, the innermost first
@@ -46,7 +46,7 @@ begun_of (Invoke acquired) = Some (Invoke acquired)
 
 abbrev pub begun_in : Frame → Option Origin
 begun_in (CallOf call) = begun_of call.origin
-begun_in (IterOf context ids answer) = None
+begun_in (IterOf context ids asker) = None
 begun_in (LoopOf number context) = None
 
 abbrev pub begun_calls : List Frame → List Origin

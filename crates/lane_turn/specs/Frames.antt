@@ -1,29 +1,31 @@
 -- What a lane is in the middle of.
 use Rattle.std.specs.Prelude.{◌≡◌, ℕ, reverse, filter_map, ◌+◌, ◌<◌, ◌^◌, Bool, false, Option, Some, None, List, [], ◌∷◌, map, drop, slice_get, count_by, ◌==◌, if◌then◌else◌, true}
+use Rattle.lane_turn.specs.declared.layer.Asker.{Asker}
 use Rattle.lane_turn.specs.declared.layer.Call.{Call}
 use Rattle.lane_turn.specs.declared.layer.Origin.{Origin}
 use Rattle.lane_turn.specs.declared.layer.Origin.TheVariants.{Start, Source, Invoke}
 use Rattle.lane_turn.specs.declared.layer.Top.{Top}
 use Rattle.lane_turn.specs.declared.layer.Top.TheVariants as tops
+use Rattle.loop_script.specs.Bounds.{count_end}
 
--- a call of an action list; an iteration with the ids left and what an `iterate` that asked is told; a run of a loop,
+-- a call of an action list; an iteration with the ids left and who asked for it; a run of a loop,
 -- with the loop's context
 pub data Frame : Type 0 where
   CallOf : (call : Call) → Frame
-  IterOf : (context : ℕ) (ids : List ℕ) (answer : Option Bool) → Frame
+  IterOf : (context : ℕ) (ids : List ℕ) (asker : Asker) → Frame
   LoopOf : (number : ℕ) (context : ℕ) → Frame
 
 -- what the innermost frame takes next
 abbrev pub top_of : List Frame → Top
 top_of [] = tops.Nothing
 top_of (CallOf call ∷ below) = tops.Call call
-top_of (IterOf context ids answer ∷ below) = tops.Iteration context (slice_get ids 0) answer
+top_of (IterOf context ids asker ∷ below) = tops.Iteration context (slice_get ids 0) asker
 top_of (LoopOf number context ∷ below) = tops.Loop number context
 
 -- the frames when the innermost has taken its next action or id
 abbrev pub advanced_one : Frame → Frame
 advanced_one (CallOf call) = CallOf (record call { place = call.place + 1 })
-advanced_one (IterOf context ids answer) = IterOf context (drop 1 ids) answer
+advanced_one (IterOf context ids asker) = IterOf context (drop 1 ids) asker
 advanced_one (LoopOf number context) = LoopOf number context
 
 abbrev pub advanced : List Frame → List Frame
@@ -33,7 +35,7 @@ advanced (frame ∷ below) = advanced_one frame ∷ below
 -- the older iterations of a context have no id left
 abbrev pub emptied_one : ℕ → Frame → Frame
 emptied_one context (CallOf call) = CallOf call
-emptied_one context (IterOf c ids answer) = IterOf c (if c == context then [] else ids) answer
+emptied_one context (IterOf c ids asker) = IterOf c (if c == context then [] else ids) asker
 emptied_one context (LoopOf number c) = LoopOf number c
 
 abbrev pub emptied : ℕ → List Frame → List Frame
@@ -47,7 +49,7 @@ is_source (Invoke acquired) = false
 
 abbrev pub is_dispatch : Frame → Bool
 is_dispatch (CallOf call) = is_source call.origin
-is_dispatch (IterOf context ids answer) = false
+is_dispatch (IterOf context ids asker) = false
 is_dispatch (LoopOf number context) = false
 
 -- the calls in progress but the one of `start`
@@ -58,7 +60,7 @@ is_dispatch_or_invoke (Invoke acquired) = true
 
 abbrev pub is_call : Frame → Bool
 is_call (CallOf call) = is_dispatch_or_invoke call.origin
-is_call (IterOf context ids answer) = false
+is_call (IterOf context ids asker) = false
 is_call (LoopOf number context) = false
 
 abbrev pub calls_in_progress : List Frame → ℕ
@@ -75,7 +77,7 @@ blocked_by context (Source caller) = if caller.recurse then None else if caller.
 
 abbrev pub blocked_in : ℕ → Frame → Option ℕ
 blocked_in context (CallOf call) = blocked_by context call.origin
-blocked_in context (IterOf c ids answer) = None
+blocked_in context (IterOf c ids asker) = None
 blocked_in context (LoopOf number c) = None
 
 -- the outermost first
@@ -91,19 +93,19 @@ is_acquired_by context (Invoke (Some c)) = c == context
 
 abbrev pub owns : ℕ → Frame → Bool
 owns context (CallOf call) = is_acquired_by context call.origin
-owns context (IterOf c ids answer) = c == context
+owns context (IterOf c ids asker) = c == context
 owns context (LoopOf number c) = c == context
 
 -- the place of an innermost call can be counted on
 abbrev pub HasRoom : List Frame → Type 0
 HasRoom [] = Unit {0}
-HasRoom (CallOf call ∷ below) = call.place < 2 ^ 63
-HasRoom (IterOf context ids answer ∷ below) = Unit {0}
+HasRoom (CallOf call ∷ below) = call.place < count_end
+HasRoom (IterOf context ids asker ∷ below) = Unit {0}
 HasRoom (LoopOf number context ∷ below) = Unit {0}
 
 -- the frames before and after what the innermost took next, where it is told at once
 abbrev pub IsTaken : Top → List Frame → List Frame → Type 0
 IsTaken tops.Nothing old new = new ≡ old
-IsTaken (tops.Call call) old new = (call.place < 2 ^ 63 → new ≡ advanced old) × (drop 1 new ≡ drop 1 old)
-IsTaken (tops.Iteration context next answer) old new = (new ≡ advanced old) × (drop 1 new ≡ drop 1 old)
+IsTaken (tops.Call call) old new = (call.place < count_end → new ≡ advanced old) × (drop 1 new ≡ drop 1 old)
+IsTaken (tops.Iteration context next asker) old new = (new ≡ advanced old) × (drop 1 new ≡ drop 1 old)
 IsTaken (tops.Loop number context) old new = new ≡ old

@@ -12,6 +12,8 @@ use Rattle.lane_turn.specs.Frames.{Frame, CallOf, IterOf, LoopOf}
 use Rattle.lane_turn.specs.Depths.{callers, begun_calls}
 use Rattle.lane_turn.specs.Lane.{Turn, row_of, chosen}
 use Rattle.lane_turn.specs.Step.{step}
+use Rattle.lane_turn.specs.declared.layer.Asker.{Asker}
+use Rattle.lane_turn.specs.declared.layer.Asker.TheVariants as askers
 
 -- ids from some place on
 abbrev pub IsRest : List ℕ → List ℕ → Type 0
@@ -20,14 +22,14 @@ IsRest left ids = (k : ℕ) × (left ≡ drop k ids)
 -- a frame later on: the same call; the same iteration, which has no id left that it did not have; the same run of a loop
 abbrev pub Later : Frame → Frame → Type 0
 Later (CallOf call) (CallOf call') = (call'.origin ≡ call.origin) × (call'.body ≡ call.body)
-Later (IterOf context ids answer) (IterOf context' left answer') = (context ≡ context') × IsRest left ids × (answer' ≡ answer)
+Later (IterOf context ids asker) (IterOf context' left answer') = (context ≡ context') × IsRest left ids × (answer' ≡ asker)
 Later (LoopOf number context) (LoopOf number' context') = (number' ≡ number) × (context' ≡ context)
-Later (CallOf call) (IterOf context ids answer) = ⊥
+Later (CallOf call) (IterOf context ids asker) = ⊥
 Later (CallOf call) (LoopOf number context) = ⊥
-Later (IterOf context ids answer) (CallOf call) = ⊥
-Later (IterOf context ids answer) (LoopOf number context') = ⊥
+Later (IterOf context ids asker) (CallOf call) = ⊥
+Later (IterOf context ids asker) (LoopOf number context') = ⊥
 Later (LoopOf number context) (CallOf call) = ⊥
-Later (LoopOf number context) (IterOf context' ids answer) = ⊥
+Later (LoopOf number context) (IterOf context' ids asker) = ⊥
 
 abbrev pub EachLater : List Frame → List Frame → Type 0
 EachLater [] [] = Unit {0}
@@ -38,16 +40,16 @@ EachLater (f ∷ fs) (g ∷ gs) = Later f g × EachLater fs gs
 -- an iteration of a context that has no id left
 abbrev pub IsOver : ℕ → Frame → Type 0
 IsOver context (CallOf call) = Unit {0}
-IsOver context (IterOf c ids answer) = c ≡ context → ids ≡ []
+IsOver context (IterOf c ids asker) = c ≡ context → ids ≡ []
 IsOver context (LoopOf number c) = Unit {0}
 
 -- an id is taken: it was the next one of the innermost iteration, of that context, which has the ids after it left
 pub record Takes (context id : ℕ) (before now : List Frame) : Type 0 where
   pub ids : List ℕ
-  pub answer : Option Bool
+  pub asker : Asker
   pub below : List Frame
-  pub was : before ≡ IterOf context (id ∷ ids) answer ∷ below
-  pub is : now ≡ IterOf context ids answer ∷ below
+  pub was : before ≡ IterOf context (id ∷ ids) asker ∷ below
+  pub is : now ≡ IterOf context ids asker ∷ below
 
 -- a source is dispatched by the innermost iteration, which takes its id
 abbrev pub IsCalledBy : (before now : List Frame) → Origin → Type 0
@@ -65,7 +67,7 @@ TellsAny ids (Some false) = ids ≡ []
 -- then, and no older one of its context has an id left; a loop
 abbrev pub MayBegin : (selected : ℕ → List ℕ) (before now : List Frame) → Frame → Type 0
 MayBegin selected before now (CallOf call) = (length (begun_calls before) < 32) × IsCalledBy before now call.origin
-MayBegin selected before now (IterOf context ids answer) = AllByRecursion (IsOver context) now × (ids ≡ selected context) × TellsAny ids answer
+MayBegin selected before now (IterOf context ids asker) = AllByRecursion (IsOver context) now × (ids ≡ selected context) × TellsAny ids asker
 MayBegin selected before now (LoopOf number context) = Unit {0}
 
 abbrev pub Begun : (selected : ℕ → List ℕ) → List Frame → List Frame → Type 0
@@ -82,13 +84,13 @@ pub record IterationsGoOn : Type 0 where
   -- over 32; and each call, iteration and run that goes on is the one that it was
   pub frames : (script : Plan) (tick : ℕ) (t u : Turn) → step script tick t ≡ Some u → FramesGoOn (λ context. chosen script tick context t.lane) t.lane.frames u.lane.frames
   -- an iteration that has no id left ends, and an `iterate` that asked for it is told its answer
-  pub answers : (script : Plan) (tick : ℕ) (t u : Turn) (context : ℕ) (any : Bool) (below : List Frame) → t.unpolled ≡ [] → t.lane.status ≡ GoesOn → t.lane.frames ≡ IterOf context [] (Some any) ∷ below
+  pub answers : (script : Plan) (tick : ℕ) (t u : Turn) (context : ℕ) (any : Bool) (below : List Frame) → t.unpolled ≡ [] → t.lane.status ≡ GoesOn → t.lane.frames ≡ IterOf context [] (askers.Iterate any) ∷ below
       → step script tick t ≡ Some u → (u.lane.frames ≡ below) × (u.lane.trace ≡ t.lane.trace ++ (record { tick = tick; event = events.Iterate context any }) ∷ [])
   -- the next id of the innermost iteration is dispatched, where the turn may count one more and fewer than 32 calls are in progress: the
   -- line shows the priority of that moment, and how many dispatches are then in progress
-  pub dispatches : (script : Plan) (tick : ℕ) (t u : Turn) (context id : ℕ) (ids : List ℕ) (answer : Option Bool) (below : List Frame) (row : Row) → t.unpolled ≡ [] → t.lane.status ≡ GoesOn → t.lane.frames ≡ IterOf context (id ∷ ids) answer ∷ below
+  pub dispatches : (script : Plan) (tick : ℕ) (t u : Turn) (context id : ℕ) (ids : List ℕ) (asker : Asker) (below : List Frame) (row : Row) → t.unpolled ≡ [] → t.lane.status ≡ GoesOn → t.lane.frames ≡ IterOf context (id ∷ ids) asker ∷ below
       → row_of context id t.lane ≡ Some row → 1 ≤ t.left → length (begun_calls t.lane.frames) < 32 → step script tick t ≡ Some u
       → (more : List Line) × (u.lane.trace ≡ t.lane.trace ++ (record { tick = tick; event = events.Dispatch context id row.priority (length (callers u.lane.frames)) }) ∷ more)
   -- one whose source is destroyed is passed over
-  pub passes : (script : Plan) (tick : ℕ) (t u : Turn) (context id : ℕ) (ids : List ℕ) (answer : Option Bool) (below : List Frame) → t.unpolled ≡ [] → t.lane.status ≡ GoesOn → t.lane.frames ≡ IterOf context (id ∷ ids) answer ∷ below
-      → row_of context id t.lane ≡ None → step script tick t ≡ Some u → (u.lane.frames ≡ IterOf context ids answer ∷ below) × (u.lane.trace ≡ t.lane.trace)
+  pub passes : (script : Plan) (tick : ℕ) (t u : Turn) (context id : ℕ) (ids : List ℕ) (asker : Asker) (below : List Frame) → t.unpolled ≡ [] → t.lane.status ≡ GoesOn → t.lane.frames ≡ IterOf context (id ∷ ids) asker ∷ below
+      → row_of context id t.lane ≡ None → step script tick t ≡ Some u → (u.lane.frames ≡ IterOf context ids asker ∷ below) × (u.lane.trace ≡ t.lane.trace)

@@ -8,6 +8,7 @@ use Rattle.context_core.specs.Defaults.{Defaults}
 use Rattle.lane_turn.specs.declared.line.Line.{Line}
 use Rattle.lane_turn.specs.declared.line.Event.{Event}
 use Rattle.lane_turn.specs.declared.lane.Status.{Status}
+use Rattle.lane_turn.specs.declared.layer.Asker.{Asker}
 use Rattle.lane_turn.specs.declared.slot.Place.{Place}
 use Rattle.lane_turn.specs.declared.slot.Held.{Held}
 use Rattle.lane_turn.specs.declared.slot.Held.TheVariants.{Source, Handler}
@@ -150,5 +151,5 @@ is_any [] = false
 is_any (id ∷ ids) = true
 
 -- an iteration begun in the innermost frame: the older ones of its context have no id left
-abbrev pub iterating : Plan → ℕ → ℕ → Option Bool → Lane → Lane
-iterating script tick context answer lane = record lane { frames = IterOf context (chosen script tick context lane) answer ∷ emptied context lane.frames }
+abbrev pub iterating : Plan → ℕ → ℕ → Asker → Lane → Lane
+iterating script tick context asker lane = record lane { frames = IterOf context (chosen script tick context lane) asker ∷ emptied context lane.frames }

@@ -1,3 +1,4 @@
+pub mod Limits
 pub mod Frames
 pub mod Nest
 pub mod Tally

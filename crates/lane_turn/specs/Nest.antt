@@ -9,51 +9,52 @@ use Rattle.lane_turn.specs.declared.layer.Origin.TheVariants.{Start, Source, Inv
 use Rattle.lane_turn.specs.declared.layer.Top.{Top}
 use Rattle.lane_turn.specs.declared.layer.Top.TheVariants as tops
 use Rattle.lane_turn.specs.Frames.{Frame, CallOf, IterOf, LoopOf, blocked_by, is_acquired_by, is_source, is_dispatch_or_invoke, top_of}
+use Rattle.loop_script.specs.Bounds.{count_end}
 
--- the level of the live iteration of a context
-abbrev pub known_level : Option (Option ℕ) → Option ℕ
-known_level None = None
-known_level (Some level) = level
+-- the height of the live iteration of a context
+abbrev pub named_height : Option (Option ℕ) → Option ℕ
+named_height None = None
+named_height (Some height) = height
 
-abbrev pub level_at : List (Option ℕ) → ℕ → Option ℕ
-level_at live context = known_level (slice_get live context)
+abbrev pub height_at : List (Option ℕ) → ℕ → Option ℕ
+height_at live context = named_height (slice_get live context)
 
--- an iteration is live at the level that its context names
-abbrev pub is_level : Option ℕ → ℕ → Bool
-is_level None level = false
-is_level (Some k) level = k == level
+-- an iteration is live at the height that its context names
+abbrev pub is_height : Option ℕ → ℕ → Bool
+is_height None height = false
+is_height (Some k) height = k == height
 
 abbrev pub is_live : List (Option ℕ) → ℕ → ℕ → Bool
-is_live live level context = is_level (level_at live context) level
+is_live live height context = is_height (height_at live context) height
 
--- the ids that an iteration at a level still has: none where its context has a newer one
+-- the ids that an iteration at a height still has: none where its context has a newer one
 abbrev pub ids_left : List (Option ℕ) → ℕ → Iteration → List ℕ
-ids_left live level i = if is_live live level i.context then drop i.place i.ids.items else []
+ids_left live height i = if is_live live height i.context then drop i.place i.ids.items else []
 
 abbrev pub frame_of : List (Option ℕ) → ℕ → Layer → Frame
-frame_of live level (layers.Call call) = CallOf call
-frame_of live level (layers.Iteration i) = IterOf i.context (ids_left live level i) i.answer
-frame_of live level (layers.Loop number context) = LoopOf number context
+frame_of live height (layers.Call call) = CallOf call
+frame_of live height (layers.Iteration i) = IterOf i.context (ids_left live height i) i.asker
+frame_of live height (layers.Loop number context) = LoopOf number context
 
 -- what is met on the way inwards, the innermost first
 abbrev pub layers_of : Nest → List Layer
 layers_of Nothing = []
 layers_of (Begun' layer p inner) = layers_of inner ++ layer ∷ []
 
--- the same as frames: each stands at the level that is the number of those round it
+-- the same as frames: each stands at the height that is the number of those round it
 abbrev pub frames_of : List (Option ℕ) → List Layer → List Frame
 frames_of live [] = []
 frames_of live (layer ∷ outer) = frame_of live (length outer) layer ∷ frames_of live outer
 
--- the same where the outermost stands at a level
+-- the same where the outermost stands at a height
 abbrev pub frames_from : ℕ → List (Option ℕ) → List Layer → List Frame
-frames_from level live [] = []
-frames_from level live (layer ∷ outer) = frame_of live (level + length outer) layer ∷ frames_from level live outer
+frames_from height live [] = []
+frames_from height live (layer ∷ outer) = frame_of live (height + length outer) layer ∷ frames_from height live outer
 
--- what the innermost takes next, at its level
+-- what the innermost takes next, at its height
 abbrev pub top_of_layers : List (Option ℕ) → ℕ → List Layer → Top
-top_of_layers live level [] = tops.Nothing
-top_of_layers live level (layer ∷ outer) = top_of (frame_of live level layer ∷ [])
+top_of_layers live height [] = tops.Nothing
+top_of_layers live height (layer ∷ outer) = top_of (frame_of live height layer ∷ [])
 
 abbrev pub is_dispatch_layer : Layer → Bool
 is_dispatch_layer (layers.Call call) = is_source call.origin
@@ -103,7 +104,7 @@ advanced_layers (layer ∷ outer) = advanced_layer layer ∷ outer
 
 -- the same where a place beyond all actions stays
 abbrev pub taken_layer : Layer → Layer
-taken_layer (layers.Call call) = layers.Call (record call { place = if nat_lt call.place (2 ^ 63) then call.place + 1 else call.place })
+taken_layer (layers.Call call) = layers.Call (record call { place = if nat_lt call.place count_end then call.place + 1 else call.place })
 taken_layer (layers.Iteration i) = advanced_layer (layers.Iteration i)
 taken_layer (layers.Loop number context) = layers.Loop number context
 
@@ -112,7 +113,7 @@ taken_layers [] = []
 taken_layers (layer ∷ outer) = taken_layer layer ∷ outer
 
 abbrev pub HasRoomLayer : Layer → Type 0
-HasRoomLayer (layers.Call call) = call.place < 2 ^ 63
+HasRoomLayer (layers.Call call) = call.place < count_end
 HasRoomLayer (layers.Iteration i) = Unit {0}
 HasRoomLayer (layers.Loop number context) = Unit {0}
 

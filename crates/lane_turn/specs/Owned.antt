@@ -16,6 +16,7 @@ use Rattle.lane_turn.specs.declared.layer.Origin.TheVariants.{Invoke}
 use Rattle.lane_turn.specs.declared.lane.Status.TheVariants.{Halted}
 use Rattle.lane_turn.specs.Frames.{CallOf, owns, calls_in_progress}
 use Rattle.lane_turn.specs.Lane.{Lane, written, pushed as begun, stopped, context_at, with_context, edited}
+use Rattle.lane_turn.specs.Limits.{most_calls}
 
 -- the thread-default context: what was pushed last, else the first context of all
 abbrev pub default_context : Lane → ℕ
@@ -71,7 +72,7 @@ calling tick context proc acquires lane =
 
 abbrev pub called_at_once : (tick context proc : ℕ) → Option ℕ → Lane → Lane
 called_at_once tick context proc acquires lane =
-    if nat_lt (calls_in_progress lane.frames) 32
+    if nat_lt (calls_in_progress lane.frames) most_calls
     then calling tick context proc acquires lane
     else stopped Halted (written tick events.HaltDepth lane)
 

@@ -30,14 +30,14 @@ IsQuietUntil script tick limit lane = (k : ℕ) → tick < k → k < script.tick
 -- an iteration of a context that has ids left
 abbrev pub has_rest : ℕ → Frame → Bool
 has_rest context (CallOf call) = false
-has_rest context (IterOf c ids answer) = c == context && is_any ids
+has_rest context (IterOf c ids asker) = c == context && is_any ids
 has_rest context (LoopOf number c) = false
 
 -- the innermost frame is a run of a loop that goes on, whose iteration would select nothing, and drop no rest of an older one
 abbrev pub IsIdleTop : Plan → ℕ → Lane → Top → Type 0
 IsIdleTop script tick lane tops.Nothing = Unit {0}
 IsIdleTop script tick lane (tops.Call call) = ⊥
-IsIdleTop script tick lane (tops.Iteration context next answer) = ⊥
+IsIdleTop script tick lane (tops.Iteration context next asker) = ⊥
 IsIdleTop script tick lane (tops.Loop number context) =
     (is_running number lane ≡ true) × (chosen script tick context lane ≡ []) × (emptied context lane.frames ≡ lane.frames)
 

@@ -33,7 +33,7 @@ AreOnce ids = Pairs (λ i j. i ≢ j) ids
 
 abbrev pub HasEachOnce : Frame → Type 0
 HasEachOnce (CallOf call) = Unit {0}
-HasEachOnce (IterOf context ids answer) = AreOnce ids
+HasEachOnce (IterOf context ids asker) = AreOnce ids
 HasEachOnce (LoopOf number context) = Unit {0}
 
 pub record IterationsHaveOrder : Type 0 where

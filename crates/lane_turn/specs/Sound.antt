@@ -5,6 +5,7 @@ use Rattle.loop_script.specs.declared.plan.Plan.{Plan}
 use Rattle.source_rows.specs.Rows.{RowSet}
 use Rattle.context_core.specs.declared.context.Context.{Context}
 use Rattle.lane_turn.specs.Lane.{Lane, Turn}
+use Rattle.lane_turn.specs.Limits.{most_steps}
 
 -- no counter of a context's sources is above m
 pub record IsBounded (m : ℕ) (s : RowSet) : Type 0 where
@@ -27,13 +28,13 @@ pub record IsWithin (m : ℕ) (lane : Lane) : Type 0 where
   pub frames : length lane.frames ≤ m
   pub handlers : lane.view.next_id ≤ m
 
--- a lane of a script at the beginning of a tick: no counter is above m, and each turn before started 10,000 tasks at most
+-- a lane of a script at the beginning of a tick: no counter is above m, and each turn before started as many tasks as it may take steps at most
 pub record IsReady (script : Plan) (tick m : ℕ) (lane : Lane) : Type 0 where
   pub within : IsWithin m lane
   pub view : length lane.view.members ≡ script.cancellables
   pub now : lane.tasks.tick ≡ tick
-  pub next : lane.tasks.next ≤ 10000 * tick
-  pub few : length lane.tasks.started ≤ 10000 * tick
+  pub next : lane.tasks.next ≤ most_steps * tick
+  pub few : length lane.tasks.started ≤ most_steps * tick
 
 -- by how much the rest of a turn may raise them
 abbrev pub to_come : Turn → ℕ

@@ -12,6 +12,8 @@ use Rattle.lane_turn.specs.declared.line.Event.TheVariants as events
 use Rattle.lane_turn.specs.declared.lane.Status.{Status}
 use Rattle.lane_turn.specs.declared.lane.Status.TheVariants.{GoesOn, Ended, Halted}
 use Rattle.lane_turn.specs.declared.layer.Call.{Call}
+use Rattle.lane_turn.specs.declared.layer.Asker.{Asker}
+use Rattle.lane_turn.specs.declared.layer.Asker.TheVariants as askers
 use Rattle.lane_turn.specs.declared.layer.Caller.{Caller}
 use Rattle.lane_turn.specs.declared.layer.Origin.{Origin}
 use Rattle.lane_turn.specs.declared.layer.Origin.TheVariants.{Start, Source, Invoke}
@@ -32,6 +34,7 @@ use Rattle.cancel_view.specs.Seen.{Seen}
 use Rattle.post_office.specs.declared.letter.Letter.{Letter}
 use Rattle.post_office.specs.declared.letter.Body.{Body as Mail}
 use Rattle.post_office.specs.declared.letter.Body.TheVariants as mails
+use Rattle.lane_turn.specs.Limits.{most_calls}
 
 -- what a source calls
 abbrev pub body_of : Option ℕ → Body
@@ -50,7 +53,7 @@ result_lines tick (Some awaited) view = record { tick = tick; event = events.Tas
 abbrev pub taking : ℕ → Option Awaited → Lane → Lane
 taking tick awaited lane = record lane { trace = lane.trace ++ result_lines tick awaited lane.view }
 
--- a row's dispatch: the count, the line, the result of a reply, and its call; where 32 calls are in progress the lane is halted
+-- a row's dispatch: the count, the line, the result of a reply, and its call; where the most calls are in progress the lane is halted
 abbrev pub called : ℕ → Row → Bool → Lane → Lane
 called context row once lane = pushed (CallOf (record {
   origin = Source (record { context = context; id = row.id; recurse = row.recurse; number = row.count + 1; once = once });
@@ -72,7 +75,7 @@ dispatched tick context row lane = dispatched_at tick context row (depth lane.fr
 
 abbrev pub dispatching : ℕ → ℕ → Row → Lane → Lane
 dispatching tick context row lane =
-    if nat_lt (calls_in_progress lane.frames) 32 then dispatched tick context row lane else stopped Halted (written tick events.HaltDepth lane)
+    if nat_lt (calls_in_progress lane.frames) most_calls then dispatched tick context row lane else stopped Halted (written tick events.HaltDepth lane)
 
 -- a source after its call: one that stays begins anew, one that does not is destroyed, as that of a reply is
 abbrev pub left_source : Plan → ℕ → Body → Caller → Lane → Lane
@@ -88,9 +91,9 @@ returned script tick body (Source caller) lane = left_source script tick body ca
 returned script tick body (Invoke acquired) lane = lane
 
 -- what the end of an iteration tells the `iterate` that asked
-abbrev pub answered : ℕ → ℕ → Option Bool → Lane → Lane
-answered tick context None lane = lane
-answered tick context (Some any) lane = written tick (events.Iterate context any) lane
+abbrev pub answered : ℕ → ℕ → Asker → Lane → Lane
+answered tick context askers.Loop lane = lane
+answered tick context (askers.Iterate any) lane = written tick (events.Iterate context any) lane
 
 -- the same change within a turn
 abbrev pub with_lane : (Lane → Lane) → Turn → Turn
@@ -128,29 +131,29 @@ abbrev pub step_id : ℕ → Turn → ℕ → Option Row → Turn
 step_id tick t context None = with_lane taken t
 step_id tick t context (Some row) = limited tick None (dispatching tick context row) t
 
-abbrev pub step_iteration : ℕ → Turn → ℕ → Option Bool → Option ℕ → Turn
-step_iteration tick t context answer None = with_lane (λ lane. answered tick context answer (popped lane)) t
-step_iteration tick t context answer (Some id) = step_id tick t context (row_of context id t.lane)
+abbrev pub step_iteration : ℕ → Turn → ℕ → Asker → Option ℕ → Turn
+step_iteration tick t context asker None = with_lane (λ lane. answered tick context asker (popped lane)) t
+step_iteration tick t context asker (Some id) = step_id tick t context (row_of context id t.lane)
 
 -- a loop takes one iteration; where one was taken in this tick the lane rests
 abbrev pub step_loop : Plan → ℕ → Turn → ℕ → ℕ → Option Turn
 step_loop script tick t number context =
     if is_running number t.lane
-    then if t.iterated then None else Some (record t { lane = iterating script tick context None t.lane; iterated = true })
+    then if t.iterated then None else Some (record t { lane = iterating script tick context askers.Loop t.lane; iterated = true })
     else Some (with_lane (λ lane. written tick (events.LoopEnd number) (popped lane)) t)
 
 -- whether what comes next is an id whose source is destroyed
 abbrev pub is_passed : Lane → Top → Bool
 is_passed lane tops.Nothing = false
 is_passed lane (tops.Call call) = false
-is_passed lane (tops.Iteration context None answer) = false
-is_passed lane (tops.Iteration context (Some id) answer) = is_none (row_of context id lane)
+is_passed lane (tops.Iteration context None asker) = false
+is_passed lane (tops.Iteration context (Some id) asker) = is_none (row_of context id lane)
 is_passed lane (tops.Loop number context) = false
 
 abbrev pub step_top : Plan → ℕ → Turn → Top → Option Turn
 step_top script tick t tops.Nothing = None
 step_top script tick t (tops.Call call) = Some (step_call script tick t call (slice_get (actions_of script call.body) call.place))
-step_top script tick t (tops.Iteration context next answer) = Some (step_iteration tick t context answer next)
+step_top script tick t (tops.Iteration context next asker) = Some (step_iteration tick t context asker next)
 step_top script tick t (tops.Loop number context) = step_loop script tick t number context
 
 abbrev pub step_going : Plan → ℕ → Turn → Status → Option Turn

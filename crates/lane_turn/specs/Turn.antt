@@ -16,6 +16,7 @@ use Rattle.lane_turn.specs.Sources.{no_sources}
 use Rattle.lane_turn.specs.Lane.{Lane, Turn}
 use Rattle.post_office.specs.declared.letter.Letter.{Letter}
 use Rattle.lane_turn.specs.Step.{step}
+use Rattle.lane_turn.specs.Limits.{most_steps, slot_count}
 
 -- the turn after its next step, if there is one
 abbrev pub stepped : Plan → ℕ → Turn → Turn
@@ -24,7 +25,7 @@ stepped script tick t = unwrap_or (step script tick t) t
 -- at most how many steps a frame takes before it is left
 abbrev pub frame_work : Frame → ℕ
 frame_work (CallOf call) = 1
-frame_work (IterOf context ids answer) = 1 + length ids
+frame_work (IterOf context ids asker) = 1 + length ids
 frame_work (LoopOf number context) = 1
 
 abbrev pub nest_work : List Frame → ℕ
@@ -67,7 +68,7 @@ abbrev pub begun : ℕ → Lane → Turn
 begun tick lane = record {
   lane = record lane { tasks = record lane.tasks { started = []; tick = tick + 1 } };
   unpolled = lane.tasks.started;
-  left = 10000;
+  left = most_steps;
   iterated = false;
   sent = 0;
   posted = [];
@@ -106,7 +107,7 @@ abbrev pub opening : Plan → ℕ → Lane
 opening script lane = record {
   number = lane;
   contexts = open_contexts script lane;
-  slots = open_slots 256;
+  slots = open_slots slot_count;
   view = nothing_seen script.cancellables;
   tasks = no_tasks script.cancellables script.tick_us;
   frames = CallOf (record { origin = origins.Start; body = bodies.Start lane; place = 0 }) ∷ [];

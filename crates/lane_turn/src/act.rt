@@ -5,7 +5,10 @@ ghost use Rattle.lane_turn.specs.Acted.{attach, child, destroy, set_ready, set_p
 ghost use Rattle.task_steps.specs.Book.{IsIn};
 ghost use Rattle.lane_turn.specs.Sound.{IsWithin};
 ghost use Rattle.lane_turn.specs.Meaning.{lane_of};
+ghost use Rattle.loop_script.specs.Bounds.{count_end, latest};
+ghost use Rattle.lane_turn.specs.Limits.{most_count};
 
+use crate::layer::Asker;
 use crate::line::{Event, Word};
 use crate::lane::Lane;
 use crate::slot::{Held, Place};
@@ -21,8 +24,8 @@ impl Lane {
         slot: u8,
         spec: SourceSpec,
     ) -> Result<(), AllocError>
-        requires within { IsWithin (2 ^ 62) (lane_of self.old) }
-        requires now { now ≤ 2 ^ 62 }
+        requires within { IsWithin most_count (lane_of self.old) }
+        requires now { now ≤ latest }
         ensures { OnOk result (lane_of self.new ≡ attach tick now context slot spec (lane_of self.old)) }
     {
         if !self.has(context) {
@@ -41,8 +44,8 @@ impl Lane {
         slot: u8,
         spec: SourceSpec,
     ) -> Result<(), AllocError>
-        requires within { IsWithin (2 ^ 62) (lane_of self.old) }
-        requires now { now ≤ 2 ^ 62 }
+        requires within { IsWithin most_count (lane_of self.old) }
+        requires now { now ≤ latest }
         ensures { OnOk result (lane_of self.new ≡ child tick now parent slot spec (lane_of self.old)) }
     {
         let Some(place) = self.place(parent) else {
@@ -90,7 +93,7 @@ impl Lane {
     }
 
     fn act_set_priority(&mut self, tick: u32, slot: u8, priority: i32) -> Result<(), AllocError>
-        requires { IsWithin (2 ^ 62) (lane_of self.old) }
+        requires { IsWithin most_count (lane_of self.old) }
         ensures { OnOk result (lane_of self.new ≡ set_priority tick slot priority (lane_of self.old)) }
     {
         let Some(place) = self.place(slot) else {
@@ -110,7 +113,7 @@ impl Lane {
         tick: u32,
         context: u32,
     ) -> Result<(), AllocError>
-        requires within { IsWithin (2 ^ 62) (lane_of self.old) }
+        requires within { IsWithin most_count (lane_of self.old) }
         ensures { OnOk result (lane_of self.new ≡ iterate script.now tick context (lane_of self.old)) }
     {
         if !self.has(context) {
@@ -118,7 +121,7 @@ impl Lane {
         }
         let ids = self.choose(alloc, script, tick, context)?;
         let any = !ids.is_empty();
-        self.frames.begin_iteration(context, ids, Some(any))
+        self.frames.begin_iteration(context, ids, Asker::Iterate(any))
     }
 
     fn act_pending(
@@ -163,7 +166,7 @@ impl Lane {
 
     /// Starts a task, whose reply goes to the thread-default context.
     fn act_task(&mut self, tick: u32, spec: &TaskSpec) -> Result<(), AllocError>
-        requires room { (lane_of self.old).tasks.next < 2 ^ 63 }
+        requires room { (lane_of self.old).tasks.next < count_end }
         requires now { (lane_of self.old).tasks.tick ≡ tick + 1 }
         requires tick { tick < 2 ^ 31 }
         requires known { IsIn (lane_of self.old).view spec.now.cancel }
@@ -184,10 +187,10 @@ impl Lane {
         tick: u32,
         action: &Action,
     ) -> Result<(), AllocError>
-        requires within { IsWithin (2 ^ 62) (lane_of self.old) }
+        requires within { IsWithin most_count (lane_of self.old) }
         requires now { (lane_of self.old).tasks.tick ≡ tick + 1 }
         requires tick { tick < 2 ^ 31 }
-        requires room { (lane_of self.old).tasks.next < 2 ^ 63 }
+        requires room { (lane_of self.old).tasks.next < count_end }
         requires view { length (lane_of self.old).view.members ≡ script.now.cancellables }
         requires refers { action_refers (sizes script.now) action.now ≡ true }
         ensures { OnOk result (lane_of self.new ≡ acted script.now tick action.now (lane_of self.old)) }

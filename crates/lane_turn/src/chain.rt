@@ -3,6 +3,7 @@ ghost use Rattle.std.specs.Prelude.{◌≡◌, ◌∷◌, ◌≤◌, ◌<◌, �
 ghost use Rattle.std.specs.List.{list_any};
 ghost use Rattle.lane_turn.specs.Quiet.{has_rest};
 ghost use Rattle.lane_turn.specs.Nest.{layers_of, frames_of, is_dispatch_layer, is_call_layer, busy_layers, owns_layer, advanced_layers, taken_layers, top_of_layers, HasRoomLayers};
+ghost use Rattle.loop_script.specs.Bounds.{count_end};
 
 use crate::layer::{Layer, Top};
 use crate::nest::Nest;
@@ -107,7 +108,7 @@ impl Chain {
     /// Whether an iteration of a context has ids left.
     #[tactic(auto, using(crate::proofs::Resting::from_outermost))]
     pub(crate) fn has_rest(&self, live: &[Option<usize>], context: u32) -> bool
-        requires { length self.now < 2 ^ 63 }
+        requires { length self.now < count_end }
         ensures { result ≡ list_any (has_rest context) (frames_of live.now self.now) }
     {
         self.nest.has_rest(live, 0, context)

@@ -3,6 +3,8 @@ ghost use Rattle.std.specs.Prelude.{◌≡◌, ◌+◌, ◌≤◌, ◌^◌, [], 
 ghost use Rattle.lane_turn.specs.Deliver.{reply_spec, arrived, arrived_source, received, received_all};
 ghost use Rattle.lane_turn.specs.Sound.{IsWithin, IsReady};
 ghost use Rattle.lane_turn.specs.Meaning.{lane_of};
+ghost use Rattle.loop_script.specs.Bounds.{latest};
+ghost use Rattle.lane_turn.specs.Limits.{half_count, most_count, most_letters};
 
 use crate::line::Event;
 use crate::lane::Lane;
@@ -33,7 +35,7 @@ impl Lane {
         sender: u32,
         reply: Reply,
     ) -> Result<(), AllocError>
-        requires { IsWithin (2 ^ 62) (lane_of self.old) }
+        requires { IsWithin most_count (lane_of self.old) }
         ensures { OnOk result (lane_of self.new ≡ arrived script.now tick sender reply (lane_of self.old)) }
     {
         if !self.has(reply.ctx) {
@@ -58,8 +60,8 @@ impl Lane {
         context: u32,
         spec: SourceSpec,
     ) -> Result<(), AllocError>
-        requires within { IsWithin (2 ^ 62) (lane_of self.old) }
-        requires now { now ≤ 2 ^ 62 }
+        requires within { IsWithin most_count (lane_of self.old) }
+        requires now { now ≤ latest }
         ensures { OnOk result (lane_of self.new ≡ arrived_source tick now context spec (lane_of self.old)) }
     {
         if !self.has(context) {
@@ -77,7 +79,7 @@ impl Lane {
         tick: u32,
         letter: &Letter,
     ) -> Result<(), AllocError>
-        requires within { IsWithin (2 ^ 62) (lane_of self.old) }
+        requires within { IsWithin most_count (lane_of self.old) }
         requires now { (lane_of self.old).tasks.tick ≡ tick + 1 }
         ensures { OnOk result (lane_of self.new ≡ received script.now tick letter.now (lane_of self.old)) }
     {
@@ -98,8 +100,8 @@ impl Lane {
         tick: u32,
         letters: &[Letter],
     ) -> Result<(), AllocError>
-        requires ready { IsReady script.now (tick + 1) (2 ^ 61) (lane_of self.old) }
-        requires few { length letters.now ≤ 2 ^ 60 }
+        requires ready { IsReady script.now (tick + 1) half_count (lane_of self.old) }
+        requires few { length letters.now ≤ most_letters }
         ensures delivered { OnOk result (lane_of self.new ≡ received_all script.now tick letters.now (lane_of self.old)) }
         ensures nothing { letters.now ≡ [] → IsOk result }
     {

@@ -2,22 +2,23 @@
 ghost use Rattle.std.specs.Prelude.{◌≡◌, ℕ, ◌∷◌, ◌<◌, ◌≤◌, ◌^◌, ◌==◌, [], Some, drop, length, OnOk, IfOk, if◌then◌else◌};
 ghost use Rattle.std.specs.List.{list_any};
 ghost use Rattle.lane_turn.specs.Frames.{CallOf, IterOf, LoopOf, top_of, advanced, emptied, depth, calls_in_progress, busy, owns, HasRoom, IsTaken};
-ghost use Rattle.lane_turn.specs.Nest.{level_at};
+ghost use Rattle.lane_turn.specs.Nest.{height_at};
 ghost use Rattle.lane_turn.specs.Quiet.{has_rest};
+ghost use Rattle.loop_script.specs.Bounds.{count_end};
 
 use crate::chain::Chain;
-use crate::layer::{Call, Iteration, Layer, Top};
+use crate::layer::{Asker, Call, Iteration, Layer, Top};
 use std::alloc::{AllocError, Global};
 use std::marker::Model;
 
-/// Names the level of a context's live iteration.
-fn mark(live: &mut Vec<Option<usize>>, context: u32, level: usize) -> Result<(), AllocError>
-    ensures { OnOk result ((c : ℕ) → level_at live.new.items c ≡ (if c == context then Some level else level_at live.old.items c)) }
+/// Names the height of a context's live iteration.
+fn mark(live: &mut Vec<Option<usize>>, context: u32, height: usize) -> Result<(), AllocError>
+    ensures { OnOk result ((c : ℕ) → height_at live.new.items c ≡ (if c == context then Some height else height_at live.old.items c)) }
 {
     while live.len() <= context as usize {
         live.push(None)?;
     }
-    live[context as usize] = Some(level);
+    live[context as usize] = Some(height);
     Ok(())
 }
 
@@ -52,7 +53,7 @@ impl Frames {
     /// What the innermost takes next.
     #[tactic(auto, using(crate::proofs::Layers::length_frames))]
     pub fn top(&self) -> Top
-        requires { length self.now < 2 ^ 63 }
+        requires { length self.now < count_end }
         ensures { result ≡ top_of self.now }
     {
         match self.chain.innermost() {
@@ -64,7 +65,7 @@ impl Frames {
     /// How many dispatches are in progress.
     #[tactic(auto, using(crate::proofs::Layers::depth_layers, crate::proofs::Layers::length_frames))]
     pub fn depth(&self) -> u64
-        requires { length self.now < 2 ^ 63 }
+        requires { length self.now < count_end }
         ensures value { result ≡ depth self.now }
         ensures small { result ≤ length self.now }
     {
@@ -74,7 +75,7 @@ impl Frames {
     /// How many calls are in progress but the one of `start`.
     #[tactic(auto, using(crate::proofs::Layers::calls_layers, crate::proofs::Layers::length_frames))]
     pub fn calls_in_progress(&self) -> u64
-        requires { length self.now < 2 ^ 63 }
+        requires { length self.now < count_end }
         ensures { result ≡ calls_in_progress self.now }
     {
         self.chain.calls_in_progress()
@@ -98,7 +99,7 @@ impl Frames {
     /// Whether an iteration of a context has ids left.
     #[tactic(auto, using(crate::proofs::Layers::length_frames))]
     pub fn has_rest(&self, context: u32) -> bool
-        requires { length self.now < 2 ^ 63 }
+        requires { length self.now < count_end }
         ensures { result ≡ list_any (has_rest context) self.now }
     {
         self.chain.has_rest(&self.live, context)
@@ -122,7 +123,7 @@ impl Frames {
     pub fn begin_loop(&mut self, number: u32, context: u32) -> Result<(), AllocError>
         ensures { OnOk result (self.new ≡ LoopOf number context ∷ self.old) }
     {
-        self.chain.begin(Layer::Loop(number, context))
+        self.chain.begin(Layer::Loop { number, context })
     }
 
     /// Begins an iteration in what is innermost; the older ones of its context have no id left.
@@ -131,20 +132,20 @@ impl Frames {
         &mut self,
         context: u32,
         ids: Vec<u64>,
-        answer: Option<bool>,
+        asker: Asker,
     ) -> Result<(), AllocError>
-        requires { length self.old < 2 ^ 63 }
-        ensures { OnOk result (self.new ≡ IterOf context ids.items answer ∷ emptied context self.old) }
+        requires { length self.old < count_end }
+        ensures { OnOk result (self.new ≡ IterOf context ids.items asker ∷ emptied context self.old) }
     {
-        let level = self.chain.count();
+        let height = self.chain.count();
         let iteration = Iteration {
             context,
             ids,
             place: 0,
-            answer,
+            asker,
         };
         self.chain.begin(Layer::Iteration(iteration))?;
-        mark(&mut self.live, context, level)
+        mark(&mut self.live, context, height)
     }
 
     /// Ends the innermost.

@@ -5,6 +5,7 @@ ghost use Rattle.lane_turn.specs.Acted.{plain_acted, handled, all_handled, cance
 ghost use Rattle.cancel_view.specs.Seen.{has};
 ghost use Rattle.lane_turn.specs.Sound.{IsWithin};
 ghost use Rattle.lane_turn.specs.Meaning.{lane_of};
+ghost use Rattle.lane_turn.specs.Limits.{most_count};
 
 use crate::line::{Event, Word};
 use crate::lane::Lane;
@@ -83,7 +84,7 @@ impl Lane {
         slot: u8,
         proc: u32,
     ) -> Result<(), AllocError>
-        requires { IsWithin (2 ^ 62) (lane_of self.old) }
+        requires { IsWithin most_count (lane_of self.old) }
         ensures { OnOk result (lane_of self.new ≡ connect script.now tick c slot proc (lane_of self.old)) }
     {
         match self.watch.connect(c, proc) {

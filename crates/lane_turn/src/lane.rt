@@ -6,6 +6,8 @@ ghost use Rattle.lane_turn.specs.Lane.{written, set_running, is_running, context
 ghost use Rattle.lane_turn.specs.Acted.{born, can_bear, missed};
 ghost use Rattle.lane_turn.specs.Sound.{IsWithin};
 ghost use Rattle.lane_turn.specs.Meaning.{lane_of};
+ghost use Rattle.loop_script.specs.Bounds.{latest};
+ghost use Rattle.lane_turn.specs.Limits.{most_count};
 
 use crate::frames::Frames;
 use crate::line::{Event, Line, Word};
@@ -162,8 +164,8 @@ impl Lane {
         spec: SourceSpec,
         now: u64,
     ) -> Result<u64, AllocError>
-        requires within { IsWithin (2 ^ 62) (lane_of self.old) }
-        requires now { now ≤ 2 ^ 62 }
+        requires within { IsWithin most_count (lane_of self.old) }
+        requires now { now ≤ latest }
         ensures attached { OnOk result (lane_of self.new ≡ edited context (attached spec now) (lane_of self.old)) }
         ensures id { IfOk result (λ id. id ≡ next_id (context_at context (lane_of self.old))) }
     {
@@ -180,8 +182,8 @@ impl Lane {
         spec: SourceSpec,
         now: u64,
     ) -> Result<Option<u64>, AllocError>
-        requires within { IsWithin (2 ^ 62) (lane_of self.old) }
-        requires now { now ≤ 2 ^ 62 }
+        requires within { IsWithin most_count (lane_of self.old) }
+        requires now { now ≤ latest }
         ensures bears { IfOk result (λ child. is_some child ≡ can_bear parent (lane_of self.old)) }
         ensures id { IfOk result (λ child. IfSome child (λ id. id ≡ next_id (context_at parent.context (lane_of self.old)))) }
         ensures born { IfOk result (λ child. OnSome child (lane_of self.new ≡ edited parent.context (born spec now parent.id) (lane_of self.old))) }
@@ -195,7 +197,7 @@ impl Lane {
 
     /// Gives a source a priority, and answers whether it is there and no child.
     pub(crate) fn set_priority(&mut self, place: Place, priority: i32) -> Result<bool, AllocError>
-        requires { IsWithin (2 ^ 62) (lane_of self.old) }
+        requires { IsWithin most_count (lane_of self.old) }
         ensures moves { IfOk result (λ moves. moves ≡ is_none (priority_fault (row_at place (lane_of self.old)))) }
         ensures moved { IfOk result (λ moves. moves ≡ true → lane_of self.new ≡ edited place.context (reprioritised place.id priority) (lane_of self.old)) }
         ensures none { IfOk result (λ moves. moves ≡ false → lane_of self.new ≡ lane_of self.old) }
@@ -226,7 +228,7 @@ impl Lane {
 
     /// Counts a dispatch of a source of a context.
     pub(crate) fn count(&mut self, context: u32, id: u64)
-        requires { IsWithin (2 ^ 62) (lane_of self.old) }
+        requires { IsWithin most_count (lane_of self.old) }
         ensures { lane_of self.new ≡ edited context (counted id) (lane_of self.old) }
     {
         if let Some(context) = self.contexts.get_mut(context as usize) {
@@ -236,7 +238,7 @@ impl Lane {
 
     /// Gives a timeout of a context its next ready time.
     pub(crate) fn restart(&mut self, context: u32, id: u64, now: u64)
-        requires { now ≤ 2 ^ 62 }
+        requires { now ≤ latest }
         ensures { lane_of self.new ≡ edited context (restarted now id) (lane_of self.old) }
     {
         if let Some(context) = self.contexts.get_mut(context as usize) {

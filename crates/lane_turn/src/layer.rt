@@ -41,14 +41,22 @@ pub struct Call {
     pub place: usize,
 }
 
+/// Who asked for an iteration.
+#[derive(Clone, Copy, Debug, PartialEq, Eq)]
+pub enum Asker {
+    /// The run of a loop.
+    Loop,
+    /// An `iterate`, which is told whether anything was selected.
+    Iterate(bool),
+}
+
 /// An iteration in progress: what it selected, and how many of that were taken.
 #[derive(Drop)]
 pub struct Iteration {
     pub context: u32,
     pub ids: Vec<u64>,
     pub place: usize,
-    /// What an `iterate` that asked for it is told; none for the iteration of a loop.
-    pub answer: Option<bool>,
+    pub asker: Asker,
 }
 
 /// One of the things in progress.
@@ -57,7 +65,10 @@ pub enum Layer {
     Call(Call),
     Iteration(Iteration),
     /// A run of a loop, with the loop's context.
-    Loop(u32, u32),
+    Loop {
+        number: u32,
+        context: u32,
+    },
 }
 
 /// What the innermost activity takes next.
@@ -65,27 +76,34 @@ pub enum Layer {
 pub enum Top {
     Nothing,
     Call(Call),
-    /// The context, the next id, and what an `iterate` that asked is told.
-    Iteration(u32, Option<u64>, Option<bool>),
-    /// The loop, and its context.
-    Loop(u32, u32),
+    Iteration {
+        context: u32,
+        /// The next id, if one is left.
+        next: Option<u64>,
+        asker: Asker,
+    },
+    /// The run of a loop, with the loop's context.
+    Loop {
+        number: u32,
+        context: u32,
+    },
 }
 
-/// Whether the iteration of a context at a level is its live one.
-fn is_live(live: &[Option<usize>], level: usize, context: u32) -> bool
-    ensures { result ≡ is_live live.now level context }
+/// Whether the iteration of a context at a height is its live one.
+fn is_live(live: &[Option<usize>], height: usize, context: u32) -> bool
+    ensures { result ≡ is_live live.now height context }
 {
     match live.get(context as usize) {
-        Some(Some(found)) => *found == level,
+        Some(Some(found)) => *found == height,
         _ => false,
     }
 }
 
 /// The next id of an iteration, none where a newer one has taken its context over.
-fn next_id(iteration: &Iteration, live: &[Option<usize>], level: usize) -> Option<u64>
-    ensures { result ≡ slice_get (ids_left live.now level iteration.now) 0 }
+fn next_id(iteration: &Iteration, live: &[Option<usize>], height: usize) -> Option<u64>
+    ensures { result ≡ slice_get (ids_left live.now height iteration.now) 0 }
 {
-    if is_live(live, level, iteration.context) {
+    if is_live(live, height, iteration.context) {
         iteration.ids.get(iteration.place).copied()
     } else {
         None
@@ -163,17 +181,19 @@ impl Layer {
                 _ => false,
             },
             Layer::Iteration(iteration) => iteration.context == context,
-            Layer::Loop(_, iterated) => *iterated == context,
+            Layer::Loop {
+                context: iterated, ..
+            } => *iterated == context,
         }
     }
 
     /// Whether it is an iteration of a context that has ids left.
-    pub(crate) fn has_rest(&self, live: &[Option<usize>], level: usize, context: u32) -> bool
-        ensures { result ≡ has_rest context (frame_of live.now level self.now) }
+    pub(crate) fn has_rest(&self, live: &[Option<usize>], height: usize, context: u32) -> bool
+        ensures { result ≡ has_rest context (frame_of live.now height self.now) }
     {
         match self {
             Layer::Iteration(iteration) => {
-                iteration.context == context && next_id(iteration, live, level).is_some()
+                iteration.context == context && next_id(iteration, live, height).is_some()
             }
             _ => false,
         }
@@ -191,7 +211,7 @@ impl Layer {
                     iteration.place += 1;
                 }
             }
-            Layer::Loop(_, _) => {}
+            Layer::Loop { .. } => {}
         }
     }
 
@@ -210,22 +230,25 @@ impl Layer {
                     iteration.place += 1;
                 }
             }
-            Layer::Loop(_, _) => {}
+            Layer::Loop { .. } => {}
         }
     }
 
     /// What it takes next.
-    pub(crate) fn next(&self, live: &[Option<usize>], level: usize) -> Top
-        ensures { result ≡ top_of (frame_of live.now level self.now ∷ []) }
+    pub(crate) fn next(&self, live: &[Option<usize>], height: usize) -> Top
+        ensures { result ≡ top_of (frame_of live.now height self.now ∷ []) }
     {
         match self {
             Layer::Call(call) => Top::Call(*call),
-            Layer::Iteration(iteration) => Top::Iteration(
-                iteration.context,
-                next_id(iteration, live, level),
-                iteration.answer,
-            ),
-            Layer::Loop(number, context) => Top::Loop(*number, *context),
+            Layer::Iteration(iteration) => Top::Iteration {
+                context: iteration.context,
+                next: next_id(iteration, live, height),
+                asker: iteration.asker,
+            },
+            Layer::Loop { number, context } => Top::Loop {
+                number: *number,
+                context: *context,
+            },
         }
     }
 }

@@ -5,6 +5,8 @@ ghost use Rattle.lane_turn.specs.Acted.{acted, sends};
 ghost use Rattle.lane_turn.specs.Step.{sending};
 ghost use Rattle.lane_turn.specs.Sound.{IsWithin};
 ghost use Rattle.lane_turn.specs.Meaning.{lane_of, turn_of};
+ghost use Rattle.loop_script.specs.Bounds.{count_end};
+ghost use Rattle.lane_turn.specs.Limits.{most_count};
 
 use crate::owned::invoke_spec;
 use crate::lane::Lane;
@@ -22,7 +24,7 @@ impl Progress {
         body: Body,
         post: &mut P,
     ) -> Result<(), AllocError>
-        requires { self.old.sent < 2 ^ 63 }
+        requires { self.old.sent < count_end }
         ensures sent { OnOk result (self.new ≡ record self.old { sent = self.old.sent + 1 }) }
         ensures letters { OnOk result (P.letters post.new ≡ P.letters post.old ++ (record { tick = tick; sender = sender; number = self.old.sent; body = body }) ∷ []) }
         ensures home { P.home post.new ≡ P.home post.old }
@@ -73,13 +75,13 @@ impl Lane {
         action: &Action,
         post: &mut P,
     ) -> Result<(), AllocError>
-        requires within { IsWithin (2 ^ 62) (lane_of self.old) }
+        requires within { IsWithin most_count (lane_of self.old) }
         requires now { (lane_of self.old).tasks.tick ≡ tick + 1 }
         requires tick { tick < 2 ^ 31 }
-        requires room { (lane_of self.old).tasks.next < 2 ^ 63 }
+        requires room { (lane_of self.old).tasks.next < count_end }
         requires view { length (lane_of self.old).view.members ≡ script.now.cancellables }
         requires refers { action_refers (sizes script.now) action.now ≡ true }
-        requires sent { progress.old.sent < 2 ^ 63 }
+        requires sent { progress.old.sent < count_end }
         ensures acted { OnOk result (turn_of self.new progress.new (P.letters post.new)
             ≡ record (sending tick (sends action.now (lane_of self.old)) (turn_of self.old progress.old (P.letters post.old))) { lane = acted script.now tick action.now (lane_of self.old) }) }
         ensures home { P.home post.new ≡ P.home post.old }

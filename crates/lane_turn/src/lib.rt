@@ -13,6 +13,7 @@ mod lane;
 mod laws;
 mod layer;
 mod letters;
+mod limits;
 mod line;
 mod nest;
 mod owned;

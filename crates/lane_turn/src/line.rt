@@ -13,8 +13,15 @@ pub struct Line {
 /// What a line tells. Contexts, loops, cancellables and lanes go by their number in the script.
 #[derive(Clone, Copy, Debug, PartialEq, Eq)]
 pub enum Event {
-    /// A source of a context is dispatched: its id, its priority, and how many dispatches are then in progress.
-    Dispatch(u32, u64, i32, u64),
+    /// A source of a context is dispatched.
+    Dispatch {
+        context: u32,
+        /// The id of the source.
+        source: u64,
+        priority: i32,
+        /// How many dispatches are then in progress.
+        depth: u64,
+    },
     /// The number of a `log`.
     Log(u32),
     /// An `iterate` of a context is over, and whether anything was selected when it began.
@@ -36,11 +43,19 @@ pub enum Event {
     /// A handler is called, by its id; 0 is one that is connected too late.
     Handler(u64),
     /// The result of a task of a lane is taken.
-    Task(u32, u64, Outcome),
+    Task {
+        lane: u32,
+        /// The number of the task in its lane.
+        number: u64,
+        outcome: Outcome,
+    },
     /// A task of a lane whose reply came early ends.
     TaskLate(u32, u64),
     /// A context is handed over to a lane.
-    Give(u32, u32),
+    Give {
+        context: u32,
+        lane: u32,
+    },
     /// A context is taken over.
     Hold(u32),
     /// An action found nothing to act on, and changed nothing.

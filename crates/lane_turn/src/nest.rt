@@ -3,6 +3,7 @@ ghost use Rattle.std.specs.Prelude.{◌≡◌, ◌+◌, ◌<◌, ◌^◌, ◌==�
 ghost use Rattle.std.specs.List.{list_any};
 ghost use Rattle.lane_turn.specs.Quiet.{has_rest};
 ghost use Rattle.lane_turn.specs.Nest.{layers_of, frames_from, busy_layers, owns_layer, advanced_layers, taken_layers, top_of_layers, HasRoomLayers};
+ghost use Rattle.loop_script.specs.Bounds.{count_end};
 
 use crate::layer::{Layer, Top};
 use std::alloc::AllocError;
@@ -87,16 +88,16 @@ impl Nest {
         }
     }
 
-    /// Whether an iteration of a context has ids left, where the outermost is at a level.
+    /// Whether an iteration of a context has ids left, where the outermost is at a height.
     #[tactic(auto, using(crate::proofs::Resting::rest_within))]
-    pub(crate) fn has_rest(&self, live: &[Option<usize>], level: usize, context: u32) -> bool
-        requires { level + length (layers_of self.now) < 2 ^ 63 }
-        ensures { result ≡ list_any (has_rest context) (frames_from level live.now (layers_of self.now)) }
+    pub(crate) fn has_rest(&self, live: &[Option<usize>], height: usize, context: u32) -> bool
+        requires { height + length (layers_of self.now) < count_end }
+        ensures { result ≡ list_any (has_rest context) (frames_from height live.now (layers_of self.now)) }
     {
         match self {
             Nest::Nothing => false,
-            Nest::Begun(layer, inner) => layer.has_rest(live, level, context)
-                || inner.has_rest(live, level + 1, context),
+            Nest::Begun(layer, inner) => layer.has_rest(live, height, context)
+                || inner.has_rest(live, height + 1, context),
         }
     }
 
@@ -131,18 +132,18 @@ impl Nest {
 
     /// What is innermost takes next, which is counted as taken.
     #[tactic(auto, using(crate::proofs::Layers::first_within))]
-    pub(crate) fn take(&mut self, live: &[Option<usize>], level: usize, top: &mut Top)
-        ensures top { top.new ≡ top_of_layers live.now level (layers_of self.old) }
+    pub(crate) fn take(&mut self, live: &[Option<usize>], height: usize, top: &mut Top)
+        ensures top { top.new ≡ top_of_layers live.now height (layers_of self.old) }
         ensures taken { layers_of self.new ≡ taken_layers (layers_of self.old) }
     {
         match self {
             Nest::Nothing => *top = Top::Nothing,
             Nest::Begun(layer, inner) => {
                 if inner.is_nothing() {
-                    *top = layer.next(live, level);
+                    *top = layer.next(live, height);
                     layer.take();
                 } else {
-                    inner.take(live, level, top);
+                    inner.take(live, height, top);
                 }
             }
         }

@@ -5,8 +5,11 @@ ghost use Rattle.lane_turn.specs.Lane.{context_at, with_context};
 ghost use Rattle.lane_turn.specs.Owned.{default_context, is_owned, may_release, push, pop, show_default, acquire, release, invoke_spec, called_at_once, invoke};
 ghost use Rattle.lane_turn.specs.Sound.{Bounded, IsWithin};
 ghost use Rattle.lane_turn.specs.Meaning.{lane_of};
+ghost use Rattle.loop_script.specs.Bounds.{latest};
+ghost use Rattle.lane_turn.specs.Limits.{most_count};
 
 use crate::layer::{Call, Origin};
+use crate::limits::MOST_CALLS;
 use crate::line::{Event, Invoked, Word};
 use crate::lane::Lane;
 use context_core::Context;
@@ -27,7 +30,7 @@ pub(crate) fn invoke_spec(proc: u32) -> SourceSpec
 
 /// Acquires a context.
 fn acquire_in(context: &mut Option<Context>)
-    requires { Bounded (2 ^ 62) context.old }
+    requires { Bounded most_count context.old }
     ensures { context.new ≡ option_map acquired context.old }
 {
     if let Some(context) = context {
@@ -69,7 +72,7 @@ impl Lane {
 
     /// Acquires a context of the lane.
     fn acquire(&mut self, context: u32)
-        requires { IsWithin (2 ^ 62) (lane_of self.old) }
+        requires { IsWithin most_count (lane_of self.old) }
         ensures { lane_of self.new ≡ with_context context acquired (lane_of self.old) }
     {
         if let Some(context) = self.contexts.get_mut(context as usize) {
@@ -116,7 +119,7 @@ impl Lane {
     }
 
     pub(crate) fn act_acquire(&mut self, tick: u32, context: u32) -> Result<(), AllocError>
-        requires { IsWithin (2 ^ 62) (lane_of self.old) }
+        requires { IsWithin most_count (lane_of self.old) }
         ensures { OnOk result (lane_of self.new ≡ acquire tick context (lane_of self.old)) }
     {
         let has = self.has(context);
@@ -145,10 +148,10 @@ impl Lane {
         proc: u32,
         acquires: Option<u32>,
     ) -> Result<(), AllocError>
-        requires { IsWithin (2 ^ 62) (lane_of self.old) }
+        requires { IsWithin most_count (lane_of self.old) }
         ensures { OnOk result (lane_of self.new ≡ called_at_once tick context proc acquires (lane_of self.old)) }
     {
-        if self.frames.calls_in_progress() >= 32 {
+        if self.frames.calls_in_progress() >= MOST_CALLS {
             return self.halt(tick, Event::HaltDepth);
         }
         self.write(tick, Event::Invoke(context, Invoked::Direct))?;
@@ -166,8 +169,8 @@ impl Lane {
         context: u32,
         proc: u32,
     ) -> Result<(), AllocError>
-        requires within { IsWithin (2 ^ 62) (lane_of self.old) }
-        requires now { now ≤ 2 ^ 62 }
+        requires within { IsWithin most_count (lane_of self.old) }
+        requires now { now ≤ latest }
         ensures { OnOk result (lane_of self.new ≡ invoke tick now context proc (lane_of self.old)) }
     {
         if !self.has(context) {

@@ -5,6 +5,8 @@ ghost use Rattle.lane_turn.specs.Sources.{due_after, restarted};
 ghost use Rattle.lane_turn.specs.Lane.{with_rows, next_id, row_in};
 ghost use Rattle.lane_turn.specs.Acted.{born, can_bear_in};
 ghost use Rattle.lane_turn.specs.Sound.{Bounded};
+ghost use Rattle.loop_script.specs.Bounds.{latest};
+ghost use Rattle.lane_turn.specs.Limits.{most_count};
 
 use context_core::Context;
 use loop_script::{Kind, SourceSpec};
@@ -13,7 +15,7 @@ use std::alloc::AllocError;
 
 /// The time in microseconds that comes so many milliseconds after another.
 fn due_after(ms: u32, now: u64) -> i64
-    requires { now ≤ 2 ^ 62 }
+    requires { now ≤ latest }
     ensures { result ≡ due_after ms now }
 {
     (now + u64::from(ms) * 1000) as i64
@@ -25,8 +27,8 @@ pub(crate) fn attach_in(
     spec: SourceSpec,
     now: u64,
 ) -> Result<u64, AllocError>
-    requires bounded { Bounded (2 ^ 62) context.old }
-    requires now { now ≤ 2 ^ 62 }
+    requires bounded { Bounded most_count context.old }
+    requires now { now ≤ latest }
     ensures attached { OnOk result (context.new ≡ option_map (with_rows (attached spec now)) context.old) }
     ensures id { IfOk result (λ id. id ≡ next_id context.old) }
 {
@@ -46,8 +48,8 @@ pub(crate) fn add_child_in(
     spec: SourceSpec,
     now: u64,
 ) -> Result<Option<u64>, AllocError>
-    requires bounded { Bounded (2 ^ 62) context.old }
-    requires now { now ≤ 2 ^ 62 }
+    requires bounded { Bounded most_count context.old }
+    requires now { now ≤ latest }
     ensures bears { IfOk result (λ child. is_some child ≡ can_bear_in parent context.old) }
     ensures id { IfOk result (λ child. IfSome child (λ id. id ≡ next_id context.old)) }
     ensures born { IfOk result (λ child. OnSome child (context.new ≡ option_map (with_rows (born spec now parent)) context.old)) }
@@ -69,7 +71,7 @@ pub(crate) fn set_priority_in(
     id: u64,
     priority: i32,
 ) -> Result<bool, AllocError>
-    requires bounded { Bounded (2 ^ 62) context.old }
+    requires bounded { Bounded most_count context.old }
     ensures moves { IfOk result (λ moves. moves ≡ is_none (priority_fault (row_in id context.old))) }
     ensures moved { IfOk result (λ moves. moves ≡ true → context.new ≡ option_map (with_rows (reprioritised id priority)) context.old) }
     ensures none { IfOk result (λ moves. moves ≡ false → context.new ≡ context.old) }
@@ -104,7 +106,7 @@ pub(crate) fn set_ready_in(context: &mut Option<Context>, id: u64, ready: i64)
 
 /// Counts a dispatch of a source.
 pub(crate) fn count_in(context: &mut Option<Context>, id: u64)
-    requires { Bounded (2 ^ 62) context.old }
+    requires { Bounded most_count context.old }
     ensures { context.new ≡ option_map (with_rows (counted id)) context.old }
 {
     if let Some(context) = context {
@@ -114,7 +116,7 @@ pub(crate) fn count_in(context: &mut Option<Context>, id: u64)
 
 /// Gives a timeout that stays after a call its next ready time.
 pub(crate) fn restart_in(context: &mut Option<Context>, id: u64, now: u64)
-    requires { now ≤ 2 ^ 62 }
+    requires { now ≤ latest }
     ensures { context.new ≡ option_map (with_rows (restarted now id)) context.old }
 {
     if let Some(context) = context {

@@ -9,9 +9,11 @@ ghost use Rattle.source_rows.specs.Rows.{level_count};
 ghost use Rattle.lane_turn.specs.Sources.{tree_levels};
 ghost use Rattle.lane_turn.specs.Meaning.{lane_of};
 ghost use Rattle.lane_turn.specs.Sound.{IsReady};
+ghost use Rattle.lane_turn.specs.Limits.{half_count, most_letters, most_steps};
 
 use crate::frames::Frames;
 use crate::layer::{Call, Origin};
+use crate::limits::SLOTS;
 use crate::line::Line;
 use crate::lane::{Lane, Status};
 use crate::slot::Held;
@@ -25,9 +27,6 @@ use std::alloc::{AllocError, Global};
 use std::collections::BTreeMap;
 use std::marker::Model;
 use thiserror::Error;
-
-/// How many slots a lane has.
-const SLOTS: usize = 256;
 
 /// Why a call of a lane was refused.
 #[derive(Clone, Copy, Debug, PartialEq, Eq, Error)]
@@ -205,13 +204,13 @@ impl LaneState {
         tick: u32,
         post: &mut P,
     ) -> Result<(), LaneFault>
-        requires ready { self.old.spent ≡ false → IsReady script.now tick (2 ^ 61) self.old.lane }
+        requires ready { self.old.spent ≡ false → IsReady script.now tick half_count self.old.lane }
         requires tick { tick < 2 ^ 31 }
         ensures turned { OnOk result (self.new.lane ≡ turned script.now tick self.old.lane) }
         ensures letters { OnOk result (P.letters post.new ≡ P.letters post.old ++ out_of script.now tick self.old.lane) }
         ensures home { P.home post.new ≡ P.home post.old }
         ensures ready { (m : ℕ) → IsReady script.now tick m self.old.lane → OnOk result (IsReady script.now (tick + 1) (m + 20001) self.new.lane) }
-        ensures few { OnOk result (length (out_of script.now tick self.old.lane) ≤ 10000 * (tick + 1)) }
+        ensures few { OnOk result (length (out_of script.now tick self.old.lane) ≤ most_steps * (tick + 1)) }
         ensures lasts { OnOk result (self.new.spent ≡ false) }
         ensures spent { (result ≡ Err LaneFault.Spent) ↔ IsTrue self.old.spent }
         ensures memory { result ≡ Err LaneFault.OutOfMemory → IsTrue self.new.spent }
@@ -241,8 +240,8 @@ impl LaneState {
         tick: u32,
         letters: &[Letter],
     ) -> Result<(), LaneFault>
-        requires ready { self.old.spent ≡ false → IsReady script.now (tick + 1) (2 ^ 61) self.old.lane }
-        requires few { length letters.now ≤ 2 ^ 60 }
+        requires ready { self.old.spent ≡ false → IsReady script.now (tick + 1) half_count self.old.lane }
+        requires few { length letters.now ≤ most_letters }
         ensures delivered { OnOk result (self.new.lane ≡ received_all script.now tick letters.now self.old.lane) }
         ensures ready { (m : ℕ) → IsReady script.now (tick + 1) m self.old.lane → OnOk result (IsReady script.now (tick + 1) (m + 2 * length letters.now) self.new.lane) }
         ensures lasts { OnOk result (self.new.spent ≡ false) }
@@ -270,7 +269,7 @@ impl LaneState {
     ///
     /// Ticks that are passed over are told to the lane by `pass_to`.
     pub fn next_tick(&self, script: &Script, tick: u32) -> Option<u32>
-        requires ready { self.now.spent ≡ false → IsReady script.now (tick + 1) (2 ^ 61) self.now.lane }
+        requires ready { self.now.spent ≡ false → IsReady script.now (tick + 1) half_count self.now.lane }
         requires tick { tick < 2 ^ 31 }
         ensures later { IfSome result (λ next. tick < next) }
         ensures within { IfSome result (λ next. next < script.now.ticks) }

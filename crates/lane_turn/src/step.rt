@@ -9,8 +9,11 @@ ghost use Rattle.task_steps.specs.Book.{sees};
 ghost use Rattle.post_office.specs.declared.letter.Letter.{Letter};
 ghost use Rattle.lane_turn.specs.Sound.{IsWithin};
 ghost use Rattle.lane_turn.specs.Meaning.{lane_of, turn_of};
+ghost use Rattle.loop_script.specs.Bounds.{count_end};
+ghost use Rattle.lane_turn.specs.Limits.{most_calls, most_count};
 
-use crate::layer::{Call, Caller, Origin, Top};
+use crate::layer::{Asker, Call, Caller, Origin, Top};
+use crate::limits::MOST_CALLS;
 use crate::line::Event;
 use crate::lane::{Lane, Status};
 use crate::replies::Awaited;
@@ -104,12 +107,12 @@ impl Lane {
         call: Call,
         post: &mut P,
     ) -> Result<(), AllocError>
-        requires within { IsWithin (2 ^ 62) (lane_of self.old) }
+        requires within { IsWithin most_count (lane_of self.old) }
         requires now { (lane_of self.old).tasks.tick ≡ tick + 1 }
         requires tick { tick < 2 ^ 31 }
-        requires room { (lane_of self.old).tasks.next < 2 ^ 63 }
+        requires room { (lane_of self.old).tasks.next < count_end }
         requires view { length (lane_of self.old).view.members ≡ script.now.cancellables }
-        requires sent { progress.old.sent < 2 ^ 63 }
+        requires sent { progress.old.sent < count_end }
         requires top { top_of (lane_of self.old).frames ≡ Top.Call call }
         ensures next { OnOk result (turn_of self.new progress.new (P.letters post.new)
             ≡ step_call script.now tick (turn_of self.old progress.old (P.letters post.old)) call (slice_get (actions_of script.now call.body) call.place)) }
@@ -136,22 +139,35 @@ impl Lane {
             None => Ok(()),
             Some(Awaited { sender, reply }) => {
                 let outcome = result_of(self.watch.view(), reply);
-                self.write(tick, Event::Task(sender, reply.task, outcome))
+                let number = reply.task;
+                self.write(
+                    tick,
+                    Event::Task {
+                        lane: sender,
+                        number,
+                        outcome,
+                    },
+                )
             }
         }
     }
 
     /// Begins the dispatch of a row that is taken, at a depth.
     fn dispatch(&mut self, tick: u32, context: u32, row: Row, depth: u64) -> Result<(), AllocError>
-        requires count { row.count ≤ 2 ^ 62 }
-        requires depth { depth ≤ 2 ^ 62 }
-        requires within { IsWithin (2 ^ 62) (lane_of self.old) }
+        requires count { row.count ≤ most_count }
+        requires depth { depth ≤ most_count }
+        requires within { IsWithin most_count (lane_of self.old) }
         ensures { OnOk result (lane_of self.new ≡ dispatched_at tick context row depth (lane_of self.old)) }
     {
         self.count(context, row.id);
         self.write(
             tick,
-            Event::Dispatch(context, row.id, row.priority, depth + 1),
+            Event::Dispatch {
+                context,
+                source: row.id,
+                priority: row.priority,
+                depth: depth + 1,
+            },
         )?;
         let awaited = self.replies.remove(&(context, row.id));
         self.take_result(tick, awaited)?;
@@ -170,13 +186,13 @@ impl Lane {
 
     /// Begins the dispatch of a row, or halts the lane where too many calls are in progress.
     fn begin_dispatch(&mut self, tick: u32, context: u32, row: Row) -> Result<(), AllocError>
-        requires count { row.count ≤ 2 ^ 62 }
-        requires within { IsWithin (2 ^ 62) (lane_of self.old) }
+        requires count { row.count ≤ most_count }
+        requires within { IsWithin most_count (lane_of self.old) }
         requires top { HasRoom (lane_of self.old).frames }
         ensures { OnOk result (lane_of self.new ≡ dispatching tick context row (lane_of self.old)) }
     {
         let depth = self.frames.depth();
-        if self.frames.calls_in_progress() >= 32 {
+        if self.frames.calls_in_progress() >= MOST_CALLS {
             return self.halt(tick, Event::HaltDepth);
         }
         self.frames.advance();
@@ -196,14 +212,14 @@ impl Lane {
         &mut self,
         tick: u32,
         context: u32,
-        answer: Option<bool>,
+        asker: Asker,
     ) -> Result<(), AllocError>
-        ensures { OnOk result (lane_of self.new ≡ answered tick context answer (popped (lane_of self.old))) }
+        ensures { OnOk result (lane_of self.new ≡ answered tick context asker (popped (lane_of self.old))) }
     {
         self.frames.end();
-        match answer {
-            None => Ok(()),
-            Some(any) => self.write(tick, Event::Iterate(context, any)),
+        match asker {
+            Asker::Loop => Ok(()),
+            Asker::Iterate(any) => self.write(tick, Event::Iterate(context, any)),
         }
     }
 
@@ -214,15 +230,15 @@ impl Lane {
         progress: &mut Progress,
         context: u32,
         next: Option<u64>,
-        answer: Option<bool>,
+        asker: Asker,
     ) -> Result<(), AllocError>
-        requires within { IsWithin (2 ^ 62) (lane_of self.old) }
-        requires top { top_of (lane_of self.old).frames ≡ Top.Iteration context next answer }
-        ensures next { (letters : List Letter) → OnOk result (turn_of self.new progress.new letters ≡ step_iteration tick (turn_of self.old progress.old letters) context answer next) }
+        requires within { IsWithin most_count (lane_of self.old) }
+        requires top { top_of (lane_of self.old).frames ≡ Top.Iteration context next asker }
+        ensures next { (letters : List Letter) → OnOk result (turn_of self.new progress.new letters ≡ step_iteration tick (turn_of self.old progress.old letters) context asker next) }
         ensures passes { IsTrue (is_passed (lane_of self.old) (top_of (lane_of self.old).frames)) → IsOk result }
     {
         match next {
-            None => self.end_iteration(tick, context, answer),
+            None => self.end_iteration(tick, context, asker),
             Some(id) => match self.row(context, id) {
                 None => {
                     self.pass_over();
@@ -249,7 +265,7 @@ impl Lane {
         number: u32,
         context: u32,
     ) -> Result<bool, AllocError>
-        requires { IsWithin (2 ^ 62) (lane_of self.old) }
+        requires { IsWithin most_count (lane_of self.old) }
         ensures more { (letters : List Letter) → IfOk result (λ more. more ≡ is_some (step_loop script.now tick (turn_of self.old progress.old letters) number context)) }
         ensures next { (letters : List Letter) → OnOk result (turn_of self.new progress.new letters
             ≡ unwrap_or (step_loop script.now tick (turn_of self.old progress.old letters) number context) (turn_of self.old progress.old letters)) }
@@ -263,7 +279,7 @@ impl Lane {
             return Ok(false);
         }
         let ids = self.choose(alloc, script, tick, context)?;
-        self.frames.begin_iteration(context, ids, None)?;
+        self.frames.begin_iteration(context, ids, Asker::Loop)?;
         progress.iterated = true;
         Ok(true)
     }
@@ -277,15 +293,15 @@ impl Lane {
         progress: &mut Progress,
         post: &mut P,
     ) -> Result<bool, AllocError>
-        requires within { IsWithin (2 ^ 62) (lane_of self.old) }
+        requires within { IsWithin most_count (lane_of self.old) }
         requires now { (lane_of self.old).tasks.tick ≡ tick + 1 }
         requires tick { tick < 2 ^ 31 }
-        requires room { (lane_of self.old).tasks.next < 2 ^ 63 }
+        requires room { (lane_of self.old).tasks.next < count_end }
         requires view { length (lane_of self.old).view.members ≡ script.now.cancellables }
-        requires sent { progress.old.sent < 2 ^ 63 }
+        requires sent { progress.old.sent < count_end }
         requires goes { self.old.status ≡ Status.GoesOn }
         requires left { 1 ≤ progress.old.left }
-        requires calls { calls_in_progress (lane_of self.old).frames < 32 }
+        requires calls { calls_in_progress (lane_of self.old).frames < most_calls }
         ensures more { IfOk result (λ more. more ≡ is_some (step script.now tick (turn_of self.old progress.old (P.letters post.old)))) }
         ensures next { OnOk result (turn_of self.new progress.new (P.letters post.new) ≡ stepped script.now tick (turn_of self.old progress.old (P.letters post.old))) }
         ensures home { P.home post.new ≡ P.home post.old }
@@ -306,11 +322,19 @@ impl Lane {
                     Ok(true)
                 }
             },
-            Top::Iteration(context, None, answer) => {
-                self.end_iteration(tick, context, answer)?;
+            Top::Iteration {
+                context,
+                next: None,
+                asker,
+            } => {
+                self.end_iteration(tick, context, asker)?;
                 Ok(true)
             }
-            Top::Iteration(context, Some(id), _) => match self.row(context, id) {
+            Top::Iteration {
+                context,
+                next: Some(id),
+                ..
+            } => match self.row(context, id) {
                 None => Ok(true),
                 Some(row) => {
                     progress.left -= 1;
@@ -318,7 +342,7 @@ impl Lane {
                     Ok(true)
                 }
             },
-            Top::Loop(number, context) => {
+            Top::Loop { number, context } => {
                 self.step_loop(alloc, script, tick, progress, number, context)
             }
         }
@@ -334,12 +358,12 @@ impl Lane {
         progress: &mut Progress,
         post: &mut P,
     ) -> Result<bool, AllocError>
-        requires within { IsWithin (2 ^ 62) (lane_of self.old) }
+        requires within { IsWithin most_count (lane_of self.old) }
         requires now { (lane_of self.old).tasks.tick ≡ tick + 1 }
         requires tick { tick < 2 ^ 31 }
-        requires room { (lane_of self.old).tasks.next < 2 ^ 63 }
+        requires room { (lane_of self.old).tasks.next < count_end }
         requires view { length (lane_of self.old).view.members ≡ script.now.cancellables }
-        requires sent { progress.old.sent < 2 ^ 63 }
+        requires sent { progress.old.sent < count_end }
         ensures more { IfOk result (λ more. more ≡ is_some (step script.now tick (turn_of self.old progress.old (P.letters post.old)))) }
         ensures next { OnOk result (turn_of self.new progress.new (P.letters post.new) ≡ stepped script.now tick (turn_of self.old progress.old (P.letters post.old))) }
         ensures home { P.home post.new ≡ P.home post.old }
@@ -350,7 +374,7 @@ impl Lane {
             Status::GoesOn => {}
             _ => return Ok(false),
         }
-        if progress.left > 0 && self.frames.calls_in_progress() < 32 {
+        if progress.left > 0 && self.frames.calls_in_progress() < MOST_CALLS {
             return self.step_freely(alloc, script, tick, progress, post);
         }
         match self.frames.top() {
@@ -359,11 +383,15 @@ impl Lane {
                 self.step_call(alloc, script, tick, progress, call, post)?;
                 Ok(true)
             }
-            Top::Iteration(context, next, answer) => {
-                self.step_iteration(tick, progress, context, next, answer)?;
+            Top::Iteration {
+                context,
+                next,
+                asker,
+            } => {
+                self.step_iteration(tick, progress, context, next, asker)?;
                 Ok(true)
             }
-            Top::Loop(number, context) => {
+            Top::Loop { number, context } => {
                 self.step_loop(alloc, script, tick, progress, number, context)
             }
         }

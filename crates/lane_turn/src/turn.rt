@@ -5,7 +5,10 @@ ghost use Rattle.lane_turn.specs.Step.{late_line};
 ghost use Rattle.lane_turn.specs.Polls.{letters_of, after_polls};
 ghost use Rattle.lane_turn.specs.Sound.{IsReady};
 ghost use Rattle.lane_turn.specs.Meaning.{lane_of, turn_of};
+ghost use Rattle.loop_script.specs.Bounds.{count_end};
+ghost use Rattle.lane_turn.specs.Limits.{half_count};
 
+use crate::limits::MOST_STEPS;
 use crate::line::Event;
 use crate::lane::{Lane, Status};
 use crate::step::Progress;
@@ -13,9 +16,6 @@ use loop_script::Script;
 use post_office::{Body, Post};
 use std::alloc::{AllocError, Global};
 use task_steps::Reply;
-
-/// How many actions and dispatches a turn may count.
-const COUNTED: u32 = 10_000;
 
 impl Progress {
     /// Sends replies.
@@ -26,7 +26,7 @@ impl Progress {
         replies: &[Reply],
         post: &mut P,
     ) -> Result<(), AllocError>
-        requires { self.old.sent + length replies.now < 2 ^ 63 }
+        requires { self.old.sent + length replies.now < count_end }
         ensures sent { OnOk result (self.new ≡ record self.old { sent = self.old.sent + length replies.now }) }
         ensures letters { OnOk result (P.letters post.new ≡ P.letters post.old ++ letters_of tick sender self.old.sent replies.now) }
         ensures home { P.home post.new ≡ P.home post.old }
@@ -61,7 +61,7 @@ impl Lane {
     ) -> Result<(), AllocError>
         requires now { (lane_of self.old).tasks.tick ≡ tick }
         requires tick { tick < 2 ^ 31 }
-        requires sent { progress.old.sent + length (lane_of self.old).tasks.started < 2 ^ 63 }
+        requires sent { progress.old.sent + length (lane_of self.old).tasks.started < count_end }
         ensures polled { OnOk result (turn_of self.new progress.new (P.letters post.new)
             ≡ after_polls tick (record (turn_of self.old progress.old (P.letters post.old)) {
               lane = record (lane_of self.old) { tasks = record (lane_of self.old).tasks { started = []; tick = tick + 1 } };
@@ -85,7 +85,7 @@ impl Lane {
         tick: u32,
         post: &mut P,
     ) -> Result<(), AllocError>
-        requires ready { IsReady script.now tick (2 ^ 61) (lane_of self.old) }
+        requires ready { IsReady script.now tick half_count (lane_of self.old) }
         requires tick { tick < 2 ^ 31 }
         ensures turned { OnOk result (lane_of self.new ≡ turned script.now tick (lane_of self.old)) }
         ensures letters { OnOk result (P.letters post.new ≡ P.letters post.old ++ out_of script.now tick (lane_of self.old)) }
@@ -93,7 +93,7 @@ impl Lane {
         ensures rests { (lane_of self.old).status ≢ Status.GoesOn → (lane_of self.old).tasks.started ≡ [] → IsOk result }
     {
         let mut progress = Progress {
-            left: COUNTED,
+            left: MOST_STEPS,
             iterated: false,
             sent: 0,
         };

@@ -9,6 +9,7 @@ ghost use Rattle.lane_turn.specs.Frames.{busy};
 ghost use Rattle.lane_turn.specs.Lane.{chosen};
 ghost use Rattle.lane_turn.specs.Quiet.{IsIdle};
 ghost use Rattle.lane_turn.specs.Meaning.{lane_of};
+ghost use Rattle.loop_script.specs.Bounds.{count_end};
 
 use crate::frames::Frames;
 use crate::layer::Top;
@@ -211,7 +212,7 @@ impl Lane {
 
     /// When a step may do something, from a tick on, while tasks tell nothing.
     pub(crate) fn step_wake(&self, script: &Script, from: u32) -> Option<u64>
-        requires { length (lane_of self.now).frames < 2 ^ 63 }
+        requires { length (lane_of self.now).frames < count_end }
         ensures { (k : ℕ) → from ≤ k → IsAfter k result → IsIdle script.now k (lane_of self.now) }
     {
         if self.status != Status::GoesOn {
@@ -219,7 +220,7 @@ impl Lane {
         }
         match self.frames.top() {
             Top::Nothing => None,
-            Top::Loop(number, context) => {
+            Top::Loop { number, context } => {
                 if self.is_running(number) && !self.frames.has_rest(context) {
                     self.select_wake(script, context, from)
                 } else {

@@ -26,3 +26,7 @@ longest_time = 1000000000000000
 -- no time of a run is later
 abbrev pub latest : ℕ
 latest = 2 ^ 62
+
+-- a number below this can be counted on
+abbrev pub count_end : ℕ
+count_end = 2 ^ 63

@@ -1,4 +1,5 @@
 pub mod Bounds
+pub mod Units
 pub mod Read
 pub mod Seen
 pub mod Number

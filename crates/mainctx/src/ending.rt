@@ -104,13 +104,18 @@ fn put_event(bytes: &mut [u8; ROOM], end: usize, event: Event) -> usize
     ensures written { drop result bytes.new ≡ event_text event ++ drop end bytes.old }
 {
     match event {
-        Event::Dispatch(ctx, source, priority, depth) => {
+        Event::Dispatch {
+            context,
+            source,
+            priority,
+            depth,
+        } => {
             let at = put_number(bytes, end, depth);
             let at = put(bytes, at, " depth ");
             let at = put_signed(bytes, at, i64::from(priority));
             let at = put(bytes, at, " priority ");
             let at = put_numbered(bytes, at, " source ", source);
-            put_numbered(bytes, at, "dispatch ctx ", u64::from(ctx))
+            put_numbered(bytes, at, "dispatch ctx ", u64::from(context))
         }
         Event::Log(number) => put_numbered(bytes, end, "log ", u64::from(number)),
         Event::Iterate(ctx, answer) => {
@@ -144,7 +149,11 @@ fn put_event(bytes: &mut [u8; ROOM], end: usize, event: Event) -> usize
         }
         Event::Cancel(cancellable) => put_numbered(bytes, end, "cancel ", u64::from(cancellable)),
         Event::Handler(id) => put_numbered(bytes, end, "handler ", id),
-        Event::Task(lane, number, outcome) => {
+        Event::Task {
+            lane,
+            number,
+            outcome,
+        } => {
             let at = put_outcome(bytes, end, outcome);
             let at = put(bytes, at, " ");
             let at = put_numbered(bytes, at, ".", number);
@@ -155,9 +164,9 @@ fn put_event(bytes: &mut [u8; ROOM], end: usize, event: Event) -> usize
             let at = put_numbered(bytes, at, ".", number);
             put_numbered(bytes, at, "task ", u64::from(lane))
         }
-        Event::Give(ctx, lane) => {
+        Event::Give { context, lane } => {
             let at = put_numbered(bytes, end, " lane ", u64::from(lane));
-            put_numbered(bytes, at, "give ctx ", u64::from(ctx))
+            put_numbered(bytes, at, "give ctx ", u64::from(context))
         }
         Event::Hold(ctx) => put_numbered(bytes, end, "hold ctx ", u64::from(ctx)),
         Event::Miss(word) => {

@@ -35,7 +35,12 @@ fn add_line(
     ensures unchanged { OnErr result (out.new.items ≡ out.old.items) }
 {
     match line.event {
-        Event::Dispatch(context, source, priority, depth) => {
+        Event::Dispatch {
+            context,
+            source,
+            priority,
+            depth,
+        } => {
             last.write(line.tick, context, source, priority, depth);
             out.extend_from_slice(last.line())
         }

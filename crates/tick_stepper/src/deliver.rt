@@ -3,6 +3,7 @@ ghost use Rattle.std.specs.Prelude.{◌≡◌, ◌+◌, ◌^◌, ◌<◌, ◌≤
 ghost use Rattle.std.specs.List.{AllByRecursion};
 ghost use Rattle.lane_turn.specs.Deliver.{received_all};
 ghost use Rattle.tick_stepper.specs.Share.{stepped_one, IsReadyOne};
+ghost use Rattle.lane_turn.specs.Limits.{most_letters};
 
 use crate::share::Numbered;
 use lane_turn::LaneFault;
@@ -18,7 +19,7 @@ pub(crate) fn deliver_all(
 ) -> Result<(), LaneFault>
     requires tick { tick < 4096 }
     requires ready { AllByRecursion (IsReadyOne script.now (tick + 1)) lanes.old }
-    requires few { length letters.now ≤ 2 ^ 60 }
+    requires few { length letters.now ≤ most_letters }
     ensures { OnOk result (lanes.new ≡ map (stepped_one (received_all script.now tick letters.now)) lanes.old) }
 {
     for lane in lanes.iter_mut() {

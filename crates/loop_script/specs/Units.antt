@@ -1,0 +1,37 @@
+-- What the numbers of a script and its run stand for.
+use Rattle.std.specs.Prelude.{ℕ}
+
+-- a tick of the run, from 0
+abbrev pub Tick : Type 0
+Tick = ℕ
+
+-- a time of the run
+abbrev pub Microseconds : Type 0
+Microseconds = ℕ
+
+-- a lane, context, loop, cancellable or procedure by its number in the script, from 0
+abbrev pub LaneNumber : Type 0
+LaneNumber = ℕ
+
+abbrev pub ContextNumber : Type 0
+ContextNumber = ℕ
+
+abbrev pub LoopNumber : Type 0
+LoopNumber = ℕ
+
+abbrev pub CancellableNumber : Type 0
+CancellableNumber = ℕ
+
+abbrev pub ProcNumber : Type 0
+ProcNumber = ℕ
+
+-- a slot of a lane
+abbrev pub Slot : Type 0
+Slot = ℕ
+
+-- a source in its context, or a handler in its lane, from 1
+abbrev pub SourceId : Type 0
+SourceId = ℕ
+
+abbrev pub HandlerId : Type 0
+HandlerId = ℕ
