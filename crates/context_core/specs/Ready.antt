@@ -16,9 +16,13 @@ Own = Row → Bool
 abbrev pub is_due : ℕ → ℤ → Bool
 is_due now ready = int_le (pos 0) ready && int_le ready (pos now)
 
--- a descriptor shows a bit that is asked for, or an error, a hang-up or that it is invalid
+-- an error (8), a hang-up (16) and that a descriptor is invalid (32) are told whether they are asked for or not
+abbrev pub always_told : ℕ
+always_told = 56
+
+-- a descriptor shows a bit that is asked for, or one that is always told
 abbrev pub has_bit : ℕ → ℕ → Bool
-has_bit level bits = not (bit_and level (bit_or bits 56) == 0)
+has_bit level bits = not (bit_and level (bit_or bits always_told) == 0)
 
 abbrev pub kind_ready : (level : ℕ → ℕ) → (cancelled : ℕ → Bool) → Kind → Bool
 kind_ready level cancelled Idle = true

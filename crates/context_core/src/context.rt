@@ -1,6 +1,7 @@
 //! A context, and its three phases.
 ghost use Rattle.std.specs.Prelude.{◌≡◌, false, ◌≤◌, ◌<◌, ◌^◌, ◌==◌, ◌&&◌, ◌||◌, IfOk, OnOk, ℕ, filter};
 ghost use Rattle.std.specs.Borrow.{sem};
+ghost use Rattle.loop_script.specs.Bounds.{count_end, latest};
 ghost use Rattle.context_core.specs.Lending.{LendsRows};
 ghost use Rattle.context_core.specs.Defaults.{acquired, released, is_acquired};
 ghost use Rattle.source_rows.specs.Rows.{no_rows, level_count, next_ready, in_order};
@@ -39,7 +40,7 @@ impl Context {
 
     /// Acquires the context, once more where it was acquired (GMainContext: `g_main_context_acquire`).
     pub fn acquire(&mut self)
-        requires { self.old.acquires < 2 ^ 63 }
+        requires { self.old.acquires < count_end }
         ensures { self.new ≡ acquired self.old }
     {
         self.acquires += 1;
@@ -82,7 +83,7 @@ impl Context {
 
     /// How many milliseconds a poll may wait where nothing is ready.
     fn wait(&self, now: u64, busy: &[u64]) -> i64
-        requires { now ≤ 2 ^ 62 }
+        requires { now ≤ latest }
         ensures { result ≡ ms_until now (next_ready now (filter (is_free busy.now) self.now.rows.rows)) }
     {
         if busy.is_empty() {
@@ -100,7 +101,7 @@ impl Context {
     /// What is ready before any descriptor is asked, at a time in microseconds, with the ids of the sources of this
     /// context whose calls are in progress and may not be dispatched again.
     pub fn prepare(&self, now: u64, busy: &[u64], view: &View) -> Prepared
-        requires { now ≤ 2 ^ 62 }
+        requires { now ≤ latest }
         ensures priority { result.priority ≡ least_ready (in_view view.now) now busy.now self.now.rows.rows }
         ensures timeout { result.timeout_ms ≡ wait_of now busy.now self.now.rows.rows result.priority }
     {
@@ -176,7 +177,7 @@ impl Context {
         busy: &[u64],
         view: &View,
     ) -> Result<Vec<u64>, AllocError>
-        requires { now ≤ 2 ^ 62 }
+        requires { now ≤ latest }
         ensures one_tree { IsOneTree self.now.rows.rows }
         ensures ids { IfOk result (λ ids. ids.items
             ≡ walk (is_ready (own_ready (shown polled.now) (in_view view.now) now) busy.now self.now.rows.rows) least (in_order self.now.rows.rows)) }
@@ -207,7 +208,7 @@ impl Context {
         view: &View,
         levels: &[u8],
     ) -> Result<Vec<u64>, AllocError>
-        requires now { now ≤ 2 ^ 62 }
+        requires now { now ≤ latest }
         requires prepared { prepared.now.priority ≡ least_ready (in_view view.now) now busy.now self.now.rows.rows }
         ensures { (level : ℕ → ℕ) → levels.now ≡ levels_for level (asked_rows prepared.now.priority busy.now self.now.rows.rows)
             → IfOk result (λ ids. ids.items ≡ selected (own_ready level (in_view view.now) now) busy.now self.now.rows.rows) }
@@ -227,7 +228,7 @@ fn visit(
     busy: &[u64],
     view: &View,
 ) -> Result<bool, AllocError>
-    requires { now ≤ 2 ^ 62 }
+    requires { now ≤ latest }
     ensures lent { OnOk result ((id : ℕ) → contains nat_cmp lent.new id
         ≡ (lends (own_ready (shown polled.now) (in_view view.now) now) busy.now id row.now || contains nat_cmp lent.old id)) }
     ensures ready { IfOk result (λ ready. ready

@@ -1,5 +1,6 @@
 //! What makes a source ready.
 ghost use Rattle.std.specs.Prelude.{◌≡◌, ◌≤◌, ◌^◌, ◌==◌, Some, None, IfSome, IsTrue, int_lt, slice_get, pos, if◌then◌else◌};
+ghost use Rattle.loop_script.specs.Bounds.{latest};
 ghost use Rattle.source_rows.specs.Rows.{sooner};
 ghost use Rattle.std.specs.List.{find, list_any};
 ghost use Rattle.context_core.specs.Ready.{in_view, is_due, has_bit, own_ready, is_blocked, is_free, is_callable};
@@ -10,19 +11,22 @@ use cancel_view::View;
 use loop_script::Kind;
 use source_rows::Row;
 
+/// The bits of an error (8), a hang-up (16) and an invalid descriptor (32), which are told whether they are asked for or not.
+const ALWAYS_TOLD: u8 = 56;
+
 /// Whether a ready time has come.
 fn is_due(ready: i64, now: u64) -> bool
-    requires { now ≤ 2 ^ 62 }
+    requires { now ≤ latest }
     ensures { result ≡ is_due now ready }
 {
     0 <= ready && ready <= now as i64
 }
 
-/// Whether a level has a bit that is asked for, or that of an error, a hang-up or an invalid descriptor.
+/// Whether a level has a bit that is asked for, or one that is always told.
 fn has_bit(level: u8, bits: u8) -> bool
     ensures { result ≡ has_bit level bits }
 {
-    level & (bits | 56) != 0
+    level & (bits | ALWAYS_TOLD) != 0
 }
 
 /// What is listed of a descriptor.
@@ -44,7 +48,7 @@ fn level_in(polled: &[Shown], fd: u32) -> u8
 
 /// Whether a source is ready by itself.
 fn own_ready(row: &Row, polled: &[Shown], now: u64, view: &View) -> bool
-    requires { now ≤ 2 ^ 62 }
+    requires { now ≤ latest }
     ensures { result ≡ own_ready (shown polled.now) (in_view view.now) now row.now }
 {
     match row.kind {
@@ -81,7 +85,7 @@ pub(crate) fn is_free(row: &Row, busy: &[u64]) -> bool
 
 /// Whether a source is free, and ready by itself.
 pub(crate) fn is_callable(row: &Row, polled: &[Shown], now: u64, busy: &[u64], view: &View) -> bool
-    requires { now ≤ 2 ^ 62 }
+    requires { now ≤ latest }
     ensures { result ≡ is_callable (own_ready (shown polled.now) (in_view view.now) now) busy.now row.now }
 {
     is_free(row, busy) && own_ready(row, polled, now, view)
@@ -115,7 +119,7 @@ pub(crate) fn interest(row: &Row, least: Option<i32>, busy: &[u64]) -> Option<In
 
 /// The sooner of a ready time and one that there may be, where it is above now.
 pub(crate) fn sooner(least: Option<i64>, ready: i64, now: u64) -> Option<i64>
-    requires { now ≤ 2 ^ 62 }
+    requires { now ≤ latest }
     ensures { result ≡ (if int_lt (pos now) ready then Some (sooner ready least) else least) }
 {
     if ready <= now as i64 {
@@ -129,7 +133,7 @@ pub(crate) fn sooner(least: Option<i64>, ready: i64, now: u64) -> Option<i64>
 
 /// Whole milliseconds, rounded up, from a time in microseconds to a later one; -1 where there is none.
 pub(crate) fn ms_until(now: u64, time: Option<i64>) -> i64
-    requires now { now ≤ 2 ^ 62 }
+    requires now { now ≤ latest }
     requires later { IfSome time (λ t. IsTrue (int_lt (pos now) t)) }
     ensures { result ≡ ms_until now time }
 {

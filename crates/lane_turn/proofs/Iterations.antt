@@ -67,7 +67,7 @@ left_or_none false ids left h = h
 
 later_emptied : (c : ℕ) (f g : Frame) → Later f g → Later f (emptied_one c g)
 later_emptied c (CallOf call) (CallOf call') h = h
-later_emptied c (IterOf context ids asker) (IterOf context' left answer') h = (h.0, left_or_none (context' == c) ids left h.1, h.2)
+later_emptied c (IterOf context ids asker) (IterOf context' left asker') h = (h.0, left_or_none (context' == c) ids left h.1, h.2)
 later_emptied c (LoopOf number context) (LoopOf number' context') h = h
 later_emptied c (CallOf call) (IterOf context ids asker) h = absurd h
 later_emptied c (CallOf call) (LoopOf number context) h = absurd h
@@ -107,7 +107,7 @@ taken_on ch fs = inl (each_taken fs)
 iterated_on : (ch : ℕ → List ℕ) (fs : List Frame) (c : ℕ) (ids : List ℕ) (asker : Asker) → ids ≡ ch c → TellsAny ids asker → FramesGoOn ch fs (IterOf c ids asker ∷ emptied c (advanced fs))
 iterated_on ch fs c ids asker e a = inr (inr (each_emptied c fs (advanced fs) (each_taken fs), (each_over c (advanced fs), e, a)))
 
-tells_any : (ids : List ℕ) → TellsAny ids (Some (is_any ids))
+tells_any : (ids : List ℕ) → TellsAny ids (askers.Iterate (is_any ids))
 tells_any [] = refl
 tells_any (id ∷ ids) = λ e. cc
 

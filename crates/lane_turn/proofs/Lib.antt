@@ -31,6 +31,7 @@ pub mod Runs
 pub mod Depths
 pub mod Iterations
 pub mod Nexts
+pub mod Limited
 pub mod Grown
 pub mod Owed
 pub mod Leaves

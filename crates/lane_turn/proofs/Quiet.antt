@@ -91,12 +91,12 @@ module _ (script : Plan) (tick : ℕ) (lane : Lane) where
       → (is_running number lane ≡ true) × (chosen script tick context lane ≡ []) × (emptied context lane.frames ≡ lane.frames)
       → finished script tick (still tick lane false) ≡ still tick lane true
   loop_rests number context s e idle =
-      let within : Turn = record (still tick lane true) { lane = record rest { frames = IterOf context [] None ∷ lane.frames } } in
+      let within : Turn = record (still tick lane true) { lane = record rest { frames = IterOf context [] askers.Loop ∷ lane.frames } } in
       let begins : step script tick (still tick lane false) ≡ Some within =
       takes (still tick lane false) (tops.Loop number context) refl s e
       ∙ (ap (λ (b : Bool). cond b (Some (record (still tick lane true) { lane = iterating script tick context askers.Loop rest })) (Some (with_lane (λ (l : Lane). written tick (events.LoopEnd number) (popped l)) (still tick lane false)))) idle.0
-      ∙ (λ i. Some (record (still tick lane true) { lane = record rest { frames = IterOf context (idle.1 i) None ∷ idle.2 i } }))) in
-      let ends : step script tick within ≡ Some (still tick lane true) = takes within (tops.Iteration context None None) refl s refl in
+      ∙ (λ i. Some (record (still tick lane true) { lane = record rest { frames = IterOf context (idle.1 i) askers.Loop ∷ idle.2 i } }))) in
+      let ends : step script tick within ≡ Some (still tick lane true) = takes within (tops.Iteration context None askers.Loop) refl s refl in
       let rests : step script tick (still tick lane true) ≡ None =
       takes (still tick lane true) (tops.Loop number context) refl s e
       ∙ ap (λ (b : Bool). cond b None (Some (with_lane (λ (l : Lane). written tick (events.LoopEnd number) (popped l)) (still tick lane true)))) idle.0 in

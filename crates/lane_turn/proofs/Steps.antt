@@ -158,7 +158,7 @@ loop_goes : (rest : Turn) (script : Plan) (n tick : ℕ) (base : Lane) (below : 
     cond runs (cond iterated None (Some (turn rest (iterating script tick context askers.Loop t.lane) left true))) (Some (with_lane (λ lane. written tick (events.LoopEnd number) (popped lane)) t)) ≡ Some u → Goes n t u
 loop_goes rest script n tick base below left true number context true u e = cc
 loop_goes rest script n tick base below left false number context true u e =
-    subst (Goes n _) (some_same _ _ e) (begun_goes rest n (going base (LoopOf number context ∷ below)) script left tick context None refl)
+    subst (Goes n _) (some_same _ _ e) (begun_goes rest n (going base (LoopOf number context ∷ below)) script left tick context askers.Loop refl)
 loop_goes rest script n tick base below left iterated number context false u e =
     subst (Goes n _) (some_same _ _ e) (less_goes rest n (going base (LoopOf number context ∷ below)) _ left iterated refl (ends (going base (LoopOf number context ∷ below)) _ (omega arith) (omega arith) refl refl refl))
 

@@ -82,7 +82,7 @@ wait_on before now f (LoopOf number c ∷ below) h = wait_on before now f below 
 
 blocked_later : (c : ℕ) (f g : Frame) → Later f g → blocked_in c g ≡ blocked_in c f
 blocked_later c (CallOf call) (CallOf call') h = ap (blocked_by c) h.0
-blocked_later c (IterOf d ids asker) (IterOf d' left answer') h = refl
+blocked_later c (IterOf d ids asker) (IterOf d' left asker') h = refl
 blocked_later c (LoopOf number d) (LoopOf number' d') h = refl
 blocked_later c (CallOf call) (IterOf d ids asker) h = absurd h
 blocked_later c (CallOf call) (LoopOf number d) h = absurd h
@@ -143,7 +143,7 @@ wait_later contexts [] [] l h = tt
 wait_later contexts [] (g ∷ gs) l h = absurd l
 wait_later contexts (f ∷ fs) [] l h = absurd l
 wait_later contexts (CallOf call ∷ fs) (CallOf call' ∷ gs) l h = wait_later contexts fs gs l.1 h
-wait_later contexts (IterOf c ids asker ∷ fs) (IterOf c' left answer' ∷ gs) l h =
+wait_later contexts (IterOf c ids asker ∷ fs) (IterOf c' left asker' ∷ gs) l h =
     let e = l.0 in
     let both = iter_later contexts c c' ids left (busy c fs) (busy c' gs) e.0 e.1 (busy_of c c' fs gs e.0 l.1) h.0 h.1 in
     (both.0, both.1, wait_later contexts fs gs l.1 h.2)

@@ -23,124 +23,140 @@ use Rattle.post_office.specs.declared.letter.Body.{Body as Mail}
 use Rattle.post_office.specs.declared.letter.Body.TheVariants as mails
 use Rattle.lane_watch.specs.Watch.{starting}
 use Rattle.lane_turn.specs.Lane.{Lane, written, pushed, set_running, context_at, edited, place_at, handler_at, row_at, next_place, set_slot, viewing, noting, chosen, is_any, iterating}
+use Rattle.loop_script.specs.Units.{Tick, Microseconds, ContextNumber, LoopNumber, CancellableNumber, ProcNumber, Slot, SourceId, HandlerId}
 
-abbrev pub missed : ℕ → Word → Lane → Lane
+-- an action that found nothing to act on
+abbrev pub missed : Tick → Word → Lane → Lane
 missed tick word lane = written tick (events.Miss word) lane
 
 -- a slot names the source that a context gets
-abbrev pub attach : ℕ → ℕ → ℕ → ℕ → SourceSpec → Lane → Lane
+abbrev pub attach : Tick → Microseconds → ContextNumber → Slot → SourceSpec → Lane → Lane
 attach tick now context slot spec lane =
     if is_some (context_at context lane)
     then set_slot slot (Source (next_place context lane)) (edited context (attached spec now) lane)
     else missed tick words.Attach lane
 
 -- a source below the one of an id
-abbrev pub born : SourceSpec → ℕ → ℕ → RowSet → RowSet
+abbrev pub born : SourceSpec → Microseconds → SourceId → RowSet → RowSet
 born spec now id s = child_added spec now (row_with id s.rows) s
 
 -- whether a source can have a child
-abbrev pub can_bear_in : ℕ → Option Context → Bool
+abbrev pub can_bear_in : SourceId → Option Context → Bool
 can_bear_in id None = false
 can_bear_in id (Some context) = is_none (child_fault context.rows.levels (row_with id context.rows.rows))
 
+-- whether the source of a place can have a child
 abbrev pub can_bear : Place → Lane → Bool
 can_bear place lane = can_bear_in place.id (context_at place.context lane)
 
-abbrev pub child_of : ℕ → ℕ → ℕ → SourceSpec → Option Place → Lane → Lane
+-- a slot names a new child of the source of a place; a miss where that is not there or can have none
+abbrev pub child_of : Tick → Microseconds → Slot → SourceSpec → Option Place → Lane → Lane
 child_of tick now slot spec None lane = missed tick words.Child lane
 child_of tick now slot spec (Some place) lane =
     if can_bear place lane
     then set_slot slot (Source (next_place place.context lane)) (edited place.context (born spec now place.id) lane)
     else missed tick words.Child lane
 
-abbrev pub child : ℕ → ℕ → ℕ → ℕ → SourceSpec → Lane → Lane
+-- the same of the source of a slot
+abbrev pub child : Tick → Microseconds → Slot → Slot → SourceSpec → Lane → Lane
 child tick now parent slot spec lane = child_of tick now slot spec (place_at parent lane) lane
 
 -- an edit of a source that is there
-abbrev pub on_source : ℕ → Word → (ℕ → RowSet → RowSet) → Option Place → Lane → Lane
+abbrev pub on_source : Tick → Word → (SourceId → RowSet → RowSet) → Option Place → Lane → Lane
 on_source tick word edit None lane = missed tick word lane
 on_source tick word edit (Some place) lane =
     if is_some (row_at place lane) then edited place.context (edit place.id) lane else missed tick word lane
 
-abbrev pub destroy : ℕ → ℕ → Lane → Lane
+-- the source of a slot goes, with all that are under it
+abbrev pub destroy : Tick → Slot → Lane → Lane
 destroy tick slot lane = on_source tick words.Destroy destroyed (place_at slot lane) lane
 
-abbrev pub set_ready : ℕ → ℕ → ℤ → Lane → Lane
+-- the source of a slot gets a ready time, in microseconds, or -1 for never
+abbrev pub set_ready : Tick → Slot → ℤ → Lane → Lane
 set_ready tick slot us lane = on_source tick words.SetReady (λ id. ready_set id us) (place_at slot lane) lane
 
 -- a priority of a source that is there and no child
-abbrev pub set_priority_of : ℕ → ℤ → Option Place → Lane → Lane
+abbrev pub set_priority_of : Tick → ℤ → Option Place → Lane → Lane
 set_priority_of tick priority None lane = missed tick words.SetPriority lane
 set_priority_of tick priority (Some place) lane =
     if is_none (priority_fault (row_at place lane))
     then edited place.context (reprioritised place.id priority) lane
     else missed tick words.SetPriority lane
 
-abbrev pub set_priority : ℕ → ℕ → ℤ → Lane → Lane
+-- the source of a slot gets a priority, and all that are under it get it too
+abbrev pub set_priority : Tick → Slot → ℤ → Lane → Lane
 set_priority tick slot priority lane = set_priority_of tick priority (place_at slot lane) lane
 
-abbrev pub iterate : Plan → ℕ → ℕ → Lane → Lane
+-- an iteration of a context begins, whose `iterate` is told whether anything was selected; of another lane's it is told false
+abbrev pub iterate : Plan → Tick → ContextNumber → Lane → Lane
 iterate script tick context lane =
     if is_some (context_at context lane)
     then iterating script tick context (askers.Iterate (is_any (chosen script tick context lane))) lane
     else written tick (events.Iterate context false) lane
 
-abbrev pub pending : Plan → ℕ → ℕ → Lane → Lane
+-- whether an iteration of a context would dispatch anything now
+abbrev pub pending : Plan → Tick → ContextNumber → Lane → Lane
 pending script tick context lane = written tick (events.Pending context (is_any (chosen script tick context lane))) lane
 
-abbrev pub run : ℕ → ℕ → ℕ → Lane → Lane
+-- a loop runs, in the innermost
+abbrev pub run : Tick → LoopNumber → ContextNumber → Lane → Lane
 run tick number context lane =
     if is_some (context_at context lane) then pushed (LoopOf number context) (set_running number true lane) else missed tick words.Run lane
 
-abbrev pub quit : ℕ → ℕ → ℕ → Lane → Lane
+-- a loop does not run any more
+abbrev pub quit : Tick → LoopNumber → ContextNumber → Lane → Lane
 quit tick number context lane = if is_some (context_at context lane) then set_running number false lane else missed tick words.Quit lane
 
 -- what a handler does of an action: no handler holds others
-abbrev pub plain_acted : Plan → ℕ → Action → Lane → Lane
+abbrev pub plain_acted : Plan → Tick → Action → Lane → Lane
 plain_acted script tick (Destroy slot) lane = destroy tick slot lane
 plain_acted script tick (SetReady slot us) lane = set_ready tick slot us lane
 plain_acted script tick (Quit number) lane = quit tick number (context_of script number) lane
 plain_acted script tick (Log n) lane = written tick (events.Log n) lane
 plain_acted script tick _ lane = lane
 
-abbrev pub all_acted : Plan → ℕ → List Action → Lane → Lane
+-- what a handler does of a list
+abbrev pub all_acted : Plan → Tick → List Action → Lane → Lane
 all_acted script tick [] lane = lane
 all_acted script tick (action ∷ actions) lane = all_acted script tick actions (plain_acted script tick action lane)
 
 -- a handler is called
-abbrev pub handled : Plan → ℕ → Fired → Lane → Lane
+abbrev pub handled : Plan → Tick → Fired → Lane → Lane
 handled script tick f lane = all_acted script tick (actions_of script (Procedure f.proc)) (written tick (events.Handler f.id) lane)
 
-abbrev pub all_handled : Plan → ℕ → List Fired → Lane → Lane
+-- handlers are called one after another
+abbrev pub all_handled : Plan → Tick → List Fired → Lane → Lane
 all_handled script tick [] lane = lane
 all_handled script tick (f ∷ fs) lane = all_handled script tick fs (handled script tick f lane)
 
 -- what was cancelled before is left; else the view gets it, and its handlers are called
-abbrev pub cancel : Plan → ℕ → ℕ → Lane → Lane
+abbrev pub cancel : Plan → Tick → CancellableNumber → Lane → Lane
 cancel script tick c lane =
     if has c lane.view then lane
     else all_handled script tick (fired c lane.view) (written tick (events.Cancel c) (noting tick c (viewing (cancelled c lane.view) lane)))
 
 -- to what was cancelled nothing is connected: the handler is called at once, and the slot names none
-abbrev pub connect : Plan → ℕ → ℕ → ℕ → ℕ → Lane → Lane
+abbrev pub connect : Plan → Tick → CancellableNumber → Slot → ProcNumber → Lane → Lane
 connect script tick c slot proc lane =
     if has c lane.view
     then set_slot slot (Handler 0) (handled script tick (record { id = 0; proc = proc }) lane)
     else set_slot slot (Handler lane.view.next_id) (viewing (connected c proc lane.view) lane)
 
-abbrev pub disconnect_of : ℕ → Option ℕ → Lane → Lane
+-- a handler is disconnected; a miss where it can't be
+abbrev pub disconnect_of : Tick → Option HandlerId → Lane → Lane
 disconnect_of tick None lane = missed tick words.Disconnect lane
 disconnect_of tick (Some id) lane = if may_disconnect id lane.view then viewing (without id lane.view) lane else missed tick words.Disconnect lane
 
-abbrev pub disconnect : ℕ → ℕ → Lane → Lane
+-- the handler of a slot is disconnected
+abbrev pub disconnect : Tick → Slot → Lane → Lane
 disconnect tick slot lane = disconnect_of tick (handler_at slot lane) lane
 
 -- a task is started, whose reply goes to the thread-default context
-abbrev pub start_task : ℕ → TaskSpec → Lane → Lane
+abbrev pub start_task : Tick → TaskSpec → Lane → Lane
 start_task tick spec lane = record lane { tasks = starting tick (default_context lane) spec lane.tasks }
 
 -- the word that no script may hold yet changes nothing
-abbrev pub acted : Plan → ℕ → Action → Lane → Lane
+abbrev pub acted : Plan → Tick → Action → Lane → Lane
 acted script tick (Attach context slot spec) lane = attach tick (time_of script tick) context slot spec lane
 acted script tick (Child parent slot spec) lane = child tick (time_of script tick) parent slot spec lane
 acted script tick (Destroy slot) lane = destroy tick slot lane
@@ -165,9 +181,10 @@ acted script tick (Log n) lane = written tick (events.Log n) lane
 
 -- what an action sends: a cancellable that the lane has not seen cancelled is cancelled for all, and a procedure that is
 -- invoked in a context of another lane is attached there
-abbrev pub cancel_sends : ℕ → Lane → Option Mail
+abbrev pub cancel_sends : CancellableNumber → Lane → Option Mail
 cancel_sends c lane = if has c lane.view then None else Some (mails.Cancelled c)
 
+-- what each action sends
 abbrev pub sends : Action → Lane → Option Mail
 sends (Cancel c) lane = cancel_sends c lane
 sends (Attach context slot spec) lane = None

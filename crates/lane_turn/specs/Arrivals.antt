@@ -14,6 +14,7 @@ use Rattle.lane_turn.specs.declared.line.Event.TheVariants as events
 use Rattle.lane_turn.specs.Lane.{Lane, context_at}
 use Rattle.lane_turn.specs.Deliver.{received_all}
 use Rattle.lane_turn.specs.Tick.{lanes_at}
+use Rattle.loop_script.specs.Units.{ContextNumber, SourceId}
 
 -- of each context of the script, whether it is the lane's
 abbrev pub held_of : List (Option Context) → List Bool
@@ -24,20 +25,22 @@ abbrev pub is_home : Plan → (context lane : ℕ) → Bool
 is_home script context lane = home_of script context == lane
 
 -- whether a letter attaches a source to a context
-abbrev pub is_for_body : ℕ → Body → Bool
+abbrev pub is_for_body : ContextNumber → Body → Bool
 is_for_body context (Attach c spec) = c == context
 is_for_body context (Complete reply) = reply.ctx == context
 is_for_body context (Cancelled k) = false
 
-abbrev pub is_for : ℕ → Letter → Bool
+-- whether a letter attaches a source to a context
+abbrev pub is_for : ContextNumber → Letter → Bool
 is_for context letter = is_for_body context letter.body
 
 -- the ids that lines tell to have arrived in a context
-abbrev pub arrival_of : ℕ → Event → Option ℕ
+abbrev pub arrival_of : ContextNumber → Event → Option SourceId
 arrival_of context (events.Arrive c id) = if c == context then Some id else None
 arrival_of context _ = None
 
-abbrev pub arrivals : ℕ → List Line → List ℕ
+-- the ids of the sources that came to a context, as lines tell them
+abbrev pub arrivals : ContextNumber → List Line → List SourceId
 arrivals context lines = filter_map (λ line. arrival_of context line.event) lines
 
 -- the ids that the letters for a context get: each the next one
@@ -45,6 +48,7 @@ abbrev pub ids_for : (context next : ℕ) → List Letter → List ℕ
 ids_for context next [] = []
 ids_for context next (letter ∷ letters) = if is_for context letter then next ∷ ids_for context (next + 1) letters else ids_for context next letters
 
+-- each letter that attaches is attached once, by the lane that has its context
 pub record LettersArrive : Type 0 where
   -- at each tick a context is the lane's to which the script gives it, and no other's
   pub held : (script : Plan) (tick context : ℕ) → context < (sizes script).contexts → map (λ lane. is_some (context_at context lane)) (lanes_at script tick) ≡ map (is_home script context) (range_with_len 0 (length script.lanes))

@@ -13,6 +13,7 @@ use Rattle.lane_turn.specs.declared.line.Event.TheVariants as events
 use Rattle.lane_turn.specs.Lane.{Lane, context_at, edited, next_id, written}
 use Rattle.lane_turn.specs.Replies.{with_reply}
 use Rattle.lane_turn.specs.Acted.{cancel}
+use Rattle.loop_script.specs.Units.{Tick}
 
 -- the source of a reply: idle, and without a recurse flag
 abbrev pub reply_spec : Reply → SourceSpec
@@ -43,14 +44,15 @@ received_body script tick sender (Attach context spec) lane = arrived_source tic
 received_body script tick sender (Complete reply) lane = arrived script tick sender reply lane
 received_body script tick sender (Cancelled c) lane = cancel script tick c lane
 
-abbrev pub received : Plan → ℕ → Letter → Lane → Lane
+-- a lane gets one letter
+abbrev pub received : Plan → Tick → Letter → Lane → Lane
 received script tick letter lane = received_body script tick letter.sender letter.body lane
 
 -- a lane's part of a delivery: the letters in order
-abbrev pub received_all : Plan → ℕ → List Letter → Lane → Lane
+abbrev pub received_all : Plan → Tick → List Letter → Lane → Lane
 received_all script tick [] lane = lane
 received_all script tick (letter ∷ letters) lane = received_all script tick letters (received script tick letter lane)
 
 -- letters are delivered to all lanes at once
-abbrev pub delivered : Plan → ℕ → List Letter → List Lane → List Lane
+abbrev pub delivered : Plan → Tick → List Letter → List Lane → List Lane
 delivered script tick letters lanes = map (received_all script tick letters) lanes

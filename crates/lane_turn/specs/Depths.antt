@@ -19,6 +19,7 @@ caller_of Start = None
 caller_of (Source caller) = Some caller
 caller_of (Invoke acquired) = None
 
+-- the source whose dispatch a frame is
 abbrev pub caller_in : Frame → Option Caller
 caller_in (CallOf call) = caller_of call.origin
 caller_in (IterOf context ids asker) = None
@@ -44,11 +45,13 @@ begun_of Start = None
 begun_of (Source caller) = Some (Source caller)
 begun_of (Invoke acquired) = Some (Invoke acquired)
 
+-- where a frame's call came from, but for the start list
 abbrev pub begun_in : Frame → Option Origin
 begun_in (CallOf call) = begun_of call.origin
 begun_in (IterOf context ids asker) = None
 begun_in (LoopOf number context) = None
 
+-- where the calls in progress came from, the innermost first
 abbrev pub begun_calls : List Frame → List Origin
 begun_calls frames = filter_map begun_in frames
 
@@ -57,6 +60,7 @@ abbrev pub HaltsOver : List Frame → Event → Type 0
 HaltsOver frames events.HaltDepth = 32 ≤ length (begun_calls frames)
 HaltsOver frames _ = Unit {0}
 
+-- the depth of a dispatch is the number of dispatches in progress, and at most 32
 pub record DepthsHold : Type 0 where
   -- a dispatch that a step begins tells how many dispatches are then in progress: 1 to 32
   pub steps : (script : Plan) (tick : ℕ) (t u : Turn) → step script tick t ≡ Some u

@@ -7,6 +7,7 @@ use Rattle.lane_turn.specs.declared.layer.Origin.TheVariants.{Start, Source, Inv
 use Rattle.lane_turn.specs.declared.layer.Top.{Top}
 use Rattle.lane_turn.specs.declared.layer.Top.TheVariants as tops
 use Rattle.loop_script.specs.Bounds.{count_end}
+use Rattle.loop_script.specs.Units.{ContextNumber, SourceId}
 
 -- a call of an action list; an iteration with the ids left and who asked for it; a run of a loop,
 -- with the loop's context
@@ -28,70 +29,78 @@ advanced_one (CallOf call) = CallOf (record call { place = call.place + 1 })
 advanced_one (IterOf context ids asker) = IterOf context (drop 1 ids) asker
 advanced_one (LoopOf number context) = LoopOf number context
 
+-- the same of the innermost alone
 abbrev pub advanced : List Frame → List Frame
 advanced [] = []
 advanced (frame ∷ below) = advanced_one frame ∷ below
 
 -- the older iterations of a context have no id left
-abbrev pub emptied_one : ℕ → Frame → Frame
+abbrev pub emptied_one : ContextNumber → Frame → Frame
 emptied_one context (CallOf call) = CallOf call
 emptied_one context (IterOf c ids asker) = IterOf c (if c == context then [] else ids) asker
 emptied_one context (LoopOf number c) = LoopOf number c
 
-abbrev pub emptied : ℕ → List Frame → List Frame
+-- the same of all frames
+abbrev pub emptied : ContextNumber → List Frame → List Frame
 emptied context frames = map (emptied_one context) frames
 
--- the dispatches in progress
+-- a call that is a dispatch
 abbrev pub is_source : Origin → Bool
 is_source Start = false
 is_source (Source caller) = true
 is_source (Invoke acquired) = false
 
+-- a frame that is a dispatch
 abbrev pub is_dispatch : Frame → Bool
 is_dispatch (CallOf call) = is_source call.origin
 is_dispatch (IterOf context ids asker) = false
 is_dispatch (LoopOf number context) = false
 
--- the calls in progress but the one of `start`
+-- a call that is not that of the start list
 abbrev pub is_dispatch_or_invoke : Origin → Bool
 is_dispatch_or_invoke Start = false
 is_dispatch_or_invoke (Source caller) = true
 is_dispatch_or_invoke (Invoke acquired) = true
 
+-- a frame that is such a call
 abbrev pub is_call : Frame → Bool
 is_call (CallOf call) = is_dispatch_or_invoke call.origin
 is_call (IterOf context ids asker) = false
 is_call (LoopOf number context) = false
 
+-- how many such calls are in progress
 abbrev pub calls_in_progress : List Frame → ℕ
 calls_in_progress frames = count_by is_call frames
 
+-- how many dispatches are in progress
 abbrev pub depth : List Frame → ℕ
 depth frames = count_by is_dispatch frames
 
 -- the sources of a context that a call in progress blocks
-abbrev pub blocked_by : ℕ → Origin → Option ℕ
+abbrev pub blocked_by : ContextNumber → Origin → Option SourceId
 blocked_by context Start = None
 blocked_by context (Invoke acquired) = None
 blocked_by context (Source caller) = if caller.recurse then None else if caller.context == context then Some caller.id else None
 
-abbrev pub blocked_in : ℕ → Frame → Option ℕ
+-- the source of a context that a frame blocks
+abbrev pub blocked_in : ContextNumber → Frame → Option SourceId
 blocked_in context (CallOf call) = blocked_by context call.origin
 blocked_in context (IterOf c ids asker) = None
 blocked_in context (LoopOf number c) = None
 
 -- the outermost first
-abbrev pub busy : ℕ → List Frame → List ℕ
+abbrev pub busy : ContextNumber → List Frame → List SourceId
 busy context frames = reverse (filter_map (blocked_in context) frames)
 
 -- the frames that own a context: an iteration of it, a run of a loop of it, a call of a direct invoke that acquired it
-abbrev pub is_acquired_by : ℕ → Origin → Bool
+abbrev pub is_acquired_by : ContextNumber → Origin → Bool
 is_acquired_by context Start = false
 is_acquired_by context (Source caller) = false
 is_acquired_by context (Invoke None) = false
 is_acquired_by context (Invoke (Some c)) = c == context
 
-abbrev pub owns : ℕ → Frame → Bool
+-- whether a frame owns a context
+abbrev pub owns : ContextNumber → Frame → Bool
 owns context (CallOf call) = is_acquired_by context call.origin
 owns context (IterOf c ids asker) = c == context
 owns context (LoopOf number c) = c == context

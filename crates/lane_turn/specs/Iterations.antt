@@ -14,6 +14,7 @@ use Rattle.lane_turn.specs.Lane.{Turn, row_of, chosen}
 use Rattle.lane_turn.specs.Step.{step}
 use Rattle.lane_turn.specs.declared.layer.Asker.{Asker}
 use Rattle.lane_turn.specs.declared.layer.Asker.TheVariants as askers
+use Rattle.loop_script.specs.Units.{ContextNumber, SourceId}
 
 -- ids from some place on
 abbrev pub IsRest : List ℕ → List ℕ → Type 0
@@ -22,7 +23,7 @@ IsRest left ids = (k : ℕ) × (left ≡ drop k ids)
 -- a frame later on: the same call; the same iteration, which has no id left that it did not have; the same run of a loop
 abbrev pub Later : Frame → Frame → Type 0
 Later (CallOf call) (CallOf call') = (call'.origin ≡ call.origin) × (call'.body ≡ call.body)
-Later (IterOf context ids asker) (IterOf context' left answer') = (context ≡ context') × IsRest left ids × (answer' ≡ asker)
+Later (IterOf context ids asker) (IterOf context' left asker') = (context ≡ context') × IsRest left ids × (asker' ≡ asker)
 Later (LoopOf number context) (LoopOf number' context') = (number' ≡ number) × (context' ≡ context)
 Later (CallOf call) (IterOf context ids asker) = ⊥
 Later (CallOf call) (LoopOf number context) = ⊥
@@ -31,6 +32,7 @@ Later (IterOf context ids asker) (LoopOf number context') = ⊥
 Later (LoopOf number context) (CallOf call) = ⊥
 Later (LoopOf number context) (IterOf context' ids asker) = ⊥
 
+-- frames that are others further on, one by one
 abbrev pub EachLater : List Frame → List Frame → Type 0
 EachLater [] [] = Unit {0}
 EachLater [] (g ∷ gs) = ⊥
@@ -38,7 +40,7 @@ EachLater (f ∷ fs) [] = ⊥
 EachLater (f ∷ fs) (g ∷ gs) = Later f g × EachLater fs gs
 
 -- an iteration of a context that has no id left
-abbrev pub IsOver : ℕ → Frame → Type 0
+abbrev pub IsOver : ContextNumber → Frame → Type 0
 IsOver context (CallOf call) = Unit {0}
 IsOver context (IterOf c ids asker) = c ≡ context → ids ≡ []
 IsOver context (LoopOf number c) = Unit {0}
@@ -58,10 +60,10 @@ IsCalledBy before now (Source caller) = Takes caller.context caller.id before no
 IsCalledBy before now (Invoke acquired) = Unit {0}
 
 -- what an `iterate` that asked is told: whether anything was selected
-abbrev pub TellsAny : List ℕ → Option Bool → Type 0
-TellsAny ids None = Unit {0}
-TellsAny ids (Some true) = ids ≢ []
-TellsAny ids (Some false) = ids ≡ []
+abbrev pub TellsAny : List SourceId → Asker → Type 0
+TellsAny ids askers.Loop = Unit {0}
+TellsAny ids (askers.Iterate true) = ids ≢ []
+TellsAny ids (askers.Iterate false) = ids ≡ []
 
 -- what may be begun over frames that were those: a call, where fewer than 32 are in progress; an iteration, of what is selected
 -- then, and no older one of its context has an id left; a loop
@@ -70,6 +72,7 @@ MayBegin selected before now (CallOf call) = (length (begun_calls before) < 32) 
 MayBegin selected before now (IterOf context ids asker) = AllByRecursion (IsOver context) now × (ids ≡ selected context) × TellsAny ids asker
 MayBegin selected before now (LoopOf number context) = Unit {0}
 
+-- what is innermost now was begun over frames that were those
 abbrev pub Begun : (selected : ℕ → List ℕ) → List Frame → List Frame → Type 0
 Begun selected frames [] = ⊥
 Begun selected frames (f ∷ now) = EachLater frames now × MayBegin selected frames now f
@@ -78,6 +81,7 @@ Begun selected frames (f ∷ now) = EachLater frames now × MayBegin selected fr
 abbrev pub FramesGoOn : (selected : ℕ → List ℕ) → List Frame → List Frame → Type 0
 FramesGoOn selected frames now = EachLater frames now ⊎ (EachLater (drop 1 frames) now ⊎ Begun selected frames now)
 
+-- what a step may do to what is in progress
 pub record IterationsGoOn : Type 0 where
   -- no iteration ever has an id that it was not given when it began, which are the ids selected then; none has one left when a
   -- newer one of its context begins; what is dispatched is the next id of the innermost, which has it no more; no call begins

@@ -18,6 +18,7 @@ use Rattle.lane_turn.specs.Sources.{chosen_in}
 use Rattle.post_office.specs.declared.letter.Letter.{Letter}
 use Rattle.lane_turn.specs.Replies.{Replies}
 use Rattle.lane_watch.specs.Tasks.{Started, Tasks}
+use Rattle.loop_script.specs.Units.{Tick, ContextNumber, LoopNumber, CancellableNumber, Slot, SourceId, HandlerId}
 
 -- a lane: its number; its contexts by number, where those of other lanes are none; what its slots name; its view of
 -- cancellations, with its handlers; its tasks; its frames with the innermost first; the loops that run; the stack of its
@@ -51,51 +52,61 @@ pub record State : Type 0 where
   pub spent : Bool
 
 -- a line at the end of the trace
-abbrev pub written : ℕ → Event → Lane → Lane
+abbrev pub written : Tick → Event → Lane → Lane
 written tick event lane = record lane { trace = lane.trace ++ (record { tick = tick; event = event }) ∷ [] }
 
--- a frame begun in the innermost, the innermost ended, its next action or id taken
+-- a frame begun in the innermost
 abbrev pub pushed : Frame → Lane → Lane
 pushed frame lane = record lane { frames = frame ∷ lane.frames }
 
+-- the innermost frame ended
 abbrev pub popped : Lane → Lane
 popped lane = record lane { frames = drop 1 lane.frames }
 
+-- its next action or id taken
 abbrev pub taken : Lane → Lane
 taken lane = record lane { frames = advanced lane.frames }
 
+-- a lane that takes no further step
 abbrev pub stopped : Status → Lane → Lane
 stopped status lane = record lane { status = status }
 
-abbrev pub set_running : ℕ → Bool → Lane → Lane
+-- a loop runs or does not
+abbrev pub set_running : LoopNumber → Bool → Lane → Lane
 set_running number runs lane = record lane { running = slice_set lane.running number runs }
 
-abbrev pub is_running : ℕ → Lane → Bool
+-- whether a loop runs
+abbrev pub is_running : LoopNumber → Lane → Bool
 is_running number lane = unwrap_or (slice_get lane.running number) false
 
--- a context of the lane
+-- a context, where there is one
 abbrev pub present : Option (Option Context) → Option Context
 present None = None
 present (Some context) = context
 
-abbrev pub context_at : ℕ → Lane → Option Context
+-- a context of the lane by its number; none where it is another lane's
+abbrev pub context_at : ContextNumber → Lane → Option Context
 context_at context lane = present (slice_get lane.contexts context)
 
--- an edit of the sources of an own context, or of the context itself; with another's nothing changes
+-- an edit of the sources of a context
 abbrev pub with_rows : (RowSet → RowSet) → Context → Context
 with_rows edit context = record context { rows = edit context.rows }
 
-abbrev pub with_context : ℕ → (Context → Context) → Lane → Lane
+-- a change of a context of the lane; with another lane's nothing changes
+abbrev pub with_context : ContextNumber → (Context → Context) → Lane → Lane
 with_context context change lane = record lane { contexts = slice_set lane.contexts context (option_map change (context_at context lane)) }
 
-abbrev pub edited : ℕ → (RowSet → RowSet) → Lane → Lane
+-- an edit of the sources of a context of the lane
+abbrev pub edited : ContextNumber → (RowSet → RowSet) → Lane → Lane
 edited context edit lane = with_context context (with_rows edit) lane
 
-abbrev pub row_in : ℕ → Option Context → Option Row
+-- the row of an id in a context
+abbrev pub row_in : SourceId → Option Context → Option Row
 row_in id None = None
 row_in id (Some context) = row_with id context.rows.rows
 
-abbrev pub row_of : ℕ → ℕ → Lane → Option Row
+-- the row of an id in a context of the lane
+abbrev pub row_of : ContextNumber → SourceId → Lane → Option Row
 row_of context id lane = row_in id (context_at context lane)
 
 -- what a slot names
@@ -103,20 +114,24 @@ abbrev pub held : Option (Option Held) → Option Held
 held None = None
 held (Some thing) = thing
 
+-- the source that is held, if it is one
 abbrev pub source_of : Option Held → Option Place
 source_of None = None
 source_of (Some (Source place)) = Some place
 source_of (Some (Handler id)) = None
 
-abbrev pub handler_of : Option Held → Option ℕ
+-- the handler that is held, if it is one
+abbrev pub handler_of : Option Held → Option HandlerId
 handler_of None = None
 handler_of (Some (Source place)) = None
 handler_of (Some (Handler id)) = Some id
 
-abbrev pub place_at : ℕ → Lane → Option Place
+-- the source that a slot names
+abbrev pub place_at : Slot → Lane → Option Place
 place_at slot lane = source_of (held (slice_get lane.slots slot))
 
-abbrev pub handler_at : ℕ → Lane → Option ℕ
+-- the handler that a slot names
+abbrev pub handler_at : Slot → Lane → Option HandlerId
 handler_at slot lane = handler_of (held (slice_get lane.slots slot))
 
 -- the row of a source: none where it is destroyed
@@ -128,10 +143,12 @@ abbrev pub next_id : Option Context → ℕ
 next_id None = 0
 next_id (Some context) = context.rows.next_id
 
-abbrev pub next_place : ℕ → Lane → Place
+-- the place of the next source of a context
+abbrev pub next_place : ContextNumber → Lane → Place
 next_place context lane = record { context = context; id = next_id (context_at context lane) }
 
-abbrev pub set_slot : ℕ → Held → Lane → Lane
+-- a slot names something
+abbrev pub set_slot : Slot → Held → Lane → Lane
 set_slot slot thing lane = record lane { slots = slice_set lane.slots slot (Some thing) }
 
 -- another view
@@ -139,17 +156,18 @@ abbrev pub viewing : Seen → Lane → Lane
 viewing view lane = record lane { view = view }
 
 -- a cancellable has come into the view in a tick
-abbrev pub noting : ℕ → ℕ → Lane → Lane
+abbrev pub noting : Tick → CancellableNumber → Lane → Lane
 noting tick c lane = record lane { tasks = record lane.tasks { came = slice_set lane.tasks.came c (Some tick) } }
 
 -- the ids that an iteration of a context would dispatch at a tick
-abbrev pub chosen : Plan → ℕ → ℕ → Lane → List ℕ
+abbrev pub chosen : Plan → Tick → ContextNumber → Lane → List SourceId
 chosen script tick context lane = chosen_in script tick lane.view (busy context lane.frames) (context_at context lane)
 
+-- whether there is an id
 abbrev pub is_any : List ℕ → Bool
 is_any [] = false
 is_any (id ∷ ids) = true
 
 -- an iteration begun in the innermost frame: the older ones of its context have no id left
-abbrev pub iterating : Plan → ℕ → ℕ → Asker → Lane → Lane
+abbrev pub iterating : Plan → Tick → ContextNumber → Asker → Lane → Lane
 iterating script tick context asker lane = record lane { frames = IterOf context (chosen script tick context lane) asker ∷ emptied context lane.frames }

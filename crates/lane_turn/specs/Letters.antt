@@ -12,6 +12,7 @@ AreNumbered tick sender n [] = Unit {0}
 AreNumbered tick sender n (letter ∷ letters) =
     (letter.tick ≡ tick) × ((letter.sender ≡ sender) × ((letter.number ≡ n) × AreNumbered tick sender (n + 1) letters))
 
+-- how letters are numbered
 pub record LettersTell : Type 0 where
   -- a turn's letters carry its tick, its lane's number, and their own from 0 on
   pub numbered : (script : Plan) (tick : ℕ) (lane : Lane) → AreNumbered tick lane.number 0 (out_of script tick lane)

@@ -17,6 +17,7 @@ pub record IsGrown (levels : ℕ) (s : RowSet) : Type 0 where
   pub most : s.levels ≡ levels
   pub sound : IsSoundSet s
 
+-- the same of a context, where there is one
 abbrev pub Grown : ℕ → Option Context → Type 0
 Grown levels None = Unit {0}
 Grown levels (Some context) = IsGrown levels context.rows
@@ -30,6 +31,7 @@ pub record IsOfTwoLevels (s : RowSet) : Type 0 where
   pub destroyed : (id : ℕ) → destroyed id s ≡ destroyed_pair id s
   pub reprioritised : (id : ℕ) (priority : ℤ) → reprioritised id priority s ≡ reprioritised_pair id priority s
 
+-- the same of a context, where there is one
 abbrev pub OfTwoLevels : Option Context → Type 0
 OfTwoLevels None = Unit {0}
 OfTwoLevels (Some context) = IsOfTwoLevels context.rows
@@ -38,6 +40,7 @@ OfTwoLevels (Some context) = IsOfTwoLevels context.rows
 abbrev pub OfAllLanes : Plan → (Lane → Type 0) → Type 0
 OfAllLanes script P = (tick steps : ℕ) → tick ≤ 4096 → AllByRecursion (λ lane. P (lane_within script tick steps lane)) (lanes_at script tick)
 
+-- at how many levels sources stand
 pub record LevelsHold : Type 0 where
   -- sources stand at no more levels than the script's version has
   pub grown : (script : Plan) → length script.lanes ≤ 64 → OfAllLanes script (λ lane. AllByRecursion (Grown (tree_levels script)) lane.contexts)

@@ -28,3 +28,4 @@ pub mod Rest
 pub mod Blocked
 pub mod Selected
 pub mod Stays
+pub mod Limited

@@ -9,6 +9,7 @@ most_steps = 10000
 abbrev pub most_calls : ℕ
 most_calls = 32
 
+-- the slots of a lane
 abbrev pub slot_count : ℕ
 slot_count = 256
 
@@ -16,6 +17,7 @@ slot_count = 256
 abbrev pub most_count : ℕ
 most_count = 2 ^ 62
 
+-- half of it
 abbrev pub half_count : ℕ
 half_count = 2 ^ 61
 

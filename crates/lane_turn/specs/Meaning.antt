@@ -5,6 +5,7 @@ use Rattle.lane_turn.specs.declared.lane.Lane.{Lane as Fields}
 use Rattle.lane_turn.specs.declared.step.Progress.{Progress}
 use Rattle.lane_turn.specs.Lane.{Lane, Turn}
 
+-- the lane of its fields
 abbrev pub lane_of : Fields → Lane
 lane_of p = record {
   number = p.number;

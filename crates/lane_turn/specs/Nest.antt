@@ -10,13 +10,15 @@ use Rattle.lane_turn.specs.declared.layer.Top.{Top}
 use Rattle.lane_turn.specs.declared.layer.Top.TheVariants as tops
 use Rattle.lane_turn.specs.Frames.{Frame, CallOf, IterOf, LoopOf, blocked_by, is_acquired_by, is_source, is_dispatch_or_invoke, top_of}
 use Rattle.loop_script.specs.Bounds.{count_end}
+use Rattle.loop_script.specs.Units.{ContextNumber}
 
 -- the height of the live iteration of a context
 abbrev pub named_height : Option (Option ℕ) → Option ℕ
 named_height None = None
 named_height (Some height) = height
 
-abbrev pub height_at : List (Option ℕ) → ℕ → Option ℕ
+-- the height of the live iteration of a context
+abbrev pub height_at : List (Option ℕ) → ContextNumber → Option ℕ
 height_at live context = named_height (slice_get live context)
 
 -- an iteration is live at the height that its context names
@@ -24,13 +26,15 @@ abbrev pub is_height : Option ℕ → ℕ → Bool
 is_height None height = false
 is_height (Some k) height = k == height
 
-abbrev pub is_live : List (Option ℕ) → ℕ → ℕ → Bool
+-- whether an iteration of a context at a height is the live one
+abbrev pub is_live : List (Option ℕ) → ℕ → ContextNumber → Bool
 is_live live height context = is_height (height_at live context) height
 
 -- the ids that an iteration at a height still has: none where its context has a newer one
 abbrev pub ids_left : List (Option ℕ) → ℕ → Iteration → List ℕ
 ids_left live height i = if is_live live height i.context then drop i.place i.ids.items else []
 
+-- the frame of a layer at a height
 abbrev pub frame_of : List (Option ℕ) → ℕ → Layer → Frame
 frame_of live height (layers.Call call) = CallOf call
 frame_of live height (layers.Iteration i) = IterOf i.context (ids_left live height i) i.asker
@@ -56,11 +60,13 @@ abbrev pub top_of_layers : List (Option ℕ) → ℕ → List Layer → Top
 top_of_layers live height [] = tops.Nothing
 top_of_layers live height (layer ∷ outer) = top_of (frame_of live height layer ∷ [])
 
+-- a layer that is a dispatch
 abbrev pub is_dispatch_layer : Layer → Bool
 is_dispatch_layer (layers.Call call) = is_source call.origin
 is_dispatch_layer (layers.Iteration i) = false
 is_dispatch_layer (layers.Loop number context) = false
 
+-- a layer that is a call but that of the start list
 abbrev pub is_call_layer : Layer → Bool
 is_call_layer (layers.Call call) = is_dispatch_or_invoke call.origin
 is_call_layer (layers.Iteration i) = false
@@ -72,22 +78,24 @@ is_blocking Start = false
 is_blocking (Source caller) = if caller.recurse then false else true
 is_blocking (Invoke acquired) = false
 
+-- a layer that is such a call
 abbrev pub is_blocking_layer : Layer → Bool
 is_blocking_layer (layers.Call call) = is_blocking call.origin
 is_blocking_layer (layers.Iteration i) = false
 is_blocking_layer (layers.Loop number context) = false
 
-abbrev pub blocked_by_layer : ℕ → Layer → Option ℕ
+-- the source of a context that a layer blocks
+abbrev pub blocked_by_layer : ContextNumber → Layer → Option ℕ
 blocked_by_layer context (layers.Call call) = blocked_by context call.origin
 blocked_by_layer context (layers.Iteration i) = None
 blocked_by_layer context (layers.Loop number c) = None
 
 -- the sources of a context that calls in progress block
-abbrev pub busy_layers : ℕ → List Layer → List ℕ
+abbrev pub busy_layers : ContextNumber → List Layer → List ℕ
 busy_layers context layers = filter_map (blocked_by_layer context) layers
 
 -- what owns a context
-abbrev pub owns_layer : ℕ → Layer → Bool
+abbrev pub owns_layer : ContextNumber → Layer → Bool
 owns_layer context (layers.Call call) = is_acquired_by context call.origin
 owns_layer context (layers.Iteration i) = i.context == context
 owns_layer context (layers.Loop number c) = c == context
@@ -98,6 +106,7 @@ advanced_layer (layers.Call call) = layers.Call (record call { place = call.plac
 advanced_layer (layers.Iteration i) = layers.Iteration (record i { place = if nat_lt i.place (length i.ids.items) then i.place + 1 else i.place })
 advanced_layer (layers.Loop number context) = layers.Loop number context
 
+-- the same of the innermost alone
 abbrev pub advanced_layers : List Layer → List Layer
 advanced_layers [] = []
 advanced_layers (layer ∷ outer) = advanced_layer layer ∷ outer
@@ -108,15 +117,18 @@ taken_layer (layers.Call call) = layers.Call (record call { place = if nat_lt ca
 taken_layer (layers.Iteration i) = advanced_layer (layers.Iteration i)
 taken_layer (layers.Loop number context) = layers.Loop number context
 
+-- the same of the innermost alone
 abbrev pub taken_layers : List Layer → List Layer
 taken_layers [] = []
 taken_layers (layer ∷ outer) = taken_layer layer ∷ outer
 
+-- the place of a call can be counted on
 abbrev pub HasRoomLayer : Layer → Type 0
 HasRoomLayer (layers.Call call) = call.place < count_end
 HasRoomLayer (layers.Iteration i) = Unit {0}
 HasRoomLayer (layers.Loop number context) = Unit {0}
 
+-- the same of the innermost alone
 abbrev pub HasRoomLayers : List Layer → Type 0
 HasRoomLayers [] = Unit {0}
 HasRoomLayers (layer ∷ outer) = HasRoomLayer layer

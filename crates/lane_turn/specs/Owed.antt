@@ -29,6 +29,7 @@ abbrev pub owed_by : (tick number : ℕ) → Tasks → List Started → ℕ
 owed_by tick number tasks [] = 0
 owed_by tick number tasks (t ∷ ts) = one_for (owes tick number tasks t) + owed_by tick number tasks ts
 
+-- how many replies a lane still owes under a number
 abbrev pub owed : (tick number : ℕ) → Tasks → ℕ
 owed tick number tasks = owed_by tick number tasks tasks.started + one_for (nat_le tasks.next number)
 
@@ -38,6 +39,7 @@ is_reply number (Attach context spec) = false
 is_reply number (Complete reply) = reply.task == number
 is_reply number (Cancelled c) = false
 
+-- how many replies under a number are among letters
 abbrev pub replied : ℕ → List Letter → ℕ
 replied number [] = 0
 replied number (l ∷ letters) = one_for (is_reply number l.body) + replied number letters
@@ -47,10 +49,12 @@ abbrev pub lane_under : Plan → (ℕ → List Letter) → (number tick : ℕ) �
 lane_under script mail number zero = opening script number
 lane_under script mail number (suc k) = received_all script k (mail k) (turned script k (lane_under script mail number k))
 
+-- how many a lane posted before a tick
 abbrev pub posted_before : Plan → (ℕ → List Letter) → (lane number tick : ℕ) → ℕ
 posted_before script mail lane number zero = 0
 posted_before script mail lane number (suc k) = posted_before script mail lane number k + replied number (out_of script k (lane_under script mail lane k))
 
+-- each task's reply is posted once, and owed until then
 pub record RepliesComeOnce : Type 0 where
   -- of each number of a lane's tasks there is one reply: it is owed still, or it was posted, once
   pub posted : (script : Plan) (mail : ℕ → List Letter) (lane number tick : ℕ) → posted_before script mail lane number tick + owed tick number (lane_under script mail lane tick).tasks ≡ 1

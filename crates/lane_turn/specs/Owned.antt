@@ -17,17 +17,19 @@ use Rattle.lane_turn.specs.declared.lane.Status.TheVariants.{Halted}
 use Rattle.lane_turn.specs.Frames.{CallOf, owns, calls_in_progress}
 use Rattle.lane_turn.specs.Lane.{Lane, written, pushed as begun, stopped, context_at, with_context, edited}
 use Rattle.lane_turn.specs.Limits.{most_calls}
+use Rattle.loop_script.specs.Units.{Tick, ContextNumber, ProcNumber}
 
 -- the thread-default context: what was pushed last, else the first context of all
 abbrev pub default_context : Lane → ℕ
 default_context lane = unwrap_or (top_of lane.defaults) 0
 
 -- a context of the lane is owned where it was acquired or pushed, or where a frame owns it
-abbrev pub has_ground : ℕ → Option Context → Lane → Bool
+abbrev pub has_ground : ContextNumber → Option Context → Lane → Bool
 has_ground context None lane = false
 has_ground context (Some c) lane = is_acquired c || is_pushed context lane.defaults || list_any (owns context) lane.frames
 
-abbrev pub is_owned : ℕ → Lane → Bool
+-- whether the lane has a context and owns it
+abbrev pub is_owned : ContextNumber → Lane → Bool
 is_owned context lane = has_ground context (context_at context lane) lane
 
 -- what was acquired can be released
@@ -35,47 +37,53 @@ abbrev pub may_release : Option Context → Bool
 may_release None = false
 may_release (Some context) = is_acquired context
 
-abbrev pub push : ℕ → ℕ → Lane → Lane
+-- a context becomes the thread-default one, where it is the lane's
+abbrev pub push : Tick → ContextNumber → Lane → Lane
 push tick context lane =
     if is_some (context_at context lane)
     then record lane { defaults = pushed context lane.defaults }
     else written tick (events.Miss words.Push) lane
 
-abbrev pub pop : ℕ → ℕ → Lane → Lane
+-- the one before it does, where it is on top
+abbrev pub pop : Tick → ContextNumber → Lane → Lane
 pop tick context lane =
     if is_on_top context lane.defaults
     then record lane { defaults = popped context lane.defaults }
     else written tick (events.Miss words.Pop) lane
 
-abbrev pub show_default : ℕ → Lane → Lane
+-- the thread-default context is told
+abbrev pub show_default : Tick → Lane → Lane
 show_default tick lane = written tick (events.Default (default_context lane)) lane
 
-abbrev pub acquire : ℕ → ℕ → Lane → Lane
+-- a context is acquired, where it is the lane's
+abbrev pub acquire : Tick → ContextNumber → Lane → Lane
 acquire tick context lane =
     if is_some (context_at context lane)
     then written tick (events.Acquire context true) (with_context context acquired lane)
     else written tick (events.Acquire context false) lane
 
-abbrev pub release : ℕ → ℕ → Lane → Lane
+-- and released, where an acquire of it is left
+abbrev pub release : Tick → ContextNumber → Lane → Lane
 release tick context lane =
     if may_release (context_at context lane) then with_context context released lane else written tick (events.Miss words.Release) lane
 
 -- the source of a procedure that is invoked where it can't be called at once
-abbrev pub invoke_spec : ℕ → SourceSpec
+abbrev pub invoke_spec : ProcNumber → SourceSpec
 invoke_spec proc = record { kind = Idle; priority = pos 0; recurse = false; call = Some proc }
 
--- a procedure is called at once, with the context that is acquired until the call returns; where 32 calls are in progress the
--- lane is halted
+-- a procedure is called at once, with the context that is acquired until the call returns
 abbrev pub calling : (tick context proc : ℕ) → Option ℕ → Lane → Lane
 calling tick context proc acquires lane =
     begun (CallOf (record { origin = Invoke acquires; body = Procedure proc; place = 0 })) (written tick (events.Invoke context Direct) lane)
 
+-- the same where fewer than the most calls are in progress; else the lane is halted
 abbrev pub called_at_once : (tick context proc : ℕ) → Option ℕ → Lane → Lane
 called_at_once tick context proc acquires lane =
     if nat_lt (calls_in_progress lane.frames) most_calls
     then calling tick context proc acquires lane
     else stopped Halted (written tick events.HaltDepth lane)
 
+-- a procedure is attached to a context of the lane
 abbrev pub attaching : (tick now context proc : ℕ) → Lane → Lane
 attaching tick now context proc lane = written tick (events.Invoke context Attached) (edited context (attached (invoke_spec proc) now) lane)
 
@@ -87,9 +95,11 @@ invoke_own tick now context proc lane =
     else if default_context lane == context then called_at_once tick context proc (Some context) lane
     else attaching tick now context proc lane
 
+-- the invoke of a procedure: in a context of the lane, or posted to the lane that has it
 abbrev pub invoke : (tick now context proc : ℕ) → Lane → Lane
 invoke tick now context proc lane =
     if is_some (context_at context lane) then invoke_own tick now context proc lane else written tick (events.Invoke context Posted) lane
 
+-- what an invoke sends: to another lane's context the source
 abbrev pub invoke_sends : (context proc : ℕ) → Lane → Option Mail
 invoke_sends context proc lane = if is_some (context_at context lane) then None else Some (Attach context (invoke_spec proc))

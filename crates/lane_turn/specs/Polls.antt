@@ -7,6 +7,7 @@ use Rattle.post_office.specs.declared.letter.Body.TheVariants as mails
 use Rattle.lane_watch.specs.Tasks.{Started, Tasks, reply_at, is_late_at, stays_at}
 use Rattle.lane_turn.specs.Lane.{Lane, Turn}
 use Rattle.lane_turn.specs.Step.{late_line}
+use Rattle.loop_script.specs.Units.{Tick}
 
 -- the letters of replies, numbered on
 abbrev pub letters_of : (tick sender number : ℕ) → List Reply → List Letter
@@ -15,23 +16,26 @@ letters_of tick sender number (reply ∷ replies) =
     record { tick = tick; sender = sender; number = number; body = mails.Complete reply } ∷ letters_of tick sender (number + 1) replies
 
 -- the replies, the late numbers and the tasks that go on, of a poll of some tasks
-abbrev pub replies_among : ℕ → Tasks → List Started → List Reply
+abbrev pub replies_among : Tick → Tasks → List Started → List Reply
 replies_among tick tasks ts = filter_map (reply_at tick tasks) ts
 
-abbrev pub late_among : ℕ → Tasks → List Started → List ℕ
+-- the numbers of the tasks that are late
+abbrev pub late_among : Tick → Tasks → List Started → List ℕ
 late_among tick tasks ts = map (λ t. t.number) (filter (is_late_at tick tasks) ts)
 
-abbrev pub staying_among : ℕ → Tasks → List Started → List Started
+-- the tasks that go on
+abbrev pub staying_among : Tick → Tasks → List Started → List Started
 staying_among tick tasks ts = filter (stays_at tick tasks) ts
 
 -- the turn once all its tasks are polled
-abbrev pub polled_lane : ℕ → List Started → Lane → Lane
+abbrev pub polled_lane : Tick → List Started → Lane → Lane
 polled_lane tick ts lane = record lane {
   tasks = record lane.tasks { started = lane.tasks.started ++ staying_among tick lane.tasks ts };
   trace = lane.trace ++ map (late_line tick lane.number) (late_among tick lane.tasks ts);
 }
 
-abbrev pub after_polls : ℕ → Turn → Turn
+-- the turn after all polls
+abbrev pub after_polls : Tick → Turn → Turn
 after_polls tick t = record t {
   lane = polled_lane tick t.unpolled t.lane;
   unpolled = [];

@@ -36,6 +36,7 @@ pub record IsSent (before now : Lane) : Type 0 where
   pub status : now.status ≡ before.status
   pub frames : now.frames ≡ before.frames
 
+-- a lane that has ended or is halted takes no step
 pub record EndedLanesRest : Type 0 where
   -- a lane that has ended or is halted takes no step once its tasks are polled, at any tick
   pub none : (script : Plan) (tick : ℕ) (t : Turn) → t.lane.status ≢ GoesOn → t.unpolled ≡ [] → step script tick t ≡ None

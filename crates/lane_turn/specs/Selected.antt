@@ -12,9 +12,10 @@ use Rattle.lane_turn.specs.Sources.{own_ready_at}
 use Rattle.lane_turn.specs.Lane.{context_at, chosen}
 use Rattle.lane_turn.specs.Levels.{OfAllLanes}
 use Rattle.lane_turn.specs.Tick.{lanes_at, lane_within}
+use Rattle.loop_script.specs.Units.{SourceId}
 
 -- a ready source, and none that is ready is more urgent: a smaller priority is
-abbrev pub IsUrgent : Own → (busy : List ℕ) → List Row → ℕ → Type 0
+abbrev pub IsUrgent : Own → (busy : List ℕ) → List Row → SourceId → Type 0
 IsUrgent context_at busy rows id = (r : Row) × (row_of id rows ≡ Some r) × (is_ready context_at busy rows r ≡ true) × AllByRecursion (λ q. is_ready context_at busy rows q ≡ true → int_le r.priority q.priority ≡ true) rows
 
 -- of two sources, dispatched one before the other: they have one priority, and of two roots, or two children of one parent, the
@@ -31,11 +32,13 @@ pub record IsInOrder (context_at : Own) (busy : List ℕ) (rows : List Row) (ids
 abbrev pub AreOnce : List ℕ → Type 0
 AreOnce ids = Pairs (λ i j. i ≢ j) ids
 
+-- no iteration in progress has an id twice
 abbrev pub HasEachOnce : Frame → Type 0
 HasEachOnce (CallOf call) = Unit {0}
 HasEachOnce (IterOf context ids asker) = AreOnce ids
 HasEachOnce (LoopOf number context) = Unit {0}
 
+-- an iteration dispatches no id twice, and in the order of priority, then of attaching
 pub record IterationsHaveOrder : Type 0 where
   -- in a run no iteration in progress has an id twice: and a dispatch takes its id, by the law on iterations, so none dispatches
   -- an id twice

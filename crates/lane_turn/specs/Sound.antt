@@ -18,6 +18,7 @@ pub record IsBoundedContext (m : ℕ) (context : Context) : Type 0 where
   pub sources : IsBounded m context.rows
   pub acquires : context.acquires ≤ m
 
+-- the same of a context, where there is one
 abbrev pub Bounded : ℕ → Option Context → Type 0
 Bounded m None = Unit {0}
 Bounded m (Some context) = IsBoundedContext m context

@@ -9,6 +9,7 @@ use Rattle.source_rows.specs.Rows.{RowSet, no_rows, row_of, ready_set}
 use Rattle.context_core.specs.declared.context.Context.{Context}
 use Rattle.cancel_view.specs.Seen.{Seen}
 use Rattle.context_core.specs.Ready.{Own, in_view, own_ready, selected}
+use Rattle.loop_script.specs.Units.{Tick, Microseconds, SourceId}
 
 -- at how many levels the sources of a script stand at most: in version 1 a child has no children
 abbrev pub tree_levels : Plan → ℕ
@@ -19,30 +20,32 @@ abbrev pub no_sources : Plan → Context
 no_sources script = record { rows = no_rows (tree_levels script); acquires = 0 }
 
 -- so many milliseconds after a time in microseconds
-abbrev pub due_after : ℕ → ℕ → ℤ
+abbrev pub due_after : ℕ → Microseconds → ℤ
 due_after ms now = pos (now + ms * 1000)
 
 -- a source that stays after a call: a timeout begins anew, and lost time is not caught up
-abbrev pub restarted_kind : ℕ → ℕ → Kind → RowSet → RowSet
+abbrev pub restarted_kind : Microseconds → SourceId → Kind → RowSet → RowSet
 restarted_kind now id Idle s = s
 restarted_kind now id (Timeout ms) s = ready_set id (due_after ms now) s
 restarted_kind now id (ReadyTime us) s = s
 restarted_kind now id (Fd fd bits) s = s
 restarted_kind now id (Cancel c) s = s
 
-abbrev pub restarted_row : ℕ → ℕ → Option Row → RowSet → RowSet
+-- the same of a row, where there is one
+abbrev pub restarted_row : Microseconds → SourceId → Option Row → RowSet → RowSet
 restarted_row now id None s = s
 restarted_row now id (Some r) s = restarted_kind now id r.kind s
 
-abbrev pub restarted : ℕ → ℕ → RowSet → RowSet
+-- the same of the row of an id
+abbrev pub restarted : Microseconds → SourceId → RowSet → RowSet
 restarted now id s = restarted_row now id (row_of id s.rows) s
 
 -- what makes a source ready by itself at a tick, with what the lane has seen cancelled
-abbrev pub own_ready_at : Plan → ℕ → Seen → Own
+abbrev pub own_ready_at : Plan → Tick → Seen → Own
 own_ready_at script tick view = own_ready (λ fd. level_of script fd tick) (in_view view) (time_of script tick)
 
 -- the ids that an iteration of a context would dispatch, with the ids that calls in progress block: none of another
 -- lane's context
-abbrev pub chosen_in : Plan → ℕ → Seen → List ℕ → Option Context → List ℕ
+abbrev pub chosen_in : Plan → Tick → Seen → List SourceId → Option Context → List SourceId
 chosen_in script tick view busy None = []
 chosen_in script tick view busy (Some context) = selected (own_ready_at script tick view) busy context.rows.rows

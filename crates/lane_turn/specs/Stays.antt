@@ -30,6 +30,7 @@ abbrev pub StaysTo : Option ℕ → ℕ → Type 0
 StaysTo None n = Unit {0}
 StaysTo (Some keep) n = n ≤ keep
 
+-- the same by a procedure; none keeps nothing
 abbrev pub StaysBy : Option Proc → ℕ → Type 0
 StaysBy None n = ⊥
 StaysBy (Some proc) n = StaysTo proc.keep n
@@ -54,6 +55,7 @@ abbrev pub is_dispatch_of : (context id : ℕ) → Event → Bool
 is_dispatch_of context id (events.Dispatch c i priority depth) = (c == context) && (i == id)
 is_dispatch_of context id _ = false
 
+-- how many dispatches of a source lines tell
 abbrev pub dispatches : (context id : ℕ) → List Line → ℕ
 dispatches context id lines = count_by (λ line. is_dispatch_of context id line.event) lines
 
@@ -79,10 +81,12 @@ pub record IsBegun (context id : ℕ) (before now : Lane) : Type 0 where
   pub recurse : caller.recurse ≡ row.recurse
   pub once : caller.once ≡ is_some (reply_held context id before.replies)
 
+-- what a line of a dispatch tells has begun
 abbrev pub Begins : (before now : Lane) → Event → Type 0
 Begins before now (events.Dispatch context id priority depth) = IsBegun context id before now
 Begins before now _ = Unit {0}
 
+-- after its n-th dispatch a source is there exactly where `keep` says so
 pub record SourcesStay : Type 0 where
   -- in a run each dispatch begins a call of that source, and the n-th a call that knows that it is the n-th
   pub begins : (script : Plan) → OfEachStep script (λ t u. Grows (λ line. Begins t.lane u.lane line.event) t.lane.trace u.lane.trace)

@@ -19,6 +19,7 @@ abbrev pub is_result : (sender number : ℕ) → Event → Bool
 is_result sender number (events.Task lane task outcome) = (lane == sender) && (task == number)
 is_result sender number _ = false
 
+-- how many results of a task lines tell
 abbrev pub results : (sender number : ℕ) → List Line → ℕ
 results sender number lines = count_by (λ line. is_result sender number line.event) lines
 
@@ -26,6 +27,7 @@ results sender number lines = count_by (λ line. is_result sender number line.ev
 abbrev pub is_awaited : (sender number : ℕ) → Awaited → Bool
 is_awaited sender number awaited = (awaited.sender == sender) && (awaited.reply.task == number)
 
+-- how many replies of a task are held
 abbrev pub awaited : (sender number : ℕ) → Replies → ℕ
 awaited sender number replies = count_by (λ entry. is_awaited sender number entry.1) replies
 
@@ -39,13 +41,16 @@ brings number lane (Attach context spec) = false
 brings number lane (Complete reply) = (reply.task == number) && is_some (context_at reply.ctx lane)
 brings number lane (Cancelled c) = false
 
+-- how many of its replies letters bring to the lane
 abbrev pub brought : (sender number : ℕ) → Lane → List Letter → ℕ
 brought sender number lane letters = count_by (λ letter. (letter.sender == sender) && brings number lane letter.body) letters
 
+-- how many came before a tick
 abbrev pub brought_before : Plan → (ℕ → List Letter) → (lane sender number tick : ℕ) → ℕ
 brought_before script mail lane sender number zero = 0
 brought_before script mail lane sender number (suc k) = brought_before script mail lane sender number k + brought sender number (lane_under script mail lane k) (mail k)
 
+-- each reply that came is held still, or its result was told, once
 pub record RepliesAreTakenOnce : Type 0 where
   -- each reply that came to a lane is held still, or its result was told, once
   pub taken : (script : Plan) (mail : ℕ → List Letter) (lane sender number tick : ℕ) → accounted sender number (lane_under script mail lane tick) ≡ brought_before script mail lane sender number tick

@@ -4,6 +4,7 @@ use Rattle.lane_turn.specs.declared.layer.Layer.{Layer}
 use Rattle.lane_turn.specs.declared.tally.Tally.{Tally}
 use Rattle.lane_turn.specs.Nest.{is_dispatch_layer, is_call_layer, is_blocking_layer}
 
+-- one, if so
 abbrev pub one_if : Bool → ℕ
 one_if b = if b then 1 else 0
 
@@ -16,6 +17,7 @@ more layer tally = record {
   blocking = tally.blocking + one_if (is_blocking_layer layer);
 }
 
+-- how many layers there are of each kind
 abbrev pub tally_of : List Layer → Tally
 tally_of layers = record {
   layers = length layers;

@@ -6,18 +6,21 @@ use Rattle.post_office.specs.declared.letter.Letter.{Letter}
 use Rattle.lane_turn.specs.Lane.{Lane}
 use Rattle.lane_turn.specs.Turn.{opening, turned, out_of, finish, begun}
 use Rattle.lane_turn.specs.Deliver.{delivered}
+use Rattle.loop_script.specs.Units.{Tick}
 
 -- the letters of a tick's turns: by sender where the lanes stand by number, those of one sender by their own
-abbrev pub posted_at : Plan → ℕ → List Lane → List Letter
+abbrev pub posted_at : Plan → Tick → List Lane → List Letter
 posted_at script tick lanes = flat_map (out_of script tick) lanes
 
-abbrev pub ticked : Plan → ℕ → List Lane → List Lane
+-- the lanes after a tick
+abbrev pub ticked : Plan → Tick → List Lane → List Lane
 ticked script tick lanes = delivered script tick (posted_at script tick lanes) (map (turned script tick) lanes)
 
 -- the lanes of a script, by number, at first and at the beginning of a tick
 abbrev pub opened : Plan → List Lane
 opened script = map (opening script) (range_with_len 0 (length script.lanes))
 
+-- the lanes when so many ticks are over
 abbrev pub lanes_at : Plan → ℕ → List Lane
 lanes_at script zero = opened script
 lanes_at script (suc k) = ticked script k (lanes_at script k)

@@ -9,6 +9,7 @@ use Rattle.lane_turn.specs.Step.{step}
 use Rattle.lane_turn.specs.Turn.{turned}
 use Rattle.lane_turn.specs.Deliver.{received_all}
 use Rattle.lane_turn.specs.Tick.{lanes_at}
+use Rattle.loop_script.specs.Units.{Tick}
 
 -- lines later on: those that stood there stand as they were, and each that was added behind them is so
 pub record Grows (P : Line → Type 0) (before now : List Line) : Type 0 where
@@ -17,7 +18,7 @@ pub record Grows (P : Line → Type 0) (before now : List Line) : Type 0 where
   pub each : AllByRecursion P more
 
 -- a line of a tick
-abbrev pub IsOf : ℕ → Line → Type 0
+abbrev pub IsOf : Tick → Line → Type 0
 IsOf tick line = line.tick ≡ tick
 
 -- no line is of an earlier tick than one before it
@@ -25,10 +26,12 @@ abbrev pub NoTickFalls : List Line → Type 0
 NoTickFalls [] = Unit {0}
 NoTickFalls (line ∷ lines) = AllByRecursion (λ later. line.tick ≤ later.tick) lines × NoTickFalls lines
 
+-- lines of ticks before this one
 pub record IsBefore (tick : ℕ) (lines : List Line) : Type 0 where
   pub past : AllByRecursion (λ line. line.tick < tick) lines
   pub rising : NoTickFalls lines
 
+-- a trace only grows, by lines of the tick
 pub record TracesGrow : Type 0 where
   -- a step, a turn and a delivery leave the lines that there are, and add lines of their own tick alone
   pub steps : (script : Plan) (tick : ℕ) (t u : Turn) → step script tick t ≡ Some u → Grows (IsOf tick) t.lane.trace u.lane.trace

@@ -17,9 +17,10 @@ use Rattle.lane_turn.specs.Lane.{Lane, Turn}
 use Rattle.post_office.specs.declared.letter.Letter.{Letter}
 use Rattle.lane_turn.specs.Step.{step}
 use Rattle.lane_turn.specs.Limits.{most_steps, slot_count}
+use Rattle.loop_script.specs.Units.{Tick, LaneNumber, ContextNumber}
 
 -- the turn after its next step, if there is one
-abbrev pub stepped : Plan → ℕ → Turn → Turn
+abbrev pub stepped : Plan → Tick → Turn → Turn
 stepped script tick t = unwrap_or (step script tick t) t
 
 -- at most how many steps a frame takes before it is left
@@ -28,6 +29,7 @@ frame_work (CallOf call) = 1
 frame_work (IterOf context ids asker) = 1 + length ids
 frame_work (LoopOf number context) = 1
 
+-- the same of all frames
 abbrev pub nest_work : List Frame → ℕ
 nest_work [] = 0
 nest_work (frame ∷ below) = frame_work frame + nest_work below
@@ -37,6 +39,7 @@ abbrev pub rows_in : Option Context → ℕ
 rows_in None = 0
 rows_in (Some context) = length context.rows.rows
 
+-- the same of all contexts
 abbrev pub row_count : List (Option Context) → ℕ
 row_count [] = 0
 row_count (context ∷ contexts) = rows_in context + row_count contexts
@@ -45,6 +48,7 @@ row_count (context ∷ contexts) = rows_in context + row_count contexts
 abbrev pub work_of : (left rows frames : ℕ) → Bool → ℕ
 work_of left rows frames iterated = left * (rows + left + 4) + frames + (if iterated then 0 else rows + 2)
 
+-- one more than this while the lane goes on, else none
 abbrev pub while_going : Status → ℕ → ℕ
 while_going GoesOn n = suc n
 while_going Ended n = 0
@@ -55,16 +59,16 @@ abbrev pub work : Turn → ℕ
 work t = length t.unpolled + while_going t.lane.status (work_of t.left (row_count t.lane.contexts) (nest_work t.lane.frames) t.iterated)
 
 -- the turn after its steps, of which at most n are taken
-unfoldable pub finish : Plan → ℕ → ℕ → Turn → Turn
+unfoldable pub finish : Plan → Tick → ℕ → Turn → Turn
 finish script tick zero t = t
 finish script tick (suc n) t = option_map_or (finish script tick n) (step script tick t) t
 
 -- the turn when no step is left; that `work` is enough is the law `turns_end`
-unfoldable pub finished : Plan → ℕ → Turn → Turn
+unfoldable pub finished : Plan → Tick → Turn → Turn
 finished script tick t = finish script tick (work t) t
 
 -- a turn at a tick: the tasks are to be polled, and nothing was sent
-abbrev pub begun : ℕ → Lane → Turn
+abbrev pub begun : Tick → Lane → Turn
 begun tick lane = record {
   lane = record lane { tasks = record lane.tasks { started = []; tick = tick + 1 } };
   unpolled = lane.tasks.started;
@@ -75,35 +79,38 @@ begun tick lane = record {
 }
 
 -- the lane after its turn
-abbrev pub turned : Plan → ℕ → Lane → Lane
+abbrev pub turned : Plan → Tick → Lane → Lane
 turned script tick lane = (finished script tick (begun tick lane)).lane
 
 -- the letters of the turn, in order
-abbrev pub out_of : Plan → ℕ → Lane → List Letter
+abbrev pub out_of : Plan → Tick → Lane → List Letter
 out_of script tick lane = (finished script tick (begun tick lane)).posted
 
 -- a context of the script, as a lane has it at first
-abbrev pub open_context : Plan → ℕ → ℕ → Option Context
+abbrev pub open_context : Plan → LaneNumber → ContextNumber → Option Context
 open_context script lane context = if home_of script context == lane then Some (no_sources script) else None
 
 -- the first n contexts of the script
-abbrev pub open_contexts_to : Plan → ℕ → ℕ → List (Option Context)
+abbrev pub open_contexts_to : Plan → LaneNumber → ℕ → List (Option Context)
 open_contexts_to script lane zero = []
 open_contexts_to script lane (suc n) = open_contexts_to script lane n ++ open_context script lane n ∷ []
 
-abbrev pub open_contexts : Plan → ℕ → List (Option Context)
+-- all contexts of the script, as a lane has them at first
+abbrev pub open_contexts : Plan → LaneNumber → List (Option Context)
 open_contexts script lane = open_contexts_to script lane (sizes script).contexts
 
+-- slots that name nothing
 abbrev pub open_slots : ℕ → List (Option Held)
 open_slots zero = []
 open_slots (suc n) = open_slots n ++ None ∷ []
 
+-- loops that do not run
 abbrev pub open_loops : ℕ → List Bool
 open_loops zero = []
 open_loops (suc n) = open_loops n ++ false ∷ []
 
 -- a lane that holds its start call
-abbrev pub opening : Plan → ℕ → Lane
+abbrev pub opening : Plan → LaneNumber → Lane
 opening script lane = record {
   number = lane;
   contexts = open_contexts script lane;

@@ -17,6 +17,7 @@ tells_of c (Attach context spec) = false
 tells_of c (Complete reply) = false
 tells_of c (Cancelled k) = k == c
 
+-- whether letters tell of a cancellable
 abbrev pub tells : ℕ → List Letter → Bool
 tells c letters = list_any (λ l. tells_of c l.body) letters
 
@@ -24,6 +25,7 @@ tells c letters = list_any (λ l. tells_of c l.body) letters
 abbrev pub AreAlike : List Lane → Type 0
 AreAlike lanes = (c : ℕ) → (b : Bool) × AllByRecursion (λ lane. has c lane.view ≡ b) lanes
 
+-- all lanes have seen the same at the beginning of a tick
 pub record ViewsAgree : Type 0 where
   -- what a lane has seen cancelled after its turn it had seen before, or it sent a letter of it
   pub turned : (script : Plan) (tick : ℕ) (lane : Lane) (c : ℕ) → c < length lane.view.members → has c (turned script tick lane).view ≡ (tells c (out_of script tick lane) || has c lane.view)

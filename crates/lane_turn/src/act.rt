@@ -8,9 +8,9 @@ ghost use Rattle.lane_turn.specs.Meaning.{lane_of};
 ghost use Rattle.loop_script.specs.Bounds.{count_end, latest};
 ghost use Rattle.lane_turn.specs.Limits.{most_count};
 
+use crate::lane::Lane;
 use crate::layer::Asker;
 use crate::line::{Event, Word};
-use crate::lane::Lane;
 use crate::slot::{Held, Place};
 use loop_script::{Action, Script, SourceSpec, TaskSpec};
 use std::alloc::{AllocError, Global};
@@ -67,11 +67,11 @@ impl Lane {
         let Some(place) = self.place(slot) else {
             return self.miss(tick, Word::Destroy);
         };
-        if self.row(place.context, place.id).is_none() {
-            return self.miss(tick, Word::Destroy);
+        if self.destroy(place.context, place.id) {
+            Ok(())
+        } else {
+            self.miss(tick, Word::Destroy)
         }
-        self.destroy(place.context, place.id);
-        Ok(())
     }
 
     pub(crate) fn act_set_ready(
@@ -121,7 +121,8 @@ impl Lane {
         }
         let ids = self.choose(alloc, script, tick, context)?;
         let any = !ids.is_empty();
-        self.frames.begin_iteration(context, ids, Asker::Iterate(any))
+        self.frames
+            .begin_iteration(context, ids, Asker::Iterate(any))
     }
 
     fn act_pending(
@@ -201,10 +202,10 @@ impl Lane {
                 context,
                 slot,
                 spec,
-            } => {
-                self.act_attach(tick, now, *context, *slot, *spec)
-            }
-            Action::Child { parent, slot, spec } => self.act_child(tick, now, *parent, *slot, *spec),
+            } => { self.act_attach(tick, now, *context, *slot, *spec) }
+            Action::Child { parent, slot, spec } => self.act_child(
+                tick, now, *parent, *slot, *spec,
+            ),
             Action::Destroy(slot) => self.act_destroy(tick, *slot),
             Action::SetReady(slot, us) => self.act_set_ready(tick, *slot, *us),
             Action::SetPriority(slot, priority) => self.act_set_priority(tick, *slot, *priority),

@@ -6,8 +6,8 @@ ghost use Rattle.lane_turn.specs.Meaning.{lane_of};
 ghost use Rattle.loop_script.specs.Bounds.{latest};
 ghost use Rattle.lane_turn.specs.Limits.{half_count, most_count, most_letters};
 
-use crate::line::Event;
 use crate::lane::Lane;
+use crate::line::Event;
 use crate::replies::Awaited;
 use loop_script::{Kind, Script, SourceSpec};
 use post_office::{Body, Letter};

@@ -7,8 +7,8 @@ ghost use Rattle.lane_turn.specs.Sound.{IsWithin};
 ghost use Rattle.lane_turn.specs.Meaning.{lane_of};
 ghost use Rattle.lane_turn.specs.Limits.{most_count};
 
-use crate::line::{Event, Word};
 use crate::lane::Lane;
+use crate::line::{Event, Word};
 use crate::slot::Held;
 use cancel_view::{Connected, Fired};
 use loop_script::{Action, Body, Script};

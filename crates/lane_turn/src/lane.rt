@@ -208,12 +208,15 @@ impl Lane {
         }
     }
 
-    /// Destroys a source of a context.
-    pub(crate) fn destroy(&mut self, context: u32, id: u64)
-        ensures { lane_of self.new ≡ edited context (destroyed id) (lane_of self.old) }
+    /// Destroys a source of a context, and answers whether it is there.
+    pub(crate) fn destroy(&mut self, context: u32, id: u64) -> bool
+        ensures there { result ≡ is_some (row_of context id (lane_of self.old)) }
+        ensures destroyed { lane_of self.new ≡ edited context (destroyed id) (lane_of self.old) }
+        ensures none { result ≡ false → lane_of self.new ≡ lane_of self.old }
     {
-        if let Some(context) = self.contexts.get_mut(context as usize) {
-            destroy_in(context, id);
+        match self.contexts.get_mut(context as usize) {
+            Some(context) => destroy_in(context, id),
+            None => false,
         }
     }
 

@@ -13,6 +13,7 @@ ghost use Rattle.lane_turn.specs.Rest.{EndedLanesRest};
 ghost use Rattle.lane_turn.specs.Blocked.{BlockedWait};
 ghost use Rattle.lane_turn.specs.Selected.{IterationsHaveOrder};
 ghost use Rattle.lane_turn.specs.Stays.{SourcesStay};
+ghost use Rattle.lane_turn.specs.Limited.{StepsAreLimited};
 
 /// A turn leaves a lane with no step left: it rests, has ended or is halted.
 pub fn turns_end()
@@ -102,4 +103,11 @@ pub fn iterations_have_order()
 /// source is there exactly where it was not destroyed before, was no reply's, and `keep` lets it stay.
 pub fn sources_stay_as_kept()
     ensures { SourcesStay }
+{}
+
+/// A turn takes at most 10,000 actions and dispatches, those of a handler's list not counted: each takes one of the number that
+/// the turn began with, and no step gives one back. Where none is left the lane is halted in its place, by the line `halt steps`
+/// alone.
+pub fn steps_are_limited()
+    ensures { StepsAreLimited }
 {}

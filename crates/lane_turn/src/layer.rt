@@ -65,10 +65,7 @@ pub enum Layer {
     Call(Call),
     Iteration(Iteration),
     /// A run of a loop, with the loop's context.
-    Loop {
-        number: u32,
-        context: u32,
-    },
+    Loop { number: u32, context: u32 },
 }
 
 /// What the innermost activity takes next.
@@ -182,7 +179,8 @@ impl Layer {
             },
             Layer::Iteration(iteration) => iteration.context == context,
             Layer::Loop {
-                context: iterated, ..
+                context: iterated,
+                ..
             } => *iterated == context,
         }
     }

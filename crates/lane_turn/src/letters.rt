@@ -8,8 +8,8 @@ ghost use Rattle.lane_turn.specs.Meaning.{lane_of, turn_of};
 ghost use Rattle.loop_script.specs.Bounds.{count_end};
 ghost use Rattle.lane_turn.specs.Limits.{most_count};
 
-use crate::owned::invoke_spec;
 use crate::lane::Lane;
+use crate::owned::invoke_spec;
 use crate::step::Progress;
 use loop_script::{Action, Script};
 use post_office::{Body, Letter, Post};

@@ -27,11 +27,11 @@ mod tally;
 mod turn;
 mod wakes;
 
+pub use lane::Status;
 pub use laws::{
     blocked_sources_wait, depths_hold, ended_lanes_rest, iterations_go_on, iterations_have_order,
     letters_arrive, letters_tell, levels_go_by_version, replies_are_taken_once, replies_come_once,
-    sources_stay_as_kept, traces_grow, turns_end, views_agree,
+    sources_stay_as_kept, steps_are_limited, traces_grow, turns_end, views_agree,
 };
 pub use line::{Event, Invoked, Line, Word};
-pub use lane::Status;
 pub use state::{LaneFault, LaneState};

@@ -8,10 +8,10 @@ ghost use Rattle.lane_turn.specs.Meaning.{lane_of};
 ghost use Rattle.loop_script.specs.Bounds.{latest};
 ghost use Rattle.lane_turn.specs.Limits.{most_count};
 
+use crate::lane::Lane;
 use crate::layer::{Call, Origin};
 use crate::limits::MOST_CALLS;
 use crate::line::{Event, Invoked, Word};
-use crate::lane::Lane;
 use context_core::Context;
 use loop_script::{Body, Kind, SourceSpec};
 use std::alloc::AllocError;

@@ -86,12 +86,15 @@ pub(crate) fn set_priority_in(
     }
 }
 
-/// Destroys a source and its children.
-pub(crate) fn destroy_in(context: &mut Option<Context>, id: u64)
-    ensures { context.new ≡ option_map (with_rows (destroyed id)) context.old }
+/// Destroys a source with all that are under it, and answers whether it is there.
+pub(crate) fn destroy_in(context: &mut Option<Context>, id: u64) -> bool
+    ensures there { result ≡ is_some (row_in id context.old) }
+    ensures destroyed { context.new ≡ option_map (with_rows (destroyed id)) context.old }
+    ensures none { result ≡ false → context.new ≡ context.old }
 {
-    if let Some(context) = context {
-        context.rows_mut().destroy(id);
+    match context {
+        None => false,
+        Some(context) => context.rows_mut().destroy(id),
     }
 }
 

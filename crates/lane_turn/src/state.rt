@@ -12,10 +12,10 @@ ghost use Rattle.lane_turn.specs.Sound.{IsReady};
 ghost use Rattle.lane_turn.specs.Limits.{half_count, most_letters, most_steps};
 
 use crate::frames::Frames;
+use crate::lane::{Lane, Status};
 use crate::layer::{Call, Origin};
 use crate::limits::SLOTS;
 use crate::line::Line;
-use crate::lane::{Lane, Status};
 use crate::slot::Held;
 use crate::wakes::{sooner, tick_of};
 use context_core::{Context, DefaultStack};
@@ -144,7 +144,7 @@ fn open_loops(alloc: Global, loops: u32) -> Result<Vec<bool>, AllocError>
 
 /// A lane that holds its start call.
 fn open_lane(alloc: Global, script: &Script, lane: u32) -> Result<Lane, AllocError>
-    ensures { IfOk result (λ lane. lane_of lane ≡ opening script.now lane) }
+    ensures { IfOk result (λ opened. lane_of opened ≡ opening script.now lane) }
 {
     let mut frames = Frames::new(alloc);
     frames.begin_call(Call {
@@ -168,7 +168,7 @@ fn open_lane(alloc: Global, script: &Script, lane: u32) -> Result<Lane, AllocErr
 
 /// The same in a box.
 fn boxed_lane(alloc: Global, script: &Script, lane: u32) -> Result<Box<Lane>, AllocError>
-    ensures { IfOk result (λ lane. lane_of lane.value ≡ opening script.now lane) }
+    ensures { IfOk result (λ opened. lane_of opened.value ≡ opening script.now lane) }
 {
     let opened = open_lane(alloc, script, lane)?;
     Ok(Box::new(alloc, opened)?)

@@ -12,10 +12,10 @@ ghost use Rattle.lane_turn.specs.Meaning.{lane_of, turn_of};
 ghost use Rattle.loop_script.specs.Bounds.{count_end};
 ghost use Rattle.lane_turn.specs.Limits.{most_calls, most_count};
 
+use crate::lane::{Lane, Status};
 use crate::layer::{Asker, Call, Caller, Origin, Top};
 use crate::limits::MOST_CALLS;
 use crate::line::Event;
-use crate::lane::{Lane, Status};
 use crate::replies::Awaited;
 use cancel_view::View;
 use loop_script::{Body, Outcome, Script};
@@ -208,12 +208,7 @@ impl Lane {
     }
 
     /// An iteration that has no id left ends.
-    fn end_iteration(
-        &mut self,
-        tick: u32,
-        context: u32,
-        asker: Asker,
-    ) -> Result<(), AllocError>
+    fn end_iteration(&mut self, tick: u32, context: u32, asker: Asker) -> Result<(), AllocError>
         ensures { OnOk result (lane_of self.new ≡ answered tick context asker (popped (lane_of self.old))) }
     {
         self.frames.end();

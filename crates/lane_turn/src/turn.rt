@@ -8,9 +8,9 @@ ghost use Rattle.lane_turn.specs.Meaning.{lane_of, turn_of};
 ghost use Rattle.loop_script.specs.Bounds.{count_end};
 ghost use Rattle.lane_turn.specs.Limits.{half_count};
 
+use crate::lane::{Lane, Status};
 use crate::limits::MOST_STEPS;
 use crate::line::Event;
-use crate::lane::{Lane, Status};
 use crate::step::Progress;
 use loop_script::Script;
 use post_office::{Body, Post};

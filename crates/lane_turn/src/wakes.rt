@@ -12,8 +12,8 @@ ghost use Rattle.lane_turn.specs.Meaning.{lane_of};
 ghost use Rattle.loop_script.specs.Bounds.{count_end};
 
 use crate::frames::Frames;
-use crate::layer::Top;
 use crate::lane::{Lane, Status};
+use crate::layer::Top;
 use cancel_view::View;
 use context_core::Context;
 use loop_script::{Kind, Script};

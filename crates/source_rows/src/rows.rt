@@ -1,5 +1,5 @@
 //! The rows of a context, and the calls that edit them.
-ghost use Rattle.std.specs.Prelude.{[], map, ◌≡◌, ◌≤◌, ◌<◌, ◌^◌, ◌+◌, ◌⊎◌, IfOk, OnOk, IfErr, OnErr, IfSome, Some, None, is_some, option_map};
+ghost use Rattle.std.specs.Prelude.{[], map, ◌≡◌, ◌≤◌, ◌<◌, ◌^◌, ◌+◌, ◌⊎◌, IfOk, OnOk, IfErr, OnErr, IfSome, Some, None, is_some, option_map, false};
 ghost use Rattle.std.specs.List.{AllByRecursion};
 ghost use Rattle.std.specs.Option.{option_copied};
 ghost use Rattle.std.specs.Borrow.{Bor};
@@ -240,6 +240,7 @@ impl Rows {
     pub fn destroy(&mut self, id: u64) -> bool
         ensures row { result ≡ is_some (row_of id self.old.rows) }
         ensures rows { self.new ≡ destroyed id self.old }
+        ensures none { result ≡ false → self.new ≡ self.old }
     {
         match self.table.row(id) {
             None => false,

@@ -17,14 +17,14 @@ returns-clause-priority c =
     first_called own c.args.busy.now c.args.self.now.rows.rows c.candidates-row-items.ensures.forest c.candidates-row-items.ensures.one_tree _
     (none_here (is_callable own c.args.busy.now) c.rows.row-iterator (in_order c.args.self.now.rows.rows) c.in-None.ensures.steps.0 c.rows.invariant)
 
-pub returns-then-calls-clause-priority : goal.returns-then-calls-clause-priority
-returns-then-calls-clause-priority c =
+pub returns-then-is_callable-clause-priority : goal.returns-then-is_callable-clause-priority
+returns-then-is_callable-clause-priority c =
     let own = own_ready (shown []) (in_view c.args.view.now) c.args.now in
     let fits : SFits w32 c.in-Some.row.now.priority = search rules in
     let same : to_z w32 (of_z w32 c.in-Some.row.now.priority) ≡ c.in-Some.row.now.priority = simp to_z-of_z in
     ap (λ (z : ℤ). Some z) same
     ∙ first_called own c.args.busy.now c.args.self.now.rows.rows c.candidates-row-items.ensures.forest c.candidates-row-items.ensures.one_tree _
-    (found_here (is_callable own c.args.busy.now) c.rows.row-iterator c.next.new.self (in_order c.args.self.now.rows.rows) c.in-Some.row.now (sym c.is_callable.ensures ∙ c.if-calls.true) c.in-Some.ensures.steps c.rows.invariant)
+    (found_here (is_callable own c.args.busy.now) c.rows.row-iterator c.next.new.self (in_order c.args.self.now.rows.rows) c.in-Some.row.now (sym c.is_callable.ensures ∙ c.if-is_callable.true) c.in-Some.ensures.steps c.rows.invariant)
 
 pub rows-init : goal.rows-init
 rows-init c =

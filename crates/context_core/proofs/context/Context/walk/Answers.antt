@@ -20,7 +20,7 @@ rows-preserved-in-Continue-branch-2 c =
     let fits : SFits w32 row.priority = search rules in
     let same : to_z w32 (of_z w32 row.priority) ≡ row.priority = simp to_z-of_z in
     let step = stepped own c.args.busy.now (may_call c.args.now rows) rows c.rows.row-iterator c.next.new.self row (λ (id : ℕ). contains nat_cmp c.rows.lent id) (λ (id : ℕ). contains nat_cmp c.visit.new.lent id) _
-    c.candidates-row-items.ensures.forest (each_calls_may (shown c.args.polled.now) (in_view c.args.view.now) c.args.now c.args.busy.now rows c.candidates-row-items.ensures.forest) c.in-Some.ensures.steps c.in_ok-take_turn.ensures.lent c.in_ok-take_turn.ensures.ready c.rows.invariant.passed in
+    c.candidates-row-items.ensures.forest (each_calls_may (shown c.args.polled.now) (in_view c.args.view.now) c.args.now c.args.busy.now rows c.candidates-row-items.ensures.forest) c.in-Some.ensures.steps c.in_ok-visit.ensures.lent c.in_ok-visit.ensures.ready c.rows.invariant.passed in
     record {
       passed = step.0;
       ids = ap (λ (p : ℤ). c.push.new.self.items ++ walk (is_ready own c.args.busy.now rows) (Some p) c.next.new.self) same
@@ -36,7 +36,7 @@ rows-preserved c =
     let fits : SFits w32 row.priority = search rules in
     let same : to_z w32 (of_z w32 row.priority) ≡ row.priority = simp to_z-of_z in
     let step = stepped own c.args.busy.now (may_call c.args.now rows) rows c.rows.row-iterator c.next.new.self row (λ (id : ℕ). contains nat_cmp c.rows.lent id) (λ (id : ℕ). contains nat_cmp c.visit.new.lent id) _
-    c.candidates-row-items.ensures.forest (each_calls_may (shown c.args.polled.now) (in_view c.args.view.now) c.args.now c.args.busy.now rows c.candidates-row-items.ensures.forest) c.in-Some.ensures.steps c.in_ok-take_turn.ensures.lent c.in_ok-take_turn.ensures.ready c.rows.invariant.passed in
+    c.candidates-row-items.ensures.forest (each_calls_may (shown c.args.polled.now) (in_view c.args.view.now) c.args.now c.args.busy.now rows c.candidates-row-items.ensures.forest) c.in-Some.ensures.steps c.in_ok-visit.ensures.lent c.in_ok-visit.ensures.ready c.rows.invariant.passed in
     record {
       passed = step.0;
       ids = walk_passed (is_ready own c.args.busy.now rows) c.rows.bound row c.next.new.self c.rows.row-iterator c.rows.ids.items _

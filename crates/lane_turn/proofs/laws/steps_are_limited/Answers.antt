@@ -1,0 +1,6 @@
+use Rattle.std.proofs.Common.{refl}
+use Rattle.lane_turn.proofs.Limited.{takes_action, takes_dispatch, left_falls}
+use Rattle.lane_turn.proofs.laws.steps_are_limited.Goals as goal
+
+pub returns : goal.returns
+returns c = record { first = λ tick lane. refl; actions = takes_action; dispatches = takes_dispatch; falls = left_falls }

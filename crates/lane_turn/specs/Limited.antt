@@ -1,0 +1,36 @@
+-- How many actions and dispatches a turn takes.
+use Rattle.std.specs.Prelude.{◌≡◌, ◌⊎◌, ◌+◌, ◌≤◌, ℕ, Option, Some, List, [], ◌∷◌, ◌++◌, slice_get}
+use Rattle.loop_script.specs.declared.plan.Plan.{Plan}
+use Rattle.loop_script.specs.declared.action.Action.{Action}
+use Rattle.loop_script.specs.Parts.{actions_of}
+use Rattle.loop_script.specs.Units.{Tick}
+use Rattle.source_rows.specs.declared.row.Row.{Row}
+use Rattle.lane_turn.specs.declared.layer.Asker.{Asker}
+use Rattle.lane_turn.specs.declared.layer.Call.{Call}
+use Rattle.lane_turn.specs.declared.line.Event.TheVariants as events
+use Rattle.lane_turn.specs.declared.lane.Status.TheVariants.{GoesOn, Halted}
+use Rattle.lane_turn.specs.Frames.{Frame, CallOf, IterOf}
+use Rattle.lane_turn.specs.Lane.{Lane, Turn, row_of}
+use Rattle.lane_turn.specs.Step.{step}
+use Rattle.lane_turn.specs.Turn.{begun}
+
+-- the lane is halted with the line `halt steps`, and nothing else of it is changed
+abbrev pub IsHaltedBySteps : Tick → Lane → Lane → Type 0
+IsHaltedBySteps tick before now = now ≡ record before { status = Halted; trace = before.trace ++ (record { tick = tick; event = events.HaltSteps }) ∷ [] }
+
+-- one is taken of those that the turn may still take; where none is left the lane is halted
+abbrev pub TakesOne : Tick → Turn → Turn → Type 0
+TakesOne tick before now = (now.left + 1 ≡ before.left) ⊎ ((before.left ≡ 0) × IsHaltedBySteps tick before.lane now.lane)
+
+-- a turn takes 10,000 actions and dispatches at most
+pub record StepsAreLimited : Type 0 where
+  -- so many it may take at its beginning
+  pub first : (tick : ℕ) (lane : Lane) → (begun tick lane).left ≡ 10000
+  -- the next action of the innermost call takes one
+  pub actions : (script : Plan) (tick : ℕ) (t u : Turn) (call : Call) (action : Action) (below : List Frame) → t.unpolled ≡ [] → t.lane.status ≡ GoesOn → t.lane.frames ≡ CallOf call ∷ below
+      → slice_get (actions_of script call.body) call.place ≡ Some action → step script tick t ≡ Some u → TakesOne tick t u
+  -- so does the dispatch of the next id of the innermost iteration
+  pub dispatches : (script : Plan) (tick : ℕ) (t u : Turn) (context id : ℕ) (ids : List ℕ) (asker : Asker) (below : List Frame) (row : Row) → t.unpolled ≡ [] → t.lane.status ≡ GoesOn
+      → t.lane.frames ≡ IterOf context (id ∷ ids) asker ∷ below → row_of context id t.lane ≡ Some row → step script tick t ≡ Some u → TakesOne tick t u
+  -- no step gives one back
+  pub falls : (script : Plan) (tick : ℕ) (t u : Turn) → step script tick t ≡ Some u → u.left ≤ t.left
