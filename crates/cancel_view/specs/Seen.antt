@@ -12,12 +12,15 @@ pub record Seen : Type 0 where
   pub handlers : List Handler
   pub next_id : ℕ
 
+-- whether a cancellable is seen as cancelled
 abbrev pub has : ℕ → Seen → Bool
 has c v = slice_index_or v.members c false
 
+-- whether a handler is one of a cancellable
 abbrev pub is_of : ℕ → Handler → Bool
 is_of c h = h.cancellable == c
 
+-- what is told of a handler that is to be called
 abbrev pub fired_as : Handler → Fired
 fired_as h = record { id = h.id; proc = h.proc }
 
@@ -33,14 +36,17 @@ cancelled c v = if has c v then v else record v { members = slice_set v.members 
 abbrev pub connecting : ℕ → Seen → Connected
 connecting c v = if has c v then Already else Id v.next_id
 
+-- the view with one more handler
 abbrev pub connected : ℕ → ℕ → Seen → Seen
 connected c proc v =
     if has c v then v
     else record v { handlers = v.handlers ++ record { id = v.next_id; cancellable = c; proc = proc } ∷ []; next_id = v.next_id + 1 }
 
+-- whether a handler has an id
 abbrev pub has_id : ℕ → Handler → Bool
 has_id id h = h.id == id
 
+-- whether it has another
 abbrev pub has_other_id : ℕ → Handler → Bool
 has_other_id id h = not (h.id == id)
 
@@ -57,6 +63,7 @@ abbrev pub RiseFrom : ℕ → List Fired → Type 0
 RiseFrom low [] = Unit {0}
 RiseFrom low (f ∷ fs) = (low < f.id) × RiseFrom f.id fs
 
+-- the ids of what is to be called rise
 abbrev pub IsRising : List Fired → Type 0
 IsRising fs = RiseFrom 0 fs
 
@@ -65,5 +72,6 @@ abbrev pub RiseWithin : ℕ → ℕ → List Handler → Type 0
 RiseWithin low high [] = low < high
 RiseWithin low high (h ∷ hs) = (low < h.id) × RiseWithin h.id high hs
 
+-- the handlers' ids rise, and none is the next one or above it
 abbrev pub IsSound : Seen → Type 0
 IsSound v = RiseWithin 0 v.next_id v.handlers

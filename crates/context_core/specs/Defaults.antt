@@ -7,9 +7,11 @@ use Rattle.context_core.specs.declared.context.Context.{Context}
 abbrev pub acquired : Context → Context
 acquired context = record context { acquires = context.acquires + 1 }
 
+-- one acquire of a context is taken back
 abbrev pub released : Context → Context
 released context = record context { acquires = context.acquires - 1 }
 
+-- whether an acquire is left
 abbrev pub is_acquired : Context → Bool
 is_acquired context = nat_lt 0 context.acquires
 
@@ -17,19 +19,24 @@ is_acquired context = nat_lt 0 context.acquires
 abbrev pub Defaults : Type 0
 Defaults = List ℕ
 
+-- the thread-default context, if one was pushed
 abbrev pub top_of : Defaults → Option ℕ
 top_of stack = slice_get stack (length stack - 1)
 
+-- whether a context is this one
 abbrev pub names : ℕ → Option ℕ → Bool
 names context None = false
 names context (Some top) = top == context
 
+-- whether a context is on top of the stack
 abbrev pub is_on_top : ℕ → Defaults → Bool
 is_on_top context stack = names context (top_of stack)
 
+-- whether a context is on the stack
 abbrev pub is_pushed : ℕ → Defaults → Bool
 is_pushed context stack = list_any (λ c. c == context) stack
 
+-- the stack with one more context on top
 abbrev pub pushed : ℕ → Defaults → Defaults
 pushed context stack = stack ++ context ∷ []
 

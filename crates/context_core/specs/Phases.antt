@@ -42,6 +42,7 @@ wait_of now busy rows None = ms_until now (next_ready now (filter (is_free busy)
 
 -- ---- query
 
+-- whether a source is one of a descriptor
 abbrev pub is_fd : Kind → Bool
 is_fd Idle = false
 is_fd (Timeout ms) = false
@@ -49,6 +50,7 @@ is_fd (ReadyTime us) = false
 is_fd (Fd fd bits) = true
 is_fd (Cancel c) = false
 
+-- its descriptor
 abbrev pub fd_of : Kind → ℕ
 fd_of Idle = 0
 fd_of (Timeout ms) = 0
@@ -56,6 +58,7 @@ fd_of (ReadyTime us) = 0
 fd_of (Fd fd bits) = fd
 fd_of (Cancel c) = 0
 
+-- the bits that it asks for
 abbrev pub bits_of : Kind → ℕ
 bits_of Idle = 0
 bits_of (Timeout ms) = 0
@@ -67,6 +70,7 @@ bits_of (Cancel c) = 0
 abbrev pub is_asked : Option ℤ → List ℕ → Row → Bool
 is_asked priority busy r = is_fd r.kind && (is_free busy r && not (less_urgent priority r.priority))
 
+-- the rows whose descriptors are asked for, in order
 abbrev pub asked_rows : Option ℤ → List ℕ → List Row → List Row
 asked_rows priority busy rows = filter (is_asked priority busy) (in_order rows)
 
@@ -74,6 +78,7 @@ asked_rows priority busy rows = filter (is_asked priority busy) (in_order rows)
 abbrev pub interest_of : Row → Interest
 interest_of r = record { fd = fd_of r.kind; bits = bits_of r.kind }
 
+-- what is asked of descriptors, in order
 abbrev pub interests : Option ℤ → List ℕ → List Row → List Interest
 interests priority busy rows = map interest_of (asked_rows priority busy rows)
 
@@ -88,6 +93,7 @@ abbrev pub level_of : Option Shown → ℕ
 level_of None = 0
 level_of (Some s) = s.level
 
+-- the level that a list shows of a descriptor
 abbrev pub shown : List Shown → ℕ → ℕ
 shown list fd = level_of (find (λ s. s.fd == fd) list)
 

@@ -9,6 +9,7 @@ use Rattle.source_rows.specs.Rows.{in_order, is_under}
 
 -- ---- what makes a source ready by itself
 
+-- a test of a row by itself
 abbrev pub Own : Type 0
 Own = Row → Bool
 
@@ -24,6 +25,7 @@ always_told = 56
 abbrev pub has_bit : ℕ → ℕ → Bool
 has_bit level bits = not (bit_and level (bit_or bits always_told) == 0)
 
+-- what its kind makes ready
 abbrev pub kind_ready : (level : ℕ → ℕ) → (cancelled : ℕ → Bool) → Kind → Bool
 kind_ready level cancelled Idle = true
 kind_ready level cancelled (Timeout ms) = false
@@ -35,6 +37,7 @@ kind_ready level cancelled (Cancel c) = cancelled c
 abbrev pub in_view : Seen → ℕ → Bool
 in_view view c = has c view
 
+-- its kind makes it ready, or its ready time has come
 abbrev pub own_ready : (level : ℕ → ℕ) → (cancelled : ℕ → Bool) → ℕ → Own
 own_ready level cancelled now r = kind_ready level cancelled r.kind || is_due now r.ready
 
@@ -44,6 +47,7 @@ own_ready level cancelled now r = kind_ready level cancelled r.kind || is_due no
 abbrev pub is_blocked : List ℕ → Row → Bool
 is_blocked busy r = list_any (λ id. list_any (λ b. b == id) busy) r.line
 
+-- no call in progress blocks it
 abbrev pub is_free : List ℕ → Row → Bool
 is_free busy r = not (is_blocked busy r)
 
@@ -57,6 +61,7 @@ is_ready own busy rows r = is_free busy r && list_any (λ q. is_under r.id q && 
 
 -- ---- the selection
 
+-- the rows that are ready
 abbrev pub ready_rows : Own → List ℕ → List Row → List Row
 ready_rows own busy rows = filter (is_ready own busy rows) rows
 

@@ -10,6 +10,7 @@ use Rattle.context_core.specs.Ready.{Own, is_blocked, is_ready, is_most_urgent, 
 abbrev pub is_busy : List ℕ → ℕ → Bool
 is_busy busy id = list_any (λ b. b == id) busy
 
+-- whether a call of the parent is in progress
 abbrev pub is_parent_busy : List ℕ → Option ℕ → Bool
 is_parent_busy busy None = false
 is_parent_busy busy (Some id) = is_busy busy id
@@ -26,6 +27,7 @@ calls_at_two own busy r = not (is_blocked_at_two busy r) && own r
 abbrev pub is_ready_at_two : Own → List ℕ → List Row → Row → Bool
 is_ready_at_two own busy rows r = not (is_blocked_at_two busy r) && (own r || list_any (λ q. is_child_of r.id q && calls_at_two own busy q) rows)
 
+-- the rows that are ready
 abbrev pub ready_at_two : Own → List ℕ → List Row → List Row
 ready_at_two own busy rows = filter (is_ready_at_two own busy rows) rows
 
@@ -41,6 +43,7 @@ abbrev pub is_above_blocked : List ℕ → Option Row → Bool
 is_above_blocked busy None = false
 is_above_blocked busy (Some above) = is_blocked busy above
 
+-- what blocks a source, by its parents; and at two levels
 pub record LevelLaws : Type 0 where
   -- at any level: a call of the source blocks it, and so does what blocks its parent
   pub by_parents : (rows : List Row) → IsForest rows → (busy : List ℕ) → AllByRecursion (λ r. is_blocked busy r ≡ (is_above_blocked busy (parent_of rows r.parent) || is_busy busy r.id)) rows

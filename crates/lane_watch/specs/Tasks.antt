@@ -23,6 +23,7 @@ pub record Tasks : Type 0 where
   pub came : List (Option ℕ)
   pub tick : ℕ
 
+-- one option in place of two
 abbrev pub flat : {A : Type 0} → Option (Option A) → Option A
 flat None = None
 flat (Some thing) = thing
@@ -36,9 +37,11 @@ came_in came (Some c) = flat (slice_get came c)
 abbrev pub first_seen : List (Option ℕ) → Started → Option ℕ
 first_seen came t = option_map (λ tick. max t.first (tick + 1)) (came_in came t.spec.cancel)
 
+-- when a task ends, and how
 abbrev pub end_of_task : ℕ → List (Option ℕ) → Started → End
 end_of_task tick_us came t = end_of tick_us t.spec.tree t.first (first_seen came t)
 
+-- the reply of a task
 abbrev pub reply_of : Started → Outcome → Reply
 reply_of t outcome = record { task = t.number; ctx = t.ctx; outcome = outcome; call = t.spec.call; priority = t.spec.priority; cancel = t.spec.cancel; check = t.spec.check }
 
@@ -47,8 +50,10 @@ abbrev pub reply_at : ℕ → Tasks → Started → Option Reply
 reply_at tick tasks t =
     option_map (reply_of t) (reply_in tick t.spec.return_on_cancel (first_seen tasks.came t) (end_of_task tasks.tick_us tasks.came t))
 
+-- whether the body of a task ends at a tick after its reply or with it
 abbrev pub is_late_at : ℕ → Tasks → Started → Bool
 is_late_at tick tasks t = is_late_in tick t.spec.return_on_cancel (first_seen tasks.came t) (end_of_task tasks.tick_us tasks.came t)
 
+-- whether a task goes on after its poll at a tick
 abbrev pub stays_at : ℕ → Tasks → Started → Bool
 stays_at tick tasks t = not ((end_of_task tasks.tick_us tasks.came t).tick == tick)

@@ -9,6 +9,7 @@ use Rattle.task_steps.specs.Book.{Book, IsIn, IsIdle, MayComeToAll, OwesNone, al
 use Rattle.task_steps.specs.Run.{IsUpTo, IsAfter}
 use Rattle.lane_watch.specs.Tasks.{Started, Tasks, first_seen, reply_at, is_late_at, stays_at}
 
+-- a view, and tasks that know when its cancellables came into it
 pub record Watched : Type 0 where
   pub view : Seen
   pub tasks : Tasks
@@ -17,6 +18,7 @@ pub record Watched : Type 0 where
 abbrev pub nothing_seen : ℕ → Seen
 nothing_seen n = record { members = replicate n false; handlers = []; next_id = 1 }
 
+-- no task was started, and nothing came into the view
 abbrev pub no_tasks : (n tick_us : ℕ) → Tasks
 no_tasks n tick_us = record { started = []; next = 0; tick_us = tick_us; came = replicate n None; tick = 0 }
 
@@ -40,9 +42,11 @@ starting tick ctx spec tasks = record tasks {
 abbrev pub replies_of : ℕ → Tasks → List Reply
 replies_of tick tasks = filter_map (reply_at tick tasks) tasks.started
 
+-- the numbers of the tasks that are late at a tick
 abbrev pub late_of : ℕ → Tasks → List ℕ
 late_of tick tasks = map (λ t. t.number) (filter (is_late_at tick tasks) tasks.started)
 
+-- the tasks after a poll
 abbrev pub polled : ℕ → Tasks → Tasks
 polled tick tasks = record tasks { started = filter (stays_at tick tasks) tasks.started; tick = tick + 1 }
 
@@ -71,6 +75,7 @@ started_of t = record {
   first = t.first;
 }
 
+-- a tick before another, where there is one
 abbrev pub IsBelow : ℕ → Option ℕ → Type 0
 IsBelow tick None = Unit {0}
 IsBelow tick (Some k) = k < tick
@@ -90,6 +95,7 @@ SeenAs tick returns clear (Some from) None = ⊥
 SeenAs tick returns clear None (Some k) = IsBelow k clear × (returns ≡ true → tick ≤ k)
 SeenAs tick returns clear (Some from) (Some k) = IsBelow k clear × (k ≤ from) × (returns ≡ true → k ≡ from)
 
+-- a task of the book goes by the ticks in which the view's members came
 pub record Fits (tick tick_us : ℕ) (view : Seen) (came : List (Option ℕ)) (t : Task) : Type 0 where
   pub ticks : t.tick_us ≡ tick_us
   pub first : t.first ≤ tick
@@ -115,6 +121,7 @@ abbrev pub IsLast : ℕ → Option ℕ → Type 0
 IsLast tick None = Unit {0}
 IsLast tick (Some last) = last + 1 ≡ tick
 
+-- a book of tasks that fits the view, and until when no poll of it gives anything
 pub record IsJoined (tick tick_us : ℕ) (view : Seen) (came : List (Option ℕ)) (book : Book) (until : Option ℕ) : Type 0 where
   pub ticks : book.tick_us ≡ tick_us
   pub some : 0 < tick_us

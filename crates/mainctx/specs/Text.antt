@@ -15,14 +15,17 @@ use Rattle.lane_turn.specs.declared.line.Word.TheVariants as words
 use Rattle.lane_turn.specs.Lane.{Lane}
 use Rattle.lane_turn.specs.Tick.{lanes_at}
 
+-- a truth
 abbrev pub truth_text : Bool → List ℕ
 truth_text b = if b then codes "true" else codes "false"
 
+-- how a procedure was invoked
 abbrev pub invoked_text : Invoked → List ℕ
 invoked_text Direct = codes "direct"
 invoked_text Attached = codes "attached"
 invoked_text Posted = codes "posted"
 
+-- how a task ended
 abbrev pub outcome_text : Outcome → List ℕ
 outcome_text (outcomes.Ok v) = codes "ok " ++ signed_decimal v
 outcome_text outcomes.Failed = codes "failed"

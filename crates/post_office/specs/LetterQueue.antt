@@ -11,6 +11,7 @@ use Rattle.post_office.specs.Parts.{Mail, IsPosted}
 abbrev pub keeper : List (List Letter) → List Letter → ℕ → PostView
 keeper recorded drained out = record { is_own = true; posted = []; recorded = recorded; drained = drained; out = out }
 
+-- a pass of a thread that posts, and the passes that are out
 abbrev pub poster : List Letter → ℕ → PostView
 poster posted out = record { is_own = false; posted = posted; recorded = []; drained = []; out = out }
 
@@ -18,6 +19,7 @@ poster posted out = record { is_own = false; posted = posted; recorded = []; dra
 abbrev pub posted : PostView → Letter → PostView
 posted v x = record { is_own = v.is_own; posted = v.posted ++ x ∷ []; recorded = v.recorded; drained = v.drained; out = v.out }
 
+-- what each pass posted
 abbrev pub posted_of : List PostView → List (List Letter)
 posted_of vs = map (λ v. v.posted) vs
 
@@ -29,6 +31,7 @@ outs vs = sum_by (λ v. v.out) vs
 abbrev pub Fits : PostView → Type 0
 Fits v = (v.is_own ≡ false) × (v.out ≡ 0 → v.posted ≡ [])
 
+-- each pass fits
 abbrev pub AllFit : List PostView → Type 0
 AllFit vs = (port : ℕ) (v : PostView) → get_elem? vs port ≡ some v → Fits v
 

@@ -20,5 +20,6 @@ same_place x y = (x.sender == y.sender) && (x.number == y.number)
 abbrev pub AreApart : List Letter → Type 0
 AreApart letters = IsDistinct same_place letters
 
+-- letters that no two share a sender and number of have one order
 abbrev pub OrderIsOne : Type 0
 OrderIsOne = (xs ys : List Letter) → AreApart xs → IsPermutation xs ys → InOrder xs → InOrder ys → xs ≡ ys

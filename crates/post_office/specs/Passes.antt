@@ -62,9 +62,11 @@ new_office home = record { home = home; recorded = []; drained = []; out = 0 }
 abbrev pub new_posting : OfficeState → Posting
 new_posting office = record { home = office.home; posted = [] }
 
+-- a pass is made
 abbrev pub opens : OfficeState → OfficeState
 opens office = record office { out = office.out + 1 }
 
+-- a pass is taken back, with what it posted
 abbrev pub closes : OfficeState → Posting → OfficeState
 closes office pass = record office { recorded = office.recorded ++ pass.posted ∷ []; out = office.out - 1 }
 

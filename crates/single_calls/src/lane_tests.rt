@@ -15,7 +15,12 @@ fn first_run_script() -> &'static str {
 const LINES: [Line; 2] = [
     Line {
         tick: 0,
-        event: Event::Dispatch(0, 1, 200, 1),
+        event: Event::Dispatch {
+            context: 0,
+            source: 1,
+            priority: 200,
+            depth: 1,
+        },
     },
     Line {
         tick: 0,
@@ -82,11 +87,20 @@ const REPLY_LINES: [Line; 3] = [
     },
     Line {
         tick: 2,
-        event: Event::Dispatch(0, 1, 0, 1),
+        event: Event::Dispatch {
+            context: 0,
+            source: 1,
+            priority: 0,
+            depth: 1,
+        },
     },
     Line {
         tick: 2,
-        event: Event::Task(0, 0, Outcome::Ok(8)),
+        event: Event::Task {
+            lane: 0,
+            number: 0,
+            outcome: Outcome::Ok(8),
+        },
     },
 ];
 

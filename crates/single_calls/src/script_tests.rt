@@ -40,7 +40,12 @@ fn each_line() -> &'static str {
 fn writes_each_line(rt: HostRuntime) -> Result<(), Fail> {
     let mut text = Vec::new(rt.alloc());
     let lines = [
-        Event::Dispatch(0, 1, -100, 2),
+        Event::Dispatch {
+            context: 0,
+            source: 1,
+            priority: -100,
+            depth: 2,
+        },
         Event::Iterate(1, true),
         Event::Pending(2, false),
         Event::LoopEnd(3),
@@ -50,10 +55,21 @@ fn writes_each_line(rt: HostRuntime) -> Result<(), Fail> {
         Event::Arrive(7, 8),
         Event::Cancel(9),
         Event::Handler(0),
-        Event::Task(1, 2, Outcome::Ok(-3)),
-        Event::Task(1, 2, Outcome::TimedOut),
+        Event::Task {
+            lane: 1,
+            number: 2,
+            outcome: Outcome::Ok(-3),
+        },
+        Event::Task {
+            lane: 1,
+            number: 2,
+            outcome: Outcome::TimedOut,
+        },
         Event::TaskLate(1, 2),
-        Event::Give(1, 0),
+        Event::Give {
+            context: 1,
+            lane: 0,
+        },
         Event::Hold(1),
         Event::Miss(Word::SetReady),
         Event::HaltDepth,

@@ -14,6 +14,7 @@ worker_by Round workers lane = lane % workers
 worker_by (Fixed table) workers lane = unwrap_or (slice_get table.items lane) 0
 worker_by Queue workers lane = 0
 
+-- who takes a lane
 abbrev pub worker_of : Crew → ℕ → ℕ
 worker_of crew lane = worker_by crew.sharing crew.workers lane
 

@@ -48,6 +48,7 @@ Changes (Claim w n) s s' = ((work_of s' ≡ work_of s) ⊎ (work_of s' ≡ claim
 Changes (Step w) s s' = (work_of s' ≡ work_of s) × ((mail_of s' ≡ mail_of s) ⊎ ((x : Letter) × (mail_of s' ≡ posts w x (mail_of s))))
 Changes (Done w) s s' = (work_of s' ≡ work_of s) × (mail_of s' ≡ mail_of s)
 
+-- each move changes the parts that it says, and no other
 abbrev pub ChangesArePartial : Type 0
 ChangesArePartial = (script : Plan) (tick : ℕ) (s : Tick) (move : Move) → Changes move s (moved script tick s move)
 

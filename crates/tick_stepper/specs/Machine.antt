@@ -35,9 +35,11 @@ posted_by t u = drop (length t.posted) u.posted
 abbrev pub takes : ℕ → Worker → Lane → Worker
 takes tick worker lane = record worker { held = Some (begun tick lane); taken = worker.taken ++ lane ∷ [] }
 
+-- a worker goes on with its lane, and posts what the step posts
 abbrev pub goes_on : Worker → Turn → Turn → Worker
 goes_on worker t u = record worker { held = Some u; posted = worker.posted ++ posted_by t u }
 
+-- a worker has turned its lane
 abbrev pub lets_go : Worker → Turn → Worker
 lets_go worker t = record worker { held = None; over = worker.over ++ t.lane ∷ [] }
 
@@ -46,32 +48,39 @@ abbrev pub claimed : ℕ → Tick → (w n : ℕ) → Worker → Option Lane →
 claimed tick s w n worker None = s
 claimed tick s w n worker (Some lane) = record { waiting = without n s.waiting; workers = set s.workers w (takes tick worker lane); office = s.office }
 
+-- the tick after a worker's step, where there is one
 abbrev pub gone_on : Tick → ℕ → Worker → Turn → Option Turn → Tick
 gone_on s w worker t None = s
 gone_on s w worker t (Some u) = record { waiting = s.waiting; workers = set s.workers w (goes_on worker t u); office = s.office ++ posted_by t u }
 
+-- the tick after the last step of a worker's lane
 abbrev pub ended : Tick → ℕ → Worker → Turn → Option Turn → Tick
 ended s w worker t None = record { waiting = s.waiting; workers = set s.workers w (lets_go worker t); office = s.office }
 ended s w worker t (Some u) = s
 
+-- a worker without a lane takes one that waits
 abbrev pub claim : ℕ → Tick → (w n : ℕ) → Worker → Option Turn → Tick
 claim tick s w n worker None = claimed tick s w n worker (slice_get s.waiting n)
 claim tick s w n worker (Some t) = s
 
+-- a worker with a lane takes a step
 abbrev pub go_on : Plan → ℕ → Tick → ℕ → Worker → Option Turn → Tick
 go_on script tick s w worker None = s
 go_on script tick s w worker (Some t) = gone_on s w worker t (step script tick t)
 
+-- a worker whose lane has no step left lets it go
 abbrev pub end : Plan → ℕ → Tick → ℕ → Worker → Option Turn → Tick
 end script tick s w worker None = s
 end script tick s w worker (Some t) = ended s w worker t (step script tick t)
 
+-- a move of a worker that there is
 abbrev pub by_worker : Plan → ℕ → Tick → Move → Option Worker → Tick
 by_worker script tick s move None = s
 by_worker script tick s (Claim w n) (Some worker) = claim tick s w n worker worker.held
 by_worker script tick s (Step w) (Some worker) = go_on script tick s w worker worker.held
 by_worker script tick s (Done w) (Some worker) = end script tick s w worker worker.held
 
+-- whose move it is
 abbrev pub worker_of : Move → ℕ
 worker_of (Claim w n) = w
 worker_of (Step w) = w
@@ -81,6 +90,7 @@ worker_of (Done w) = w
 abbrev pub moved : Plan → ℕ → Tick → Move → Tick
 moved script tick s move = by_worker script tick s move (slice_get s.workers (worker_of move))
 
+-- the tick after some moves
 abbrev pub after : Plan → ℕ → List Move → Tick → Tick
 after script tick [] s = s
 after script tick (move ∷ moves) s = after script tick moves (moved script tick s move)
@@ -89,6 +99,7 @@ after script tick (move ∷ moves) s = after script tick moves (moved script tic
 abbrev pub idle : Worker
 idle = record { held = None; taken = []; over = []; posted = [] }
 
+-- a tick in which all lanes wait
 abbrev pub opening : ℕ → List Lane → Tick
 opening workers lanes = record { waiting = lanes; workers = replicate workers idle; office = [] }
 
@@ -96,6 +107,7 @@ opening workers lanes = record { waiting = lanes; workers = replicate workers id
 abbrev pub AreFree : List Worker → Type 0
 AreFree workers = AllByRecursion (λ worker. worker.held ≡ None) workers
 
+-- no lane waits, and no worker has one
 pub record IsFull (s : Tick) : Type 0 where
   pub waiting : s.waiting ≡ []
   pub held : AreFree s.workers
@@ -104,9 +116,11 @@ pub record IsFull (s : Tick) : Type 0 where
 abbrev pub taken_of : Tick → List (List Lane)
 taken_of s = map (λ worker. worker.taken) s.workers
 
+-- the lanes that each worker has turned
 abbrev pub over_of : Tick → List (List Lane)
 over_of s = map (λ worker. worker.over) s.workers
 
+-- what each worker posted
 abbrev pub posted_of : Tick → List (List Letter)
 posted_of s = map (λ worker. worker.posted) s.workers
 
@@ -114,5 +128,6 @@ posted_of s = map (λ worker. worker.posted) s.workers
 abbrev pub work_of : Tick → Work Lane
 work_of s = record { waiting = s.waiting; taken = taken_of s }
 
+-- what was posted, by workers and in all
 abbrev pub mail_of : Tick → Mail Letter
 mail_of s = record { posted = posted_of s; office = s.office }

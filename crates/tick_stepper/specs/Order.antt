@@ -8,5 +8,6 @@ abbrev pub RisesBy : {X : Type 0} → (X → ℕ) → List X → Type 0
 RisesBy number [] = Unit {0}
 RisesBy number (x ∷ xs) = AllByRecursion (λ later. number x < number later) xs × RisesBy number xs
 
+-- lanes by rising number
 abbrev pub ByNumber : List Lane → Type 0
 ByNumber lanes = RisesBy (λ (lane : Lane). lane.number) lanes

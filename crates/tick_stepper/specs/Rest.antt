@@ -15,6 +15,7 @@ use Rattle.tick_stepper.specs.Share.{unspent}
 abbrev pub lane_at : ℕ → Resting → Lane
 lane_at tick one = at_tick tick one.lane.state.lane
 
+-- lanes brought to a tick
 abbrev pub all_at : ℕ → List Resting → List Lane
 all_at tick ones = map (lane_at tick) ones
 
@@ -23,6 +24,7 @@ abbrev pub comes_by : ℕ → Option ℕ → Bool
 comes_by tick None = false
 comes_by tick (Some next) = nat_le next tick
 
+-- whether a lane's turn comes at a tick
 abbrev pub is_due : ℕ → Resting → Bool
 is_due tick one = comes_by tick one.next
 
@@ -30,6 +32,7 @@ is_due tick one = comes_by tick one.next
 abbrev pub woken : ℕ → Resting → Numbered
 woken tick one = record { number = one.lane.number; state = unspent (lane_at tick one) }
 
+-- the same of all
 abbrev pub all_woken : ℕ → List Resting → List Numbered
 all_woken tick ones = map (woken tick) ones
 

@@ -21,6 +21,7 @@ unspent lane = record { lane = lane; spent = false }
 abbrev pub numbered_one : Lane → Numbered
 numbered_one lane = record { number = lane.number; state = unspent lane }
 
+-- lanes with their numbers
 abbrev pub numbered : List Lane → List Numbered
 numbered lanes = map numbered_one lanes
 
@@ -28,9 +29,11 @@ numbered lanes = map numbered_one lanes
 abbrev pub stepped_one : (Lane → Lane) → Numbered → Numbered
 stepped_one step one = record { number = one.number; state = unspent (step one.state.lane) }
 
+-- a lane after its turn
 abbrev pub turned_one : Plan → ℕ → Numbered → Numbered
 turned_one script tick one = stepped_one (turned script tick) one
 
+-- the letters of its turn
 abbrev pub out_of_one : Plan → ℕ → Numbered → List Letter
 out_of_one script tick one = out_of script tick one.state.lane
 
@@ -64,6 +67,7 @@ has_lanes share = nat_lt 0 (length share.lanes.items)
 abbrev pub handed : List Share → List Numbered
 handed shares = flat_map (λ share. share.lanes.items) shares
 
+-- the letters of all shares
 abbrev pub carried : List Share → List Letter
 carried shares = flat_map (λ share. share.tray) shares
 
