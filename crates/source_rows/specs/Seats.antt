@@ -1,5 +1,5 @@
 -- The seats of rows in their order: where a row stands, its id, from when on it may be ready, and when it is due.
-use Rattle.std.specs.Prelude.{ℕ, zero, suc, nat_lt, ◌+◌, ◌||◌, length, ◌≡◌, ◌≤◌, ◌^◌, Bool, false, not, Option, Some, None, List, [], ◌∷◌, map, filter, if◌then◌else◌}
+use Rattle.std.specs.Prelude.{ℕ, zero, suc, nat_lt, ◌+◌, length, ◌≡◌, ◌≤◌, ◌^◌, Bool, false, not, Option, Some, None, List, [], ◌∷◌, map, filter, if◌then◌else◌}
 use Rattle.std.specs.Ordering.{is_lt, is_eq, ordering_then, nat_cmp}
 use Rattle.std.specs.declared.cmp.Ordering.{Ordering}
 use Rattle.source_rows.specs.declared.row.Row.{Row}
@@ -12,15 +12,19 @@ use Rattle.source_rows.specs.Candidates.{never, due_at, wakes_at}
 abbrev pub Seat : Type 0
 Seat = Key × (ℕ × (ℕ × ℕ))
 
+-- from when on the row of a seat may be ready
 abbrev pub wake_of : Seat → ℕ
 wake_of s = s.1.1.0
 
+-- when the row of a seat is due
 abbrev pub due_of : Seat → ℕ
 due_of s = s.1.1.1
 
+-- by key, then by id, then by the two times
 abbrev pub seat_cmp : Seat → Seat → Ordering
 seat_cmp a b = ordering_then (key_cmp a.0 b.0) (ordering_then (nat_cmp a.1.0 b.1.0) (ordering_then (nat_cmp (wake_of a) (wake_of b)) (nat_cmp (due_of a) (due_of b))))
 
+-- a seat stands before another
 abbrev pub is_ahead : Seat → Seat → Bool
 is_ahead a b = is_lt (seat_cmp a b)
 
@@ -28,14 +32,15 @@ is_ahead a b = is_lt (seat_cmp a b)
 abbrev pub without : Seat → List Seat → List Seat
 without t seats = filter (λ u. not (is_eq (seat_cmp t u))) seats
 
--- one of the two stands before the other
+-- two seats are not the same
 abbrev pub is_other : Seat → Seat → Bool
-is_other a b = is_ahead a b || is_ahead b a
+is_other a b = not (is_eq (seat_cmp a b))
 
--- the seats with another where one stands
+-- a seat, or another where it is the one
 abbrev pub swap : Seat → Seat → Seat → Seat
 swap a b u = if is_eq (seat_cmp a u) then b else u
 
+-- the seats with another where one stands
 abbrev pub swapped : Seat → Seat → List Seat → List Seat
 swapped a b seats = map (swap a b) seats
 
@@ -47,6 +52,7 @@ stays a b = is_eq (key_cmp a.0 b.0)
 abbrev pub replaced : Seat → Seat → List Seat → List Seat
 replaced a b seats = if is_other a b then (if stays a b then swapped a b seats else inserted is_ahead b (without a seats)) else seats
 
+-- the lesser of two times
 abbrev pub lesser : ℕ → ℕ → ℕ
 lesser a b = if nat_lt a b then a else b
 
@@ -55,6 +61,7 @@ abbrev pub least_by : (Seat → ℕ) → List Seat → ℕ
 least_by time [] = never
 least_by time (s ∷ seats) = lesser (time s) (least_by time seats)
 
+-- the least times of seats
 abbrev pub least_of : List Seat → Least
 least_of seats = record { wake = least_by wake_of seats; due = least_by due_of seats }
 
@@ -78,6 +85,7 @@ due_after now s = if nat_lt now (due_of s) then due_of s else never
 abbrev pub next_due : ℕ → List Seat → ℕ
 next_due now seats = least_by (due_after now) seats
 
+-- the seat of a row
 abbrev pub seat_of : Row → Seat
 seat_of r = (key_of r, (r.id, (wakes_at r.kind r.ready, due_at r.ready)))
 
