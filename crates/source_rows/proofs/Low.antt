@@ -1,6 +1,7 @@
 -- How low a balanced tree of seats is.
 use Rattle.std.proofs.Common.{◌≡◌, ℕ, zero, suc, ◌+◌, ◌≤◌, ◌⊎◌, inl, inr, max, Some, None, List, ◌∷◌, ◌++◌, length, refl, ap, sym, ◌∙◌, subst, arith, length-append}
-use Rattle.source_rows.specs.Seats.{Seat, swapped, fewest, IsLow}
+use Rattle.source_rows.specs.declared.seats.Seat.{Seat}
+use Rattle.source_rows.specs.Seats.{swapped, fewest, IsLow}
 use Rattle.source_rows.specs.SeatTree.{Root, seats_of, seen_of, DifferBy, IsEven}
 use Rattle.source_rows.proofs.Ahead.{length_swapped}
 

@@ -2,7 +2,8 @@
 use Rattle.std.proofs.Common.{◌≡◌, ℕ, Some, ◌+◌, ◌≤◌, Bool, true, false, not, cond, ◌||◌, List, [], ◌∷◌, ◌++◌, length, filter, refl, Box, sym, ap, ◌∙◌, subst, arith, length-append}
 use Rattle.std.specs.declared.alloc.Global.{Global}
 use Rattle.source_rows.specs.Inserted.{inserted, Rises}
-use Rattle.source_rows.specs.Seats.{Seat, seat_cmp, is_ahead, without}
+use Rattle.source_rows.specs.declared.seats.Seat.{Seat}
+use Rattle.source_rows.specs.Seats.{seat_cmp, is_ahead, without}
 use Rattle.std.specs.List.{list_any}
 use Rattle.std.specs.Ordering.{is_eq}
 use Rattle.source_rows.specs.SeatTree.{Root, seats_of, seen_of, IsEvenFork, IsEven}

@@ -7,7 +7,8 @@ use Rattle.source_rows.specs.declared.row.Row.{Row}
 use Rattle.source_rows.specs.Inserted.{inserted, Rises}
 use Rattle.source_rows.specs.Rows.{key_of, row_of, has_id, changed}
 use Rattle.source_rows.specs.Slots.{rows_at, IsTable}
-use Rattle.source_rows.specs.Seats.{Seat, seat_cmp, is_ahead, is_other, stays, swapped, without, replaced, seat_of, in_seats, IsLow, IsSeated}
+use Rattle.source_rows.specs.declared.seats.Seat.{Seat}
+use Rattle.source_rows.specs.Seats.{seat_cmp, is_ahead, is_other, stays, swapped, without, replaced, seat_of, in_seats, IsLow, IsSeated}
 use Rattle.source_rows.specs.Tree.{IdsRise}
 use Rattle.source_rows.proofs.SeatTree.{length_inserted, length_filter}
 use Rattle.source_rows.proofs.Filled.{few_before, rises_rows_at}

@@ -2,7 +2,8 @@
 use Rattle.std.specs.Prelude.{◌≡◌, ℕ, ◌+◌, ◌^◌, ◌≤◌, max, Option, Some, None, List, [], ◌∷◌, ◌++◌, length, Box}
 use Rattle.std.specs.declared.alloc.Global.{Global}
 use Rattle.source_rows.specs.declared.seats.Fork.{Fork}
-use Rattle.source_rows.specs.Seats.{Seat, IsLow, least_of}
+use Rattle.source_rows.specs.declared.seats.Seat.{Seat}
+use Rattle.source_rows.specs.Seats.{IsLow, least_of}
 
 -- the root of a tree, none where it has no seat
 abbrev pub Root : Type 0

@@ -16,9 +16,16 @@ use std::cmp::Ordering;
 use std::marker::Model;
 use std::mem;
 
-/// The key of a row, its id, and in microseconds from when on it may be ready and when it is due: `NEVER` for a row without a
-/// ready time.
-pub(crate) type Seat = ((i32, [u64; 4]), (u64, (u64, u64)));
+/// Where a row stands in the order, and its times in microseconds: `NEVER` where it has no ready time.
+#[derive(Clone, Copy, PartialEq, Eq, PartialOrd, Ord)]
+pub(crate) struct Seat {
+    pub(crate) key: (i32, [u64; 4]),
+    pub(crate) id: u64,
+    /// From when on the row may be ready.
+    pub(crate) wake: u64,
+    /// When the row is due.
+    pub(crate) due: u64,
+}
 
 /// Later than any ready time.
 pub(crate) const NEVER: u64 = 1 << 63;
@@ -58,7 +65,7 @@ pub(crate) struct Room {
 
 impl Model for Seats {
     ghost use Rattle.std.specs.Prelude.{ℕ, List, length};
-    ghost use Rattle.source_rows.specs.Seats.{Seat};
+    ghost use Rattle.source_rows.specs.declared.seats.Seat.{Seat};
 
     ghost Value = { List Seat × ℕ };
 
@@ -77,7 +84,13 @@ impl Model for Seats {
 
 impl Room {
     pub fn new(alloc: Global) -> Result<Room, AllocError> {
-        let fork = Box::new(alloc, Fork::alone(((0, [0; 4]), (0, (NEVER, NEVER)))))?;
+        let nobody = Seat {
+            key: (0, [0; 4]),
+            id: 0,
+            wake: NEVER,
+            due: NEVER,
+        };
+        let fork = Box::new(alloc, Fork::alone(nobody))?;
         Ok(Room { fork })
     }
 
@@ -98,14 +111,13 @@ impl Fork {
         ensures even { IsEvenFork result }
         ensures height { result.height ≡ 1 }
     {
-        let (wake, due) = seat.1.1;
         Fork {
             sooner: Seats::new(),
             seat,
             height: 1,
             least: Least {
-                wake: lesser(wake, NEVER),
-                due: lesser(due, NEVER),
+                wake: lesser(seat.wake, NEVER),
+                due: lesser(seat.due, NEVER),
             },
             later: Seats::new(),
         }
@@ -311,13 +323,13 @@ impl Seats {
                 if now < fork.least.wake {
                     return None;
                 }
-                if is_passed(after, fork.seat.0) {
+                if is_passed(after, fork.seat.key) {
                     return fork.later.first_awake(after, now);
                 }
                 match fork.sooner.first_awake(after, now) {
                     None => {
-                        if fork.seat.1.1.0 <= now {
-                            Some(fork.seat.1.0)
+                        if fork.seat.wake <= now {
+                            Some(fork.seat.id)
                         } else {
                             fork.later.first_awake(after, now)
                         }
@@ -372,7 +384,7 @@ fn is_other(a: &Seat, b: &Seat) -> bool
 fn stays(a: &Seat, b: &Seat) -> bool
     ensures { result ≡ stays a.now b.now }
 {
-    match a.0.cmp(&b.0) {
+    match a.key.cmp(&b.key) {
         Ordering::Equal => true,
         _ => false,
     }
@@ -390,10 +402,9 @@ pub(crate) fn least_over(sooner: &Seats, seat: Seat, later: &Seats) -> Least
     ensures { result ≡ least_of (sooner.now.0 ++ seat ∷ later.now.0) }
 {
     let (before, behind) = (sooner.least(), later.least());
-    let (wake, due) = seat.1.1;
     Least {
-        wake: lesser(before.wake, lesser(wake, behind.wake)),
-        due: lesser(before.due, lesser(due, behind.due)),
+        wake: lesser(before.wake, lesser(seat.wake, behind.wake)),
+        due: lesser(before.due, lesser(seat.due, behind.due)),
     }
 }
 
@@ -401,7 +412,7 @@ pub(crate) fn least_over(sooner: &Seats, seat: Seat, later: &Seats) -> Least
 fn due_after(now: u64, seat: &Seat) -> u64
     ensures { result ≡ due_after now seat.now }
 {
-    let due = seat.1.1.1;
+    let due = seat.due;
     if now < due { due } else { NEVER }
 }
 

@@ -2,7 +2,8 @@ use Rattle.std.proofs.Common.{◌≡◌, ◌∙◌, Some, None, ℕ, Option, is_
 use Rattle.std.proofs.lemmas.Bool.Decides.{nat_tests}
 use Rattle.std.specs.Prelude.{nat_lt}
 use Rattle.source_rows.specs.Rows.{Key}
-use Rattle.source_rows.specs.Seats.{Seat, wake_of, first_awake, least_by, least_of, is_passed}
+use Rattle.source_rows.specs.declared.seats.Seat.{Seat}
+use Rattle.source_rows.specs.Seats.{first_awake, least_by, least_of, is_passed}
 use Rattle.source_rows.specs.declared.seats.Least.{Least}
 use Rattle.source_rows.proofs.SeatTree.{at_Fork, even_at}
 use Rattle.source_rows.proofs.Ahead.{none_awake, awake_left, awake_here, awake_over, awake_right}
@@ -15,7 +16,7 @@ returns-then-now-fork t c =
     let even = even_at c.self.invariant c.in-Some.is same in
     let least : c.deref-fork.result.now.least ≡ least_of (c.deref-fork.result.now.sooner.0 ++ c.deref-fork.result.now.seat ∷ c.deref-fork.result.now.later.0) = even.4 in
     let low : nat_lt c.args.now c.deref-fork.result.now.least.wake ≡ true = grind (arith, nat_tests, c.if-now-fork.true) in
-    let under : nat_lt c.args.now (least_by wake_of c.args.self.now.0) ≡ true = ap (nat_lt c.args.now) (ap (least_by wake_of) f.is ∙ sym (ap (λ (l : Least). l.wake) least)) ∙ low in
+    let under : nat_lt c.args.now (least_by (λ s. s.wake) c.args.self.now.0) ≡ true = ap (nat_lt c.args.now) (ap (least_by (λ s. s.wake)) f.is ∙ sym (ap (λ (l : Least). l.wake) least)) ∙ low in
     sym (none_awake c.args.after c.args.now c.args.self.now.0 under)
 
 pub first_awake-requires : goal.first_awake-requires
@@ -41,7 +42,7 @@ returns-then-is_passed t c =
     let same : c.deref-fork.result.now ≡ c.in-Some.fork.value = search rules in
     let f = at_Fork c.self.view_is c.requires c.in-Some.is same in
     let e = c.first_awake.ensures in
-    let passed : is_passed c.args.after c.deref-fork.result.now.seat.0 ≡ true = search rules in
+    let passed : is_passed c.args.after c.deref-fork.result.now.seat.key ≡ true = search rules in
     e ∙ sym (ap (first_awake c.args.after c.args.now) f.is ∙ awake_right c.args.after c.args.now c.deref-fork.result.now.sooner.0 c.deref-fork.result.now.seat c.deref-fork.result.now.later.0 f.rises passed)
 
 pub returns-then-fork-now : goal.returns-then-fork-now
@@ -49,8 +50,8 @@ returns-then-fork-now t c =
     let same : c.deref-fork.result.now ≡ c.in-Some.fork.value = search rules in
     let f = at_Fork c.self.view_is c.requires c.in-Some.is same in
     let e = c.first_awake-in-Some.ensures in
-    let passed : is_passed c.args.after c.deref-fork.result.now.seat.0 ≡ false = search rules in
-    let due : nat_lt c.args.now (wake_of c.deref-fork.result.now.seat) ≡ false = grind (arith, nat_tests, c.if-fork-now.true) in
+    let passed : is_passed c.args.after c.deref-fork.result.now.seat.key ≡ false = search rules in
+    let due : nat_lt c.args.now c.deref-fork.result.now.seat.wake ≡ false = grind (arith, nat_tests, c.if-fork-now.true) in
     let none : first_awake c.args.after c.args.now c.deref-fork.result.now.sooner.0 ≡ None = sym e ∙ c.in-None-first_awake.is in
     sym (ap (first_awake c.args.after c.args.now) f.is ∙ awake_here c.args.after c.args.now c.deref-fork.result.now.sooner.0 c.deref-fork.result.now.seat c.deref-fork.result.now.later.0 passed due none)
 
@@ -60,8 +61,8 @@ returns-else-fork-now t c =
     let f = at_Fork c.self.view_is c.requires c.in-Some.is same in
     let e = c.first_awake-in-Some.ensures in
     let g = c.first_awake-else-fork-now.ensures in
-    let passed : is_passed c.args.after c.deref-fork.result.now.seat.0 ≡ false = search rules in
-    let due : nat_lt c.args.now (wake_of c.deref-fork.result.now.seat) ≡ true = grind (arith, nat_tests, c.if-fork-now.false) in
+    let passed : is_passed c.args.after c.deref-fork.result.now.seat.key ≡ false = search rules in
+    let due : nat_lt c.args.now c.deref-fork.result.now.seat.wake ≡ true = grind (arith, nat_tests, c.if-fork-now.false) in
     let none : first_awake c.args.after c.args.now c.deref-fork.result.now.sooner.0 ≡ None = sym e ∙ c.in-None-first_awake.is in
     g ∙ sym (ap (first_awake c.args.after c.args.now) f.is ∙ awake_over c.args.after c.args.now c.deref-fork.result.now.sooner.0 c.deref-fork.result.now.seat c.deref-fork.result.now.later.0 passed due none)
 

@@ -1,6 +1,7 @@
 use Rattle.std.proofs.Common.{◌≡◌, ◌∙◌, ◌<◌, ◌^◌, List, ◌∷◌, ◌++◌, length, false, true, sym, ap, arith, rules}
 use Rattle.source_rows.specs.Inserted.{inserted}
-use Rattle.source_rows.specs.Seats.{Seat, is_ahead}
+use Rattle.source_rows.specs.declared.seats.Seat.{Seat}
+use Rattle.source_rows.specs.Seats.{is_ahead}
 use Rattle.source_rows.proofs.SeatTree.{at_Fork, even_at, length_inserted}
 use Rattle.source_rows.proofs.Inserted.{inserted_left, inserted_right}
 use Rattle.source_rows.proofs.Ahead.{sooner_order}

@@ -2,7 +2,8 @@ use Rattle.std.proofs.Common.{◌≡◌, ◌∙◌, ◌<◌, ℕ, ◌+◌, max, 
 use Rattle.std.specs.declared.cmp.Ordering.TheVariants.{Less, Equal, Greater}
 use Rattle.source_rows.specs.SeatTree.{Root, seen_of, DifferBy}
 use Rattle.source_rows.proofs.Low.{side_swapped}
-use Rattle.source_rows.specs.Seats.{Seat, seat_cmp, swapped}
+use Rattle.source_rows.specs.declared.seats.Seat.{Seat}
+use Rattle.source_rows.specs.Seats.{seat_cmp, swapped}
 use Rattle.source_rows.proofs.SeatTree.{at_Fork, even_at}
 use Rattle.source_rows.proofs.Ahead.{less_sooner, greater_back, same_from_equal, swapped_left, swapped_right, swapped_here}
 use Rattle.source_rows.proofs.seats.Seats.+set.Goals as goal

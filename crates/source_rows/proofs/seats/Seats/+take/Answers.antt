@@ -2,7 +2,8 @@ use Rattle.std.proofs.Common.{◌≡◌, ◌∙◌, ◌<◌, ◌≤◌, ◌^◌,
 use Rattle.std.specs.List.{list_any}
 use Rattle.std.specs.declared.cmp.Ordering.TheVariants.{Less, Equal, Greater}
 use Rattle.std.specs.Ordering.{is_eq}
-use Rattle.source_rows.specs.Seats.{Seat, seat_cmp, without}
+use Rattle.source_rows.specs.declared.seats.Seat.{Seat}
+use Rattle.source_rows.specs.Seats.{seat_cmp, without}
 use Rattle.source_rows.specs.SeatTree.{seen_of}
 use Rattle.source_rows.proofs.SeatTree.{at_Fork, even_at, length_filter}
 use Rattle.source_rows.proofs.Ahead.{less_sooner, greater_back, same_from_equal, there_left, there_right, without_left, without_right, without_here}
