@@ -9,7 +9,8 @@ use Rattle.std.specs.Ordering.{is_lt, is_eq, ordering_then, ordering_reverse, in
 use Rattle.std.specs.declared.cmp.Ordering.{Ordering}
 use Rattle.std.specs.declared.cmp.Ordering.TheVariants.{Less, Equal, Greater}
 use Rattle.source_rows.specs.Inserted.{Rises}
-use Rattle.source_rows.specs.Seats.{Seat, wake_of, due_of, seat_cmp, is_ahead, without, least_by, is_passed, first_awake, swap, swapped}
+use Rattle.source_rows.specs.declared.seats.Seat.{Seat}
+use Rattle.source_rows.specs.Seats.{seat_cmp, is_ahead, without, least_by, is_passed, first_awake, swap, swapped}
 use Rattle.std.specs.Cmp.Lexicographic.{slice_cmp}
 use Rattle.std.proofs.lemmas.Map.Lookups.{exact_bytes}
 use Rattle.source_rows.specs.Rows.{Key, key_cmp}
@@ -23,8 +24,8 @@ use Rattle.source_rows.proofs.Inserted.{all_left, all_right, trans}
 
 pub seat_total : IsTotalOrder seat_cmp
 seat_total =
-    then_total (on_total (λ (t : Seat). t.0) key_total)
-    (then_total (on_total (λ (t : Seat). t.1.0) nat_cmp_total) (then_total (on_total wake_of nat_cmp_total) (on_total due_of nat_cmp_total)))
+    then_total (on_total (λ (t : Seat). t.key) key_total)
+    (then_total (on_total (λ (t : Seat). t.id) nat_cmp_total) (then_total (on_total (λ (t : Seat). t.wake) nat_cmp_total) (on_total (λ (t : Seat). t.due) nat_cmp_total)))
 
 pub sooner_order : IsStrictWeakOrder is_ahead
 sooner_order = ranks_by seat_total (λ (t : Seat). t)
@@ -63,14 +64,15 @@ same_key a b h =
 
 pub same_from_equal : (a b : Seat) → seat_cmp a b ≡ Equal → a ≡ b
 same_from_equal a b h =
-    let times = ordering_then (nat_cmp (wake_of a) (wake_of b)) (nat_cmp (due_of a) (due_of b)) in
-    let t = then_equal (key_cmp a.0 b.0) (ordering_then (nat_cmp a.1.0 b.1.0) times) h in
-    let u = then_equal (nat_cmp a.1.0 b.1.0) times t.1 in
-    let v = then_equal (nat_cmp (wake_of a) (wake_of b)) (nat_cmp (due_of a) (due_of b)) u.1 in
-    let e = same_key a.0 b.0 t.0 in
-    let f : a.1.1 ≡ b.1.1 = ap₂ (λ (x y : ℕ). let c : ℕ × ℕ = (x, y) in c) (same_number (wake_of a) (wake_of b) v.0) (same_number (due_of a) (due_of b) v.1) in
-    let g : a.1 ≡ b.1 = ap₂ (λ (x : ℕ) (y : ℕ × ℕ). let c : ℕ × (ℕ × ℕ) = (x, y) in c) (same_number a.1.0 b.1.0 u.0) f in
-    ap₂ (λ (x : Key) (y : ℕ × (ℕ × ℕ)). let c : Seat = (x, y) in c) e g
+    let times = ordering_then (nat_cmp a.wake b.wake) (nat_cmp a.due b.due) in
+    let t = then_equal (key_cmp a.key b.key) (ordering_then (nat_cmp a.id b.id) times) h in
+    let u = then_equal (nat_cmp a.id b.id) times t.1 in
+    let v = then_equal (nat_cmp a.wake b.wake) (nat_cmp a.due b.due) u.1 in
+    let seat = λ (k : Key) (n w d : ℕ). let c : Seat = record { key = k; id = n; wake = w; due = d } in c in
+    ap (λ (k : Key). seat k a.id a.wake a.due) (same_key a.key b.key t.0)
+    ∙ (ap (λ (n : ℕ). seat b.key n a.wake a.due) (same_number a.id b.id u.0)
+    ∙ (ap (λ (w : ℕ). seat b.key b.id w a.due) (same_number a.wake b.wake v.0)
+    ∙ ap (λ (d : ℕ). seat b.key b.id b.wake d) (same_number a.due b.due v.1)))
 
 pub equal_from_same : (a b : Seat) → a ≡ b → seat_cmp a b ≡ Equal
 equal_from_same a b e = ap (seat_cmp a) (sym e) ∙ tied_itself seat_total a
@@ -131,8 +133,8 @@ apart_by a b Equal e h = absurd (h refl)
 apart_by a b Greater e h = inr (greater_back a b e)
 
 -- of two rows' times one is sooner
-pub apart_ids : (a b : Seat) → a.1.0 ≢ b.1.0 → (is_ahead a b ≡ true) ⊎ (is_ahead b a ≡ true)
-apart_ids a b h = apart_by a b (seat_cmp a b) refl (λ e. h (ap (λ (t : Seat). t.1.0) (same_from_equal a b e)))
+pub apart_ids : (a b : Seat) → a.id ≢ b.id → (is_ahead a b ≡ true) ⊎ (is_ahead b a ≡ true)
+apart_ids a b h = apart_by a b (seat_cmp a b) refl (λ e. h (ap (λ (t : Seat). t.id) (same_from_equal a b e)))
 
 -- ---- one time taken out, where the times are split at one of them
 
@@ -214,34 +216,34 @@ there_here t l k r e =
 
 -- ---- the first seat behind a key that wakes by a time
 
-asleep_at : (after : Option Key) (now : ℕ) (s : Seat) (o : Option ℕ) → nat_lt now (wake_of s) ≡ true → o ≡ None → (b : Bool) → cond b o (cond (nat_lt now (wake_of s)) o (Some s.1.0)) ≡ None
+asleep_at : (after : Option Key) (now : ℕ) (s : Seat) (o : Option ℕ) → nat_lt now s.wake ≡ true → o ≡ None → (b : Bool) → cond b o (cond (nat_lt now s.wake) o (Some s.id)) ≡ None
 asleep_at after now s o h e true = e
-asleep_at after now s o h e false = ap (λ (b : Bool). cond b o (Some s.1.0)) h ∙ e
+asleep_at after now s o h e false = ap (λ (b : Bool). cond b o (Some s.id)) h ∙ e
 
 -- none wakes before the least time
-pub none_awake : (after : Option Key) (now : ℕ) (xs : List Seat) → nat_lt now (least_by wake_of xs) ≡ true → first_awake after now xs ≡ None
+pub none_awake : (after : Option Key) (now : ℕ) (xs : List Seat) → nat_lt now (least_by (λ s. s.wake) xs) ≡ true → first_awake after now xs ≡ None
 none_awake after now [] h = refl
 none_awake after now (s ∷ xs) h =
-    let two = asleep_by now (wake_of s) (least_by wake_of xs) (nat_lt (wake_of s) (least_by wake_of xs)) refl h in
-    asleep_at after now s (first_awake after now xs) two.0 (none_awake after now xs two.1) (is_passed after s.0)
+    let two = asleep_by now s.wake (least_by (λ s. s.wake) xs) (nat_lt s.wake (least_by (λ s. s.wake) xs)) refl h in
+    asleep_at after now s (first_awake after now xs) two.0 (none_awake after now xs two.1) (is_passed after s.key)
 
-awake_some_by : (z : ℕ) (s : Seat) (o p : Option ℕ) → (o ≡ Some z → p ≡ Some z) → (b v : Bool) → cond b o (cond v o (Some s.1.0)) ≡ Some z → cond b p (cond v p (Some s.1.0)) ≡ Some z
+awake_some_by : (z : ℕ) (s : Seat) (o p : Option ℕ) → (o ≡ Some z → p ≡ Some z) → (b v : Bool) → cond b o (cond v o (Some s.id)) ≡ Some z → cond b p (cond v p (Some s.id)) ≡ Some z
 awake_some_by z s o p ih true v h = ih h
 awake_some_by z s o p ih false true h = ih h
 awake_some_by z s o p ih false false h = h
 
 pub awake_join_some : (after : Option Key) (now : ℕ) (z : ℕ) (l r : List Seat) → first_awake after now l ≡ Some z → first_awake after now (l ++ r) ≡ Some z
 awake_join_some after now z [] r h = cc
-awake_join_some after now z (s ∷ l) r h = awake_some_by z s (first_awake after now l) (first_awake after now (l ++ r)) (awake_join_some after now z l r) (is_passed after s.0) (nat_lt now (wake_of s)) h
+awake_join_some after now z (s ∷ l) r h = awake_some_by z s (first_awake after now l) (first_awake after now (l ++ r)) (awake_join_some after now z l r) (is_passed after s.key) (nat_lt now s.wake) h
 
-awake_none_by : (s : Seat) (o p q : Option ℕ) → (o ≡ None → p ≡ q) → (b v : Bool) → cond b o (cond v o (Some s.1.0)) ≡ None → cond b p (cond v p (Some s.1.0)) ≡ q
+awake_none_by : (s : Seat) (o p q : Option ℕ) → (o ≡ None → p ≡ q) → (b v : Bool) → cond b o (cond v o (Some s.id)) ≡ None → cond b p (cond v p (Some s.id)) ≡ q
 awake_none_by s o p q ih true v h = ih h
 awake_none_by s o p q ih false true h = ih h
 awake_none_by s o p q ih false false h = cc
 
 pub awake_join_none : (after : Option Key) (now : ℕ) (l r : List Seat) → first_awake after now l ≡ None → first_awake after now (l ++ r) ≡ first_awake after now r
 awake_join_none after now [] r h = refl
-awake_join_none after now (s ∷ l) r h = awake_none_by s (first_awake after now l) (first_awake after now (l ++ r)) (first_awake after now r) (awake_join_none after now l r) (is_passed after s.0) (nat_lt now (wake_of s)) h
+awake_join_none after now (s ∷ l) r h = awake_none_by s (first_awake after now l) (first_awake after now (l ++ r)) (first_awake after now r) (awake_join_none after now l r) (is_passed after s.key) (nat_lt now s.wake) h
 
 -- a key that does not stand behind one that is passed is passed
 key_by : (o p : Ordering) → is_lt (ordering_then o p) ≡ true → (o ≡ Less) ⊎ (o ≡ Equal)
@@ -264,24 +266,24 @@ behind_by a x k h o false e = refl
 behind_by a x k h (inl o) true e = let no = sym h ∙ trans (λ (a b : Key). is_lt (key_cmp a b)) key_order a x k e (lt_of (key_cmp x k) o) in cc
 behind_by a x k h (inr o) true e = let no = sym h ∙ (ap (λ (y : Key). is_lt (key_cmp a y)) (sym (same_key x k o)) ∙ e) in cc
 
-passed_by : (after : Option Key) (x k : Seat) → is_ahead x k ≡ true → is_passed after k.0 ≡ true → is_passed after x.0 ≡ true
+passed_by : (after : Option Key) (x k : Seat) → is_ahead x k ≡ true → is_passed after k.key ≡ true → is_passed after x.key ≡ true
 passed_by None x k h p = p
-passed_by (Some a) x k h p = behind_by a x.0 k.0 (not_true (is_lt (key_cmp a k.0)) p) (key_by (key_cmp x.0 k.0) _ h) (is_lt (key_cmp a x.0)) refl
+passed_by (Some a) x k h p = behind_by a x.key k.key (not_true (is_lt (key_cmp a k.key)) p) (key_by (key_cmp x.key k.key) _ h) (is_lt (key_cmp a x.key)) refl
 
-none_behind : (after : Option Key) (now : ℕ) (k : Seat) (xs : List Seat) → is_passed after k.0 ≡ true → AllByRecursion (λ u. is_ahead u k ≡ true) xs → first_awake after now xs ≡ None
+none_behind : (after : Option Key) (now : ℕ) (k : Seat) (xs : List Seat) → is_passed after k.key ≡ true → AllByRecursion (λ u. is_ahead u k ≡ true) xs → first_awake after now xs ≡ None
 none_behind after now k [] p h = refl
 none_behind after now k (s ∷ xs) p h =
-    ap (λ (b : Bool). cond b (first_awake after now xs) (cond (nat_lt now (wake_of s)) (first_awake after now xs) (Some s.1.0))) (passed_by after s k h.0 p) ∙ none_behind after now k xs p h.1
+    ap (λ (b : Bool). cond b (first_awake after now xs) (cond (nat_lt now s.wake) (first_awake after now xs) (Some s.id))) (passed_by after s k h.0 p) ∙ none_behind after now k xs p h.1
 
-pub awake_right : (after : Option Key) (now : ℕ) (l : List Seat) (k : Seat) (r : List Seat) → Rises is_ahead (l ++ k ∷ r) → is_passed after k.0 ≡ true → first_awake after now (l ++ k ∷ r) ≡ first_awake after now r
+pub awake_right : (after : Option Key) (now : ℕ) (l : List Seat) (k : Seat) (r : List Seat) → Rises is_ahead (l ++ k ∷ r) → is_passed after k.key ≡ true → first_awake after now (l ++ k ∷ r) ≡ first_awake after now r
 awake_right after now l k r s p =
     awake_join_none after now l (k ∷ r) (none_behind after now k l p (all_left is_ahead l k r s))
-    ∙ ap (λ (b : Bool). cond b (first_awake after now r) (cond (nat_lt now (wake_of k)) (first_awake after now r) (Some k.1.0))) p
+    ∙ ap (λ (b : Bool). cond b (first_awake after now r) (cond (nat_lt now k.wake) (first_awake after now r) (Some k.id))) p
 
-pub awake_here : (after : Option Key) (now : ℕ) (l : List Seat) (k : Seat) (r : List Seat) → is_passed after k.0 ≡ false → nat_lt now (wake_of k) ≡ false → first_awake after now l ≡ None → first_awake after now (l ++ k ∷ r) ≡ Some k.1.0
+pub awake_here : (after : Option Key) (now : ℕ) (l : List Seat) (k : Seat) (r : List Seat) → is_passed after k.key ≡ false → nat_lt now k.wake ≡ false → first_awake after now l ≡ None → first_awake after now (l ++ k ∷ r) ≡ Some k.id
 awake_here after now l k r p n h = awake_join_none after now l (k ∷ r) h ∙ rw (p, n) refl
 
-pub awake_over : (after : Option Key) (now : ℕ) (l : List Seat) (k : Seat) (r : List Seat) → is_passed after k.0 ≡ false → nat_lt now (wake_of k) ≡ true → first_awake after now l ≡ None → first_awake after now (l ++ k ∷ r) ≡ first_awake after now r
+pub awake_over : (after : Option Key) (now : ℕ) (l : List Seat) (k : Seat) (r : List Seat) → is_passed after k.key ≡ false → nat_lt now k.wake ≡ true → first_awake after now l ≡ None → first_awake after now (l ++ k ∷ r) ≡ first_awake after now r
 awake_over after now l k r p n h = awake_join_none after now l (k ∷ r) h ∙ rw (p, n) refl
 
 pub awake_left : (after : Option Key) (now : ℕ) (z : ℕ) (l : List Seat) (k : Seat) (r : List Seat) → first_awake after now l ≡ Some z → first_awake after now (l ++ k ∷ r) ≡ Some z
@@ -318,10 +320,10 @@ length_swapped a b (x ∷ xs) = let ih = length_swapped a b xs in omega (arith, 
 
 -- a swap that keeps key and id keeps what stands before what, where ids differ
 
-same_place_by : (a b u : Seat) → b.0 ≡ a.0 → b.1.0 ≡ a.1.0 → (c : Bool) → is_eq (seat_cmp a u) ≡ c → ((cond c b u).0 ≡ u.0) × ((cond c b u).1.0 ≡ u.1.0)
+same_place_by : (a b u : Seat) → b.key ≡ a.key → b.id ≡ a.id → (c : Bool) → is_eq (seat_cmp a u) ≡ c → ((cond c b u).key ≡ u.key) × ((cond c b u).id ≡ u.id)
 same_place_by a b u e f true h =
     let same = same_time a u h in
-    (e ∙ ap (λ (t : Seat). t.0) same, f ∙ ap (λ (t : Seat). t.1.0) same)
+    (e ∙ ap (λ (t : Seat). t.key) same, f ∙ ap (λ (t : Seat). t.id) same)
 same_place_by a b u e f false h = (refl, refl)
 
 wake_free : (k n v w : Ordering) → (n ≡ Equal → ⊥) → is_lt (ordering_then k (ordering_then n v)) ≡ is_lt (ordering_then k (ordering_then n w))
@@ -331,11 +333,11 @@ wake_free Equal Less v w h = refl
 wake_free Equal Equal v w h = absurd (h refl)
 wake_free Equal Greater v w h = refl
 
-same_ahead : (x y u v : Seat) → x.0 ≡ u.0 → x.1.0 ≡ u.1.0 → y.0 ≡ v.0 → y.1.0 ≡ v.1.0 → u.1.0 ≢ v.1.0 → is_ahead x y ≡ is_ahead u v
+same_ahead : (x y u v : Seat) → x.key ≡ u.key → x.id ≡ u.id → y.key ≡ v.key → y.id ≡ v.id → u.id ≢ v.id → is_ahead x y ≡ is_ahead u v
 same_ahead x y u v a b c d n =
-    rw (a, b, c, d) (wake_free (key_cmp u.0 v.0) (nat_cmp u.1.0 v.1.0) (ordering_then (nat_cmp (wake_of x) (wake_of y)) (nat_cmp (due_of x) (due_of y))) (ordering_then (nat_cmp (wake_of u) (wake_of v)) (nat_cmp (due_of u) (due_of v))) (λ e. n (same_number u.1.0 v.1.0 e)))
+    rw (a, b, c, d) (wake_free (key_cmp u.key v.key) (nat_cmp u.id v.id) (ordering_then (nat_cmp x.wake y.wake) (nat_cmp x.due y.due)) (ordering_then (nat_cmp u.wake v.wake) (nat_cmp u.due v.due)) (λ e. n (same_number u.id v.id e)))
 
-pub swap_ahead : (a b u v : Seat) → b.0 ≡ a.0 → b.1.0 ≡ a.1.0 → u.1.0 ≢ v.1.0 → is_ahead (swap a b u) (swap a b v) ≡ is_ahead u v
+pub swap_ahead : (a b u v : Seat) → b.key ≡ a.key → b.id ≡ a.id → u.id ≢ v.id → is_ahead (swap a b u) (swap a b v) ≡ is_ahead u v
 swap_ahead a b u v e f n =
     let x = same_place_by a b u e f (is_eq (seat_cmp a u)) refl in
     let y = same_place_by a b v e f (is_eq (seat_cmp a v)) refl in

@@ -12,7 +12,8 @@ use Rattle.source_rows.specs.Kept.{AllApart}
 use Rattle.source_rows.specs.Rows.{key_cmp, key_of, row_of, stands_before, placed, in_order}
 use Rattle.source_rows.specs.Tree.{IsForest}
 use Rattle.source_rows.specs.Candidates.{wakes_at}
-use Rattle.source_rows.specs.Seats.{Seat, is_ahead, seat_of, in_seats, is_passed, first_awake}
+use Rattle.source_rows.specs.declared.seats.Seat.{Seat}
+use Rattle.source_rows.specs.Seats.{is_ahead, seat_of, in_seats, is_passed, first_awake}
 use Rattle.source_rows.specs.Steps.{wakes}
 use Rattle.source_rows.proofs.Lists.{all_of}
 use Rattle.source_rows.proofs.Order.{all_in_order}

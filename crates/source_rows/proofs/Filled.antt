@@ -8,7 +8,8 @@ use Rattle.slab.specs.Slab.{Slab, get, with_value, slab_len}
 use Rattle.source_rows.specs.declared.row.Row.{Row}
 use Rattle.source_rows.specs.Rows.{row_of, has_id, changed}
 use Rattle.source_rows.specs.Slots.{rows_at, IsTable, IsFilled, AllNamed, IsHeld, IsTime, Names, Rising}
-use Rattle.source_rows.specs.Seats.{Seat, IsSeated}
+use Rattle.source_rows.specs.declared.seats.Seat.{Seat}
+use Rattle.source_rows.specs.Seats.{IsSeated}
 use Rattle.source_rows.specs.Tree.{IdsRise}
 use Rattle.source_rows.proofs.Compared.{some_same}
 use Rattle.source_rows.proofs.Lists.{all_of, all_filter}

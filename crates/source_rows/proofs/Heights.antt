@@ -1,7 +1,8 @@
 -- How high a balanced tree can be, by the fewest seats that one of its height has.
 use Rattle.std.proofs.Common.{◌≡◌, ℕ, zero, suc, ◌+◌, ◌*◌, ◌^◌, ◌≤◌, ◌⊎◌, inl, inr, List, length, refl, ap, arith}
 use Rattle.std.proofs.Math.Nat.{pow-succ'}
-use Rattle.source_rows.specs.Seats.{Seat, fewest, IsLow}
+use Rattle.source_rows.specs.declared.seats.Seat.{Seat}
+use Rattle.source_rows.specs.Seats.{fewest, IsLow}
 use Rattle.source_rows.proofs.Low.{fewest_rises}
 
 -- ---- more height, more seats

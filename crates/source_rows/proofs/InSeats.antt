@@ -7,7 +7,8 @@ use Rattle.source_rows.proofs.Lists.{all_of}
 use Rattle.source_rows.specs.Rows.{key_of, row_of, has_id, changed}
 use Rattle.source_rows.specs.Tree.{IdsRise}
 use Rattle.source_rows.specs.Inserted.{inserted, Rises}
-use Rattle.source_rows.specs.Seats.{Seat, seat_cmp, is_ahead, without, swap, swapped, seat_of, in_seats}
+use Rattle.source_rows.specs.declared.seats.Seat.{Seat}
+use Rattle.source_rows.specs.Seats.{seat_cmp, is_ahead, without, swap, swapped, seat_of, in_seats}
 use Rattle.source_rows.proofs.Inserted.{comm, all_inserted, rises_inserted, filter_inserted_kept, filter_inserted_left}
 use Rattle.source_rows.proofs.Compared.{same_self, are_same, not_same, some_same, or_true}
 use Rattle.source_rows.proofs.Forest.{all_found}
@@ -65,7 +66,7 @@ tests_by id r q is one false e = apart_by_id (is_eq (seat_cmp (seat_of r) (seat_
   where
     apart_by_id : (b : Bool) → is_eq (seat_cmp (seat_of r) (seat_of q)) ≡ b → false ≡ b
     apart_by_id true f =
-        let same : r.id ≡ q.id = ap (λ (t : Seat). t.1.0) (same_time (seat_of r) (seat_of q) f) in
+        let same : r.id ≡ q.id = ap (λ (t : Seat). t.id) (same_time (seat_of r) (seat_of q) f) in
         let never = sym e ∙ (ap (λ (n : ℕ). n == id) (sym same ∙ is) ∙ same_self id) in cc
     apart_by_id false f = refl
 
@@ -169,7 +170,7 @@ swap_row_by row old q one is true true e f = refl
 swap_row_by row old q one is true false e f =
     let no = sym f ∙ is_same (seat_of old) (seat_of q) (ap seat_of (sym (one (are_same q.id row.id e)))) in cc
 swap_row_by row old q one is false true e f =
-    let same : old.id ≡ q.id = ap (λ (t : Seat). t.1.0) (same_time (seat_of old) (seat_of q) f) in
+    let same : old.id ≡ q.id = ap (λ (t : Seat). t.id) (same_time (seat_of old) (seat_of q) f) in
     let never = sym e ∙ (ap (λ (n : ℕ). n == row.id) (sym same ∙ is) ∙ same_self row.id) in cc
 swap_row_by row old q one is false false e f = refl
 

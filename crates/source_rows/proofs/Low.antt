@@ -1,10 +1,9 @@
 -- How low a balanced tree of seats is.
-use Rattle.std.proofs.Common.{◌≡◌, ℕ, zero, suc, ◌+◌, ◌≤◌, ◌⊎◌, inl, inr, max, List, ◌∷◌, ◌++◌, length, refl, ap, sym, ◌∙◌, subst, arith, length-append}
-use Rattle.source_rows.specs.Seats.{Seat, swapped, fewest, IsLow}
-use Rattle.source_rows.specs.SeatTree.{seen_of, DifferBy, IsEven}
+use Rattle.std.proofs.Common.{◌≡◌, ℕ, zero, suc, ◌+◌, ◌≤◌, ◌⊎◌, inl, inr, max, Some, None, List, ◌∷◌, ◌++◌, length, refl, ap, sym, ◌∙◌, subst, arith, length-append}
+use Rattle.source_rows.specs.declared.seats.Seat.{Seat}
+use Rattle.source_rows.specs.Seats.{swapped, fewest, IsLow}
+use Rattle.source_rows.specs.SeatTree.{Root, seats_of, seen_of, DifferBy, IsEven}
 use Rattle.source_rows.proofs.Ahead.{length_swapped}
-use Rattle.source_rows.specs.declared.seats.Node.{Node}
-use Rattle.source_rows.specs.declared.seats.Node.TheVariants.{Leaf, Fork}
 
 pub fewest_rises : (h : ℕ) → fewest h ≤ fewest (suc h)
 fewest_rises zero = omega arith
@@ -49,11 +48,11 @@ low_sides v w t d l m =
       subst (λ n. fewest n ≤ length (v.0 ++ t ∷ w.0)) (sym is) (omega (arith, long, l.1, m.1, over)),
     )
 
--- a node in balance is low
-pub low_even : (n : Node) → IsEven n → IsLow (seen_of n)
-low_even Leaf e = (omega arith, omega arith)
-low_even (Fork sooner seat height least later) e =
-    subst (λ h. IsLow (sooner.value.0 ++ seat ∷ later.value.0, h)) (sym e.0) (low_sides sooner.value later.value seat e.1 e.2 e.3)
+-- a tree in balance is low
+pub low_even : (n : Root) → IsEven n → IsLow (seen_of n)
+low_even None e = (omega arith, omega arith)
+low_even (Some f) e =
+    subst (λ h. IsLow (seats_of f.value, h)) (sym e.0) (low_sides f.value.sooner f.value.later f.value.seat e.1 e.2 e.3)
 
 -- sides of which one has a seat put where another stands
 pub side_swapped : (v w : List Seat × ℕ) (a b : Seat) → w.0 ≡ swapped a b v.0 → w.1 ≡ v.1 → IsLow v → IsLow w

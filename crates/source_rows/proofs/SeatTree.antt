@@ -1,14 +1,13 @@
--- What is known of a tree's times d once its node is a fork.
-use Rattle.std.proofs.Common.{◌≡◌, ℕ, ◌+◌, ◌≤◌, Bool, true, false, not, cond, ◌||◌, List, [], ◌∷◌, ◌++◌, length, filter, refl, Box, sym, ap, ◌∙◌, subst, arith, length-append}
+-- What is known of a tree's seats d once its root is a fork.
+use Rattle.std.proofs.Common.{◌≡◌, ℕ, Some, ◌+◌, ◌≤◌, Bool, true, false, not, cond, ◌||◌, List, [], ◌∷◌, ◌++◌, length, filter, refl, Box, sym, ap, ◌∙◌, subst, arith, length-append}
 use Rattle.std.specs.declared.alloc.Global.{Global}
 use Rattle.source_rows.specs.Inserted.{inserted, Rises}
-use Rattle.source_rows.specs.Seats.{Seat, seat_cmp, is_ahead, without}
+use Rattle.source_rows.specs.declared.seats.Seat.{Seat}
+use Rattle.source_rows.specs.Seats.{seat_cmp, is_ahead, without}
 use Rattle.std.specs.List.{list_any}
 use Rattle.std.specs.Ordering.{is_eq}
-use Rattle.source_rows.specs.SeatTree.{seen_of}
-use Rattle.source_rows.specs.declared.seats.Seats.{Seats}
-use Rattle.source_rows.specs.declared.seats.Node.{Node}
-use Rattle.source_rows.specs.declared.seats.Node.TheVariants.{Fork}
+use Rattle.source_rows.specs.SeatTree.{Root, seats_of, seen_of, IsEvenFork, IsEven}
+use Rattle.source_rows.specs.declared.seats.Fork.{Fork}
 use Rattle.source_rows.proofs.Inserted.{rises_left, rises_right}
 
 pub record AtFork (d l : List Seat) (k : Seat) (r : List Seat) : Type 0 where
@@ -21,20 +20,23 @@ pub record AtFork (d l : List Seat) (k : Seat) (r : List Seat) : Type 0 where
 sides_shorter : (l : List Seat) (k : Seat) (r : List Seat) → length (l ++ k ∷ r) ≡ length l + length r + 1
 sides_shorter l k r = omega (arith, length-append l (k ∷ r))
 
--- what a node shows
-pub parts_of : {n : Node} {d : List Seat × ℕ} {l r : Box Seats Global} {k : Seat} {h : _} {n0 : _} → seen_of n ≡ d → n ≡ Fork l k h n0 r → d.0 ≡ l.value.0 ++ k ∷ r.value.0
-parts_of {n} {d} {l} {r} {k} {h} {n0} view_is is = ap (λ (v : List Seat × ℕ). v.0) (sym view_is ∙ ap seen_of is)
+-- what a root shows
+pub parts_of : {n : Root} {d : List Seat × ℕ} {f : Box Fork Global} {g : Fork} → seen_of n ≡ d → n ≡ Some f → g ≡ f.value → d.0 ≡ seats_of g
+parts_of {n} {d} {f} {g} view_is is same = ap (λ (v : List Seat × ℕ). v.0) (sym view_is ∙ ap seen_of is) ∙ sym (ap seats_of same)
 
-pub at_Fork : {n : Node} {d : List Seat × ℕ} {l r : Box Seats Global} {k : Seat} {h : _} {n0 : _} → seen_of n ≡ d → Rises is_ahead d.0 → n ≡ Fork l k h n0 r → AtFork d.0 l.value.0 k r.value.0
-at_Fork {n} {d} {l} {r} {k} {h} {n0} view_is rises is =
-    let e = ap (λ (v : List Seat × ℕ). v.0) (sym view_is ∙ ap seen_of is) in
+pub even_at : {n : Root} {f : Box Fork Global} {g : Fork} → IsEven n → n ≡ Some f → g ≡ f.value → IsEvenFork g
+even_at {n} {f} {g} even is same = subst IsEvenFork (sym same) (subst IsEven is even)
+
+pub at_Fork : {n : Root} {d : List Seat × ℕ} {f : Box Fork Global} {g : Fork} → seen_of n ≡ d → Rises is_ahead d.0 → n ≡ Some f → g ≡ f.value → AtFork d.0 g.sooner.0 g.seat g.later.0
+at_Fork {n} {d} {f} {g} view_is rises is same =
+    let e = parts_of {f = f} {g = g} view_is is same in
     let s = subst (Rises is_ahead) e rises in
     record {
       is = e;
       rises = s;
-      sooner = rises_left is_ahead l.value.0 k r.value.0 s;
-      later = rises_right is_ahead l.value.0 k r.value.0 s;
-      parts = rw e (sides_shorter l.value.0 k r.value.0);
+      sooner = rises_left is_ahead g.sooner.0 g.seat g.later.0 s;
+      later = rises_right is_ahead g.sooner.0 g.seat g.later.0 s;
+      parts = rw e (sides_shorter g.sooner.0 g.seat g.later.0);
     }
 
 -- ---- lengths

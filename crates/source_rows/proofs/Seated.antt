@@ -2,19 +2,17 @@
 use Rattle.std.proofs.Common.{◌≡◌, ◌≤◌, ◌<◌, ◌^◌, ◌+◌, ℕ, Bool, true, false, not, cond, Some, List, [], ◌∷◌, ◌++◌, length, filter, refl, ap, sym, ◌∙◌, subst, arith}
 use Rattle.std.specs.List.{AllByRecursion, list_any}
 use Rattle.std.specs.Ordering.{is_eq}
-use Rattle.std.specs.declared.cmp.Ordering.{Ordering}
-use Rattle.std.specs.declared.cmp.Ordering.TheVariants.{Less, Equal, Greater}
 use Rattle.slab.specs.Slab.{Slab}
 use Rattle.source_rows.specs.declared.row.Row.{Row}
 use Rattle.source_rows.specs.Inserted.{inserted, Rises}
 use Rattle.source_rows.specs.Rows.{key_of, row_of, has_id, changed}
 use Rattle.source_rows.specs.Slots.{rows_at, IsTable}
-use Rattle.source_rows.specs.Seats.{Seat, seat_cmp, is_ahead, is_other, stays, swapped, without, replaced, seat_of, in_seats, IsLow, IsSeated}
+use Rattle.source_rows.specs.declared.seats.Seat.{Seat}
+use Rattle.source_rows.specs.Seats.{seat_cmp, is_ahead, is_other, stays, swapped, without, replaced, seat_of, in_seats, IsLow, IsSeated}
 use Rattle.source_rows.specs.Tree.{IdsRise}
-use Rattle.source_rows.proofs.Compared.{or_parts}
 use Rattle.source_rows.proofs.SeatTree.{length_inserted, length_filter}
 use Rattle.source_rows.proofs.Filled.{few_before, rises_rows_at}
-use Rattle.source_rows.proofs.Ahead.{one_key, same_from_equal, greater_back, less_sooner}
+use Rattle.source_rows.proofs.Ahead.{one_key, same_time}
 use Rattle.source_rows.proofs.InSeats.{rises_in_seats, in_seats-push, in_seats-removed, in_seats-changed, in_seats-swapped, in_seats-same, seated}
 
 length_in_seats : (rows : List Row) → length (in_seats rows) ≡ length rows
@@ -44,10 +42,9 @@ pushed_seated rows new r ss us h n above before small e low = record {
   low = low;
 }
 
-equal_by : (a b : Seat) (o : Ordering) → seat_cmp a b ≡ o → is_ahead a b ≡ false → is_ahead b a ≡ false → a ≡ b
-equal_by a b Less e h k = let no = sym h ∙ less_sooner a b e in cc
-equal_by a b Equal e h k = same_from_equal a b e
-equal_by a b Greater e h k = let no = sym k ∙ greater_back a b e in cc
+not_false : (b : Bool) → not b ≡ false → b ≡ true
+not_false true h = refl
+not_false false h = cc
 
 replaced_by : (row old : Row) (rows : List Row) → IdsRise rows → row_of row.id rows ≡ Some old → (b : Bool) → is_other (seat_of old) (seat_of row) ≡ b
     → cond b (cond (stays (seat_of old) (seat_of row)) (swapped (seat_of old) (seat_of row) (in_seats rows)) (inserted is_ahead (seat_of row) (without (seat_of old) (in_seats rows)))) (in_seats rows) ≡ in_seats (changed row.id (λ _. row) rows)
@@ -57,8 +54,7 @@ replaced_by row old rows h e true o = stays_by (stays (seat_of old) (seat_of row
     stays_by true k = sym (in_seats-swapped row old rows (sym (one_key (key_of old) (key_of row) k)) h e)
     stays_by false k = sym (in_seats-changed row old rows h e)
 replaced_by row old rows h e false o =
-    let two = or_parts (is_ahead (seat_of old) (seat_of row)) (is_ahead (seat_of row) (seat_of old)) o in
-    sym (in_seats-same row old rows h e (equal_by (seat_of old) (seat_of row) (seat_cmp (seat_of old) (seat_of row)) refl two.0 two.1))
+    sym (in_seats-same row old rows h e (same_time (seat_of old) (seat_of row) (not_false (is_eq (seat_cmp (seat_of old) (seat_of row))) o)))
 
 length_changed : (id : ℕ) (f : Row → Row) (rows : List Row) → length (changed id f rows) ≡ length rows
 length_changed id f [] = refl

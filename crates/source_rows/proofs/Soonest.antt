@@ -3,7 +3,8 @@ use Rattle.std.proofs.Common.{◌≡◌, nat_lt, ℕ, Bool, true, false, cond, L
 use Rattle.std.proofs.lemmas.Bool.Decides.{nat_tests}
 use Rattle.source_rows.specs.Candidates.{never}
 use Rattle.source_rows.specs.Inserted.{inserted}
-use Rattle.source_rows.specs.Seats.{Seat, due_of, is_ahead, lesser, least_by, due_after, next_due}
+use Rattle.source_rows.specs.declared.seats.Seat.{Seat}
+use Rattle.source_rows.specs.Seats.{is_ahead, lesser, least_by, due_after, next_due}
 
 most_by : (a b : ℕ) (v : Bool) → nat_lt a b ≡ v → nat_lt never b ≡ false → nat_lt never (cond v a b) ≡ false
 most_by a b true e h = grind (arith, nat_tests)
@@ -53,12 +54,12 @@ asleep_by now a b false e h = (grind (arith, nat_tests), h)
 
 -- ---- when the next seat is due
 
-due_by : (now : ℕ) (s : Seat) → nat_lt now (due_of s) ≡ true → due_after now s ≡ due_of s
-due_by now s h = ap (λ (b : Bool). cond b (due_of s) never) h
+due_by : (now : ℕ) (s : Seat) → nat_lt now s.due ≡ true → due_after now s ≡ s.due
+due_by now s h = ap (λ (b : Bool). cond b s.due never) h
 
 -- where none is due by a time, the next one is the least of all
-pub all_due : (now : ℕ) (xs : List Seat) → nat_lt now (least_by due_of xs) ≡ true → next_due now xs ≡ least_by due_of xs
+pub all_due : (now : ℕ) (xs : List Seat) → nat_lt now (least_by (λ s. s.due) xs) ≡ true → next_due now xs ≡ least_by (λ s. s.due) xs
 all_due now [] h = refl
 all_due now (s ∷ xs) h =
-    let two = asleep_by now (due_of s) (least_by due_of xs) (nat_lt (due_of s) (least_by due_of xs)) refl h in
+    let two = asleep_by now s.due (least_by (λ s. s.due) xs) (nat_lt s.due (least_by (λ s. s.due) xs)) refl h in
     ap₂ lesser (due_by now s two.0) (all_due now xs two.1)

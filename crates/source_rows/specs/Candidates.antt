@@ -27,6 +27,7 @@ due_at (negsuc n) = never
 abbrev pub wakes_at : Kind → ℤ → ℕ
 wakes_at kind ready = if is_open kind then 0 else due_at ready
 
+-- a row that may be ready as far as its kind and its ready time tell
 abbrev pub is_awake : ℕ → Row → Bool
 is_awake now r = not (nat_lt now (wakes_at r.kind r.ready))
 
@@ -34,5 +35,6 @@ is_awake now r = not (nat_lt now (wakes_at r.kind r.ready))
 abbrev pub may_call : ℕ → List Row → Row → Bool
 may_call now rows r = list_any (λ q. is_under r.id q && is_awake now q) rows
 
+-- the rows that may be ready, and those above them, in order
 abbrev pub candidates : ℕ → List Row → List Row
 candidates now rows = filter (may_call now rows) (in_order rows)

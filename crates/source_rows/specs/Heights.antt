@@ -1,6 +1,7 @@
 -- How high a balanced tree of seats can be.
 use Rattle.std.specs.Prelude.{ℕ, ◌+◌, ◌*◌, ◌^◌, ◌≤◌, List, length}
-use Rattle.source_rows.specs.Seats.{Seat, IsLow}
+use Rattle.source_rows.specs.declared.seats.Seat.{Seat}
+use Rattle.source_rows.specs.Seats.{IsLow}
 
 -- what it means for the seats of a tree, seen with its height, that the tree is low
 pub record HeightLaws : Type 0 where

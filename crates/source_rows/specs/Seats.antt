@@ -1,26 +1,19 @@
 -- The seats of rows in their order: where a row stands, its id, from when on it may be ready, and when it is due.
-use Rattle.std.specs.Prelude.{ℕ, zero, suc, nat_lt, ◌+◌, ◌||◌, length, ◌≡◌, ◌≤◌, ◌^◌, Bool, false, not, Option, Some, None, List, [], ◌∷◌, map, filter, if◌then◌else◌}
+use Rattle.std.specs.Prelude.{ℕ, zero, suc, nat_lt, ◌+◌, length, ◌≡◌, ◌≤◌, ◌^◌, Bool, false, not, Option, Some, None, List, [], ◌∷◌, map, filter, if◌then◌else◌}
 use Rattle.std.specs.Ordering.{is_lt, is_eq, ordering_then, nat_cmp}
 use Rattle.std.specs.declared.cmp.Ordering.{Ordering}
 use Rattle.source_rows.specs.declared.row.Row.{Row}
 use Rattle.source_rows.specs.declared.seats.Least.{Least}
+use Rattle.source_rows.specs.declared.seats.Seat.{Seat}
 use Rattle.source_rows.specs.Inserted.{inserted}
 use Rattle.source_rows.specs.Rows.{Key, key_cmp, key_of}
 use Rattle.source_rows.specs.Candidates.{never, due_at, wakes_at}
 
--- a key, an id, from when on its row may be ready, and when it is due
-abbrev pub Seat : Type 0
-Seat = Key × (ℕ × (ℕ × ℕ))
-
-abbrev pub wake_of : Seat → ℕ
-wake_of s = s.1.1.0
-
-abbrev pub due_of : Seat → ℕ
-due_of s = s.1.1.1
-
+-- by key, then by id, then by the two times
 abbrev pub seat_cmp : Seat → Seat → Ordering
-seat_cmp a b = ordering_then (key_cmp a.0 b.0) (ordering_then (nat_cmp a.1.0 b.1.0) (ordering_then (nat_cmp (wake_of a) (wake_of b)) (nat_cmp (due_of a) (due_of b))))
+seat_cmp a b = ordering_then (key_cmp a.key b.key) (ordering_then (nat_cmp a.id b.id) (ordering_then (nat_cmp a.wake b.wake) (nat_cmp a.due b.due)))
 
+-- a seat stands before another
 abbrev pub is_ahead : Seat → Seat → Bool
 is_ahead a b = is_lt (seat_cmp a b)
 
@@ -28,25 +21,27 @@ is_ahead a b = is_lt (seat_cmp a b)
 abbrev pub without : Seat → List Seat → List Seat
 without t seats = filter (λ u. not (is_eq (seat_cmp t u))) seats
 
--- one of the two stands before the other
+-- two seats are not the same
 abbrev pub is_other : Seat → Seat → Bool
-is_other a b = is_ahead a b || is_ahead b a
+is_other a b = not (is_eq (seat_cmp a b))
 
--- the seats with another where one stands
+-- a seat, or another where it is the one
 abbrev pub swap : Seat → Seat → Seat → Seat
 swap a b u = if is_eq (seat_cmp a u) then b else u
 
+-- the seats with another where one stands
 abbrev pub swapped : Seat → Seat → List Seat → List Seat
 swapped a b seats = map (swap a b) seats
 
 -- both have one key
 abbrev pub stays : Seat → Seat → Bool
-stays a b = is_eq (key_cmp a.0 b.0)
+stays a b = is_eq (key_cmp a.key b.key)
 
 -- the seats with another in the place of one
 abbrev pub replaced : Seat → Seat → List Seat → List Seat
 replaced a b seats = if is_other a b then (if stays a b then swapped a b seats else inserted is_ahead b (without a seats)) else seats
 
+-- the lesser of two times
 abbrev pub lesser : ℕ → ℕ → ℕ
 lesser a b = if nat_lt a b then a else b
 
@@ -55,8 +50,9 @@ abbrev pub least_by : (Seat → ℕ) → List Seat → ℕ
 least_by time [] = never
 least_by time (s ∷ seats) = lesser (time s) (least_by time seats)
 
+-- the least times of seats
 abbrev pub least_of : List Seat → Least
-least_of seats = record { wake = least_by wake_of seats; due = least_by due_of seats }
+least_of seats = record { wake = least_by (λ s. s.wake) seats; due = least_by (λ s. s.due) seats }
 
 -- the key does not stand behind the other
 abbrev pub is_passed : Option Key → Key → Bool
@@ -66,20 +62,21 @@ is_passed (Some a) k = not (is_lt (key_cmp a k))
 -- the id of the first seat behind a key that wakes by a time
 abbrev pub first_awake : Option Key → ℕ → List Seat → Option ℕ
 first_awake after now [] = None
-first_awake after now (s ∷ seats) = if is_passed after s.0 then first_awake after now seats
-    else if nat_lt now (wake_of s) then first_awake after now seats
-    else Some s.1.0
+first_awake after now (s ∷ seats) = if is_passed after s.key then first_awake after now seats
+    else if nat_lt now s.wake then first_awake after now seats
+    else Some s.id
 
 -- when a seat is due where that is after a time, else never
 abbrev pub due_after : ℕ → Seat → ℕ
-due_after now s = if nat_lt now (due_of s) then due_of s else never
+due_after now s = if nat_lt now s.due then s.due else never
 
 -- when the next of the seats is due, after a time
 abbrev pub next_due : ℕ → List Seat → ℕ
 next_due now seats = least_by (due_after now) seats
 
+-- the seat of a row
 abbrev pub seat_of : Row → Seat
-seat_of r = (key_of r, (r.id, (wakes_at r.kind r.ready, due_at r.ready)))
+seat_of r = record { key = key_of r; id = r.id; wake = wakes_at r.kind r.ready; due = due_at r.ready }
 
 -- the seats of rows
 abbrev pub in_seats : List Row → List Seat

@@ -16,9 +16,11 @@ use Rattle.source_rows.specs.Candidates.{is_awake, may_call}
 abbrev pub follows : Option Row → Row → Bool
 follows last r = not (is_passed (option_map key_of last) (key_of r))
 
+-- a row behind the last one that may be ready, by itself or by one under it
 abbrev pub comes : ℕ → List Row → Option Row → Row → Bool
 comes now rows last r = follows last r && may_call now rows r
 
+-- a row behind the last one that may be ready by itself
 abbrev pub wakes : ℕ → Option Row → Row → Bool
 wakes now last r = follows last r && is_awake now r
 
@@ -26,6 +28,7 @@ wakes now last r = follows last r && is_awake now r
 abbrev pub left_of : ℕ → List Row → Option Row → List Row
 left_of now rows last = filter (comes now rows last) (in_order rows)
 
+-- the parent of the last row
 abbrev pub parent_at : List Row → Option Row → Option Row
 parent_at rows None = None
 parent_at rows (Some r) = parent_of rows r.parent
@@ -44,6 +47,7 @@ pub record IsStep (rows : List Row) (now : ℕ) (last : Option Row) : Type 0 whe
 
 -- ---- a part of the order that is left
 
+-- the row has the id of a parent
 abbrev pub is_parent : Option ℕ → Row → Bool
 is_parent None r = false
 is_parent (Some id) r = id == r.id

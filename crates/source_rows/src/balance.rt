@@ -1,132 +1,143 @@
 //! The balance of the tree of seats.
-ghost use Rattle.std.specs.Prelude.{◌≡◌, ◌+◌, ◌≤◌, ◌<◌, ◌^◌, max, length, ◌∷◌, ◌++◌, is_some};
+ghost use Rattle.std.specs.Prelude.{◌≡◌, ◌+◌, ◌≤◌, ◌<◌, ◌^◌, max, length, ◌∷◌, ◌++◌, Some, is_some};
 ghost use Rattle.source_rows.specs.Seats.{least_of};
-ghost use Rattle.source_rows.specs.declared.seats.Node.TheVariants.{Fork};
-ghost use Rattle.source_rows.specs.SeatTree.{seen_of, is_fork, LosesRoot, IsEven, IsNearlyEven, AreNearlyEven, IsHeight, IsLowered, Balances};
+ghost use Rattle.source_rows.specs.SeatTree.{seats_of, seen_of, LosesRoot, IsEven, IsNearlyEven, AreNearlyEven, IsHeight, IsLowered, Balances};
 
-use crate::seats::{Node, Room, Seat, Seats, least_over};
-use std::mem;
+use crate::seats::{Fork, Room, Seats, least_over};
 
-/// Takes the seat out that stands at the root, with its place.
+/// Takes the seat out that stands at the root, and hands its room out.
 #[tactic(auto, using(crate::proofs::Low::low_even, crate::proofs::Low::low_sides))]
-pub(crate) fn remove_root(node: &mut Node) -> Option<Room>
-    requires even { IsEven node.old }
-    requires few { length (seen_of node.old).0 ≤ 2 ^ 63 }
-    ensures place { is_some result ≡ is_fork node.old }
-    ensures seats { LosesRoot node.old node.new }
-    ensures even { IsEven node.new }
-    ensures height { IsLowered (seen_of node.old).1 (seen_of node.new).1 }
+pub(crate) fn remove_root(root: &mut Option<Box<Fork>>) -> Option<Room>
+    requires even { IsEven root.old }
+    requires few { length (seen_of root.old).0 ≤ 2 ^ 63 }
+    ensures room { is_some result ≡ is_some root.old }
+    ensures seats { LosesRoot root.old root.new }
+    ensures even { IsEven root.new }
+    ensures height { IsLowered (seen_of root.old).1 (seen_of root.new).1 }
 {
-    match mem::replace(node, Node::Leaf) {
-        Node::Leaf => None,
-        Node::Fork(mut sooner, _, _, _, mut later) => match later.remove_first() {
-            Some((next, place)) => {
-                *node = balanced(sooner, next, later);
-                Some(place)
-            }
-            None => {
-                *node = mem::replace(&mut *sooner, Seats::new()).node;
-                Some(Room { sooner, later })
-            }
-        },
+    match root.take() {
+        None => None,
+        Some(mut fork) => {
+            let (sooner, mut later) = fork.take_sides();
+            *root = match later.remove_first() {
+                Some(next) => Some(balanced(next, sooner, later)),
+                None => sooner.root,
+            };
+            Some(Room { fork })
+        }
     }
 }
 
-/// A node over two sides.
-fn fork(sooner: Box<Seats>, seat: Seat, later: Box<Seats>) -> Node
-    requires { max sooner.value.1 later.value.1 + 1 < 2 ^ 64 }
-    ensures { result ≡ Fork sooner seat (max sooner.value.1 later.value.1 + 1) (least_of (sooner.value.0 ++ seat ∷ later.value.0)) later }
+/// A seat over two sides, in its room.
+fn joined(mut fork: Box<Fork>, sooner: Seats, later: Seats) -> Box<Fork>
+    requires { max sooner.1 later.1 + 1 < 2 ^ 64 }
+    ensures sooner { result.value.sooner ≡ sooner }
+    ensures seat { result.value.seat ≡ fork.value.seat }
+    ensures height { result.value.height ≡ max sooner.1 later.1 + 1 }
+    ensures least { result.value.least ≡ least_of (sooner.0 ++ fork.value.seat ∷ later.0) }
+    ensures later { result.value.later ≡ later }
 {
     let height = sooner.height().max(later.height()) + 1;
-    let least = least_over(&sooner, seat, &later);
-    Node::Fork(sooner, seat, height, least, later)
+    let least = least_over(&sooner, fork.seat, &later);
+    *fork = Fork {
+        sooner,
+        seat: fork.seat,
+        height,
+        least,
+        later,
+    };
+    fork
 }
 
-/// Brings a node into balance after a change of one side.
-pub(crate) fn balance(node: &mut Node)
-    requires { IsNearlyEven node.old }
-    ensures { Balances node.old node.new }
+/// Brings a tree into balance after a change of one side.
+pub(crate) fn balance(root: &mut Option<Box<Fork>>)
+    requires { IsNearlyEven root.old }
+    ensures { Balances root.old root.new }
 {
-    if let Node::Fork(sooner, seat, height, least, later) = node {
-        let (low, high) = (sooner.height(), later.height());
+    if let Some(fork) = root {
+        let fork = &mut **fork;
+        let (low, high) = (fork.sooner.height(), fork.later.height());
         if low.abs_diff(high) <= 1 {
-            *height = low.max(high) + 1;
-            *least = least_over(sooner, *seat, later);
+            fork.height = low.max(high) + 1;
+            fork.least = least_over(&fork.sooner, fork.seat, &fork.later);
             return;
         }
     }
-    *node = match mem::replace(node, Node::Leaf) {
-        Node::Leaf => Node::Leaf,
-        Node::Fork(sooner, seat, _, _, later) => balanced(sooner, seat, later),
+    *root = match root.take() {
+        None => None,
+        Some(mut fork) => {
+            let (sooner, later) = fork.take_sides();
+            Some(balanced(fork, sooner, later))
+        }
     };
 }
 
-/// A node over two sides that differ in height by at most two.
+/// A seat over two sides that differ in height by at most two.
 #[tactic(auto, using(crate::proofs::Low::low_even, crate::proofs::Low::low_sides))]
-fn balanced(sooner: Box<Seats>, seat: Seat, later: Box<Seats>) -> Node
-    requires { AreNearlyEven sooner.value later.value }
-    ensures even { IsEven result }
-    ensures seats { (seen_of result).0 ≡ sooner.value.0 ++ seat ∷ later.value.0 }
-    ensures height { IsHeight sooner.value.1 later.value.1 (seen_of result).1 }
+fn balanced(fork: Box<Fork>, sooner: Seats, later: Seats) -> Box<Fork>
+    requires { AreNearlyEven sooner later }
+    ensures even { IsEven (Some result) }
+    ensures seats { seats_of result.value ≡ sooner.0 ++ fork.value.seat ∷ later.0 }
+    ensures height { IsHeight sooner.1 later.1 result.value.height }
 {
     let (low, high) = (sooner.height(), later.height());
     if low > high + 1 {
-        lift_sooner(sooner, seat, later)
+        lift_sooner(fork, sooner, later)
     } else if high > low + 1 {
-        lift_later(sooner, seat, later)
+        lift_later(fork, sooner, later)
     } else {
-        fork(sooner, seat, later)
+        joined(fork, sooner, later)
     }
 }
 
-/// A node over two sides of which the sooner is the higher by two.
+/// A seat over two sides of which the sooner is the higher by two.
 #[tactic(auto, using(crate::proofs::Low::low_even, crate::proofs::Low::low_sides))]
-fn lift_sooner(mut sooner: Box<Seats>, seat: Seat, later: Box<Seats>) -> Node
-    requires sides { AreNearlyEven sooner.value later.value }
-    requires higher { sooner.value.1 ≡ later.value.1 + 2 }
-    ensures even { IsEven result }
-    ensures seats { (seen_of result).0 ≡ sooner.value.0 ++ seat ∷ later.value.0 }
-    ensures height { IsHeight sooner.value.1 later.value.1 (seen_of result).1 }
+fn lift_sooner(fork: Box<Fork>, sooner: Seats, later: Seats) -> Box<Fork>
+    requires sides { AreNearlyEven sooner later }
+    requires higher { sooner.1 ≡ later.1 + 2 }
+    ensures even { IsEven (Some result) }
+    ensures seats { seats_of result.value ≡ sooner.0 ++ fork.value.seat ∷ later.0 }
+    ensures height { IsHeight sooner.1 later.1 result.value.height }
 {
-    let Node::Fork(first, low, _, _, mut inner) = mem::replace(&mut *sooner, Seats::new()).node
-    else {
+    let Some(mut low) = sooner.root else {
         unreachable!()
     };
+    let (first, inner) = low.take_sides();
     if first.height() >= inner.height() {
-        sooner.node = fork(inner, seat, later);
-        return fork(first, low, sooner);
+        let high = Some(joined(fork, inner, later));
+        return joined(low, first, Seats { root: high });
     }
-    let Node::Fork(before, middle, _, _, after) = mem::replace(&mut *inner, Seats::new()).node
-    else {
+    let Some(mut middle) = inner.root else {
         unreachable!()
     };
-    inner.node = fork(first, low, before);
-    sooner.node = fork(after, seat, later);
-    fork(inner, middle, sooner)
+    let (before, after) = middle.take_sides();
+    let low = Some(joined(low, first, before));
+    let high = Some(joined(fork, after, later));
+    joined(middle, Seats { root: low }, Seats { root: high })
 }
 
-/// A node over two sides of which the later is the higher by two.
+/// A seat over two sides of which the later is the higher by two.
 #[tactic(auto, using(crate::proofs::Low::low_even, crate::proofs::Low::low_sides))]
-fn lift_later(sooner: Box<Seats>, seat: Seat, mut later: Box<Seats>) -> Node
-    requires sides { AreNearlyEven sooner.value later.value }
-    requires higher { later.value.1 ≡ sooner.value.1 + 2 }
-    ensures even { IsEven result }
-    ensures seats { (seen_of result).0 ≡ sooner.value.0 ++ seat ∷ later.value.0 }
-    ensures height { IsHeight sooner.value.1 later.value.1 (seen_of result).1 }
+fn lift_later(fork: Box<Fork>, sooner: Seats, later: Seats) -> Box<Fork>
+    requires sides { AreNearlyEven sooner later }
+    requires higher { later.1 ≡ sooner.1 + 2 }
+    ensures even { IsEven (Some result) }
+    ensures seats { seats_of result.value ≡ sooner.0 ++ fork.value.seat ∷ later.0 }
+    ensures height { IsHeight sooner.1 later.1 result.value.height }
 {
-    let Node::Fork(mut inner, high, _, _, last) = mem::replace(&mut *later, Seats::new()).node
-    else {
+    let Some(mut high) = later.root else {
         unreachable!()
     };
+    let (inner, last) = high.take_sides();
     if last.height() >= inner.height() {
-        later.node = fork(sooner, seat, inner);
-        return fork(later, high, last);
+        let low = Some(joined(fork, sooner, inner));
+        return joined(high, Seats { root: low }, last);
     }
-    let Node::Fork(before, middle, _, _, after) = mem::replace(&mut *inner, Seats::new()).node
-    else {
+    let Some(mut middle) = inner.root else {
         unreachable!()
     };
-    later.node = fork(sooner, seat, before);
-    inner.node = fork(after, high, last);
-    fork(later, middle, inner)
+    let (before, after) = middle.take_sides();
+    let low = Some(joined(fork, sooner, before));
+    let high = Some(joined(high, after, last));
+    joined(middle, Seats { root: low }, Seats { root: high })
 }

@@ -74,8 +74,12 @@ impl Row {
     pub(crate) fn seat(&self) -> Seat
         ensures { result ≡ seat_of self.now }
     {
-        let times = (wakes_at(self.kind, self.ready), due_at(self.ready));
-        (self.key(), (self.id, times))
+        Seat {
+            key: self.key(),
+            id: self.id,
+            wake: wakes_at(self.kind, self.ready),
+            due: due_at(self.ready),
+        }
     }
 
     /// Whether the source may be ready at a time, as far as its kind and its ready time tell.

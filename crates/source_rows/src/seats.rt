@@ -2,13 +2,13 @@
 //!
 //! A node has the least times of the seats from there on: so the next row that may be ready and the next ready time are found
 //! without a look at the others.
-ghost use Rattle.std.specs.Prelude.{◌≡◌, ◌≤◌, ◌<◌, ◌^◌, length, [], ◌∷◌, ◌++◌, true, is_some, IfSome, IfNone};
+ghost use Rattle.std.specs.Prelude.{◌≡◌, ◌≤◌, ◌<◌, ◌^◌, length, [], ◌∷◌, ◌++◌, true, Some, is_some, IfSome, IfNone};
 ghost use Rattle.std.specs.List.{list_any};
 ghost use Rattle.std.specs.Ordering.{is_eq};
 ghost use Rattle.source_rows.specs.Inserted.{inserted, Rises};
 ghost use Rattle.source_rows.specs.Seats.{seat_cmp, is_ahead, without, first_awake, next_due, due_after, least_of, lesser, is_passed, is_other, stays, swapped, replaced, IsLow};
 ghost use Rattle.source_rows.specs.Candidates.{never};
-ghost use Rattle.source_rows.specs.SeatTree.{seen_of, IsEven, IsLowered};
+ghost use Rattle.source_rows.specs.SeatTree.{seats_of, seen_of, IsEvenFork, IsEven, IsLowered};
 
 use crate::balance::{balance, remove_root};
 use std::alloc::{AllocError, Global};
@@ -16,9 +16,16 @@ use std::cmp::Ordering;
 use std::marker::Model;
 use std::mem;
 
-/// The key of a row, its id, and in microseconds from when on it may be ready and when it is due: `NEVER` for a row without a
-/// ready time.
-pub(crate) type Seat = ((i32, [u64; 4]), (u64, (u64, u64)));
+/// Where a row stands in the order, and its times in microseconds: `NEVER` where it has no ready time.
+#[derive(Clone, Copy, PartialEq, Eq, PartialOrd, Ord)]
+pub(crate) struct Seat {
+    pub(crate) key: (i32, [u64; 4]),
+    pub(crate) id: u64,
+    /// From when on the row may be ready.
+    pub(crate) wake: u64,
+    /// When the row is due.
+    pub(crate) due: u64,
+}
 
 /// Later than any ready time.
 pub(crate) const NEVER: u64 = 1 << 63;
@@ -27,15 +34,20 @@ pub(crate) const NEVER: u64 = 1 << 63;
 #[cycle(seats)]
 #[derive(Drop)]
 pub(crate) struct Seats {
-    pub(crate) node: Node,
+    pub(crate) root: Option<Box<Fork>>,
 }
 
-/// What stands before a seat, the seat, how high the tree is from here, the least times from here, and what stands behind it.
+/// A seat between those that stand before it and those that stand behind it.
 #[cycle(seats)]
 #[derive(Drop)]
-pub(crate) enum Node {
-    Leaf,
-    Fork(Box<Seats>, Seat, u64, Least, Box<Seats>),
+pub(crate) struct Fork {
+    pub(crate) sooner: Seats,
+    pub(crate) seat: Seat,
+    /// How high the tree is from here.
+    pub(crate) height: u64,
+    /// The least times from here.
+    pub(crate) least: Least,
+    pub(crate) later: Seats,
 }
 
 /// The least times of some seats, `NEVER` where there are none.
@@ -48,21 +60,20 @@ pub(crate) struct Least {
 /// Room for one seat.
 #[derive(Drop)]
 pub(crate) struct Room {
-    pub(crate) sooner: Box<Seats>,
-    pub(crate) later: Box<Seats>,
+    pub(crate) fork: Box<Fork>,
 }
 
 impl Model for Seats {
     ghost use Rattle.std.specs.Prelude.{ℕ, List, length};
-    ghost use Rattle.source_rows.specs.Seats.{Seat};
+    ghost use Rattle.source_rows.specs.declared.seats.Seat.{Seat};
 
     ghost Value = { List Seat × ℕ };
 
     ghost use Rattle.source_rows.specs.SeatTree.{seen_of, IsEven};
 
-    ghost view = { λ a. seen_of a.node };
+    ghost view = { λ a. seen_of a.root };
 
-    ghost invariant = { λ a. IsEven a.node };
+    ghost invariant = { λ a. IsEven a.root };
 
     ghost size = { λ d. length d.0 };
 
@@ -73,24 +84,53 @@ impl Model for Seats {
 
 impl Room {
     pub fn new(alloc: Global) -> Result<Room, AllocError> {
-        let sooner = Box::new(alloc, Seats::new())?;
-        let later = Box::new(alloc, Seats::new())?;
-        Ok(Room { sooner, later })
+        let nobody = Seat {
+            key: (0, [0; 4]),
+            id: 0,
+            wake: NEVER,
+            due: NEVER,
+        };
+        let fork = Box::new(alloc, Fork::alone(nobody))?;
+        Ok(Room { fork })
     }
 
-    /// A node with a seat and nothing else.
-    fn fill(mut self, seat: Seat) -> Node
-        ensures seats { seen_of result ≡ (seat ∷ [], 1) }
-        ensures even { IsEven result }
+    /// A tree of a seat and nothing else.
+    fn fill(mut self, seat: Seat) -> Box<Fork>
+        ensures seats { seen_of (Some result) ≡ (seat ∷ [], 1) }
+        ensures even { IsEven (Some result) }
     {
-        *self.sooner = Seats::new();
-        *self.later = Seats::new();
-        let (wake, due) = seat.1.1;
-        let least = Least {
-            wake: lesser(wake, NEVER),
-            due: lesser(due, NEVER),
-        };
-        Node::Fork(self.sooner, seat, 1, least, self.later)
+        *self.fork = Fork::alone(seat);
+        self.fork
+    }
+}
+
+impl Fork {
+    /// A seat and nothing else.
+    fn alone(seat: Seat) -> Fork
+        ensures seats { seats_of result ≡ seat ∷ [] }
+        ensures even { IsEvenFork result }
+        ensures height { result.height ≡ 1 }
+    {
+        Fork {
+            sooner: Seats::new(),
+            seat,
+            height: 1,
+            least: Least {
+                wake: lesser(seat.wake, NEVER),
+                due: lesser(seat.due, NEVER),
+            },
+            later: Seats::new(),
+        }
+    }
+
+    /// Takes both sides away.
+    pub(crate) fn take_sides(&mut self) -> (Seats, Seats)
+        ensures sides { result ≡ (self.old.sooner, self.old.later) }
+        ensures seat { self.new.seat ≡ self.old.seat }
+    {
+        let sooner = mem::replace(&mut self.sooner, Seats::new());
+        let later = mem::replace(&mut self.later, Seats::new());
+        (sooner, later)
     }
 }
 
@@ -98,7 +138,7 @@ impl Seats {
     pub fn new() -> Seats
         ensures { result ≡ ([], 0) }
     {
-        Seats { node: Node::Leaf }
+        Seats { root: None }
     }
 
     /// How many seats stand above each other at most.
@@ -107,15 +147,15 @@ impl Seats {
         ensures height { result ≡ self.now.1 }
         ensures low { IsLow self.now }
     {
-        match self.node {
-            Node::Leaf => 0,
-            Node::Fork(_, _, height, _, _) => height,
+        match &self.root {
+            None => 0,
+            Some(fork) => fork.height,
         }
     }
 
-    /// Puts a seat into a place.
+    /// Puts a seat into a room.
     #[tactic(auto, using(crate::proofs::Low::low_even))]
-    pub fn insert(&mut self, place: Room, seat: Seat)
+    pub fn insert(&mut self, room: Room, seat: Seat)
         requires rises { Rises is_ahead self.old.0 }
         requires few { length self.old.0 < 2 ^ 63 }
         requires low { IsLow self.old }
@@ -123,51 +163,53 @@ impl Seats {
         ensures low { IsLow self.new }
         ensures height { IsLowered self.new.1 self.old.1 }
     {
-        match &mut self.node {
-            Node::Leaf => {
-                self.node = place.fill(seat);
+        match &mut self.root {
+            None => {
+                self.root = Some(room.fill(seat));
                 return;
             }
-            Node::Fork(sooner, other, _, _, later) => {
-                if is_ahead(&seat, other) {
-                    sooner.insert(place, seat);
+            Some(fork) => {
+                let fork = &mut **fork;
+                if is_ahead(&seat, &fork.seat) {
+                    fork.sooner.insert(room, seat);
                 } else {
-                    later.insert(place, seat);
+                    fork.later.insert(room, seat);
                 }
             }
         }
-        balance(&mut self.node);
+        balance(&mut self.root);
     }
 
-    /// Takes the first seat out, with its place.
+    /// Takes the first seat out, in its room.
     #[tactic(auto, using(crate::proofs::Low::low_even))]
-    pub(crate) fn remove_first(&mut self) -> Option<(Seat, Room)>
+    pub(crate) fn remove_first(&mut self) -> Option<Box<Fork>>
         requires few { length self.old.0 ≤ 2 ^ 63 }
         requires low { IsLow self.old }
-        ensures some { IfSome result (λ f. self.old.0 ≡ f.0 ∷ self.new.0) }
+        ensures some { IfSome result (λ f. self.old.0 ≡ f.value.seat ∷ self.new.0) }
         ensures none { IfNone result (self.old ≡ ([], 0)) }
         ensures low { IsLow self.new }
         ensures height { IsLowered self.old.1 self.new.1 }
     {
-        match &mut self.node {
-            Node::Leaf => return None,
-            Node::Fork(sooner, _, _, _, _) => {
-                if let Some(first) = sooner.remove_first() {
-                    balance(&mut self.node);
+        match &mut self.root {
+            None => return None,
+            Some(fork) => {
+                if let Some(first) = fork.sooner.remove_first() {
+                    balance(&mut self.root);
                     return Some(first);
                 }
             }
         }
-        match mem::replace(&mut self.node, Node::Leaf) {
-            Node::Leaf => None,
-            Node::Fork(sooner, seat, _, _, mut later) => {
-                self.node = mem::replace(&mut *later, Seats::new()).node;
-                Some((seat, Room { sooner, later }))
+        match self.root.take() {
+            None => None,
+            Some(mut fork) => {
+                let (_, later) = fork.take_sides();
+                self.root = later.root;
+                Some(fork)
             }
         }
     }
 
-    /// Takes a seat out, with its place; none where it is not there.
+    /// Takes a seat out, and hands its room out; none where it is not there.
     #[tactic(auto, using(crate::proofs::Low::low_even))]
     fn take(&mut self, seat: Seat) -> Option<Room>
         requires rises { Rises is_ahead self.old.0 }
@@ -178,19 +220,22 @@ impl Seats {
         ensures low { IsLow self.new }
         ensures height { IsLowered self.old.1 self.new.1 }
     {
-        let place = match &mut self.node {
-            Node::Leaf => return None,
-            Node::Fork(sooner, other, _, _, later) => match seat.cmp(other) {
-                Ordering::Less => sooner.take(seat),
-                Ordering::Greater => later.take(seat),
-                Ordering::Equal => return remove_root(&mut self.node),
-            },
+        let room = match &mut self.root {
+            None => return None,
+            Some(fork) => {
+                let fork = &mut **fork;
+                match seat.cmp(&fork.seat) {
+                    Ordering::Less => fork.sooner.take(seat),
+                    Ordering::Greater => fork.later.take(seat),
+                    Ordering::Equal => return remove_root(&mut self.root),
+                }
+            }
         };
-        balance(&mut self.node);
-        place
+        balance(&mut self.root);
+        room
     }
 
-    /// Gives a seat up, and its place.
+    /// Gives a seat up, and its room.
     pub fn remove(&mut self, seat: Seat)
         requires rises { Rises is_ahead self.old.0 }
         requires few { length self.old.0 ≤ 2 ^ 63 }
@@ -210,8 +255,8 @@ impl Seats {
         ensures seats { self.new.0 ≡ inserted is_ahead after (without before self.old.0) }
         ensures low { IsLow self.new }
     {
-        if let Some(place) = self.take(before) {
-            self.insert(place, after);
+        if let Some(room) = self.take(before) {
+            self.insert(room, after);
         }
     }
 
@@ -221,15 +266,16 @@ impl Seats {
         ensures seats { self.new.0 ≡ swapped before after self.old.0 }
         ensures height { self.new.1 ≡ self.old.1 }
     {
-        match &mut self.node {
-            Node::Leaf => (),
-            Node::Fork(sooner, seat, _, least, later) => {
-                match before.cmp(seat) {
-                    Ordering::Less => sooner.set(before, after),
-                    Ordering::Greater => later.set(before, after),
-                    Ordering::Equal => *seat = after,
+        match &mut self.root {
+            None => (),
+            Some(fork) => {
+                let fork = &mut **fork;
+                match before.cmp(&fork.seat) {
+                    Ordering::Less => fork.sooner.set(before, after),
+                    Ordering::Greater => fork.later.set(before, after),
+                    Ordering::Equal => fork.seat = after,
                 }
-                *least = least_over(sooner, *seat, later);
+                fork.least = least_over(&fork.sooner, fork.seat, &fork.later);
             }
         }
     }
@@ -256,12 +302,12 @@ impl Seats {
     fn least(&self) -> Least
         ensures { result ≡ least_of self.now.0 }
     {
-        match self.node {
-            Node::Leaf => Least {
+        match &self.root {
+            None => Least {
                 wake: NEVER,
                 due: NEVER,
             },
-            Node::Fork(_, _, _, least, _) => least,
+            Some(fork) => fork.least,
         }
     }
 
@@ -270,21 +316,22 @@ impl Seats {
         requires { Rises is_ahead self.now.0 }
         ensures { result ≡ first_awake after now self.now.0 }
     {
-        match &self.node {
-            Node::Leaf => None,
-            Node::Fork(sooner, seat, _, least, later) => {
-                if now < least.wake {
+        match &self.root {
+            None => None,
+            Some(fork) => {
+                let fork = &**fork;
+                if now < fork.least.wake {
                     return None;
                 }
-                if is_passed(after, seat.0) {
-                    return later.first_awake(after, now);
+                if is_passed(after, fork.seat.key) {
+                    return fork.later.first_awake(after, now);
                 }
-                match sooner.first_awake(after, now) {
+                match fork.sooner.first_awake(after, now) {
                     None => {
-                        if seat.1.1.0 <= now {
-                            Some(seat.1.0)
+                        if fork.seat.wake <= now {
+                            Some(fork.seat.id)
                         } else {
-                            later.first_awake(after, now)
+                            fork.later.first_awake(after, now)
                         }
                     }
                     first => first,
@@ -297,15 +344,16 @@ impl Seats {
     pub fn next_due(&self, now: u64) -> u64
         ensures { result ≡ next_due now self.now.0 }
     {
-        match &self.node {
-            Node::Leaf => NEVER,
-            Node::Fork(sooner, seat, _, least, later) => {
-                if now < least.due {
-                    return least.due;
+        match &self.root {
+            None => NEVER,
+            Some(fork) => {
+                let fork = &**fork;
+                if now < fork.least.due {
+                    return fork.least.due;
                 }
                 lesser(
-                    sooner.next_due(now),
-                    lesser(due_after(now, seat), later.next_due(now)),
+                    fork.sooner.next_due(now),
+                    lesser(due_after(now, &fork.seat), fork.later.next_due(now)),
                 )
             }
         }
@@ -336,7 +384,7 @@ fn is_other(a: &Seat, b: &Seat) -> bool
 fn stays(a: &Seat, b: &Seat) -> bool
     ensures { result ≡ stays a.now b.now }
 {
-    match a.0.cmp(&b.0) {
+    match a.key.cmp(&b.key) {
         Ordering::Equal => true,
         _ => false,
     }
@@ -354,10 +402,9 @@ pub(crate) fn least_over(sooner: &Seats, seat: Seat, later: &Seats) -> Least
     ensures { result ≡ least_of (sooner.now.0 ++ seat ∷ later.now.0) }
 {
     let (before, behind) = (sooner.least(), later.least());
-    let (wake, due) = seat.1.1;
     Least {
-        wake: lesser(before.wake, lesser(wake, behind.wake)),
-        due: lesser(before.due, lesser(due, behind.due)),
+        wake: lesser(before.wake, lesser(seat.wake, behind.wake)),
+        due: lesser(before.due, lesser(seat.due, behind.due)),
     }
 }
 
@@ -365,7 +412,7 @@ pub(crate) fn least_over(sooner: &Seats, seat: Seat, later: &Seats) -> Least
 fn due_after(now: u64, seat: &Seat) -> u64
     ensures { result ≡ due_after now seat.now }
 {
-    let due = seat.1.1.1;
+    let due = seat.due;
     if now < due { due } else { NEVER }
 }
 

@@ -1,8 +1,8 @@
-use Rattle.std.proofs.Common.{◌≡◌, ◌∙◌, ◌<◌, ◌^◌, List, ◌∷◌, ◌++◌, length, false, true, sym, ap, subst, arith, rules}
+use Rattle.std.proofs.Common.{◌≡◌, ◌∙◌, ◌<◌, ◌^◌, List, ◌∷◌, ◌++◌, length, false, true, sym, ap, arith, rules}
 use Rattle.source_rows.specs.Inserted.{inserted}
-use Rattle.source_rows.specs.Seats.{Seat, is_ahead}
-use Rattle.source_rows.specs.SeatTree.{IsEven}
-use Rattle.source_rows.proofs.SeatTree.{at_Fork, length_inserted}
+use Rattle.source_rows.specs.declared.seats.Seat.{Seat}
+use Rattle.source_rows.specs.Seats.{is_ahead}
+use Rattle.source_rows.proofs.SeatTree.{at_Fork, even_at, length_inserted}
 use Rattle.source_rows.proofs.Inserted.{inserted_left, inserted_right}
 use Rattle.source_rows.proofs.Ahead.{sooner_order}
 use Rattle.source_rows.proofs.seats.Seats.+insert.Goals as goal
@@ -10,43 +10,45 @@ use Rattle.source_rows.proofs.seats.Seats.+insert.Goals.{then-is_ahead, else-is_
 
 pub insert-requires : goal.insert-requires
 insert-requires t c =
-    let f = at_Fork c.self.view_is c.requires.rises c.in-Fork.is in
-    let even = subst IsEven c.in-Fork.is c.self.invariant in
-    let few : length c.in-Fork.sooner.value.0 < 2 ^ 63 = omega (arith, f.parts, c.requires.few) in
-    let fewer : length c.in-Fork.sooner.value.0 < length c.args.self.now.0 = omega (arith, f.parts) in
+    let same : c.deref_mut-fork.result.now ≡ c.in-Some.fork.value = search rules in
+    let f = at_Fork c.self.view_is c.requires.rises c.in-Some.is same in
+    let even = even_at c.self.invariant c.in-Some.is same in
+    let few : length c.deref_mut-fork.result.now.sooner.0 < 2 ^ 63 = omega (arith, f.parts, c.requires.few) in
+    let fewer : length c.deref_mut-fork.result.now.sooner.0 < length c.args.self.now.0 = omega (arith, f.parts) in
     search rules
 
 pub insert-requires-else-is_ahead : goal.insert-requires-else-is_ahead
 insert-requires-else-is_ahead t c =
-    let f = at_Fork c.self.view_is c.requires.rises c.in-Fork.is in
-    let even = subst IsEven c.in-Fork.is c.self.invariant in
-    let few : length c.in-Fork.later.value.0 < 2 ^ 63 = omega (arith, f.parts, c.requires.few) in
-    let fewer : length c.in-Fork.later.value.0 < length c.args.self.now.0 = omega (arith, f.parts) in
+    let same : c.deref_mut-fork.result.now ≡ c.in-Some.fork.value = search rules in
+    let f = at_Fork c.self.view_is c.requires.rises c.in-Some.is same in
+    let even = even_at c.self.invariant c.in-Some.is same in
+    let few : length c.deref_mut-fork.result.now.later.0 < 2 ^ 63 = omega (arith, f.parts, c.requires.few) in
+    let fewer : length c.deref_mut-fork.result.now.later.0 < length c.args.self.now.0 = omega (arith, f.parts) in
     search rules
 
 pub balance-requires : goal.balance-requires
 balance-requires t c =
-    let f = at_Fork c.self.view_is c.requires.rises c.in-Fork.is in
-    let even = subst IsEven c.in-Fork.is c.self.invariant in
+    let same : c.deref_mut-fork.result.now ≡ c.in-Some.fork.value = search rules in
+    let f = at_Fork c.self.view_is c.requires.rises c.in-Some.is same in
+    let even = even_at c.self.invariant c.in-Some.is same in
     elim c.if-is_ahead.branch [
       | then-is_ahead w ↦
           let a = w.insert.ensures in
-          let is : w.deref_mut.result.now ≡ c.in-Fork.sooner.value = search rules in
-          let more = length_inserted is_ahead c.args.seat w.deref_mut.result.now.0 in
-          rw w.self-inside-is (grind (arith, is), a.low, even.3, grind (arith, is, more, a.seats, f.parts, c.requires.few))
+          let more = length_inserted is_ahead c.args.seat c.deref_mut-fork.result.now.sooner.0 in
+          rw w.self-inside-is (grind arith, a.low, even.3, grind (arith, more, a.seats, f.parts, c.requires.few))
       | else-is_ahead w ↦
           let a = w.insert-else-is_ahead.ensures in
-          let is : w.deref_mut-else-is_ahead.result.now ≡ c.in-Fork.later.value = search rules in
-          let more = length_inserted is_ahead c.args.seat w.deref_mut-else-is_ahead.result.now.0 in
-          rw w.self-inside-is (grind (arith, is), even.2, a.low, grind (arith, is, more, a.seats, f.parts, c.requires.few))
+          let more = length_inserted is_ahead c.args.seat c.deref_mut-fork.result.now.later.0 in
+          rw w.self-inside-is (grind arith, even.2, a.low, grind (arith, more, a.seats, f.parts, c.requires.few))
     ]
 
 pub returns-clause-seats : goal.returns-clause-seats
 returns-clause-seats t c =
-    let f = at_Fork c.self.view_is c.requires.rises c.in-Fork.is in
-    let l = c.in-Fork.sooner.value.0 in
-    let k = c.in-Fork.other in
-    let r = c.in-Fork.later.value.0 in
+    let same : c.deref_mut-fork.result.now ≡ c.in-Some.fork.value = search rules in
+    let f = at_Fork c.self.view_is c.requires.rises c.in-Some.is same in
+    let l = c.deref_mut-fork.result.now.sooner.0 in
+    let k = c.deref_mut-fork.result.now.seat in
+    let r = c.deref_mut-fork.result.now.later.0 in
     elim c.if-is_ahead.branch [
       | then-is_ahead w ↦
           let low : is_ahead c.args.seat k ≡ true = search rules in
