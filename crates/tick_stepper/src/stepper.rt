@@ -91,6 +91,7 @@ impl Stepper {
         ensures over { result ≡ Ok false → self.new ≡ self.old }
         ensures last { self.old.spent ≡ false → ((result ≡ Ok false) ↔ (self.old.tick ≡ self.old.script.ticks)) }
         ensures lanes { OnOk result (self.new.lanes ≡ lanes_at self.new.script self.new.tick) }
+        ensures script { self.new.script ≡ self.old.script }
         ensures spent { (result ≡ Err StepFault.Spent) ↔ IsTrue self.old.spent }
         ensures memory { result ≡ Err StepFault.OutOfMemory → IsTrue self.new.spent }
         ensures stays { result ≡ Err StepFault.Spent → self.new ≡ self.old }
@@ -113,6 +114,7 @@ impl Stepper {
         gate: &G,
     ) -> Result<(), StepFault>
         ensures ran { OnOk result (self.new ≡ record { script = self.old.script; lanes = lanes_at self.old.script self.old.script.ticks; tick = self.old.script.ticks; spent = false }) }
+        ensures script { self.new.script ≡ self.old.script }
         ensures spent { (result ≡ Err StepFault.Spent) ↔ IsTrue self.old.spent }
         ensures memory { result ≡ Err StepFault.OutOfMemory → IsTrue self.new.spent }
         ensures stays { result ≡ Err StepFault.Spent → self.new ≡ self.old }
@@ -136,6 +138,7 @@ impl Stepper {
         requires unspent { self.old.spent ≡ false }
         requires left { self.old.tick < self.old.script.ticks }
         ensures stepped { OnOk result (self.new ≡ record { script = self.old.script; lanes = lanes_at self.old.script (self.old.tick + 1); tick = self.old.tick + 1; spent = false }) }
+        ensures script { self.new.script ≡ self.old.script }
         ensures memory { OnErr result (IsTrue self.new.spent) }
     {
         let _most = self.script.ticks();
