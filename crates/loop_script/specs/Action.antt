@@ -10,6 +10,7 @@ use Rattle.loop_script.specs.TaskForm.{task_spec}
 use Rattle.loop_script.specs.declared.action.Action.{Action}
 use Rattle.loop_script.specs.declared.action.Action.TheVariants.{Attach, Child, Destroy, SetReady, SetPriority, Iterate, Pending, Run, Quit, Cancel, Connect, Disconnect, Task, Push, Pop, ShowDefault, Acquire, Release, Invoke, Log}
 
+-- `["attach",ctx,slot,spec]`
 unfoldable pub attach : Option Data → Read Action
 attach d = do
   _ ← arity 4 d
@@ -18,6 +19,7 @@ attach d = do
   spec ← source_spec (part 3 d)
   done (Attach context slot spec)
 
+-- `["child",parent slot,slot,spec]`
 unfoldable pub child : Option Data → Read Action
 child d = do
   _ ← arity 4 d
@@ -26,12 +28,14 @@ child d = do
   spec ← child_spec (part 3 d)
   done (Child parent slot spec)
 
+-- `["destroy",slot]`
 unfoldable pub destroy : Option Data → Read Action
 destroy d = do
   _ ← arity 2 d
   slot ← slot (part 1 d)
   done (Destroy slot)
 
+-- `["set_ready",slot,us]`
 unfoldable pub set_ready : Option Data → Read Action
 set_ready d = do
   _ ← arity 3 d
@@ -39,6 +43,7 @@ set_ready d = do
   us ← ready_time (part 2 d)
   done (SetReady slot us)
 
+-- `["set_priority",slot,p]`
 unfoldable pub set_priority : Option Data → Read Action
 set_priority d = do
   _ ← arity 3 d
@@ -46,36 +51,42 @@ set_priority d = do
   priority ← priority (part 2 d)
   done (SetPriority slot priority)
 
+-- `["iterate",ctx]`
 unfoldable pub iterate : Option Data → Read Action
 iterate d = do
   _ ← arity 2 d
   context ← index (part 1 d)
   done (Iterate context)
 
+-- `["pending",ctx]`
 unfoldable pub pending : Option Data → Read Action
 pending d = do
   _ ← arity 2 d
   context ← index (part 1 d)
   done (Pending context)
 
+-- `["run",loop]`
 unfoldable pub run : Option Data → Read Action
 run d = do
   _ ← arity 2 d
   loop ← index (part 1 d)
   done (Run loop)
 
+-- `["quit",loop]`
 unfoldable pub quit : Option Data → Read Action
 quit d = do
   _ ← arity 2 d
   loop ← index (part 1 d)
   done (Quit loop)
 
+-- `["cancel",cancellable]`
 unfoldable pub cancel : Option Data → Read Action
 cancel d = do
   _ ← arity 2 d
   c ← index (part 1 d)
   done (Cancel c)
 
+-- `["connect",cancellable,slot,proc]`
 unfoldable pub connect : Option Data → Read Action
 connect d = do
   _ ← arity 4 d
@@ -84,47 +95,55 @@ connect d = do
   proc ← index (part 3 d)
   done (Connect c slot proc)
 
+-- `["disconnect",slot]`
 unfoldable pub disconnect : Option Data → Read Action
 disconnect d = do
   _ ← arity 2 d
   slot ← slot (part 1 d)
   done (Disconnect slot)
 
+-- `["task",spec]`
 unfoldable pub task : Option Data → Read Action
 task d = do
   _ ← arity 2 d
   spec ← task_spec (part 1 d)
   done (Task spec)
 
+-- `["push",ctx]`
 unfoldable pub push : Option Data → Read Action
 push d = do
   _ ← arity 2 d
   context ← index (part 1 d)
   done (Push context)
 
+-- `["pop",ctx]`
 unfoldable pub pop : Option Data → Read Action
 pop d = do
   _ ← arity 2 d
   context ← index (part 1 d)
   done (Pop context)
 
+-- `["default"]`
 unfoldable pub show_default : Option Data → Read Action
 show_default d = do
   _ ← arity 1 d
   done ShowDefault
 
+-- `["acquire",ctx]`
 unfoldable pub acquire : Option Data → Read Action
 acquire d = do
   _ ← arity 2 d
   context ← index (part 1 d)
   done (Acquire context)
 
+-- `["release",ctx]`
 unfoldable pub release : Option Data → Read Action
 release d = do
   _ ← arity 2 d
   context ← index (part 1 d)
   done (Release context)
 
+-- `["invoke",ctx,proc]`
 unfoldable pub invoke : Option Data → Read Action
 invoke d = do
   _ ← arity 3 d
@@ -132,12 +151,14 @@ invoke d = do
   proc ← index (part 2 d)
   done (Invoke context proc)
 
+-- `["log",n]`
 unfoldable pub log : Option Data → Read Action
 log d = do
   _ ← arity 2 d
   n ← whole 0 4294967295 (part 1 d)
   done (Log n)
 
+-- the form of each word
 abbrev pub forms : Option Data → List (List ℕ × Read Action)
 forms d =
     (codes "attach", attach d)
@@ -162,5 +183,6 @@ forms d =
     ∷ (codes "log", log d)
     ∷ []
 
+-- an action by its word
 unfoldable pub action : Option Data → Read Action
 action d = choice (word d) (forms d) (misshapen (Log 0))

@@ -1,6 +1,7 @@
 -- The numbers that bound a script and its run.
 use Rattle.std.specs.Prelude.{ℕ, ◌^◌}
 
+-- the most lanes
 abbrev pub most_lanes : ℕ
 most_lanes = 64
 
@@ -8,6 +9,7 @@ most_lanes = 64
 abbrev pub most_items : ℕ
 most_items = 256
 
+-- the most procedures
 abbrev pub most_procs : ℕ
 most_procs = 1024
 

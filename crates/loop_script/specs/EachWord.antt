@@ -7,19 +7,24 @@ use Rattle.loop_script.specs.declared.source.Kind.TheVariants as kinds
 use Rattle.loop_script.specs.declared.action.Action.TheVariants.{Attach, Child, Destroy, SetReady, SetPriority, Iterate, Pending, Run, Quit, Cancel, Connect, Disconnect, Task, Push, Pop, ShowDefault, Acquire, Release, Invoke, Log}
 use Rattle.loop_script.specs.Tree.{value, fail, sleep, check, seq, both, first, within}
 
+-- the parts of a list
 abbrev items : List Data → Items
 items [] = no_items
 items (d ∷ ds) = item d (items ds)
 
+-- a list
 abbrev row : List Data → Data
 row ds = array (items ds)
 
+-- a whole number
 abbrev n : ℕ → Data
 n k = number (unsigned k)
 
+-- a number below 0
 abbrev below_zero : ℤ → Data
 below_zero z = number (negative z)
 
+-- a text
 abbrev word : List ℕ → Data
 word w = string w
 
@@ -47,6 +52,7 @@ abbrev task : Data
 task = object (member (codes "call") (n 0) (member (codes "cancel") (n 0) (member (codes "check") (boolean true)
     (member (codes "priority") (below_zero (negsuc 4)) (member (codes "return_on_cancel") (boolean true) (member (codes "tree") tree no_members))))))
 
+-- a list with each action
 abbrev start : List Data
 start =
     row (word (codes "attach") ∷ n 0 ∷ n 1 ∷ source ∷ [])
@@ -74,6 +80,7 @@ start =
     ∷ row (word (codes "log") ∷ n 8 ∷ [])
     ∷ []
 
+-- a procedure with both keys
 abbrev procedure : Data
 procedure = object (member (codes "do") (row (row (word (codes "log") ∷ n 9 ∷ []) ∷ [])) (member (codes "keep") (n 3) no_members))
 
@@ -81,6 +88,7 @@ procedure = object (member (codes "do") (row (row (word (codes "log") ∷ n 9 �
 abbrev once : Data
 once = object (member (codes "do") (row []) no_members)
 
+-- a lane with both keys
 abbrev lane : Data
 lane = object (member (codes "contexts") (n 1) (member (codes "start") (row start) no_members))
 
@@ -88,6 +96,7 @@ lane = object (member (codes "contexts") (n 1) (member (codes "start") (row star
 abbrev descriptors : Data
 descriptors = row (row (row (n 1 ∷ n 5 ∷ []) ∷ []) ∷ [])
 
+-- a script with each key, word and form
 abbrev pub each_word : Data
 each_word = object
     (member (codes "cancellables") (n 1)
@@ -99,6 +108,7 @@ each_word = object
     (member (codes "ticks") (n 2)
     (member (codes "version") (n 1) no_members))))))))
 
+-- what it is read as
 abbrev pub each_part : Plan
 each_part = record {
   version = 1;

@@ -19,9 +19,11 @@ pub record StillSeen (before after : Faults) : Type 0 where
   pub shape : before.shape ≡ true → after.shape ≡ true
   pub limit : before.limit ≡ true → after.limit ≡ true
 
+-- a form leaves each fault that was seen before
 abbrev pub ClearsNone : {A : Type 0} → Read A → Type 0
 ClearsNone r = (before : Faults) → StillSeen before (r.faults before)
 
+-- no form clears a fault
 pub record NoFaultIsCleared : Type 0 where
   pub kind : (d : Option Data) → ClearsNone (kind d)
   pub source_spec : (d : Option Data) → ClearsNone (source_spec d)

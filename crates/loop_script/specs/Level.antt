@@ -9,6 +9,7 @@ use Rattle.loop_script.specs.Rows.{rows}
 use Rattle.loop_script.specs.declared.level.Level.{Level}
 use Rattle.loop_script.specs.Bounds.{most_ticks}
 
+-- `[tick,bits]`
 unfoldable pub level : Option Data → Read Level
 level d = do
   _ ← arity 2 d
@@ -16,6 +17,7 @@ level d = do
   bits ← bits (part 1 d)
   done (record { tick = tick; bits = bits })
 
+-- the levels of a descriptor
 unfoldable pub levels : Option Data → Read (List Level)
 levels d = rows 0 most_ticks level d
 
@@ -24,9 +26,11 @@ abbrev pub rises : List Level → Bool
 rises [] = true
 rises (l ∷ ls) = list_all (λ m. nat_lt l.tick m.tick) ls && rises ls
 
+-- the last of a list
 abbrev pub last : {A : Type 0} → List A → Option A
 last xs = slice_get xs (length xs - 1)
 
+-- the least of a list
 abbrev pub least : List ℕ → Option ℕ
 least [] = None
 least (n ∷ ns) = Some (min n (unwrap_or (least ns) n))
@@ -35,6 +39,7 @@ least (n ∷ ns) = Some (min n (unwrap_or (least ns) n))
 abbrev pub come : ℕ → List Level → List Level
 come tick ls = filter (λ l. nat_le l.tick tick) ls
 
+-- the levels that begin after a tick
 abbrev pub to_come : ℕ → List Level → List Level
 to_come tick ls = filter (λ l. nat_lt tick l.tick) ls
 

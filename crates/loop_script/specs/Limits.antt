@@ -5,6 +5,7 @@ use Rattle.loop_script.specs.References.{plan_refers}
 use Rattle.loop_script.specs.Rules.{plan_rules}
 use Rattle.loop_script.specs.Bounds.{most_lanes, most_items, most_ticks, longest_tick}
 
+-- a plan within its bounds
 pub record IsBounded (p : Plan) : Type 0 where
   pub first : 1 ≤ p.version
   pub last : p.version ≤ 2

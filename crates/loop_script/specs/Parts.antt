@@ -13,10 +13,12 @@ use Rattle.loop_script.specs.declared.body.Body.TheVariants.{Start, Procedure, N
 abbrev pub time_of : Plan → ℕ → ℕ
 time_of script tick = tick * script.tick_us
 
+-- the start list of a lane
 abbrev pub start_of : Option LaneSpec → List Action
 start_of (Some lane) = lane.start
 start_of None = []
 
+-- the list of a procedure
 abbrev pub actions_of_proc : Option Proc → List Action
 actions_of_proc (Some proc) = proc.actions
 actions_of_proc None = []
@@ -48,6 +50,7 @@ abbrev pub home_in : ℕ → List LaneSpec → ℕ → ℕ
 home_in number [] context = number
 home_in number (lane ∷ lanes) context = if nat_lt context lane.contexts then number else home_in (number + 1) lanes (context - lane.contexts)
 
+-- the lane that has a context at first
 abbrev pub home_of : Plan → ℕ → ℕ
 home_of script context = home_in 0 script.lanes context
 
@@ -56,6 +59,7 @@ abbrev pub is_kept : Option ℕ → ℕ → Bool
 is_kept (Some keep) n = nat_le n keep
 is_kept None n = true
 
+-- whether a procedure keeps its source after the n-th dispatch
 abbrev pub keeps : Option Proc → ℕ → Bool
 keeps (Some proc) n = is_kept proc.keep n
 keeps None n = false

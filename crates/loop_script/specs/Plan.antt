@@ -13,9 +13,11 @@ use Rattle.loop_script.specs.declared.plan.Proc.{Proc}
 use Rattle.loop_script.specs.declared.plan.Plan.{Plan}
 use Rattle.loop_script.specs.Bounds.{most_lanes, most_items, most_procs, most_ticks, longest_tick}
 
+-- a list of actions
 unfoldable pub actions : Option Data → Read (List Action)
 actions d = rows 0 most_items action d
 
+-- a lane
 unfoldable pub lane : Option Data → Read LaneSpec
 lane d = do
   _ ← only (codes "contexts" ∷ codes "start" ∷ []) d
@@ -27,12 +29,15 @@ lane d = do
 abbrev pub few_contexts : List LaneSpec → Read (List LaneSpec)
 few_contexts lanes = if nat_le (sum_by (λ l. l.contexts) lanes) most_items then done lanes else beyond []
 
+-- the lanes
 unfoldable pub lanes : Option Data → Read (List LaneSpec)
 lanes d = rows 1 most_lanes lane d >>= few_contexts
 
+-- how many dispatches a source stays for, or null for always; nothing said is 0
 unfoldable pub keep_or : Option Data → Read (Option ℕ)
 keep_or d = optional (Some 0) (nullable (whole 0 4294967295)) d
 
+-- a procedure
 unfoldable pub procedure : Option Data → Read Proc
 procedure d = do
   _ ← only (codes "do" ∷ codes "keep" ∷ []) d
@@ -40,6 +45,7 @@ procedure d = do
   keep ← keep_or (field (codes "keep") d)
   done (record { actions = actions; keep = keep })
 
+-- a script
 unfoldable pub plan : Option Data → Read Plan
 plan d = do
   _ ← only (codes "version" ∷ codes "ticks" ∷ codes "tick_us" ∷ codes "lanes" ∷ codes "cancellables" ∷ codes "fds" ∷ codes "loops" ∷ codes "procs" ∷ []) d

@@ -10,6 +10,7 @@ use Rattle.loop_script.specs.declared.task.TaskSpec.{TaskSpec}
 use Rattle.loop_script.specs.declared.plan.Plan.{Plan}
 use Rattle.loop_script.specs.declared.references.Sizes.{Sizes}
 
+-- how many there are of what goes by a number
 abbrev pub sizes : Plan → Sizes
 sizes p = record {
   lanes = length p.lanes;
@@ -25,6 +26,7 @@ abbrev pub option_refers : ℕ → Option ℕ → Bool
 option_refers n None = true
 option_refers n (Some i) = nat_lt i n
 
+-- what a kind names is there
 abbrev pub kind_refers : Sizes → Kind → Bool
 kind_refers n kinds.Idle = true
 kind_refers n (kinds.Timeout ms) = true
@@ -32,12 +34,15 @@ kind_refers n (kinds.ReadyTime us) = true
 kind_refers n (kinds.Fd fd bits) = nat_lt fd n.fds
 kind_refers n (kinds.Cancel c) = nat_lt c n.cancellables
 
+-- the same of a source
 abbrev pub source_refers : Sizes → SourceSpec → Bool
 source_refers n s = option_refers n.procs s.call && kind_refers n s.kind
 
+-- the same of a task
 abbrev pub task_refers : Sizes → TaskSpec → Bool
 task_refers n t = nat_lt t.call n.procs && option_refers n.cancellables t.cancel
 
+-- the same of an action
 abbrev pub action_refers : Sizes → Action → Bool
 action_refers n (Attach context slot spec) = nat_lt context n.contexts && source_refers n spec
 action_refers n (Child parent slot spec) = source_refers n spec
@@ -61,6 +66,7 @@ action_refers n (Invoke context proc) = nat_lt context n.contexts && nat_lt proc
 action_refers n (Give context lane) = nat_lt context n.contexts && nat_lt lane n.lanes
 action_refers n (Log k) = true
 
+-- the same of all of a script
 abbrev pub plan_refers : Plan → Bool
 plan_refers p =
     list_all (λ l. list_all (action_refers (sizes p)) l.start) p.lanes

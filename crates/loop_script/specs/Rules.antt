@@ -32,6 +32,7 @@ action_rules procs (Invoke context proc) = goes_at_once procs proc
 action_rules procs (Task t) = t.check || not t.return_on_cancel
 action_rules procs _ = true
 
+-- a script keeps each rule
 abbrev pub plan_rules : Plan → Bool
 plan_rules p =
     list_all rises p.fds

@@ -24,6 +24,7 @@ verdict faults p =
     else if plan_refers p then (if plan_rules p then Ok p else Err Rule)
     else Err Reference
 
+-- no fault was seen
 abbrev pub none_seen : Faults
 none_seen = record { shape = false; limit = false }
 
@@ -31,6 +32,7 @@ none_seen = record { shape = false; limit = false }
 abbrev pub script_of : Data → Result Plan ScriptFault
 script_of d = let r = plan (Some d) in verdict (r.faults none_seen) r.value
 
+-- the cause of a fault stands in the bytes
 abbrev FaultAnswers : List ℕ → ScriptFault → Type 0
 FaultAnswers bytes NotJson = (d : Data) → IsJson bytes d → ⊥
 FaultAnswers bytes Shape = (d : Data) × IsJson bytes d × (script_of d ≡ Err Shape)
@@ -39,10 +41,12 @@ FaultAnswers bytes Reference = (d : Data) × IsJson bytes d × (script_of d ≡ 
 FaultAnswers bytes Rule = (d : Data) × IsJson bytes d × (script_of d ≡ Err Rule)
 FaultAnswers bytes OutOfMemory = Unit {0}
 
+-- the script that the bytes have, or the first class of fault in them
 abbrev pub Answers : List ℕ → Result Plan ScriptFault → Type 0
 Answers bytes (Ok p) = (d : Data) × IsJson bytes d × (script_of d ≡ Ok p)
 Answers bytes (Err e) = FaultAnswers bytes e
 
+-- what the kit's reader answers
 abbrev pub IsRead : List ℕ → Result Value ScriptFault → Type 0
 IsRead bytes (Ok v) = IsJson bytes (view v)
 IsRead bytes (Err NotJson) = (d : Data) → IsJson bytes d → ⊥

@@ -10,23 +10,27 @@ use Rattle.loop_script.specs.declared.source.Kind.{Kind}
 use Rattle.loop_script.specs.declared.source.Kind.TheVariants.{Idle, Timeout, ReadyTime, Fd, Cancel}
 use Rattle.loop_script.specs.declared.source.SourceSpec.{SourceSpec}
 
+-- `["idle"]`
 unfoldable pub idle : Option Data → Read Kind
 idle d = do
   _ ← arity 1 d
   done Idle
 
+-- `["timeout",ms]`
 unfoldable pub timeout : Option Data → Read Kind
 timeout d = do
   _ ← arity 2 d
   ms ← whole 0 4294967295 (part 1 d)
   done (Timeout ms)
 
+-- `["ready",us]`
 unfoldable pub ready : Option Data → Read Kind
 ready d = do
   _ ← arity 2 d
   us ← ready_time (part 1 d)
   done (ReadyTime us)
 
+-- `["fd",fd,bits]`
 unfoldable pub fd : Option Data → Read Kind
 fd d = do
   _ ← arity 3 d
@@ -34,12 +38,14 @@ fd d = do
   bits ← bits (part 2 d)
   done (Fd descriptor bits)
 
+-- `["cancel",cancellable]`
 unfoldable pub cancel : Option Data → Read Kind
 cancel d = do
   _ ← arity 2 d
   c ← index (part 1 d)
   done (Cancel c)
 
+-- the form of each word
 abbrev pub kinds : Option Data → List (List ℕ × Read Kind)
 kinds d =
     (codes "idle", idle d)
@@ -49,6 +55,7 @@ kinds d =
     ∷ (codes "cancel", cancel d)
     ∷ []
 
+-- a kind by its word
 unfoldable pub kind : Option Data → Read Kind
 kind d = choice (word d) (kinds d) (misshapen Idle)
 
@@ -60,9 +67,11 @@ usual_priority (ReadyTime us) = pos 0
 usual_priority (Fd f bits) = pos 0
 usual_priority (Cancel c) = pos 0
 
+-- a priority, where nothing is said the kind's usual one
 unfoldable pub priority_or : Kind → Option Data → Read ℤ
 priority_or k d = optional (usual_priority k) priority d
 
+-- a source
 unfoldable pub source_spec : Option Data → Read SourceSpec
 source_spec d = do
   _ ← only (codes "kind" ∷ codes "priority" ∷ codes "recurse" ∷ codes "call" ∷ []) d

@@ -9,6 +9,7 @@ use Rattle.loop_script.specs.TreeDepth.{fits_in}
 use Rattle.loop_script.specs.TreeForm.{tree}
 use Rattle.loop_script.specs.declared.task.TaskSpec.{TaskSpec}
 
+-- a tree within its depth
 abbrev pub limited : Tree → Read Tree
 limited t = if fits_in 16 t then done t else beyond fail
 
@@ -16,9 +17,11 @@ limited t = if fits_in 16 t then done t else beyond fail
 unfoldable pub shallow_tree : Option Data → Read Tree
 shallow_tree d = tree d >>= limited
 
+-- a priority, where nothing is said 0
 unfoldable pub priority_or_zero : Option Data → Read ℤ
 priority_or_zero d = optional (pos 0) priority d
 
+-- a task
 unfoldable pub task_spec : Option Data → Read TaskSpec
 task_spec d = do
   _ ← only (codes "tree" ∷ codes "call" ∷ codes "cancel" ∷ codes "check" ∷ codes "return_on_cancel" ∷ codes "priority" ∷ []) d

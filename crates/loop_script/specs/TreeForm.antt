@@ -14,23 +14,27 @@ part_reading n [] = misshapen fail
 part_reading zero (r ∷ rs) = r
 part_reading (suc n) (r ∷ rs) = part_reading n rs
 
+-- `["value",n]`
 unfoldable pub value_form : Option Data → Read Tree
 value_form d = do
   _ ← arity 2 d
   v ← integer (negsuc 9223372036854775807) (pos 9223372036854775807) (part 1 d)
   done (value v)
 
+-- `["fail"]`
 unfoldable pub fail_form : Option Data → Read Tree
 fail_form d = do
   _ ← arity 1 d
   done fail
 
+-- `["sleep",us]`
 unfoldable pub sleep_form : Option Data → Read Tree
 sleep_form d = do
   _ ← arity 2 d
   us ← whole 0 longest_time (part 1 d)
   done (sleep us)
 
+-- `["check"]`
 unfoldable pub check_form : Option Data → Read Tree
 check_form d = do
   _ ← arity 1 d
@@ -44,6 +48,7 @@ pair_from join d parts = do
   b ← parts 2
   done (join a b)
 
+-- `["within",us,a]`, its part read by what is given
 abbrev pub within_from : Option Data → (ℕ → Read Tree) → Read Tree
 within_from d parts = do
   _ ← arity 3 d
@@ -51,6 +56,7 @@ within_from d parts = do
   a ← parts 2
   done (within us a)
 
+-- the form of each word, parts read by what is given
 abbrev pub forms_from : Option Data → (ℕ → Read Tree) → List (List ℕ × Read Tree)
 forms_from d parts =
     (codes "value", value_form d)
@@ -63,9 +69,11 @@ forms_from d parts =
     ∷ (codes "within", within_from d parts)
     ∷ []
 
+-- a tree by its word, parts read by what is given
 abbrev pub tree_from : Option Data → (ℕ → Read Tree) → Read Tree
 tree_from d parts = choice (word d) (forms_from d parts) (misshapen fail)
 
+-- a tree of data, whose parts are trees
 unfoldable mutual
   pub tree_in : Data → Read Tree
   tree_in null = misshapen fail
@@ -79,6 +87,7 @@ unfoldable mutual
   trees_in no_items = []
   trees_in (item d ds) = tree_in d ∷ trees_in ds
 
+-- a tree, where there is one
 unfoldable pub tree : Option Data → Read Tree
 tree None = misshapen fail
 tree (Some d) = tree_in d
@@ -87,15 +96,19 @@ tree (Some d) = tree_in d
 unfoldable pub seq_form : Option Data → Read Tree
 seq_form d = pair_from seq d (λ n. tree (part n d))
 
+-- `["both",a,b]`
 unfoldable pub both_form : Option Data → Read Tree
 both_form d = pair_from both d (λ n. tree (part n d))
 
+-- `["first",a,b]`
 unfoldable pub first_form : Option Data → Read Tree
 first_form d = pair_from first d (λ n. tree (part n d))
 
+-- `["within",us,a]`
 unfoldable pub within_form : Option Data → Read Tree
 within_form d = within_from d (λ n. tree (part n d))
 
+-- the form of each word
 abbrev pub forms : Option Data → List (List ℕ × Read Tree)
 forms d =
     (codes "value", value_form d)

@@ -13,15 +13,19 @@ Microseconds = ℕ
 abbrev pub LaneNumber : Type 0
 LaneNumber = ℕ
 
+-- a context, over all lanes
 abbrev pub ContextNumber : Type 0
 ContextNumber = ℕ
 
+-- a loop
 abbrev pub LoopNumber : Type 0
 LoopNumber = ℕ
 
+-- a cancellable
 abbrev pub CancellableNumber : Type 0
 CancellableNumber = ℕ
 
+-- a procedure
 abbrev pub ProcNumber : Type 0
 ProcNumber = ℕ
 
@@ -33,5 +37,6 @@ Slot = ℕ
 abbrev pub SourceId : Type 0
 SourceId = ℕ
 
+-- a handler in its lane, from 1
 abbrev pub HandlerId : Type 0
 HandlerId = ℕ

@@ -8,5 +8,6 @@ use Rattle.source_rows.specs.Row.{no_number}
 abbrev pub first_key : Row → Key
 first_key r = (r.priority, slice_index r.path 0 ∷ 0 ∷ 0 ∷ 0 ∷ [])
 
+-- the key behind all rows of a tree
 abbrev pub last_key : Row → Key
 last_key r = (r.priority, slice_index r.path 0 ∷ no_number ∷ no_number ∷ no_number ∷ [])

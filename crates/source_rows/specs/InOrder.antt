@@ -5,6 +5,7 @@ use Rattle.std.specs.Option.{IsSome}
 use Rattle.source_rows.specs.declared.row.Row.{Row}
 use Rattle.source_rows.specs.Rows.{row_of}
 
+-- the rows of ids
 abbrev pub rows_of : List Row → List ℕ → List Row
 rows_of rows ids = filter_map (λ id. row_of id rows) ids
 

@@ -9,9 +9,11 @@ use Rattle.source_rows.specs.Order.{Apart}
 use Rattle.source_rows.specs.Tree.{IdsRise, IsForest}
 use Rattle.source_rows.specs.Lists.{Pairs}
 
+-- the set of rows of the fields
 abbrev pub set_of : Inside → RowSet
 set_of a = record { rows = a.table; next_id = a.next_id; next_order = a.next_order; levels = level_count a.levels }
 
+-- what the order has of a row
 abbrev pub entry_of : Row → Key × ℕ
 entry_of r = (key_of r, r.id)
 
@@ -23,6 +25,7 @@ AllApart rows = Pairs Apart rows
 abbrev pub IsBelow : ℕ → List ℕ → Type 0
 IsBelow n path = (k : ℕ) → n ≤ k → k < no_number → list_any (λ i. i == k) path ≡ false
 
+-- rows below the next numbers, in trees at so many levels at most
 pub record IsSound (rows : List Row) (next_id next_order levels : ℕ) : Type 0 where
   pub below : AllByRecursion (λ r. IsBelow next_order r.path) rows
   pub fresh : AllByRecursion (λ r. r.id < next_id) rows
@@ -35,6 +38,7 @@ pub record IsSound (rows : List Row) (next_id next_order levels : ℕ) : Type 0 
   pub numbers : next_order ≤ 2 ^ 63
   pub forest : IsForest rows
 
+-- and the order has each of them
 pub record IsKept (rows : List Row) (entries : List (Key × ℕ)) (next_id next_order levels : ℕ) : Type 0 where
   pub sound : IsSound rows next_id next_order levels
   pub ordered : entries ≡ map entry_of (in_order rows)

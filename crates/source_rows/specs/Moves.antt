@@ -5,9 +5,11 @@ use Rattle.std.specs.Map.{remove_entry}
 use Rattle.source_rows.specs.declared.row.Row.{Row}
 use Rattle.source_rows.specs.Rows.{Key, key_cmp, key_of, changed}
 
+-- the order with a row
 abbrev pub with_row : List (Key × ℕ) → Row → List (Key × ℕ)
 with_row es r = insert_entry key_cmp es (key_of r) r.id
 
+-- the order without it
 abbrev pub without_row : List (Key × ℕ) → Row → List (Key × ℕ)
 without_row es r = remove_entry (is_at (key_cmp (key_of r))) es
 

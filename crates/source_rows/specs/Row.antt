@@ -17,9 +17,11 @@ ready_at (Cancel c) now = negsuc 0
 abbrev pub no_number : ℕ
 no_number = 2 ^ 64 - 1
 
+-- the line of a root: its id alone
 abbrev pub root_line : ℕ → List ℕ
 root_line id = id ∷ id ∷ id ∷ id ∷ []
 
+-- the path of a root: its order number alone
 abbrev pub root_path : ℕ → List ℕ
 root_path order = order ∷ no_number ∷ no_number ∷ no_number ∷ []
 
@@ -35,6 +37,7 @@ path_under level path order = if level == 1 then slice_index path 0 ∷ order �
     else if level == 2 then slice_index path 0 ∷ slice_index path 1 ∷ order ∷ no_number ∷ []
     else slice_index path 0 ∷ slice_index path 1 ∷ slice_index path 2 ∷ order ∷ []
 
+-- the row of a source that is attached
 abbrev pub root_row : SourceSpec → ℕ → ℕ → ℕ → Row
 root_row spec now id order = record {
   id = id;
@@ -51,6 +54,7 @@ root_row spec now id order = record {
   path = root_path order;
 }
 
+-- the row of a source that is added below another
 abbrev pub child_row : Row → SourceSpec → ℕ → ℕ → ℕ → Row
 child_row parent spec now id order = record {
   id = id;

@@ -20,16 +20,20 @@ pub record RowSet : Type 0 where
   pub next_order : ℕ
   pub levels : ℕ
 
+-- how many levels
 abbrev pub level_count : Levels → ℕ
 level_count Two = 2
 level_count Four = 4
 
+-- no row yet
 abbrev pub no_rows : ℕ → RowSet
 no_rows levels = record { rows = []; next_id = 1; next_order = 0; levels = levels }
 
+-- whether a row has an id
 abbrev pub has_id : ℕ → Row → Bool
 has_id id r = r.id == id
 
+-- the row of an id
 abbrev pub row_of : ℕ → List Row → Option Row
 row_of id rows = find (has_id id) rows
 
@@ -39,9 +43,11 @@ is_under id r = list_any (λ i. i == id) r.line
 
 -- ---- the order within a context
 
+-- a priority and a path
 abbrev pub Key : Type 0
 Key = ℤ × List ℕ
 
+-- by priority, then by path
 abbrev pub key_cmp : Key → Key → Ordering
 key_cmp a b = ordering_then (int_cmp a.0 b.0) (slice_cmp nat_cmp a.1 b.1)
 
@@ -49,24 +55,30 @@ key_cmp a b = ordering_then (int_cmp a.0 b.0) (slice_cmp nat_cmp a.1 b.1)
 abbrev pub key_of : Row → Key
 key_of r = (r.priority, r.path)
 
+-- whether a row stands before another
 abbrev pub stands_before : Row → Row → Bool
 stands_before r q = is_lt (key_cmp (key_of r) (key_of q))
 
+-- rows with one more in its place
 abbrev pub placed : Row → List Row → List Row
 placed r rows = inserted stands_before r rows
 
+-- rows in the order of dispatch
 abbrev pub in_order : List Row → List Row
 in_order [] = []
 in_order (r ∷ rs) = placed r (in_order rs)
 
 -- ---- the edits
 
+-- the set with one more row
 abbrev pub added : Row → RowSet → RowSet
 added row s = record s { rows = s.rows ++ row ∷ []; next_id = s.next_id + 1; next_order = s.next_order + 1 }
 
+-- a source is attached
 abbrev pub attached : SourceSpec → ℕ → RowSet → RowSet
 attached spec now s = added (root_row spec now s.next_id s.next_order) s
 
+-- a source is added below a row, where there is one
 abbrev pub child_added : SourceSpec → ℕ → Option Row → RowSet → RowSet
 child_added spec now None s = s
 child_added spec now (Some parent) s = added (child_row parent spec now s.next_id s.next_order) s
@@ -76,6 +88,7 @@ abbrev pub child_fault : ℕ → Option Row → Option RowsFault
 child_fault levels None = Some NoSource
 child_fault levels (Some parent) = if parent.level == levels then Some (if levels == 2 then IsChild else TooDeep) else None
 
+-- why a row is given no priority
 abbrev pub priority_fault : Option Row → Option RowsFault
 priority_fault None = Some NoSource
 priority_fault (Some r) = if r.level == 1 then None else Some IsChild
@@ -86,6 +99,7 @@ moved id priority order r = if is_under id r
     then record r { priority = priority; order = if r.id == id then order else r.order; path = slice_set r.path 0 order }
     else r
 
+-- a root is given a priority, with all that are under it
 abbrev pub reprioritised : ℕ → ℤ → RowSet → RowSet
 reprioritised id priority s = record s { rows = map (moved id priority s.next_order) s.rows; next_order = s.next_order + 1 }
 
@@ -93,12 +107,15 @@ reprioritised id priority s = record s { rows = map (moved id priority s.next_or
 abbrev pub destroyed : ℕ → RowSet → RowSet
 destroyed id s = record s { rows = filter (λ r. not (is_under id r)) s.rows }
 
+-- a change of the row of an id
 abbrev pub changed : ℕ → (Row → Row) → List Row → List Row
 changed id f rows = map (λ r. if has_id id r then f r else r) rows
 
+-- a row is given a ready time
 abbrev pub ready_set : ℕ → ℤ → RowSet → RowSet
 ready_set id ready s = record s { rows = changed id (λ r. record r { ready = ready }) s.rows }
 
+-- a dispatch of a row is counted
 abbrev pub counted : ℕ → RowSet → RowSet
 counted id s = record s { rows = changed id (λ r. record r { count = r.count + 1 }) s.rows }
 

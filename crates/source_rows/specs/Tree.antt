@@ -18,6 +18,7 @@ IdsRise rows = Pairs (λ r q. r.id < q.id) rows
 abbrev pub OrdersDiffer : List Row → Type 0
 OrdersDiffer rows = Pairs (λ r q. r.order ≢ q.order) rows
 
+-- a row that stands below none
 pub record IsRoot (r : Row) : Type 0 where
   pub level : r.level ≡ 1
   pub line : r.line ≡ root_line r.id
@@ -35,6 +36,7 @@ abbrev pub HasPlace : List Row → Option ℕ → Row → Type 0
 HasPlace rows None r = IsRoot r
 HasPlace rows (Some id) r = (parent : Row) × (row_of id rows ≡ Some parent) × IsChildOf parent r
 
+-- rows in trees
 pub record IsForest (rows : List Row) : Type 0 where
   pub rising : IdsRise rows
   pub placed : AllByRecursion (λ r. HasPlace rows r.parent r) rows
@@ -71,6 +73,7 @@ abbrev pub order_or : ℕ → Option Row → ℕ
 order_or n None = n
 order_or n (Some r) = r.order
 
+-- the row of a parent
 abbrev pub parent_of : List Row → Option ℕ → Option Row
 parent_of rows None = None
 parent_of rows (Some id) = row_of id rows

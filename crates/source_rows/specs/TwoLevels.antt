@@ -18,6 +18,7 @@ abbrev pub is_named : ℕ → Option ℕ → Bool
 is_named id None = false
 is_named id (Some parent) = parent == id
 
+-- whether a row is a child of an id's
 abbrev pub is_child_of : ℕ → Row → Bool
 is_child_of id r = is_named id r.parent
 
@@ -35,6 +36,7 @@ moved_pair id priority order r = if goes_with id r
     then record r { priority = priority; order = if r.id == id then order else r.order; path = slice_set r.path 0 order }
     else r
 
+-- a root and its children are given a priority
 abbrev pub reprioritised_pair : ℕ → ℤ → RowSet → RowSet
 reprioritised_pair id priority s = record s { rows = map (moved_pair id priority s.next_order) s.rows; next_order = s.next_order + 1 }
 
@@ -47,6 +49,7 @@ child_refused (Some r) = if is_some r.parent then Some IsChild else None
 abbrev pub before_at_two : List Row → Row → Row → Bool
 before_at_two rows r q = is_lt (key_cmp (two_level_key rows r) (two_level_key rows q))
 
+-- rows in the order of dispatch
 abbrev pub in_order_at_two : (whole : List Row) → List Row → List Row
 in_order_at_two whole [] = []
 in_order_at_two whole (r ∷ rs) = inserted (before_at_two whole) r (in_order_at_two whole rs)
@@ -58,6 +61,7 @@ abbrev pub is_above_under : ℕ → Option Row → Bool
 is_above_under id None = false
 is_above_under id (Some above) = is_under id above
 
+-- what trees are, by parents; and at two levels
 pub record LevelLaws : Type 0 where
   -- at any level: under an id is what has it, or whose parent is under it
   pub by_parents : (rows : List Row) → IsForest rows → (id : ℕ) → AllByRecursion (λ r. is_under id r ≡ (is_above_under id (parent_of rows r.parent) || r.id == id)) rows

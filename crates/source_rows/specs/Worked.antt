@@ -4,15 +4,19 @@ use Rattle.loop_script.specs.declared.SourceSpec.{SourceSpec}
 use Rattle.loop_script.specs.declared.Kind.TheVariants.{Idle}
 use Rattle.source_rows.specs.Rows.{RowSet, attached, child_added, row_of, in_order, destroyed, reprioritised}
 
+-- an idle source
 abbrev pub idle : SourceSpec
 idle = record { kind = Idle; priority = pos 0; recurse = false; call = None }
 
+-- no row, at four levels
 abbrev pub fresh : RowSet
 fresh = record { rows = []; next_id = 1; next_order = 0; levels = 4 }
 
+-- an idle source below the row of an id
 abbrev pub under : ℕ → RowSet → RowSet
 under id s = child_added idle 0 (row_of id s.rows) s
 
+-- ids in the order of dispatch
 abbrev pub ids : RowSet → List ℕ
 ids s = map (λ r. r.id) (in_order s.rows)
 

@@ -19,6 +19,7 @@ pub record Book : Type 0 where
   pub wake : Option ℕ
   pub spent : Bool
 
+-- a task that is started
 abbrev pub started : ℕ → ℕ → TaskSpec → ℕ → ℕ → Task
 started tick_us number spec ctx tick = record { number = number; ctx = ctx; call = spec.call; priority = spec.priority; cancel = spec.cancel; check = spec.check; return_on_cancel = spec.return_on_cancel; tree = spec.tree; tick_us = tick_us; first = tick + 1; clear = None; cancelled = None }
 
@@ -35,6 +36,7 @@ abbrev pub IsStart : ℕ → Option ℕ → Type 0
 IsStart tick None = Unit {0}
 IsStart tick (Some last) = last ≡ tick
 
+-- a poll at this tick comes next
 abbrev pub IsNext : ℕ → Option ℕ → Type 0
 IsNext tick None = Unit {0}
 IsNext tick (Some last) = last < tick
@@ -44,6 +46,7 @@ abbrev pub sees : Seen → Option ℕ → Bool
 sees view None = false
 sees view (Some c) = has c view
 
+-- the task after a poll that sees this view
 abbrev pub noticed_in : ℕ → Seen → Task → Task
 noticed_in tick view t = noticed tick (sees view t.cancel) t
 
@@ -51,6 +54,7 @@ noticed_in tick view t = noticed tick (sees view t.cancel) t
 abbrev pub all_noticed : ℕ → Seen → List Task → List Task
 all_noticed tick view ts = map (noticed_in tick view) ts
 
+-- a cancellable that the view has, where there is one
 abbrev pub IsIn : Seen → Option ℕ → Type 0
 IsIn view None = Unit {0}
 IsIn view (Some c) = c < length view.members
@@ -70,10 +74,12 @@ abbrev pub replies_in : ℕ → (ℕ → Option ℕ) → List Task → List Repl
 replies_in tick c [] = []
 replies_in tick c (t ∷ ts) = option_to_list (option_map (reply_of_task t) (reply_in tick t.return_on_cancel (c t.number) (body_end t (c t.number)))) ++ replies_in tick c ts
 
+-- the numbers of the tasks that are late at a tick
 abbrev pub late_in : ℕ → (ℕ → Option ℕ) → List Task → List ℕ
 late_in tick c [] = []
 late_in tick c (t ∷ ts) = (if is_late_in tick t.return_on_cancel (c t.number) (body_end t (c t.number)) then t.number ∷ [] else []) ++ late_in tick c ts
 
+-- whether a task goes on after a tick
 abbrev pub goes_on : ℕ → (ℕ → Option ℕ) → Task → Bool
 goes_on tick c t = not ((body_end t (c t.number)).tick == tick)
 

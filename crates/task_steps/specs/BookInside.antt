@@ -15,6 +15,7 @@ IsWaitingAt last first (Set begun at) = ⊥
 IsWaitingAt last first (Polled begun at) = (begun ≡ first) × (at ≤ last)
 IsWaitingAt last first Done = ⊥
 
+-- an entry that is polled again
 pub record IsWaiting (length last : ℕ) (e : Entry) : Type 0 where
   pub stage : IsWaitingAt last e.first e.run.stage
   pub before : IsBefore (last + 1) e.run.cancelled
@@ -23,10 +24,12 @@ pub record IsWaiting (length last : ℕ) (e : Entry) : Type 0 where
   pub wakes : WakesLater e.run
   pub end : NoneBefore e.run e.run.wake
 
+-- the same of all
 abbrev pub AreWaiting : ℕ → ℕ → List Entry → Type 0
 AreWaiting tick_us last [] = Unit {0}
 AreWaiting tick_us last (e ∷ es) = IsWaiting tick_us last e × AreWaiting tick_us last es
 
+-- the same after the last poll, where there was one
 abbrev pub AreWaitingAfter : ℕ → Option ℕ → List Entry → Type 0
 AreWaitingAfter tick_us None es = es ≡ []
 AreWaitingAfter tick_us (Some last) es = AreWaiting tick_us last es
@@ -38,15 +41,18 @@ pub record IsKept (tick_us : ℕ) (last : Option ℕ) (spent : Bool) (es : List 
   pub waiting : AreWaitingAfter tick_us last es
   pub forgotten : spent ≡ true → (last ≡ None) × (es ≡ [])
 
+-- when a run in a stage may give something next
 abbrev pub wake_of_stage : ℕ → Run → Stage → Option ℕ
 wake_of_stage first run Fresh = Some first
 wake_of_stage first run (Set begun at) = run.wake
 wake_of_stage first run (Polled begun at) = run.wake
 wake_of_stage first run Done = run.wake
 
+-- the same of an entry
 abbrev pub wake_of_entry : Entry → Option ℕ
 wake_of_entry e = wake_of_stage e.first e.run e.run.stage
 
+-- the same of all
 abbrev pub wake_of_all : List Entry → Option ℕ
 wake_of_all [] = None
 wake_of_all (e ∷ es) = sooner (wake_of_entry e) (wake_of_all es)

@@ -13,6 +13,7 @@ pub record Poll : Type 0 where
   pub view : Seen
   pub started : List Task
 
+-- the tasks that a poll finds
 abbrev pub found_by : Poll → List Task → List Task
 found_by p ts = all_noticed p.tick p.view (ts ++ p.started)
 
@@ -21,6 +22,7 @@ abbrev pub replies_over : (ℕ → Option ℕ) → List Poll → List Task → L
 replies_over c [] ts = []
 replies_over c (p ∷ ps) ts = replies_in p.tick c (found_by p ts) ++ replies_over c ps (filter (goes_on p.tick c) (found_by p ts))
 
+-- polls come in later and later ticks
 abbrev pub RiseAfter : ℕ → List Poll → Type 0
 RiseAfter tick [] = Unit {0}
 RiseAfter tick (p ∷ ps) = (tick < p.tick) × RiseAfter p.tick ps
@@ -34,9 +36,11 @@ AreRising (p ∷ ps) = RiseAfter p.tick ps
 abbrev pub reply_tick : Bool → Option ℕ → End → ℕ
 reply_tick return_on_cancel c e = if is_early return_on_cancel c e then unwrap_or c 0 else e.tick
 
+-- the tick of a task's reply
 abbrev pub reply_tick_of : (ℕ → Option ℕ) → Task → ℕ
 reply_tick_of c t = reply_tick t.return_on_cancel (c t.number) (body_end t (c t.number))
 
+-- whether a poll came at a tick
 abbrev pub is_polled : ℕ → List Poll → Bool
 is_polled tick ps = list_any (λ p. tick == p.tick) ps
 
@@ -49,6 +53,7 @@ abbrev pub due_over : ℕ → (ℕ → Option ℕ) → List Poll → ℕ
 due_over n c [] = 0
 due_over n c (p ∷ ps) = count_by (is_due n c (p ∷ ps)) p.started + due_over n c ps
 
+-- whether a reply is one of a task
 abbrev pub is_of : ℕ → Reply → Bool
 is_of n r = r.task == n
 

@@ -9,6 +9,7 @@ use Rattle.task_steps.specs.Task.{task_of, CanPoll, IsAnswer, IsPolledAt, IsBefo
 use Rattle.task_steps.specs.Run.{WakesLater, NoneBefore}
 use Rattle.task_steps.specs.Book.{sees, IsIn, noticed_in}
 
+-- each entry can be polled
 abbrev pub CanPollAll : ℕ → Seen → List Entry → Type 0
 CanPollAll tick view [] = Unit {0}
 CanPollAll tick view (e ∷ es) = IsIn view e.cancel × CanPoll tick (sees view e.cancel) e × CanPollAll tick view es
@@ -22,9 +23,11 @@ pub record HasPolled (tick : ℕ) (view : Seen) (prior after : Entry) (answer : 
   pub end : NoneBefore after.run after.run.wake
   pub before : IsBefore tick prior.run.cancelled
 
+-- the reply of an entry, if it gives one
 abbrev pub replies_of : Entry → Answer → List Reply
 replies_of e answer = option_to_list (option_map (reply_of_task (task_of e)) answer.reply)
 
+-- its number, if it is late
 abbrev pub late_of : Entry → Answer → List ℕ
 late_of e answer = if answer.late then e.number ∷ [] else []
 

@@ -15,6 +15,7 @@ over_a overs.Neither a = a
 over_a (overs.First outcome) a = ending 0 outcome
 over_a (overs.Second outcome) a = a
 
+-- the end of the second part
 abbrev pub over_b : Over → End → End
 over_b overs.Neither b = b
 over_b (overs.First outcome) b = b

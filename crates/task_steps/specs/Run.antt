@@ -22,10 +22,12 @@ abbrev pub IsUnseenTo : Option ℕ → Option ℕ → Type 0
 IsUnseenTo None c = Unit {0}
 IsUnseenTo (Some last) c = (tick : ℕ) → tick ≤ last → seen c tick ≡ false
 
+-- a cancellable was seen at this tick at the latest
 abbrev pub IsSeenFrom : Option ℕ → Option ℕ → Type 0
 IsSeenFrom None c = Unit {0}
 IsSeenFrom (Some from) c = (tick : ℕ) → from ≤ tick → seen c tick ≡ true
 
+-- the ticks in which a cancellable may have come, by what polls saw
 abbrev pub MayCome : Option ℕ → Option ℕ → Option ℕ → Type 0
 MayCome clear cancelled c = IsUnseenTo clear c × IsSeenFrom cancelled c
 
@@ -33,10 +35,12 @@ MayCome clear cancelled c = IsUnseenTo clear c × IsSeenFrom cancelled c
 abbrev pub due : ℕ → End → Option Outcome
 due tick end = if nat_le end.tick tick then Some end.outcome else None
 
+-- it was unseen up to a tick
 abbrev pub IsUpTo : ℕ → Option ℕ → Type 0
 IsUpTo tick None = Unit {0}
 IsUpTo tick (Some limit) = tick ≤ limit
 
+-- it is seen only after a tick
 abbrev pub IsAfter : ℕ → Option ℕ → Type 0
 IsAfter tick None = Unit {0}
 IsAfter tick (Some limit) = tick < limit
@@ -48,16 +52,19 @@ MaySet tick (Set begun at) wake = ⊥
 MaySet tick (Polled begun at) wake = at < tick × IsUpTo tick wake
 MaySet tick Done wake = ⊥
 
+-- the stage at a tick
 abbrev pub set_to : ℕ → Stage → Stage
 set_to tick Fresh = Set tick tick
 set_to tick (Set begun at) = Set begun tick
 set_to tick (Polled begun at) = Set begun tick
 set_to tick Done = Done
 
+-- from which tick on it was seen
 abbrev pub seen_from : ℕ → Bool → Option ℕ → Option ℕ
 seen_from tick cancelled (Some from) = Some from
 seen_from tick cancelled None = if cancelled then Some tick else None
 
+-- up to which tick it was not
 abbrev pub clear_to : ℕ → Bool → Option ℕ → Option ℕ
 clear_to tick cancelled clear = if cancelled then clear else Some tick
 
@@ -66,12 +73,14 @@ abbrev pub StaysSet : Option ℕ → Bool → Type 0
 StaysSet None cancelled = Unit {0}
 StaysSet (Some from) cancelled = cancelled ≡ true
 
+-- a tick was set
 abbrev pub IsSet : Stage → Type 0
 IsSet Fresh = ⊥
 IsSet (Set begun tick) = Unit {0}
 IsSet (Polled begun tick) = ⊥
 IsSet Done = ⊥
 
+-- what a poll in a stage gives
 abbrev pub IsAnswered : Stage → Run → Option Outcome → Type 0
 IsAnswered Fresh r result = Unit {0}
 IsAnswered (Set begun tick) r result =
@@ -84,6 +93,7 @@ IsAnswered Done r result = Unit {0}
 abbrev pub Answered : Run → Option Outcome → Type 0
 Answered r result = IsAnswered r.stage r result
 
+-- the stage after a poll
 abbrev pub stage_after : Stage → Option Outcome → Stage
 stage_after stage (Some outcome) = Done
 stage_after Fresh None = Fresh
@@ -91,10 +101,12 @@ stage_after (Set begun tick) None = Polled begun tick
 stage_after (Polled begun tick) None = Polled begun tick
 stage_after Done None = Done
 
+-- a wake after a tick
 abbrev pub IsLater : ℕ → Option ℕ → Type 0
 IsLater tick None = ⊥
 IsLater tick (Some wake) = tick < wake
 
+-- a wake comes after the last poll
 abbrev pub wakes_later : Stage → Option ℕ → Type 0
 wakes_later Fresh wake = Unit {0}
 wakes_later (Set begun tick) wake = Unit {0}
@@ -105,6 +117,7 @@ wakes_later Done wake = wake ≡ None
 abbrev pub WakesLater : Run → Type 0
 WakesLater r = wakes_later r.stage r.wake
 
+-- no poll before the wake gives anything
 abbrev pub none_before : Stage → Run → ℕ → Type 0
 none_before Fresh r wake = Unit {0}
 none_before (Set begun tick) r wake = Unit {0}

@@ -8,6 +8,7 @@ use Rattle.task_steps.specs.End.{end_of}
 use Rattle.task_steps.specs.Rest.{rest_of, InTime, StandsFor, wake_of}
 use Rattle.task_steps.specs.Run.{MayCome}
 
+-- a wake at a tick at the latest
 abbrev pub IsBy : ℕ → Option ℕ → Type 0
 IsBy tick None = Unit {0}
 IsBy tick (Some from) = from ≤ tick
@@ -30,6 +31,7 @@ IsCarried tick_us tree steps clear cancelled (Polled begun tick) =
     × ((c : Option ℕ) (next : ℕ) → MayCome clear cancelled c → rest_of steps next c ≡ end_of tick_us tree begun c)
 IsCarried tick_us tree steps clear cancelled Done = Unit {0}
 
+-- the wake of steps in a stage
 abbrev pub wake_in : Stage → Steps → Option ℕ
 wake_in Fresh steps = None
 wake_in (Set begun tick) steps = None

@@ -25,6 +25,7 @@ pub record Task : Type 0 where
   pub clear : Option ℕ
   pub cancelled : Option ℕ
 
+-- the task of an entry
 abbrev pub task_of : Entry → Task
 task_of e = record { number = e.number; ctx = e.ctx; call = e.call; priority = e.priority; cancel = e.cancel; check = e.check; return_on_cancel = e.return_on_cancel; tree = e.run.tree; tick_us = e.run.tick_us; first = e.first; clear = e.run.clear; cancelled = e.run.cancelled }
 
@@ -32,6 +33,7 @@ task_of e = record { number = e.number; ctx = e.ctx; call = e.call; priority = e
 abbrev pub noticed : ℕ → Bool → Task → Task
 noticed tick flag t = record t { clear = clear_to tick flag t.clear; cancelled = seen_from tick flag t.cancelled }
 
+-- when a task's body ends, and how
 abbrev pub body_end : Task → Option ℕ → End
 body_end t c = end_of t.tick_us t.tree t.first c
 
@@ -39,6 +41,7 @@ body_end t c = end_of t.tick_us t.tree t.first c
 abbrev pub is_early : Bool → Option ℕ → End → Bool
 is_early return_on_cancel c e = return_on_cancel && seen c e.tick
 
+-- whether a tick is this one
 abbrev pub is_at : ℕ → Option ℕ → Bool
 is_at tick None = false
 is_at tick (Some from) = from == tick
@@ -49,6 +52,7 @@ reply_in tick return_on_cancel c e =
     if is_early return_on_cancel c e then (if is_at tick c then Some Cancelled else None)
     else (if e.tick == tick then Some e.outcome else None)
 
+-- whether the body ends at a tick, after the reply or with it
 abbrev pub is_late_in : ℕ → Bool → Option ℕ → End → Bool
 is_late_in tick return_on_cancel c e = is_early return_on_cancel c e && (e.tick == tick)
 
@@ -57,29 +61,35 @@ abbrev pub IsSeenExactly : Option ℕ → Option ℕ → Type 0
 IsSeenExactly None c = Unit {0}
 IsSeenExactly (Some from) c = c ≡ Some from
 
+-- the ticks in which its cancellable may have come, by what its polls saw
 abbrev pub MayComeTo : Task → Option ℕ → Type 0
 MayComeTo t c = MayCome t.clear t.cancelled c × (t.return_on_cancel ≡ true → IsSeenExactly t.cancelled c)
 
+-- a tick before this one, where there is one
 abbrev pub IsBefore : ℕ → Option ℕ → Type 0
 IsBefore tick None = Unit {0}
 IsBefore tick (Some from) = from < tick
 
+-- a run that was begun by its first tick
 abbrev pub IsBegunBy : ℕ → Stage → ℕ → Type 0
 IsBegunBy first Fresh tick = first ≡ tick
 IsBegunBy first (Set begun at) tick = ⊥
 IsBegunBy first (Polled begun at) tick = begun ≡ first
 IsBegunBy first Done tick = ⊥
 
+-- an entry that can be polled at a tick
 abbrev pub CanPoll : ℕ → Bool → Entry → Type 0
 CanPoll tick flag e =
     MaySet tick e.run.stage e.run.wake × StaysSet e.run.cancelled flag × IsBefore tick e.run.cancelled × IsBegunBy e.first e.run.stage tick
 
+-- whether a run is done
 abbrev pub is_done_stage : Stage → Bool
 is_done_stage Fresh = false
 is_done_stage (Set begun at) = false
 is_done_stage (Polled begun at) = false
 is_done_stage Done = true
 
+-- whether an entry goes on
 abbrev pub is_waiting : Entry → Bool
 is_waiting e = not (is_done_stage e.run.stage)
 
@@ -91,15 +101,18 @@ IsAnswer tick e answer =
     × (answer.late ≡ is_late_in tick e.return_on_cancel c (body_end (task_of e) c))
     × (is_done_stage e.run.stage ≡ ((body_end (task_of e) c).tick == tick))
 
+-- what a poll tells of a task
 abbrev pub answer_as : Bool → Bool → Option Outcome → Answer
 answer_as early before end =
     record { reply = (if early then (if before then None else Some Cancelled) else end); late = early && is_some end }
 
+-- a stage that was polled at a tick
 abbrev pub IsPolledStage : ℕ → ℕ → Stage → Type 0
 IsPolledStage first tick Fresh = ⊥
 IsPolledStage first tick (Set begun at) = ⊥
 IsPolledStage first tick (Polled begun at) = (begun ≡ first) × (at ≡ tick)
 IsPolledStage first tick Done = Unit {0}
 
+-- an entry that was polled at a tick
 abbrev pub IsPolledAt : ℕ → Entry → Type 0
 IsPolledAt tick e = IsPolledStage e.first tick e.run.stage
