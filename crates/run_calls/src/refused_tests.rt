@@ -93,7 +93,7 @@ fn refused_run(rt: HostRuntime) {
     expect(&rt, result, &out, first_run_text());
 }
 
-/// The same of a script whose lanes so many workers share in each way.
+/// The same of a script whose lanes so many workers share in each way: one run of three may find no memory.
 fn expect_shared<T: Threads + Wait + Sync + Abort>(
     rt: &T,
     alloc: Global,
@@ -104,8 +104,11 @@ fn expect_shared<T: Threads + Wait + Sync + Abort>(
     let Ok(table) = table.to_vec(alloc) else {
         return;
     };
+    let mut refused = false;
     for sharing in [Sharing::Round, Sharing::Queue, Sharing::Fixed(table)] {
         let (result, out) = ran(rt, alloc, worked.script, worked.text, workers, sharing);
+        assert!(rt; result.is_ok() || !refused);
+        refused = refused || result.is_err();
         expect(rt, result, &out, worked.text);
     }
 }
