@@ -312,8 +312,18 @@ fn poll_one(rt: &impl Abort, lane: &mut Lane)
         Ok(polled) => {
             let want = reply(0, Outcome::Ok(1), Some(0), true);
             assert_eq!(rt; polled.replies.as_slice(), [want].as_slice());
+            poll_none(rt, lane);
         }
     }
+}
+
+/// Polls a book whose task has ended, which takes no memory.
+fn poll_none(rt: &impl Abort, lane: &mut Lane)
+    requires { GoesOn lane.old.book lane.old.view lane.old.cancellables lane.old.started lane.old.tick }
+    ensures { GoesOn lane.new.book lane.new.view lane.new.cancellables lane.new.started lane.new.tick }
+{
+    let polled = lane.poll(rt);
+    assert!(rt; polled.is_ok_and(|polled| polled.replies.as_slice().is_empty()));
 }
 
 /// A book that was refused memory answers `Spent` from then on.

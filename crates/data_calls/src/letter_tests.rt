@@ -62,3 +62,29 @@ fn refused_post(rt: HostRuntime) {
     }
     assert_eq!(rt; tray.into_letters(), taken);
 }
+
+/// A tray with ten letters of each of four senders, which come by turns; none where memory was refused.
+fn tray_of_forty(alloc: Global) -> Option<Tray> {
+    let mut tray = Tray::new(alloc);
+    for place in 0..40_u32 {
+        let number = u64::from(place / 4);
+        if tray.post(letter(3 - place % 4, number)).is_err() {
+            return None;
+        }
+    }
+    Some(tray)
+}
+
+/// Whatever request is refused, the letters come in order, or none at all: so many that ordering them takes memory.
+#[test]
+fn refused_merge(rt: HostRuntime) {
+    let Some(tray) = tray_of_forty(rt.alloc()) else {
+        return;
+    };
+    if let Ok(merged) = merge(rt.alloc(), tray.into_letters()) {
+        assert_eq!(rt; merged.len(), 40);
+        for (place, merged) in (0..40_u32).zip(merged.iter()) {
+            assert_eq!(rt; *merged, letter(place / 10, u64::from(place % 10)));
+        }
+    }
+}

@@ -208,15 +208,38 @@ fn put_all(rt: &(impl Wait + Abort), list: &mut WorkList<Job>) -> [bool; 40]
     put
 }
 
-/// Whatever request is refused, what was put is what is left, and what comes back is what was to be put.
+/// Whether one of two took a number, which both may not, and neither where it was not put.
+fn is_taken(
+    rt: &impl Abort,
+    one: &[Option<u32>; 4],
+    two: &[Option<u32>; 4],
+    number: u32,
+    put: bool,
+) -> bool {
+    let times = (times_taken(one, number), times_taken(two, number));
+    let taken = times == (1, 0) || times == (0, 1);
+    assert!(rt; times == (0, 0) || taken && put, "{number}");
+    taken
+}
+
+/// Whatever request is refused, what was put is taken once, by one of two threads or at the end, and what comes back is
+/// what was to be put.
 #[test]
 fn refused_work(rt: HostRuntime) {
     let Ok(mut list) = WorkList::new(rt.alloc()) else {
         return;
     };
     let put = put_all(&rt, &mut list);
+    let (Ok(one), Ok(two)) = (list.pass(), list.pass()) else {
+        return;
+    };
+    let (first, second) = take_eight(&rt, list.queue(), one, two);
+    let (one, of_one) = first;
+    let (two, of_two) = second;
+    list.take_back(two);
+    list.take_back(one);
     for (number, done) in (0..).zip(put) {
-        if done {
+        if !is_taken(&rt, &of_one, &of_two, number, done) && done {
             let left = list.take_rest(&rt).map(|job| job.number());
             assert_eq!(rt; left, Some(number));
         }
@@ -225,32 +248,71 @@ fn refused_work(rt: HostRuntime) {
 }
 
 /// Posts letters by number, tells how many were posted, and expects back what was not.
-fn post_all(rt: &(impl Wait + Abort), queue: &LetterQueue, pass: &mut OfficePass) -> usize
-    requires { pass.old.home ≡ queue.now }
-    ensures { pass.new.home ≡ queue.now }
+fn post_all<R: Wait + Abort>(
+    rt: &R,
+    queue: &LetterQueue,
+    sender: u32,
+    mut pass: OfficePass,
+) -> (OfficePass, usize)
+    requires { pass.home ≡ queue.now }
+    ensures { result.0.home ≡ queue.now }
 {
     let mut posted = 0;
     for number in 0..40 {
-        match queue.post_as(rt, pass, letter(1, number)) {
+        match queue.post_as(rt, &mut pass, letter(sender, number)) {
             Ok(()) => posted += 1,
-            Err(back) => assert_eq!(rt; back, letter(1, number)),
+            Err(back) => assert_eq!(rt; back, letter(sender, number)),
         }
     }
-    posted
+    (pass, posted)
 }
 
-/// Whatever request is refused, what was posted is drained, and what comes back is what was to be posted. A drain that is
-/// refused changes nothing, so that the next one gives all.
+/// Two threads post forty letters each, where memory may be refused.
+fn post_eighty<R: Threads + Wait + Sync + Abort>(
+    rt: &R,
+    queue: &LetterQueue,
+    one: OfficePass,
+    two: OfficePass,
+) -> ((OfficePass, usize), (OfficePass, usize))
+    requires { (one.home ≡ queue.now) × (two.home ≡ queue.now) }
+    ensures one { result.0.0.home ≡ queue.now }
+    ensures two { result.1.0.home ≡ queue.now }
+{
+    thread::join(
+        rt,
+        move || post_all(rt, queue, 1, one),
+        move || post_all(rt, queue, 2, two),
+    )
+}
+
+/// A sender's letters come by rising number, as they were posted, and there are so many.
+fn expect_rising(rt: &impl Abort, letters: &[Letter], sender: u32, count: usize) {
+    let mut next = 0;
+    for letter in letters {
+        if letter.sender == sender {
+            assert!(rt; next <= letter.number);
+            next = letter.number.saturating_add(1);
+        }
+    }
+    let found = letters.iter().filter(|letter| letter.sender == sender);
+    assert_eq!(rt; found.count(), count);
+}
+
+/// Whatever request is refused, what two threads posted is drained, each sender's in its order, and what comes back is what
+/// was to be posted. A drain that is refused changes nothing, so that the next one gives all.
 #[test]
 fn refused_letters(rt: HostRuntime) {
     let Ok(mut office) = Office::new(rt.alloc()) else {
         return;
     };
-    let Ok(mut pass) = office.pass() else {
+    let (Ok(one), Ok(two)) = (office.pass(), office.pass()) else {
         return;
     };
-    let posted = post_all(&rt, office.queue(), &mut pass);
-    office.take_back(pass);
+    let (first, second) = post_eighty(&rt, office.queue(), one, two);
+    let (one, by_one) = first;
+    let (two, by_two) = second;
+    office.take_back(two);
+    office.take_back(one);
     let letters = match office.drain(&rt, rt.alloc()) {
         Ok(letters) => letters,
         Err(OutOfMemory) => match office.drain(&rt, rt.alloc()) {
@@ -258,5 +320,6 @@ fn refused_letters(rt: HostRuntime) {
             Err(OutOfMemory) => return,
         },
     };
-    assert_eq!(rt; letters.len(), posted);
+    expect_rising(&rt, &letters, 1, by_one);
+    expect_rising(&rt, &letters, 2, by_two);
 }

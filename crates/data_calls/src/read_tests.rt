@@ -1,5 +1,7 @@
 //! A script that is read with ample memory and tells its parts, and one that is read with memory refused.
 use loop_script::{Action, Body, Script, ScriptFault};
+use std::alloc::Global;
+use std::process::Abort;
 use std::test::Fail;
 
 // (texts stand in functions of their own: a proof that sees a literal reads it byte by byte)
@@ -65,10 +67,65 @@ fn tells_levels(rt: HostRuntime) -> Result<(), Fail> {
     Ok(())
 }
 
-#[test]
-fn refused_read(rt: HostRuntime) {
-    match Script::read(rt.alloc(), first_run().as_bytes()) {
-        Ok(script) => assert_eq!(rt; script.ticks(), 2),
-        Err(fault) => assert_eq!(rt; fault, ScriptFault::OutOfMemory),
+fn posts_in_one_tick() -> &'static str {
+    r#"{"version":1,"ticks":3,"tick_us":1000,"loops":[0,1,2],"procs":[{"do":[["invoke",1,3],["invoke",1,4]]},{"do":[["invoke",1,5]]},{"do":[["log",20]]},{"do":[["log",30]]},{"do":[["log",40]]},{"do":[["log",50]]}],"lanes":[{"contexts":1,"start":[["attach",0,0,{"kind":["timeout",1],"call":0}],["run",0]]},{"contexts":1,"start":[["push",1],["task",{"tree":["value",5],"call":2}],["run",1]]},{"contexts":1,"start":[["attach",2,0,{"kind":["timeout",1],"call":1}],["run",2]]}]}"#
+}
+
+fn tasks() -> &'static str {
+    r#"{"version":1,"ticks":7,"tick_us":1000,"loops":[0],"procs":[{"do":[]},{"do":[["cancel",0],["task",{"tree":["sleep",2000],"call":0,"cancel":0,"return_on_cancel":true}]]}],"lanes":[{"contexts":1,"start":[["task",{"tree":["sleep",3000],"call":0,"cancel":0,"return_on_cancel":true}],["task",{"tree":["first",["seq",["sleep",1000],["value",1]],["seq",["sleep",1000],["value",2]]],"call":0}],["task",{"tree":["within",2000,["seq",["sleep",2000],["value",3]]],"call":0}],["task",{"tree":["seq",["sleep",2000],["value",4]],"call":0,"cancel":0,"check":false}],["task",{"tree":["seq",["sleep",2000],["value",4]],"call":0,"cancel":0}],["attach",0,0,{"kind":["timeout",3],"call":1}],["run",0]]}],"cancellables":1}"#
+}
+
+/// How many ticks, lanes, loops and cancellables there are.
+fn counts(script: &Script) -> [u32; 4] {
+    [
+        script.ticks(),
+        script.lanes(),
+        script.loops(),
+        script.cancellables(),
+    ]
+}
+
+/// Whatever request is refused, the script is not read, and then read again it has what it has to have.
+fn expect_read(
+    rt: &impl Abort,
+    alloc: Global,
+    text: &str,
+    known: [u32; 4],
+    lengths: &[(Body, usize)],
+) {
+    let found = match Script::read(alloc, text.as_bytes()) {
+        Err(ScriptFault::OutOfMemory) => Script::read(alloc, text.as_bytes()),
+        found => found,
+    };
+    match found {
+        Err(fault) => assert!(rt; false, "{fault}"),
+        Ok(script) => {
+            assert_eq!(rt; counts(&script), known);
+            for (body, length) in lengths {
+                assert_eq!(rt; script.actions(*body).len(), *length);
+            }
+        }
     }
+}
+
+#[test]
+fn refused_read_of_posts(rt: HostRuntime) {
+    let lengths = [
+        (Body::Start(0), 2),
+        (Body::Start(1), 3),
+        (Body::Start(2), 2),
+        (Body::Procedure(0), 2),
+        (Body::Procedure(5), 1),
+    ];
+    expect_read(&rt, rt.alloc(), posts_in_one_tick(), [3, 3, 3, 0], &lengths);
+}
+
+#[test]
+fn refused_read_of_tasks(rt: HostRuntime) {
+    let lengths = [
+        (Body::Start(0), 7),
+        (Body::Procedure(0), 0),
+        (Body::Procedure(1), 2),
+    ];
+    expect_read(&rt, rt.alloc(), tasks(), [7, 1, 1, 1], &lengths);
 }

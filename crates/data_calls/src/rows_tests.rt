@@ -2,7 +2,7 @@
 use crate::plain::{Plain, Random};
 use crate::tried::Tried;
 use loop_script::{Kind, SourceSpec};
-use source_rows::{Levels, RowsFault};
+use source_rows::{Levels, Row, RowsFault};
 use std::alloc::Global;
 use std::process::Abort;
 use std::test::Fail;
@@ -121,62 +121,48 @@ fn four_levels(rt: HostRuntime) -> Result<(), Fail> {
     expect_steps(&rt, rt.alloc(), Levels::Four, &steps_of_four_levels())
 }
 
-fn count(rows: &Tried) -> usize {
-    rows.rows.ordered().count()
+/// The first eight rows.
+fn first_rows(rows: &Tried) -> [Option<Row>; 8] {
+    [1, 2, 3, 4, 5, 6, 7, 8].map(|id| rows.rows.row(id))
 }
 
-fn expect_priority(rt: &impl Abort, rows: &Tried, id: u64, priority: i32) {
-    match rows.rows.row(id) {
-        Some(row) => assert_eq!(rt; row.priority, priority),
-        None => assert!(rt; false, "no row {id}"),
+fn are_in_order(rows: &Tried, ids: &[u64]) -> bool {
+    rows.rows.ordered().eq(ids)
+}
+
+/// Takes a step. Where memory is refused, the rows are as before, and the step is taken again.
+fn retake(rt: &impl Abort, rows: &mut Tried, step: &Step, ids: &[u64]) -> Result<u64, RowsFault> {
+    let before = first_rows(rows);
+    match take(rows, step) {
+        Err(RowsFault::OutOfMemory) => {
+            assert!(rt; first_rows(rows) == before);
+            assert!(rt; are_in_order(rows, ids));
+            take(rows, step)
+        }
+        answer => answer,
     }
 }
 
-/// Whether a call made a row, behind so many; else memory was refused, and those are left.
-fn is_made(rt: &impl Abort, rows: &Tried, answer: Result<u64, RowsFault>, before: u32) -> bool {
-    let id = u64::from(before) + 1;
-    match answer {
-        Ok(made) => {
-            assert_eq!(rt; made, id);
-            true
-        }
-        Err(fault) => {
-            assert_eq!(rt; fault, RowsFault::OutOfMemory);
-            assert_eq!(rt; rows.rows.row(id), None);
-            assert_eq!(rt; count(rows), before as usize);
-            false
-        }
+/// Whatever request is refused, rows are as they were or as the step leaves them, also for all steps that come after.
+fn expect_refused(rt: &impl Abort, alloc: Global, levels: Levels, steps: &[Known]) {
+    let mut rows = Tried::new(alloc, levels);
+    let mut before: &[u64] = &[];
+    for (step, answer, order) in steps.iter() {
+        let found = retake(rt, &mut rows, step, before);
+        assert!(rt; found == *answer);
+        assert!(rt; are_in_order(&rows, order));
+        before = *order;
     }
 }
 
-/// Gives a root with one child a priority, or finds both as they were.
-fn try_priority(rt: &impl Abort, rows: &mut Tried) {
-    match rows.set_priority(1, 0) {
-        Ok(()) => expect_priority(rt, rows, 2, 0),
-        Err(fault) => {
-            assert_eq!(rt; fault, RowsFault::OutOfMemory);
-            expect_priority(rt, rows, 1, 200);
-            expect_priority(rt, rows, 2, 200);
-            assert_eq!(rt; count(rows), 2);
-        }
-    }
-}
-
-/// Each call answers that memory was refused, and leaves the rows as they were, or gives the exact answer.
 #[test]
-fn refused_rows(rt: HostRuntime) {
-    let mut rows = Tried::new(rt.alloc(), Levels::Two);
-    let attached = rows.attach(idle(), 0);
-    if !is_made(&rt, &rows, attached, 0) {
-        return;
-    }
-    let added = rows.add_child(1, idle(), 0);
-    if !is_made(&rt, &rows, added, 1) {
-        return;
-    }
-    try_priority(&rt, &mut rows);
-    assert!(rt; rows.destroy(1));
-    assert_eq!(rt; count(&rows), 0);
+fn refused_rows_of_two_levels(rt: HostRuntime) {
+    expect_refused(&rt, rt.alloc(), Levels::Two, &steps_of_two_levels());
+}
+
+#[test]
+fn refused_rows_of_four_levels(rt: HostRuntime) {
+    expect_refused(&rt, rt.alloc(), Levels::Four, &steps_of_four_levels());
 }
 
 /// One random edit of the rows and of the plain ones; both then have the same rows in the same order.

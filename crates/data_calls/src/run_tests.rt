@@ -205,15 +205,34 @@ fn trees_of_each_form_and_depth(rt: HostRuntime) -> Result<(), Fail> {
     Ok(())
 }
 
-/// A run is refused as a whole, or takes no further memory.
+/// A run is refused as a whole, and one that is made anew ends as it is to.
+fn expect_end_or_none(
+    rt: &impl Abort,
+    alloc: Global,
+    tree: &TaskTree,
+    begun: u32,
+    cancel: Option<u32>,
+    end: (u64, Outcome),
+)
+    requires { begun < 1000 }
+{
+    let found = match ended(rt, alloc, tree, begun, cancel, false) {
+        Err(AllocError) => ended(rt, alloc, tree, begun, cancel, false),
+        found => found,
+    };
+    assert_eq!(rt; found, Ok(Some(end)));
+}
+
 #[test]
 fn refused_run(rt: HostRuntime) {
-    let Ok(tree) = both(rt.alloc(), sleep(1000), fail()) else {
-        return;
-    };
-    let Ok(mut run) = TaskRun::new(rt.alloc(), &tree, 1000) else {
-        return;
-    };
-    let end = polled_to_end(&rt, &tree, &mut run, 1, None, false);
-    assert_eq!(rt; end, Some((2, Outcome::Failed)));
+    let alloc = rt.alloc();
+    if let Ok(tree) = within(alloc, 1000, sleep(2000)) {
+        expect_end_or_none(&rt, alloc, &tree, 4, None, (5, Outcome::TimedOut));
+    }
+    if let Ok(tree) = both(alloc, fail(), sleep(1000)) {
+        expect_end_or_none(&rt, alloc, &tree, 1, None, (2, Outcome::Failed));
+    }
+    if let Ok(tree) = seq(alloc, sleep(1), check()) {
+        expect_end_or_none(&rt, alloc, &tree, 1, Some(2), (2, Outcome::Cancelled));
+    }
 }

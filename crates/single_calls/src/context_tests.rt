@@ -155,3 +155,55 @@ fn releases_what_was_acquired(rt: HostRuntime) -> Result<(), Fail> {
     assert_eq!(rt; context.is_owned(), false);
     Ok(())
 }
+
+/// The phases of an idle source and descriptors, unless memory is refused; they only look at the context.
+fn phases(
+    rt: &impl Abort,
+    alloc: Global,
+    context: &Context,
+    view: &View,
+) -> Result<(), AllocError> {
+    let asked = [Interest { fd: 0, bits: 1 }];
+    expect_phases(rt, alloc, context, view, ready_at(200), &asked)?;
+    expect_selected(rt, alloc, context, view, &[1], &[2])?;
+    expect_selected(rt, alloc, context, view, &[0], &[1])
+}
+
+/// Whatever request is refused, a phase answers what it has to, or is asked again and does.
+#[test]
+fn refused_phases(rt: HostRuntime) {
+    let Ok(view) = View::new(rt.alloc(), 1) else {
+        return;
+    };
+    let Ok(context) = idle_and_descriptors(rt.alloc()) else {
+        return;
+    };
+    if phases(&rt, rt.alloc(), &context, &view).is_err() {
+        assert!(rt; phases(&rt, rt.alloc(), &context, &view).is_ok());
+    }
+}
+
+/// Pushes. Where memory is refused the stack is as it was, and a second call pushes.
+fn push_again(rt: &impl Abort, stack: &mut DefaultStack, context: u32) {
+    let top = stack.top();
+    if stack.push(context).is_err() {
+        assert_eq!(rt; stack.top(), top);
+        assert!(rt; !stack.contains(context));
+        assert!(rt; stack.push(context).is_ok());
+    }
+}
+
+/// Whatever request is refused, what was pushed is popped from the top on, for so many that the stack grows.
+#[test]
+fn refused_push(rt: HostRuntime) {
+    let mut stack = DefaultStack::new(rt.alloc());
+    for context in 1..=9 {
+        push_again(&rt, &mut stack, context);
+    }
+    assert!(rt; !stack.pop(1));
+    for context in (1..=9).rev() {
+        assert_eq!(rt; stack.top(), Some(context));
+        assert!(rt; stack.pop(context));
+    }
+    assert_eq!(rt; stack.top(), None);
+}

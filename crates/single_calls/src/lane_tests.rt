@@ -49,13 +49,21 @@ fn first_run(rt: HostRuntime) -> Result<(), Fail> {
     Ok(())
 }
 
-/// A spent lane answers so to both calls.
-fn stays_spent(alloc: Global, script: &Script, lane: &mut LaneState) -> bool
+/// A spent lane answers so to each call that may be refused, and stays as it is.
+fn answers_spent(alloc: Global, script: &Script, lane: &mut LaneState) -> bool
     requires { IsTrue lane.old.spent }
+    ensures { IsTrue lane.new.spent }
 {
     lane.turn(script, 2, &mut Tray::new(alloc)) == Err(LaneFault::Spent)
         && lane.deliver(script, 2, &[]) == Err(LaneFault::Spent)
-        && lane.turn(script, 2, &mut Tray::new(alloc)) == Err(LaneFault::Spent)
+        && lane.pass_to(3) == Err(LaneFault::Spent)
+}
+
+/// The same a second time too.
+fn stays_spent(alloc: Global, script: &Script, lane: &mut LaneState) -> bool
+    requires { IsTrue lane.old.spent }
+{
+    answers_spent(alloc, script, lane) && answers_spent(alloc, script, lane)
 }
 
 /// Whatever request is refused, the lines are right or the lane is spent.

@@ -4,17 +4,7 @@
 #[cfg(test)]
 mod context_tests;
 #[cfg(test)]
-mod edge_tests;
-#[cfg(test)]
-mod gate_tests;
-#[cfg(test)]
 mod lane_tests;
-#[cfg(test)]
-mod refused_tests;
-#[cfg(test)]
-mod script_tests;
-#[cfg(test)]
-mod sparse_tests;
 #[cfg(test)]
 mod stepper_tests;
 #[cfg(test)]

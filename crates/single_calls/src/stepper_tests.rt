@@ -1,4 +1,6 @@
-//! Steppers: which workers can share lanes, and ticks to the last.
+//! Steppers: which workers can share lanes, ticks to the last, and refused memory.
+ghost use Rattle.std.specs.Prelude.{◌≡◌, ◌<◌, length, IfOk, IfSome};
+
 use loop_script::Script;
 use std::alloc::{AllocError, Global};
 use std::process::Abort;
@@ -48,10 +50,9 @@ fn workers_share_lanes(rt: HostRuntime) -> Result<(), Fail> {
 }
 
 /// Steps both ticks, and asks for a third.
-fn step_all<T: Threads + Wait + Sync>(
-    rt: &T,
-    stepper: &mut Stepper,
-) -> Result<[bool; 3], StepFault> {
+fn step_all<T: Threads + Wait + Sync>(rt: &T, stepper: &mut Stepper) -> Result<[bool; 3], StepFault>
+    ensures { stepper.new.script ≡ stepper.old.script }
+{
     let first = stepper.tick(rt, &OpenGate)?;
     let second = stepper.tick(rt, &OpenGate)?;
     let third = stepper.tick(rt, &OpenGate)?;
@@ -73,4 +74,83 @@ fn ticks_to_the_last(rt: HostRuntime) -> Result<(), Fail> {
         expect_ticks(&rt, stepper(rt.alloc(), 2, sharing)?);
     }
     Ok(())
+}
+
+/// A stepper, or its refusal; none where the script finds no memory.
+fn made(alloc: Global, workers: u32, sharing: Sharing) -> Option<Result<Stepper, StepFault>>
+    ensures { IfSome result (λ made. IfOk made (λ s. 0 < length s.script.lanes)) }
+{
+    let script = Script::read(alloc, two_lanes().as_bytes()).ok()?;
+    if script.lanes() == 0 {
+        return None;
+    }
+    Some(Stepper::new(alloc, script, workers, sharing))
+}
+
+/// A spent stepper answers so to each call that may be refused.
+fn expect_spent<T: Threads + Wait + Sync + Abort>(rt: &T, stepper: &mut Stepper)
+    requires { 0 < length stepper.old.script.lanes }
+    ensures { stepper.new.script ≡ stepper.old.script }
+{
+    assert_eq!(rt; stepper.tick(rt, &OpenGate), Err(StepFault::Spent));
+    assert_eq!(rt; stepper.run(rt, &OpenGate), Err(StepFault::Spent));
+    assert_eq!(rt; stepper.trace(0).err(), Some(StepFault::Spent));
+}
+
+/// Steps to the end, or the stepper is spent, and is so a second time too.
+fn step_or_spend<T: Threads + Wait + Sync + Abort>(rt: &T, stepper: &mut Stepper)
+    requires { 0 < length stepper.old.script.lanes }
+{
+    match step_all(rt, stepper) {
+        Ok(stepped) => assert_eq!(rt; stepped, [true, true, false]),
+        Err(fault) => {
+            assert_eq!(rt; fault, StepFault::OutOfMemory);
+            expect_spent(rt, stepper);
+            expect_spent(rt, stepper);
+        }
+    }
+}
+
+/// Whatever request is refused: a stepper that steps all ticks, or one that is spent, or none for want of memory.
+fn expect_stepped<T: Threads + Wait + Sync + Abort>(
+    rt: &T,
+    alloc: Global,
+    workers: u32,
+    sharing: Sharing,
+) {
+    match made(alloc, workers, sharing) {
+        None => {}
+        Some(Ok(mut stepper)) => step_or_spend(rt, &mut stepper),
+        Some(Err(fault)) => assert_eq!(rt; fault, StepFault::OutOfMemory),
+    }
+}
+
+#[test]
+fn refused_stepper(rt: HostRuntime) {
+    let alloc = rt.alloc();
+    expect_stepped(&rt, alloc, 4, Sharing::Round);
+    expect_stepped(&rt, alloc, 2, Sharing::Queue);
+    if let Ok(table) = table(alloc, &[1, 0]) {
+        expect_stepped(&rt, alloc, 2, table);
+    }
+}
+
+/// A refusal with another cause is looked at first, and takes no memory.
+fn expect_cause(rt: &impl Abort, alloc: Global, workers: u32, sharing: Sharing, cause: StepFault) {
+    if let Some(made) = made(alloc, workers, sharing) {
+        expect(rt, made, Some(cause));
+    }
+}
+
+#[test]
+fn refused_sharing(rt: HostRuntime) {
+    let alloc = rt.alloc();
+    expect_cause(&rt, alloc, 0, Sharing::Round, StepFault::Workers);
+    expect_cause(&rt, alloc, 65, Sharing::Queue, StepFault::Workers);
+    if let Ok(table) = table(alloc, &[0]) {
+        expect_cause(&rt, alloc, 2, table, StepFault::Table);
+    }
+    if let Ok(table) = table(alloc, &[0, 2]) {
+        expect_cause(&rt, alloc, 2, table, StepFault::Table);
+    }
 }

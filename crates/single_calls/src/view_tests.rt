@@ -1,5 +1,5 @@
 //! Single calls of a view: with ample memory, and with memory refused.
-ghost use Rattle.std.specs.Prelude.{◌≤◌, ◌<◌, ◌+◌, IfOk, OnOk};
+ghost use Rattle.std.specs.Prelude.{◌≡◌, ◌≤◌, ◌<◌, ◌+◌, IfOk, OnErr};
 
 use cancel_view::{Connected, Fired, OutOfMemory, View};
 use std::alloc::Global;
@@ -11,14 +11,17 @@ use std::test::Fail;
 /// Connects a handler that is to have an id.
 fn connect(rt: &impl Abort, view: &mut View, c: u32, proc: u32, id: u64) -> Result<(), OutOfMemory>
     requires { view.old.next_id < 1000 }
-    ensures { OnOk result (view.new.next_id ≤ view.old.next_id + 1) }
+    ensures id { view.new.next_id ≤ view.old.next_id + 1 }
+    ensures same { OnErr result (view.new ≡ view.old) }
 {
     let connected = view.connect(c, proc)?;
     assert_eq!(rt; connected, Connected::Id(id));
     Ok(())
 }
 
-fn expect_disconnect(rt: &impl Abort, view: &mut View, id: u64, answer: bool) {
+fn expect_disconnect(rt: &impl Abort, view: &mut View, id: u64, answer: bool)
+    ensures { view.new.next_id ≡ view.old.next_id }
+{
     assert_eq!(rt; view.disconnect(id), answer);
 }
 
@@ -110,31 +113,50 @@ fn handlers_by_rising_id(rt: HostRuntime) -> Result<(), Fail> {
     Ok(())
 }
 
-/// Cancels where there is one handler, or finds the view as it was.
-fn try_cancel(rt: &impl Abort, alloc: Global, view: &mut View) {
-    match view.cancel(alloc, 0) {
-        Err(_) => {
-            assert!(rt; !view.is_cancelled(0));
-            expect_disconnect(rt, view, 1, true);
-        }
-        Ok(fired) => {
-            assert_eq!(rt; fired.map(|list| list.len()), Some(1));
-            assert!(rt; view.is_cancelled(0));
-        }
+/// Connects a handler that is to have an id. Where memory is refused there is none, and a second call connects it.
+fn connect_again(rt: &impl Abort, view: &mut View, proc: u32, id: u64)
+    requires { view.old.next_id < 1000 }
+    ensures { view.new.next_id ≤ view.old.next_id + 1 }
+{
+    if connect(rt, view, 0, proc, id).is_err() {
+        expect_disconnect(rt, view, id, false);
+        assert!(rt; connect(rt, view, 0, proc, id).is_ok());
     }
 }
 
-/// Each call answers that memory was refused, and leaves the view as it was, or gives the exact answer.
+/// Cancels, which is to call handler 2.
+fn fire(rt: &impl Abort, alloc: Global, view: &mut View) -> Result<(), OutOfMemory>
+    ensures { view.new.next_id ≡ view.old.next_id }
+{
+    let fired = view.cancel(alloc, 0)?;
+    let known = [Fired { id: 2, proc: 6 }];
+    assert!(rt; fired.is_some_and(|fired| fired.as_slice() == known.as_slice()));
+    Ok(())
+}
+
+/// The same by a second call where memory is refused, which leaves the view as it was.
+fn fire_again(rt: &impl Abort, alloc: Global, view: &mut View)
+    ensures { view.new.next_id ≡ view.old.next_id }
+{
+    if fire(rt, alloc, view).is_err() {
+        assert!(rt; !view.is_cancelled(0));
+        assert!(rt; fire(rt, alloc, view).is_ok());
+    }
+}
+
+/// Whatever request is refused, the view is as it was or as the call leaves it, also for all calls that come after.
 #[test]
 fn refused_view(rt: HostRuntime) {
     let Ok(mut view) = View::new(rt.alloc(), 1) else {
         return;
     };
-    match view.connect(0, 5) {
-        Err(_) => expect_disconnect(&rt, &mut view, 1, false),
-        Ok(connected) => {
-            assert_eq!(rt; connected, Connected::Id(1));
-            try_cancel(&rt, rt.alloc(), &mut view);
-        }
-    }
+    connect_again(&rt, &mut view, 5, 1);
+    connect_again(&rt, &mut view, 6, 2);
+    expect_disconnect(&rt, &mut view, 1, true);
+    expect_disconnect(&rt, &mut view, 1, false);
+    expect_disconnect(&rt, &mut view, 0, true);
+    fire_again(&rt, rt.alloc(), &mut view);
+    let again = view.cancel(rt.alloc(), 0);
+    assert!(rt; again.is_ok_and(|fired| fired.is_none()));
+    assert_eq!(rt; view.connect(0, 7), Ok(Connected::Already));
 }

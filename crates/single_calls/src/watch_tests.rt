@@ -1,5 +1,5 @@
 //! What a lane watches: a task that is cancelled, one that runs, handlers, and refused memory.
-ghost use Rattle.std.specs.Prelude.{◌≡◌, ◌≤◌, ◌<◌, ◌+◌, IfOk, OnOk, Some};
+ghost use Rattle.std.specs.Prelude.{◌≡◌, ◌≤◌, ◌<◌, ◌+◌, IfOk, OnOk, OnErr, Some};
 
 use cancel_view::{Connected, Fired, OutOfMemory};
 use lane_watch::Watch;
@@ -104,6 +104,7 @@ fn connect(rt: &impl Abort, watch: &mut Watch, proc: u32, id: u64) -> Result<(),
     requires { watch.old.view.next_id < 1000 }
     ensures id { OnOk result (watch.new.view.next_id ≤ watch.old.view.next_id + 1) }
     ensures tick { OnOk result (watch.new.tasks.tick ≡ watch.old.tasks.tick) }
+    ensures same { OnErr result (watch.new ≡ watch.old) }
 {
     let connected = watch.connect(0, proc)?;
     assert_eq!(rt; connected, Connected::Id(id));
@@ -155,4 +156,33 @@ fn refused_watch(rt: HostRuntime) {
         Err(OutOfMemory) => expect_no_reply(&rt, watch.poll(alloc, 1)),
         Ok(()) => expect_its_end(&rt, watch.poll(alloc, 1)),
     }
+}
+
+/// Cancels, which is to call one handler. Where memory is refused the view is as it was, and a second call does.
+fn cancel_again(rt: &impl Abort, alloc: Global, watch: &mut Watch)
+    requires { watch.old.tasks.tick ≡ 1 }
+{
+    let fired = match watch.cancel(alloc, 0, 0) {
+        Err(OutOfMemory) => {
+            assert!(rt; !watch.view().is_cancelled(0));
+            watch.cancel(alloc, 0, 0)
+        }
+        fired => fired,
+    };
+    assert!(rt; fired.is_ok_and(|fired| fired.is_some_and(|fired| fired.len() == 1)));
+    assert!(rt; watch.view().is_cancelled(0));
+}
+
+/// Whatever request is refused, what the view has and its handlers are as they were or as the call leaves them.
+#[test]
+fn refused_handlers(rt: HostRuntime) {
+    let alloc = rt.alloc();
+    let Ok(mut watch) = begun(alloc) else {
+        return;
+    };
+    if connect(&rt, &mut watch, 5, 1).is_err() {
+        assert!(rt; !watch.disconnect(1));
+        assert!(rt; connect(&rt, &mut watch, 5, 1).is_ok());
+    }
+    cancel_again(&rt, alloc, &mut watch);
 }

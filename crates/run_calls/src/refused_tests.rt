@@ -1,5 +1,6 @@
 //! Runs with memory refused, over writers that only compare.
 use crate::script_tests::{first_run, first_run_text};
+use crate::worked::{Worked, cancels, ownership, posts, tasks};
 use mainctx::{MainFault, OverWrite, run_bytes, serve};
 use std::alloc::Global;
 use std::io;
@@ -11,7 +12,7 @@ use tick_stepper::{OpenGate, Sharing};
 
 /// Compares what it is given with the rest of a text, and keeps nothing.
 #[derive(Drop)]
-struct Compared<'a> {
+pub(crate) struct Compared<'a> {
     rest: &'a [u8],
     differs: bool,
 }
@@ -31,18 +32,18 @@ impl Write for Compared<'_> {
 }
 
 /// A writer that expects a text.
-fn expecting(text: &'static str) -> Compared<'static> {
+pub(crate) fn expecting(text: &'static str) -> Compared<'static> {
     Compared {
         rest: text.as_bytes(),
         differs: false,
     }
 }
 
-fn all_came(it: &Compared<'_>) -> bool {
+pub(crate) fn all_came(it: &Compared<'_>) -> bool {
     !it.differs && it.rest.is_empty()
 }
 
-fn nothing_came(it: &Compared<'_>, text: &str) -> bool {
+pub(crate) fn nothing_came(it: &Compared<'_>, text: &str) -> bool {
     !it.differs && it.rest.len() == text.len()
 }
 
@@ -92,35 +93,79 @@ fn refused_run(rt: HostRuntime) {
     expect(&rt, result, &out, first_run_text());
 }
 
-fn three_lanes() -> &'static str {
-    r#"{"version": 1, "ticks": 3, "tick_us": 1000, "loops": [0, 1, 2], "procs": [{"do": [["log", 1]]}, {"do": [["cancel", 0], ["cancel", 0]]}, {"do": [["connect", 0, 2, 0]], "keep": 1}], "lanes": [{"contexts": 1, "start": [["connect", 0, 0, 0], ["attach", 0, 1, {"kind": ["timeout", 1], "call": 1}], ["run", 0]]}, {"contexts": 1, "start": [["connect", 0, 0, 0], ["attach", 1, 1, {"kind": ["timeout", 1], "call": 1}], ["run", 1]]}, {"contexts": 1, "start": [["connect", 0, 0, 0], ["attach", 2, 1, {"kind": ["timeout", 1], "call": 2}], ["run", 2]]}], "cancellables": 1}"#
+/// The same of a script whose lanes so many workers share in each way: one run of three may find no memory.
+fn expect_shared<T: Threads + Wait + Sync + Abort>(
+    rt: &T,
+    alloc: Global,
+    worked: Worked,
+    workers: u32,
+    table: &[u32],
+) {
+    let Ok(table) = table.to_vec(alloc) else {
+        return;
+    };
+    let mut refused = false;
+    for sharing in [Sharing::Round, Sharing::Queue, Sharing::Fixed(table)] {
+        let (result, out) = ran(rt, alloc, worked.script, worked.text, workers, sharing);
+        assert!(rt; result.is_ok() || !refused);
+        refused = refused || result.is_err();
+        expect(rt, result, &out, worked.text);
+    }
 }
 
-fn three_lanes_text() -> &'static str {
-    "thread 0\n1 dispatch ctx 0 source 1 priority 0 depth 1\n1 cancel 0\n1 handler 1\n1 log 1\nthread 1\n1 dispatch ctx 1 source 1 priority 0 depth 1\n1 cancel 0\n1 handler 1\n1 log 1\nthread 2\n1 dispatch ctx 2 source 1 priority 0 depth 1\n1 cancel 0\n1 handler 1\n1 log 1\n1 handler 2\n1 log 1\n2 dispatch ctx 2 source 1 priority 0 depth 1\n2 handler 0\n2 log 1\n"
+fn expect_alone<T: Threads + Wait + Sync + Abort>(rt: &T, alloc: Global, worked: Worked) {
+    expect_shared(rt, alloc, worked, 1, worked.alone);
 }
 
-/// The same of three lanes, which two workers share.
-fn expect_shared<T: Threads + Wait + Sync + Abort>(rt: &T, alloc: Global, sharing: Sharing) {
-    let (result, out) = ran(rt, alloc, three_lanes(), three_lanes_text(), 2, sharing);
-    expect(rt, result, &out, three_lanes_text());
+fn expect_of_two<T: Threads + Wait + Sync + Abort>(rt: &T, alloc: Global, worked: Worked) {
+    expect_shared(rt, alloc, worked, 2, worked.shared);
 }
 
 #[test]
-fn refused_workers(rt: HostRuntime) {
-    expect_shared(&rt, rt.alloc(), Sharing::Round);
+fn refused_posts_of_one_worker(rt: HostRuntime) {
+    expect_alone(&rt, rt.alloc(), posts());
 }
 
 #[test]
-fn refused_queue(rt: HostRuntime) {
-    expect_shared(&rt, rt.alloc(), Sharing::Queue);
+fn refused_posts_of_two_workers(rt: HostRuntime) {
+    expect_of_two(&rt, rt.alloc(), posts());
+}
+
+#[test]
+fn refused_cancels_of_one_worker(rt: HostRuntime) {
+    expect_alone(&rt, rt.alloc(), cancels());
+}
+
+#[test]
+fn refused_cancels_of_two_workers(rt: HostRuntime) {
+    expect_of_two(&rt, rt.alloc(), cancels());
+}
+
+#[test]
+fn refused_tasks_of_one_worker(rt: HostRuntime) {
+    expect_alone(&rt, rt.alloc(), tasks());
+}
+
+#[test]
+fn refused_tasks_of_two_workers(rt: HostRuntime) {
+    expect_of_two(&rt, rt.alloc(), tasks());
+}
+
+#[test]
+fn refused_ownership_of_one_worker(rt: HostRuntime) {
+    expect_alone(&rt, rt.alloc(), ownership());
+}
+
+#[test]
+fn refused_ownership_of_two_workers(rt: HostRuntime) {
+    expect_of_two(&rt, rt.alloc(), ownership());
 }
 
 fn memory() -> &'static str {
     "memory\n"
 }
 
-fn right_arguments(alloc: Global) -> Option<[String; 2]> {
+pub(crate) fn right_arguments(alloc: Global) -> Option<[String; 2]> {
     match ("1".to_string(alloc), "fixed".to_string(alloc)) {
         (Ok(workers), Ok(sharing)) => Some([workers, sharing]),
         _ => None,

@@ -1,9 +1,10 @@
-//! Writers that take little, refuse or fail to flush.
+//! Writers that take little, refuse or fail to flush, and a reader that breaks off.
+use crate::refused_tests::{Compared, all_came, expecting, nothing_came, right_arguments};
 use crate::script_tests::{first_run, first_run_text};
-use mainctx::{MainFault, OverWrite, run_bytes};
+use mainctx::{MainFault, OverWrite, run_bytes, serve};
 use std::alloc::Global;
 use std::io;
-use std::io::{ErrorKind, Write};
+use std::io::{ErrorKind, Read, Write};
 use std::sync::Wait;
 use std::thread::Threads;
 use tick_stepper::{OpenGate, Sharing};
@@ -102,4 +103,53 @@ fn fails_to_flush(rt: HostRuntime) {
     let (result, got) = ran_over(&rt, rt.alloc(), 1000, Then::FailFlush);
     assert_eq!(rt; result, Err(MainFault::Write));
     assert_eq!(rt; got.as_slice(), first_run_text().as_bytes());
+}
+
+/// Gives bytes, three at a time, and then fails.
+#[derive(Drop)]
+struct Broken<'a> {
+    rest: &'a [u8],
+}
+
+impl Read for Broken<'_> {
+    fn read(&mut self, buf: &mut [u8]) -> io::Result<usize> {
+        if self.rest.is_empty() {
+            return Err(io::Error::from(ErrorKind::Interrupted));
+        }
+        let n = buf.len().min(3);
+        self.rest.read(&mut buf[..n])
+    }
+}
+
+fn read() -> &'static str {
+    "read\n"
+}
+
+/// Serves an input that gives these bytes and fails, and answers the status and what both writers then expect.
+fn served<T: Threads + Wait + Sync>(
+    rt: &T,
+    alloc: Global,
+    args: &[String],
+    given: &[u8],
+) -> (u8, Compared<'static>, Compared<'static>) {
+    let mut out = OverWrite::new(expecting(first_run_text()));
+    let mut errors = expecting(read());
+    let mut input = Broken { rest: given };
+    let status = serve(rt, alloc, args, &mut input, &mut out, &mut errors);
+    (status, out.into_inner(), errors)
+}
+
+/// Wherever the input breaks off, behind its last byte too: status 4 with its line, and nothing written.
+#[test]
+fn reads_no_front(rt: HostRuntime) {
+    let script = first_run().as_bytes();
+    let Some(args) = right_arguments(rt.alloc()) else {
+        return;
+    };
+    for given in 0..=script.len() {
+        let (status, out, errors) = served(&rt, rt.alloc(), &args, &script[..given]);
+        assert_eq!(rt; status, 4, "at {given}");
+        assert!(rt; nothing_came(&out, first_run_text()));
+        assert!(rt; all_came(&errors));
+    }
 }

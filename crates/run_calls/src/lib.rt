@@ -1,0 +1,15 @@
+//! Tests of whole runs, from the bytes of a script to what a writer takes, which `mainctx` would be proved a second time with.
+#![tactic(auto)]
+
+#[cfg(test)]
+mod edge_tests;
+#[cfg(test)]
+mod gate_tests;
+#[cfg(test)]
+mod refused_tests;
+#[cfg(test)]
+mod script_tests;
+#[cfg(test)]
+mod sparse_tests;
+#[cfg(test)]
+mod worked;
