@@ -1,3 +1,4 @@
+pub mod OneEach
 pub mod Walk
 pub mod Cutoff
 pub mod Wait

@@ -14,7 +14,7 @@ ghost use Rattle.context_core.specs.Lent.{lends};
 ghost use Rattle.context_core.specs.Phases.{ms_until, least_ready, wait_of, interests, asked_rows, levels_for, shown, handed, walk};
 
 use crate::interest::{Interest, Prepared, Shown};
-use crate::ready::{is_callable, interest, is_beyond, is_free, level_at, ms_until, sooner};
+use crate::ready::{is_callable, interest, is_beyond, is_free, level_at, ms_until, one_each, sooner};
 use cancel_view::View;
 use source_rows::{Levels, Row, Rows};
 use std::alloc::{AllocError, Global};
@@ -214,7 +214,8 @@ impl Context {
             → IfOk result (λ ids. ids.items ≡ selected (own_ready level (in_view view.now) now) busy.now self.now.rows.rows) }
     {
         let polled = self.polled(alloc, prepared.priority, busy, levels)?;
-        self.walk(alloc, prepared.priority, &polled, now, busy, view)
+        let shown = one_each(alloc, &polled)?;
+        self.walk(alloc, prepared.priority, &shown, now, busy, view)
     }
 }
 

@@ -1,15 +1,17 @@
 //! What makes a source ready.
-ghost use Rattle.std.specs.Prelude.{◌≡◌, ◌≤◌, ◌^◌, ◌==◌, Some, None, IfSome, IsTrue, int_lt, slice_get, pos, if◌then◌else◌};
+ghost use Rattle.std.specs.Prelude.{ℕ, List, ◌∷◌, ◌++◌, IfOk, OnOk, ◌≡◌, ◌≤◌, ◌^◌, ◌==◌, Some, None, IfSome, IsTrue, int_lt, slice_get, pos, if◌then◌else◌};
 ghost use Rattle.loop_script.specs.Bounds.{latest};
 ghost use Rattle.source_rows.specs.Rows.{sooner};
 ghost use Rattle.std.specs.List.{find, list_any};
 ghost use Rattle.context_core.specs.Ready.{in_view, is_due, has_bit, own_ready, is_blocked, is_free, is_callable};
+ghost use Rattle.context_core.specs.declared.interest.Shown.{Shown};
 ghost use Rattle.context_core.specs.Phases.{less_urgent, shown, is_asked, interest_of, ms_until};
 
 use crate::interest::{Interest, Shown};
 use cancel_view::View;
 use loop_script::Kind;
 use source_rows::Row;
+use std::alloc::{AllocError, Global};
 
 /// The bits of an error (8), a hang-up (16) and an invalid descriptor (32), which are told whether they are asked for or not.
 const ALWAYS_TOLD: u8 = 56;
@@ -34,6 +36,28 @@ fn find_shown(polled: &[Shown], fd: u32) -> Option<Shown>
     ensures { result ≡ find (λ s. s.fd == fd) polled.now }
 {
     polled.iter().copied().find(|s| s.fd == fd)
+}
+
+/// Lists what a descriptor shows, unless something is listed of it.
+fn list_once(list: &mut Vec<Shown>, one: Shown) -> Result<(), AllocError>
+    ensures { OnOk result ((fd : ℕ) (rest : List Shown) → find (λ s. s.fd == fd) (list.new.items ++ rest) ≡ find (λ s. s.fd == fd) (list.old.items ++ one ∷ rest)) }
+{
+    if find_shown(list, one.fd).is_some() {
+        return Ok(());
+    }
+    list.push(one)?;
+    Ok(())
+}
+
+/// One of each descriptor that is listed: the first.
+pub(crate) fn one_each(alloc: Global, polled: &[Shown]) -> Result<Vec<Shown>, AllocError>
+    ensures { IfOk result (λ list. (fd : ℕ) → shown list.items fd ≡ shown polled.now fd) }
+{
+    let mut list = Vec::new(alloc);
+    'polled: for one in polled {
+        list_once(&mut list, *one)?;
+    }
+    Ok(list)
 }
 
 /// The level that a descriptor shows; 0 where it is not listed.
