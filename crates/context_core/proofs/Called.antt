@@ -27,18 +27,18 @@ or_first : (a b : Bool) → a ≡ true → (a || b) ≡ true
 or_first true b h = refl
 or_first false b h = let no : false ≡ true = h in cc
 
-line_by : (a b id : ℕ) (one two : Bool) (line : List ℕ)
-    → list_any (λ i. i == id) (cond one (slice_index line 0 ∷ id ∷ id ∷ id ∷ []) (cond two (slice_index line 0 ∷ slice_index line 1 ∷ id ∷ id ∷ []) (slice_index line 0 ∷ slice_index line 1 ∷ slice_index line 2 ∷ id ∷ []))) ≡ true
-line_by a b id true two line = or_true (slice_index line 0 == id) _ (or_first (id == id) _ (same_id id))
-line_by a b id false true line = or_true (slice_index line 0 == id) _ (or_true (slice_index line 1 == id) _ (or_first (id == id) _ (same_id id)))
-line_by a b id false false line =
-    or_true (slice_index line 0 == id) _ (or_true (slice_index line 1 == id) _ (or_true (slice_index line 2 == id) _ (or_first (id == id) _ (same_id id))))
+lineage_by : (a b id : ℕ) (one two : Bool) (lineage : List ℕ)
+    → list_any (λ i. i == id) (cond one (slice_index lineage 0 ∷ id ∷ id ∷ id ∷ []) (cond two (slice_index lineage 0 ∷ slice_index lineage 1 ∷ id ∷ id ∷ []) (slice_index lineage 0 ∷ slice_index lineage 1 ∷ slice_index lineage 2 ∷ id ∷ []))) ≡ true
+lineage_by a b id true two lineage = or_true (slice_index lineage 0 == id) _ (or_first (id == id) _ (same_id id))
+lineage_by a b id false true lineage = or_true (slice_index lineage 0 == id) _ (or_true (slice_index lineage 1 == id) _ (or_first (id == id) _ (same_id id)))
+lineage_by a b id false false lineage =
+    or_true (slice_index lineage 0 == id) _ (or_true (slice_index lineage 1 == id) _ (or_true (slice_index lineage 2 == id) _ (or_first (id == id) _ (same_id id))))
 
 under_self : (rows : List Row) (r : Row) (parent : Option ℕ) → HasPlace rows parent r → is_under r.id r ≡ true
-under_self rows r None h = ap (list_any (λ i. i == r.id)) h.line ∙ or_first (r.id == r.id) _ (same_id r.id)
+under_self rows r None h = ap (list_any (λ i. i == r.id)) h.lineage ∙ or_first (r.id == r.id) _ (same_id r.id)
 under_self rows r (Some id) h =
     let p = h.0 in
-    ap (list_any (λ i. i == r.id)) h.2.line ∙ line_by 0 0 r.id (p.level == 1) (p.level == 2) p.line
+    ap (list_any (λ i. i == r.id)) h.2.lineage ∙ lineage_by 0 0 r.id (p.level == 1) (p.level == 2) p.lineage
 
 pub each_under_self : (whole rows : List Row) → AllByRecursion (λ r. HasPlace whole r.parent r) rows → AllByRecursion (λ r. is_under r.id r ≡ true) rows
 each_under_self whole [] h = tt

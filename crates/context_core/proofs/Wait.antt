@@ -107,13 +107,13 @@ pub next_later : (now : ℕ) (rows : List Row) → IfSome (next_ready now rows) 
 next_later now [] = tt
 next_later now (r ∷ rows) = next_later_by now r (next_ready now rows) (int_lt (pos now) r.ready) refl (next_later now rows)
 
-not_blocked : (line : List ℕ) → list_any (λ id. list_any (λ b. b == id) []) line ≡ false
+not_blocked : (lineage : List ℕ) → list_any (λ id. list_any (λ b. b == id) []) lineage ≡ false
 not_blocked [] = refl
-not_blocked (id ∷ line) = not_blocked line
+not_blocked (id ∷ lineage) = not_blocked lineage
 
 pub all_free : (rows : List Row) → filter (is_free []) rows ≡ rows
 all_free [] = refl
-all_free (r ∷ rows) = ap (λ (b : Bool). cond (not b) (r ∷ filter (is_free []) rows) (filter (is_free []) rows)) (not_blocked r.line) ∙ ap (λ (rs : List Row). r ∷ rs) (all_free rows)
+all_free (r ∷ rows) = ap (λ (b : Bool). cond (not b) (r ∷ filter (is_free []) rows) (filter (is_free []) rows)) (not_blocked r.lineage) ∙ ap (λ (rs : List Row). r ∷ rs) (all_free rows)
 
 pub none_if : (xs : List ℕ) → (length xs == 0) ≡ true → xs ≡ []
 none_if [] e = refl
@@ -121,4 +121,4 @@ none_if (x ∷ xs) e = grind (arith, nat_tests, e)
 
 -- nothing is blocked where no call is in progress
 pub none_blocked : (busy : List ℕ) (r : Row) → (length busy == 0) ≡ true → is_blocked busy r ≡ false
-none_blocked busy r e = ap (λ (l : List ℕ). is_blocked l r) (none_if busy e) ∙ not_blocked r.line
+none_blocked busy r e = ap (λ (l : List ℕ). is_blocked l r) (none_if busy e) ∙ not_blocked r.lineage

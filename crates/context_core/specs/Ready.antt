@@ -45,7 +45,7 @@ own_ready level cancelled now r = kind_ready level cancelled r.kind || is_due no
 
 -- a call of the source, or of one above it, is in progress
 abbrev pub is_blocked : List ℕ → Row → Bool
-is_blocked busy r = list_any (λ id. list_any (λ b. b == id) busy) r.line
+is_blocked busy r = list_any (λ id. list_any (λ b. b == id) busy) r.lineage
 
 -- no call in progress blocks it
 abbrev pub is_free : List ℕ → Row → Bool

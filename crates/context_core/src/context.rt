@@ -14,7 +14,9 @@ ghost use Rattle.context_core.specs.Lent.{lends};
 ghost use Rattle.context_core.specs.Phases.{ms_until, least_ready, wait_of, interests, asked_rows, levels_for, shown, handed, walk};
 
 use crate::interest::{Interest, Prepared, Shown};
-use crate::ready::{is_callable, interest, is_beyond, is_free, level_at, ms_until, one_each, sooner};
+use crate::ready::{
+    interest, is_beyond, is_callable, is_free, level_at, ms_until, one_each, sooner,
+};
 use cancel_view::View;
 use source_rows::{Levels, Row, Rows};
 use std::alloc::{AllocError, Global};
@@ -239,17 +241,17 @@ fn visit(
         return Ok(is_free(row, busy) && lent.contains(&row.id));
     }
     if row.parent.is_some() {
-        lend(lent, &row.line)?;
+        lend(lent, &row.lineage)?;
     }
     Ok(true)
 }
 
-/// Puts the ids of a line into a set. A line is filled up with its last id, which is put in once.
-fn lend(ids: &mut BTreeSet<u64>, line: &[u64]) -> Result<(), AllocError>
-    ensures { OnOk result ((id : ℕ) → contains nat_cmp ids.new id ≡ (list_any (λ i. i == id) line.now || contains nat_cmp ids.old id)) }
+/// Puts the ids of a lineage into a set. A lineage is filled up with its last id, which is put in once.
+fn lend(ids: &mut BTreeSet<u64>, lineage: &[u64]) -> Result<(), AllocError>
+    ensures { OnOk result ((id : ℕ) → contains nat_cmp ids.new id ≡ (list_any (λ i. i == id) lineage.now || contains nat_cmp ids.old id)) }
 {
     let mut last = None;
-    for id in line {
+    for id in lineage {
         if last != Some(*id) {
             if ids.insert(*id).is_err() {
                 return Err(AllocError);

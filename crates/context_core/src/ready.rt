@@ -97,7 +97,7 @@ fn is_blocked(row: &Row, busy: &[u64]) -> bool
     if busy.is_empty() {
         return false;
     }
-    row.line.iter().any(|id| is_listed(*id, busy))
+    row.lineage.iter().any(|id| is_listed(*id, busy))
 }
 
 /// Whether no call of a source, or of one above it, is in progress.

@@ -20,7 +20,7 @@ pub record IsNumbered (s : RowSet) : Type 0 where
 pub record Follows (s u : RowSet) : Type 0 where
   pub next : s.next_id ≤ u.next_id
   pub numbered : IsNumbered s → IsNumbered u
-  pub kept : (p : ℕ → List ℕ → Bool) → ((id : ℕ) (line : List ℕ) → s.next_id ≤ id → p id line ≡ true) → AllByRecursion (λ r. p r.id r.line ≡ true) s.rows → AllByRecursion (λ r. p r.id r.line ≡ true) u.rows
+  pub kept : (p : ℕ → List ℕ → Bool) → ((id : ℕ) (line : List ℕ) → s.next_id ≤ id → p id line ≡ true) → AllByRecursion (λ r. p r.id r.lineage ≡ true) s.rows → AllByRecursion (λ r. p r.id r.lineage ≡ true) u.rows
 
 pub follows_same : (s : RowSet) → Follows s s
 follows_same s = record { next = omega arith; numbered = λ h. h; kept = λ p b a. a }
@@ -39,7 +39,7 @@ follows_added row s e = record {
     rising = pairs_push (λ (r : Row) (q : Row). r.id < q.id) s.rows row h.rising (all_of (λ (r : Row). r.id < s.next_id) (λ (r : Row). r.id < row.id) (λ r k. omega (arith, k, e)) s.rows h.given);
     given = all_push (λ (r : Row). r.id < s.next_id + 1) s.rows row (all_of (λ (r : Row). r.id < s.next_id) (λ (r : Row). r.id < s.next_id + 1) (λ r k. omega (arith, k)) s.rows h.given) (omega (arith, e));
   };
-  kept = λ p b a. all_push (λ (r : Row). p r.id r.line ≡ true) s.rows row a (b row.id row.line (omega (arith, e)));
+  kept = λ p b a. all_push (λ (r : Row). p r.id r.lineage ≡ true) s.rows row a (b row.id row.lineage (omega (arith, e)));
 }
 
 pub follows_attached : (spec : SourceSpec) (now : ℕ) (s : RowSet) → Follows s (attached spec now s)
@@ -55,24 +55,24 @@ follows_destroyed id s =
     record {
       next = omega arith;
       numbered = λ h. record { rising = pairs_filter (λ (r : Row) (q : Row). r.id < q.id) other s.rows h.rising; given = all_filter (λ (r : Row). r.id < s.next_id) other s.rows h.given };
-      kept = λ p b a. all_filter (λ (r : Row). p r.id r.line ≡ true) other s.rows a;
+      kept = λ p b a. all_filter (λ (r : Row). p r.id r.lineage ≡ true) other s.rows a;
     }
 
-follows_mapped : (f : Row → Row) (order : ℕ) (s : RowSet) → ((r : Row) → (f r).id ≡ r.id) → ((r : Row) → (f r).line ≡ r.line) → Follows s (record s { rows = map f s.rows; next_order = order })
+follows_mapped : (f : Row → Row) (order : ℕ) (s : RowSet) → ((r : Row) → (f r).id ≡ r.id) → ((r : Row) → (f r).lineage ≡ r.lineage) → Follows s (record s { rows = map f s.rows; next_order = order })
 follows_mapped f order s i l = record {
   next = omega arith;
   numbered = λ h. record {
     rising = pairs_map (λ (r : Row) (q : Row). r.id < q.id) (λ (r : Row) (q : Row). r.id < q.id) f (λ r q k. omega (arith, k, i r, i q)) s.rows h.rising;
     given = all_map (λ (r : Row). r.id < s.next_id) (λ (r : Row). r.id < s.next_id) f (λ r k. omega (arith, k, i r)) s.rows h.given;
   };
-  kept = λ p b a. all_map (λ (r : Row). p r.id r.line ≡ true) (λ (r : Row). p r.id r.line ≡ true) f (λ r k. ap (λ (n : ℕ). p n (f r).line) (i r) ∙ (ap (p r.id) (l r) ∙ k)) s.rows a;
+  kept = λ p b a. all_map (λ (r : Row). p r.id r.lineage ≡ true) (λ (r : Row). p r.id r.lineage ≡ true) f (λ r k. ap (λ (n : ℕ). p n (f r).lineage) (i r) ∙ (ap (p r.id) (l r) ∙ k)) s.rows a;
 }
 
 id_if : (b : Bool) (r q : Row) → q.id ≡ r.id → (cond b q r).id ≡ r.id
 id_if true r q e = e
 id_if false r q e = refl
 
-line_if : (b : Bool) (r q : Row) → q.line ≡ r.line → (cond b q r).line ≡ r.line
+line_if : (b : Bool) (r q : Row) → q.lineage ≡ r.lineage → (cond b q r).lineage ≡ r.lineage
 line_if true r q e = e
 line_if false r q e = refl
 
@@ -90,7 +90,7 @@ follows_reprioritised id priority s = follows_mapped (moved id priority s.next_o
     moved_id r true = refl
     moved_id r false = refl
 
-    moved_line : (r : Row) (b : Bool) → (cond b (record r { priority = priority; order = cond (r.id == id) s.next_order r.order; path = slice_set r.path 0 s.next_order }) r).line ≡ r.line
+    moved_line : (r : Row) (b : Bool) → (cond b (record r { priority = priority; order = cond (r.id == id) s.next_order r.order; path = slice_set r.path 0 s.next_order }) r).lineage ≡ r.lineage
     moved_line r true = refl
     moved_line r false = refl
 

@@ -80,14 +80,14 @@ each_recurs c fs [] e = tt
 each_recurs c fs (i ∷ line) e =
     (recurs c i fs (or_left (list_any (λ b. b == i) (busy c fs)) (is_held (busy c fs) line) e), each_recurs c fs line (or_right (list_any (λ b. b == i) (busy c fs)) (is_held (busy c fs) line) e))
 
-held_not : (id : ℕ) (ids blocked : List ℕ) (row : Row) → row.id ≡ id → may_go (id ∷ ids) blocked row.id row.line ≡ true → is_held blocked row.line ≡ false
+held_not : (id : ℕ) (ids blocked : List ℕ) (row : Row) → row.id ≡ id → may_go (id ∷ ids) blocked row.id row.lineage ≡ true → is_held blocked row.lineage ≡ false
 held_not id ids blocked row s m =
     let here : is_in row.id (id ∷ ids) ≡ true = ap (λ b. b || is_in row.id ids) (equal id row.id (sym s)) in
-    not_true (is_held blocked row.line) (ap (λ b. cond b (not (is_held blocked row.line)) true) (sym here) ∙ m)
+    not_true (is_held blocked row.lineage) (ap (λ b. cond b (not (is_held blocked row.lineage)) true) (sym here) ∙ m)
 
-next_free : (id : ℕ) (ids blocked : List ℕ) (o : Option Context) (row : Row) → WaitsIn (id ∷ ids) blocked o → row_in id o ≡ Some row → is_held blocked row.line ≡ false
+next_free : (id : ℕ) (ids blocked : List ℕ) (o : Option Context) (row : Row) → WaitsIn (id ∷ ids) blocked o → row_in id o ≡ Some row → is_held blocked row.lineage ≡ false
 next_free id ids blocked None row h e = let no : None ≡ Some row = e in cc
-next_free id ids blocked (Some c) row h e = held_not id ids blocked row (row_in_id id (Some c) row (sym e)) (found (λ (r : Row). may_go (id ∷ ids) blocked r.id r.line ≡ true) id row c.rows.rows h.free e)
+next_free id ids blocked (Some c) row h e = held_not id ids blocked row (row_in_id id (Some c) row (sym e)) (found (λ (r : Row). may_go (id ∷ ids) blocked r.id r.lineage ≡ true) id row c.rows.rows h.free e)
 
 -- ---- the invariant
 
@@ -149,7 +149,7 @@ free_next : (lane : Lane) (context : ℕ) (row : Row) → Sits lane → IsNext l
 free_next lane context row h n =
     let w = subst (AllWait lane.contexts) n.was h.waits in
     let free = next_free row.id n.ids (busy context n.below) (context_at context lane) row w.1 n.there in
-    subst (λ (fs : List Frame). IsFree fs context row) (sym n.was) (each_recurs context n.below row.line free)
+    subst (λ (fs : List Frame). IsFree fs context row) (sym n.was) (each_recurs context n.below row.lineage free)
 
 free_told : (lane after : Lane) (event : Event) → Sits lane → TellsNext lane after event → IsOfFree lane event
 free_told lane after (events.Dispatch context id priority depth) h d = (d.row, ap (λ (i : ℕ). row_of context i lane) (sym d.same) ∙ (d.next).there, free_next lane context d.row h d.next)

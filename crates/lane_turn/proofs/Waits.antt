@@ -34,7 +34,7 @@ may_go ids blocked id line = cond (is_in id ids) (not (is_held blocked line)) tr
 -- what is left of an iteration: no id twice, each that of a source that was given, and none of a source that is blocked
 pub record Waits (ids blocked : List ℕ) (s : RowSet) : Type 0 where
   pub given : AllByRecursion (λ id. id < s.next_id) ids
-  pub free : AllByRecursion (λ r. may_go ids blocked r.id r.line ≡ true) s.rows
+  pub free : AllByRecursion (λ r. may_go ids blocked r.id r.lineage ≡ true) s.rows
 
 abbrev pub WaitsIn : (ids blocked : List ℕ) → Option Context → Type 0
 WaitsIn ids blocked None = Unit {0}
@@ -116,7 +116,7 @@ fewer_may false c x f h = refl
 waits_fewer : (i : ℕ) (ids blocked : List ℕ) (s : RowSet) → Waits (i ∷ ids) blocked s → Waits ids blocked s
 waits_fewer i ids blocked s h = record {
   given = h.given.1;
-  free = all_of (λ (r : Row). may_go (i ∷ ids) blocked r.id r.line ≡ true) (λ (r : Row). may_go ids blocked r.id r.line ≡ true) (λ r e. fewer_may (is_in r.id ids) (is_in r.id (i ∷ ids)) (not (is_held blocked r.line)) (in_more r.id i ids) e) s.rows h.free;
+  free = all_of (λ (r : Row). may_go (i ∷ ids) blocked r.id r.lineage ≡ true) (λ (r : Row). may_go ids blocked r.id r.lineage ≡ true) (λ r e. fewer_may (is_in r.id ids) (is_in r.id (i ∷ ids)) (not (is_held blocked r.lineage)) (in_more r.id i ids) e) s.rows h.free;
 }
 
 waits_in_fewer : (i : ℕ) (ids blocked : List ℕ) (o : Option Context) → WaitsIn (i ∷ ids) blocked o → WaitsIn ids blocked o
@@ -165,7 +165,7 @@ wait_below contexts (LoopOf number c ∷ below) h = h
 
 -- a row that is found by its id, and is not blocked
 abbrev IsFound : List Row → List ℕ → Row → Type 0
-IsFound rows blocked q = (row_with q.id rows ≡ Some q) × (is_held blocked q.line ≡ false)
+IsFound rows blocked q = (row_with q.id rows ≡ Some q) × (is_held blocked q.lineage ≡ false)
 
 and_left : (a b : Bool) → (a && b) ≡ true → a ≡ true
 and_left true b e = refl
@@ -178,19 +178,19 @@ not_true false e = refl
 row_same : (a b : Row) → Some a ≡ Some b → a ≡ b
 row_same a b e = cc
 
-free_if : (rows : List Row) (blocked : List ℕ) (q r : Row) (ids : List ℕ) (b : Bool) → (q.id == r.id) ≡ b → IsFound rows blocked q → row_with r.id rows ≡ Some r → may_go ids blocked r.id r.line ≡ true → cond (b || is_in r.id ids) (not (is_held blocked r.line)) true ≡ true
+free_if : (rows : List Row) (blocked : List ℕ) (q r : Row) (ids : List ℕ) (b : Bool) → (q.id == r.id) ≡ b → IsFound rows blocked q → row_with r.id rows ≡ Some r → may_go ids blocked r.id r.lineage ≡ true → cond (b || is_in r.id ids) (not (is_held blocked r.lineage)) true ≡ true
 free_if rows blocked q r ids true e f g h =
     let same : q ≡ r = row_same q r (sym f.0 ∙ (ap (λ (n : ℕ). row_with n rows) (are_same q.id r.id e) ∙ g)) in
-    ap not (ap (λ (x : Row). is_held blocked x.line) (sym same) ∙ f.1)
+    ap not (ap (λ (x : Row). is_held blocked x.lineage) (sym same) ∙ f.1)
 free_if rows blocked q r ids false e f g h = h
 
-free_among : (rows : List Row) (blocked : List ℕ) (qs : List Row) → AllByRecursion (IsFound rows blocked) qs → (r : Row) → row_with r.id rows ≡ Some r → may_go (map (λ q. q.id) qs) blocked r.id r.line ≡ true
+free_among : (rows : List Row) (blocked : List ℕ) (qs : List Row) → AllByRecursion (IsFound rows blocked) qs → (r : Row) → row_with r.id rows ≡ Some r → may_go (map (λ q. q.id) qs) blocked r.id r.lineage ≡ true
 free_among rows blocked [] h r e = refl
 free_among rows blocked (q ∷ qs) h r e = free_if rows blocked q r (map (λ q. q.id) qs) (q.id == r.id) refl h.0 e (free_among rows blocked qs h.1 r e)
 
 found_ready : (own : Own) (blocked : List ℕ) (rows : List Row) → IdsRise rows → AllByRecursion (IsFound rows blocked) (in_order (filter (is_most_urgent (ready_rows own blocked rows)) (ready_rows own blocked rows)))
 found_ready own blocked rows n =
-    let ready = all_passed (λ (q : Row). row_with q.id rows ≡ Some q) (IsFound rows blocked) (is_ready own blocked rows) (λ q f e. (f, not_true (is_held blocked q.line) (and_left (not (is_held blocked q.line)) _ e))) rows (all_found rows n) in
+    let ready = all_passed (λ (q : Row). row_with q.id rows ≡ Some q) (IsFound rows blocked) (is_ready own blocked rows) (λ q f e. (f, not_true (is_held blocked q.lineage) (and_left (not (is_held blocked q.lineage)) _ e))) rows (all_found rows n) in
     all_in_order (IsFound rows blocked) (filter (is_most_urgent (ready_rows own blocked rows)) (ready_rows own blocked rows)) (all_filter (IsFound rows blocked) (is_most_urgent (ready_rows own blocked rows)) (ready_rows own blocked rows) ready)
 
 pub selected_differ : (own : Own) (blocked : List ℕ) (rows : List Row) → IdsRise rows → Differ (selected own blocked rows)
@@ -210,7 +210,7 @@ selected_given own blocked s g =
 selected_waits : (own : Own) (blocked : List ℕ) (s : RowSet) → IsNumbered s → Waits (selected own blocked s.rows) blocked s
 selected_waits own blocked s n = record {
   given = selected_given own blocked s n.given;
-  free = all_of (λ (r : Row). row_with r.id s.rows ≡ Some r) (λ (r : Row). may_go (selected own blocked s.rows) blocked r.id r.line ≡ true) (λ r e. free_among s.rows blocked _ (found_ready own blocked s.rows n.rising) r e) s.rows (all_found s.rows n.rising);
+  free = all_of (λ (r : Row). row_with r.id s.rows ≡ Some r) (λ (r : Row). may_go (selected own blocked s.rows) blocked r.id r.lineage ≡ true) (λ r e. free_among s.rows blocked _ (found_ready own blocked s.rows n.rising) r e) s.rows (all_found s.rows n.rising);
 }
 
 abbrev pub NumberedIn : Option Context → Type 0

@@ -19,7 +19,7 @@ MayRecur frames context id = AllByRecursion (λ caller. caller.context ≡ conte
 
 -- so is each of a source and of those above it, whose ids are its line
 abbrev pub IsFree : List Frame → (context : ℕ) → Row → Type 0
-IsFree frames context row = AllByRecursion (MayRecur frames context) row.line
+IsFree frames context row = AllByRecursion (MayRecur frames context) row.lineage
 
 -- a dispatch is of a source that is there, and free
 abbrev pub IsOfFree : Lane → Event → Type 0

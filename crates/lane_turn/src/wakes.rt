@@ -121,7 +121,7 @@ fn row_wake(script: &Script, row: &Row, from: u32, view: &View) -> Option<u64>
 fn is_blocked(frames: &Frames, context: u32, row: &Row) -> bool
     ensures { result ≡ is_blocked (busy context frames.now) row.now }
 {
-    row.line.iter().any(|id| frames.blocks(context, *id))
+    row.lineage.iter().any(|id| frames.blocks(context, *id))
 }
 
 /// When a source may be ready by itself, from a tick on, where no call in progress blocks it; never where one does.

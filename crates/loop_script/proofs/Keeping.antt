@@ -8,7 +8,7 @@ use Rattle.loop_script.specs.Read.{Read, done, misshapen, beyond, ◌>>=◌, opt
 use Rattle.loop_script.specs.Number.{number_within, whole, integer_from, integer_within, integer, index, index_or_null, slot, bits, priority, ready_time, count_or, flag_from, flag, flag_or}
 use Rattle.loop_script.specs.Object.{are_among, names, only_among, only, field}
 use Rattle.loop_script.specs.Array.{part, parts_are, arity, word}
-use Rattle.loop_script.specs.Rows.{count, each, counted, rows_of, rows, rows_or}
+use Rattle.loop_script.specs.Rows.{count, each, of_length, rows_of, rows, rows_or}
 use Rattle.loop_script.specs.Words.{choice}
 use Rattle.loop_script.specs.Source.{idle, timeout, ready, fd, cancel as cancel_kind, kinds, kind, usual_priority, priority_or, source_spec, child_spec}
 use Rattle.loop_script.specs.Level.{level, levels}
@@ -137,12 +137,12 @@ of_each {A = A} f h no_items = of_done {A = List A} []
 of_each f h (item d ds) =
     of_next (f (Some d)) (λ x. each f ds >>= λ xs. done (x ∷ xs)) (h (Some d)) (λ x. of_next (each f ds) (λ xs. done (x ∷ xs)) (of_each f h ds) (λ xs. of_done (x ∷ xs)))
 
-of_counted : {A : Type 0} (low high : ℕ) (xs : List A) → ClearsNone (counted low high xs)
+of_counted : {A : Type 0} (low high : ℕ) (xs : List A) → ClearsNone (of_length low high xs)
 of_counted {A = A} low high xs = of_either _ _ (nat_le low (length xs) && nat_le (length xs) high) (of_done xs) (of_beyond {A = List A} [])
 
 rows_by : {A : Type 0} (low high : ℕ) (f : Option Data → Read A) → ((d : Option Data) → ClearsNone (f d)) → (ds : Option Items) → ClearsNone (rows_of low high f ds)
 rows_by {A = A} low high f h None = of_misshapen {A = List A} []
-rows_by low high f h (Some ds) = of_next (each f ds) (counted low high) (of_each f h ds) (of_counted low high)
+rows_by low high f h (Some ds) = of_next (each f ds) (of_length low high) (of_each f h ds) (of_counted low high)
 
 of_rows : {A : Type 0} (low high : ℕ) (f : Option Data → Read A) → ((d : Option Data) → ClearsNone (f d)) → (d : Option Data) → ClearsNone (rows low high f d)
 unfolding rows

@@ -1,6 +1,6 @@
 ghost use Rattle.std.specs.Prelude.{◌≡◌, ◌≤◌, length, IfOk, OnOk};
 ghost use Rattle.loop_script.specs.Read.{after};
-ghost use Rattle.loop_script.specs.Rows.{rows, rows_or, counted, each};
+ghost use Rattle.loop_script.specs.Rows.{rows, rows_or, of_length, each};
 ghost use Rattle.serde_json.specs.View.{items_view};
 ghost use Rattle.loop_script.specs.Seen.{seen};
 
@@ -69,8 +69,8 @@ fn counted_items<T: Drop>(
     high: usize,
     faults: &mut Faults,
 ) -> Items<T>
-    ensures value { result ≡ (counted low high items).value }
-    ensures faults { faults.new ≡ after faults.old (counted low high items) }
+    ensures value { result ≡ (of_length low high items).value }
+    ensures faults { faults.new ≡ after faults.old (of_length low high items) }
     ensures few { length result ≤ high }
 {
     let count = items.as_slice().len();

@@ -6,8 +6,8 @@ ghost use Rattle.loop_script.specs.Plan.{actions, few_contexts, keep_or, lanes, 
 ghost use Rattle.loop_script.specs.Limits.{IsBounded};
 ghost use Rattle.loop_script.specs.Seen.{seen};
 
-use crate::bounds::{LONGEST_TICK, MOST_ITEMS, MOST_LANES, MOST_PROCS, MOST_TICKS};
 use crate::action::Action;
+use crate::bounds::{LONGEST_TICK, MOST_ITEMS, MOST_LANES, MOST_PROCS, MOST_TICKS};
 use crate::faults::Faults;
 use crate::form::{Form, rows_or_none, rows_within};
 use crate::items::Items;
@@ -187,7 +187,11 @@ impl Plan {
         let ticks = whole_number(field_of(value, "ticks"), 1, MOST_TICKS as u64, faults);
         let tick_us = whole_number(field_of(value, "tick_us"), 1, LONGEST_TICK, faults);
         let lanes = read_lanes(alloc, field_of(value, "lanes"), faults)?;
-        let cancellables = optional_count(field_of(value, "cancellables"), MOST_ITEMS as u64, faults);
+        let cancellables = optional_count(
+            field_of(value, "cancellables"),
+            MOST_ITEMS as u64,
+            faults,
+        );
         let fds = rows_or_none(alloc, field_of(value, "fds"), MOST_ITEMS, faults)?;
         let loops = rows_or_none(alloc, field_of(value, "loops"), MOST_ITEMS, faults)?;
         let procs = rows_or_none(alloc, field_of(value, "procs"), MOST_PROCS, faults)?;

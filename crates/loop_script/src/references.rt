@@ -86,9 +86,11 @@ impl Action {
             Action::Run(number) => (*number as usize) < sizes.loops,
             Action::Quit(number) => (*number as usize) < sizes.loops,
             Action::Cancel(c) => *c < sizes.cancellables,
-            Action::Connect { cancellable, proc, .. } => {
-                *cancellable < sizes.cancellables && (*proc as usize) < sizes.procs
-            }
+            Action::Connect {
+                cancellable,
+                proc,
+                ..
+            } => { *cancellable < sizes.cancellables && (*proc as usize) < sizes.procs }
             Action::Task(spec) => spec.refers_within(sizes),
             Action::Invoke { context, proc } => {
                 sizes.has_context(*context) && (*proc as usize) < sizes.procs

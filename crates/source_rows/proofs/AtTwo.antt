@@ -20,9 +20,9 @@ four_times : (b : Bool) → (b || (b || (b || (b || false)))) ≡ b
 four_times true = refl
 four_times false = refl
 
--- a root's line has no other id than its own
-pub any_root : (f : ℕ → Bool) (r : Row) → IsRoot r → list_any f r.line ≡ f r.id
-any_root f r p = ap (list_any f) p.line ∙ four_times (f r.id)
+-- a root's lineage has no other id than its own
+pub any_root : (f : ℕ → Bool) (r : Row) → IsRoot r → list_any f r.lineage ≡ f r.id
+any_root f r p = ap (list_any f) p.lineage ∙ four_times (f r.id)
 
 by_place : (rows : List Row) → AllByRecursion (InForest rows) rows → (id : ℕ) (r : Row) → InForest rows r → (o : Option ℕ) → HasPlace rows o r
     → is_under id r ≡ (is_above_under id (parent_of rows o) || r.id == id)
@@ -64,9 +64,9 @@ is_root_by rows all q (Some id) w h = absurd (no_parent (shaped rows all w.0 (fo
     no_parent (inr (inr (inl s))) = let up = w.2.level in let at = s.4 in omega (arith, up, at, h)
     no_parent (inr (inr (inr s))) = let up = w.2.level in let at = s.6 in omega (arith, up, at, h)
 
--- at the second level some id on a row's line passes where its own does or its parent's
+-- at the second level some id on a row's lineage passes where its own does or its parent's
 pub any_at_two : (f : ℕ → Bool) (rows : List Row) → AllByRecursion (InForest rows) rows → (r : Row) → InForest rows r → r.level ≤ 2 → (id : ℕ) → HasPlace rows (Some id) r
-    → list_any f r.line ≡ (f r.id || f id)
+    → list_any f r.lineage ≡ (f r.id || f id)
 any_at_two f rows all r h low id w =
     let g = found (InForest rows) id w.0 rows all w.1 in
     let up = w.2.level in

@@ -2,11 +2,11 @@
 use Rattle.std.proofs.Common.{◌≡◌, ◌≢◌, ℕ, ◌<◌, ◌≤◌, ◌+◌, ◌^◌, ◌==◌, cond, Bool, true, false, not, Option, Some, None, List, [], ◌∷◌, ◌++◌, inl, inr, map, filter, refl, ap, sym, ◌∙◌, arith, subst}
 use Rattle.std.specs.List.{AllByRecursion}
 use Rattle.source_rows.specs.declared.row.Row.{Row}
-use Rattle.source_rows.specs.Row.{root_line, root_path}
+use Rattle.source_rows.specs.Row.{root_lineage, root_path}
 use Rattle.source_rows.specs.Rows.{Key, key_of, row_of, is_under}
 use Rattle.source_rows.specs.Tree.{IdsRise, OrdersDiffer, IsRoot, IsChildOf, HasPlace, IsForest}
 use Rattle.source_rows.proofs.Lists.{all_of, all_push, all_map, all_passed, all_filter, pairs_push, pairs_map, pairs_filter}
-use Rattle.source_rows.proofs.Forest.{InForest, members, shaped, found, line_same, path_same, under_up, under_down, under_root, each}
+use Rattle.source_rows.proofs.Forest.{InForest, members, shaped, found, lineage_same, path_same, under_up, under_down, under_root, each}
 
 -- ---- a new row
 
@@ -47,7 +47,7 @@ pub record Stays (g : Row → Row) : Type 0 where
   pub level : (r : Row) → (g r).level ≡ r.level
   pub order : (r : Row) → (g r).order ≡ r.order
   pub parent : (r : Row) → (g r).parent ≡ r.parent
-  pub line : (r : Row) → (g r).line ≡ r.line
+  pub lineage : (r : Row) → (g r).lineage ≡ r.lineage
 
 pub rise_map : (g : Row → Row) → ((r : Row) → (g r).id ≡ r.id) → (rows : List Row) → IdsRise rows → IdsRise (map g rows)
 rise_map g h rows a = pairs_map (λ r q. r.id < q.id) (λ r q. r.id < q.id) g (λ r q less. let i = h r in let j = h q in omega arith) rows a
@@ -66,14 +66,14 @@ found_map g s id x (q ∷ rows) h = ap (λ (n : ℕ). cond (n == id) (Some (g q)
 root_map : (g : Row → Row) → Stays g → (r : Row) → IsRoot r → IsRoot (g r)
 root_map g s r p = record {
   level = s.level r ∙ p.level;
-  line = s.line r ∙ (p.line ∙ ap root_line (sym (s.id r)));
+  lineage = s.lineage r ∙ (p.lineage ∙ ap root_lineage (sym (s.id r)));
   path = ap (λ (k : Key). k.1) (s.key r) ∙ (p.path ∙ ap root_path (sym (s.order r)));
 }
 
 child_map : (g : Row → Row) → Stays g → (q r : Row) → IsChildOf q r → IsChildOf (g q) (g r)
 child_map g s q r c = record {
   level = s.level r ∙ (c.level ∙ ap (λ (n : ℕ). n + 1) (sym (s.level q)));
-  line = s.line r ∙ (c.line ∙ line_same q.level (g q).level q.line (g q).line r.id (g r).id (sym (s.level q)) (sym (s.line q)) (sym (s.id r)));
+  lineage = s.lineage r ∙ (c.lineage ∙ lineage_same q.level (g q).level q.lineage (g q).lineage r.id (g r).id (sym (s.level q)) (sym (s.lineage q)) (sym (s.id r)));
   path = ap (λ (k : Key). k.1) (s.key r) ∙ (c.path ∙ path_same q.level (g q).level q.path (g q).path r.order (g r).order (sym (s.level q)) (sym (ap (λ (k : Key). k.1) (s.key q))) (sym (s.order r)));
   priority = ap (λ (k : Key). k.0) (s.key r) ∙ (c.priority ∙ sym (ap (λ (k : Key). k.0) (s.key q)));
 }

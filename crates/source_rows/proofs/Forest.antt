@@ -2,7 +2,7 @@
 use Rattle.std.proofs.Common.{◌≡◌, ◌≢◌, ℕ, ◌<◌, ◌≤◌, ◌^◌, ◌==◌, zero, suc, cond, Bool, true, false, ◌||◌, Option, Some, None, List, [], ◌∷◌, ◌⊎◌, inl, inr, refl, ap, sym, ◌∙◌, arith, subst}
 use Rattle.std.specs.List.{AllByRecursion, list_any}
 use Rattle.source_rows.specs.declared.row.Row.{Row}
-use Rattle.source_rows.specs.Row.{no_number, root_line, line_under, path_under}
+use Rattle.source_rows.specs.Row.{no_number, root_lineage, lineage_under, path_under}
 use Rattle.source_rows.specs.Rows.{row_of, is_under}
 use Rattle.source_rows.specs.Tree.{IdsRise, OrdersDiffer, IsRoot, IsChildOf, HasPlace, IsForest}
 use Rattle.source_rows.proofs.Compared.{or_true, some_same}
@@ -80,34 +80,34 @@ pub each : (rows : List Row) (C : Row → Type 0) → AllByRecursion (InForest r
     → (r : Row) → InForest rows r → C r
 each rows C all root child r f = climb rows C all root child 4 r r.parent f.place f.level f
 
--- ---- the line and the path of each level
+-- ---- the lineage and the path of each level
 
 abbrev pub One : Row → Type 0
-One r = (r.level ≡ 1) × (r.line ≡ r.id ∷ r.id ∷ r.id ∷ r.id ∷ []) × (r.path ≡ r.order ∷ no_number ∷ no_number ∷ no_number ∷ [])
+One r = (r.level ≡ 1) × (r.lineage ≡ r.id ∷ r.id ∷ r.id ∷ r.id ∷ []) × (r.path ≡ r.order ∷ no_number ∷ no_number ∷ no_number ∷ [])
 
 abbrev pub Two : Row → Type 0
-Two r = (a : ℕ) × (n : ℕ) × (r.level ≡ 2) × (r.line ≡ a ∷ r.id ∷ r.id ∷ r.id ∷ []) × (r.path ≡ n ∷ r.order ∷ no_number ∷ no_number ∷ []) × (n < 2 ^ 63)
+Two r = (a : ℕ) × (n : ℕ) × (r.level ≡ 2) × (r.lineage ≡ a ∷ r.id ∷ r.id ∷ r.id ∷ []) × (r.path ≡ n ∷ r.order ∷ no_number ∷ no_number ∷ []) × (n < 2 ^ 63)
 
 abbrev pub Three : Row → Type 0
-Three r = (a : ℕ) × (b : ℕ) × (n : ℕ) × (m : ℕ) × (r.level ≡ 3) × (r.line ≡ a ∷ b ∷ r.id ∷ r.id ∷ []) × (r.path ≡ n ∷ m ∷ r.order ∷ no_number ∷ []) × (n < 2 ^ 63) × (m < 2 ^ 63)
+Three r = (a : ℕ) × (b : ℕ) × (n : ℕ) × (m : ℕ) × (r.level ≡ 3) × (r.lineage ≡ a ∷ b ∷ r.id ∷ r.id ∷ []) × (r.path ≡ n ∷ m ∷ r.order ∷ no_number ∷ []) × (n < 2 ^ 63) × (m < 2 ^ 63)
 
 abbrev pub Four : Row → Type 0
-Four r = (a : ℕ) × (b : ℕ) × (c : ℕ) × (n : ℕ) × (m : ℕ) × (k : ℕ) × (r.level ≡ 4) × (r.line ≡ a ∷ b ∷ c ∷ r.id ∷ []) × (r.path ≡ n ∷ m ∷ k ∷ r.order ∷ []) × (n < 2 ^ 63) × (m < 2 ^ 63) × (k < 2 ^ 63)
+Four r = (a : ℕ) × (b : ℕ) × (c : ℕ) × (n : ℕ) × (m : ℕ) × (k : ℕ) × (r.level ≡ 4) × (r.lineage ≡ a ∷ b ∷ c ∷ r.id ∷ []) × (r.path ≡ n ∷ m ∷ k ∷ r.order ∷ []) × (n < 2 ^ 63) × (m < 2 ^ 63) × (k < 2 ^ 63)
 
 abbrev pub Shaped : Row → Type 0
 Shaped r = One r ⊎ (Two r ⊎ (Three r ⊎ Four r))
 
 root_shape : (rows : List Row) (r : Row) → InForest rows r → IsRoot r → Shaped r
-root_shape rows r f p = inl (p.level, p.line, p.path)
+root_shape rows r f p = inl (p.level, p.lineage, p.path)
 
-pub line_same : (k l : ℕ) (x y : List ℕ) (i j : ℕ) → k ≡ l → x ≡ y → i ≡ j → line_under k x i ≡ line_under l y j
-line_same k l x y i j a b c = rw (a, b, c) refl
+pub lineage_same : (k l : ℕ) (x y : List ℕ) (i j : ℕ) → k ≡ l → x ≡ y → i ≡ j → lineage_under k x i ≡ lineage_under l y j
+lineage_same k l x y i j a b c = rw (a, b, c) refl
 
 pub path_same : (k l : ℕ) (x y : List ℕ) (i j : ℕ) → k ≡ l → x ≡ y → i ≡ j → path_under k x i ≡ path_under l y j
 path_same k l x y i j a b c = rw (a, b, c) refl
 
-line_is : (l k : ℕ) (xs ys : List ℕ) (id : ℕ) → l ≡ k → xs ≡ ys → line_under l xs id ≡ line_under k ys id
-line_is l k xs ys id e f = line_same l k xs ys id id e f refl
+lineage_is : (l k : ℕ) (xs ys : List ℕ) (id : ℕ) → l ≡ k → xs ≡ ys → lineage_under l xs id ≡ lineage_under k ys id
+lineage_is l k xs ys id e f = lineage_same l k xs ys id id e f refl
 
 pub path_is : (l k : ℕ) (xs ys : List ℕ) (id : ℕ) → l ≡ k → xs ≡ ys → path_under l xs id ≡ path_under k ys id
 path_is l k xs ys id e f = path_same l k xs ys id id e f refl
@@ -115,13 +115,13 @@ path_is l k xs ys id e f = path_same l k xs ys id id e f refl
 child_shape : (rows : List Row) (q r : Row) → InForest rows q → InForest rows r → IsChildOf q r → Shaped q → Shaped r
 child_shape rows q r g f c (inl s) =
     let up = c.level in let at = s.0 in
-    inr (inl (q.id, q.order, omega (arith, up, at), c.line ∙ line_is q.level 1 q.line (q.id ∷ q.id ∷ q.id ∷ q.id ∷ []) r.id s.0 s.1, c.path ∙ path_is q.level 1 q.path (q.order ∷ no_number ∷ no_number ∷ no_number ∷ []) r.order s.0 s.2, g.number))
+    inr (inl (q.id, q.order, omega (arith, up, at), c.lineage ∙ lineage_is q.level 1 q.lineage (q.id ∷ q.id ∷ q.id ∷ q.id ∷ []) r.id s.0 s.1, c.path ∙ path_is q.level 1 q.path (q.order ∷ no_number ∷ no_number ∷ no_number ∷ []) r.order s.0 s.2, g.number))
 child_shape rows q r g f c (inr (inl s)) =
     let up = c.level in let at = s.2 in
-    inr (inr (inl (s.0, q.id, s.1, q.order, omega (arith, up, at), c.line ∙ line_is q.level 2 q.line (s.0 ∷ q.id ∷ q.id ∷ q.id ∷ []) r.id s.2 s.3, c.path ∙ path_is q.level 2 q.path (s.1 ∷ q.order ∷ no_number ∷ no_number ∷ []) r.order s.2 s.4, s.5, g.number)))
+    inr (inr (inl (s.0, q.id, s.1, q.order, omega (arith, up, at), c.lineage ∙ lineage_is q.level 2 q.lineage (s.0 ∷ q.id ∷ q.id ∷ q.id ∷ []) r.id s.2 s.3, c.path ∙ path_is q.level 2 q.path (s.1 ∷ q.order ∷ no_number ∷ no_number ∷ []) r.order s.2 s.4, s.5, g.number)))
 child_shape rows q r g f c (inr (inr (inl s))) =
     let up = c.level in let at = s.4 in
-    inr (inr (inr (s.0, s.1, q.id, s.2, s.3, q.order, omega (arith, up, at), c.line ∙ line_is q.level 3 q.line (s.0 ∷ s.1 ∷ q.id ∷ q.id ∷ []) r.id s.4 s.5, c.path ∙ path_is q.level 3 q.path (s.2 ∷ s.3 ∷ q.order ∷ no_number ∷ []) r.order s.4 s.6, s.7, s.8, g.number)))
+    inr (inr (inr (s.0, s.1, q.id, s.2, s.3, q.order, omega (arith, up, at), c.lineage ∙ lineage_is q.level 3 q.lineage (s.0 ∷ s.1 ∷ q.id ∷ q.id ∷ []) r.id s.4 s.5, c.path ∙ path_is q.level 3 q.path (s.2 ∷ s.3 ∷ q.order ∷ no_number ∷ []) r.order s.4 s.6, s.7, s.8, g.number)))
 child_shape rows q r g f c (inr (inr (inr s))) = let up = c.level in let at = s.6 in let most = f.level in absurd (omega (arith, up, at, most))
 
 pub shaped : (rows : List Row) → AllByRecursion (InForest rows) rows → (r : Row) → InForest rows r → Shaped r
@@ -150,17 +150,17 @@ or_three false false false false = refl
 any_of : (f : ℕ → Bool) (xs ys : List ℕ) → xs ≡ ys → list_any f xs ≡ list_any f ys
 any_of f xs ys e = ap (list_any f) e
 
--- what some id on a child's line passes, its own does, or one on its parent's
-pub any_child : (f : ℕ → Bool) (q r : Row) → IsChildOf q r → r.level ≤ 4 → Shaped q → list_any f r.line ≡ (list_any f q.line || f r.id)
+-- what some id on a child's lineage passes, its own does, or one on its parent's
+pub any_child : (f : ℕ → Bool) (q r : Row) → IsChildOf q r → r.level ≤ 4 → Shaped q → list_any f r.lineage ≡ (list_any f q.lineage || f r.id)
 any_child f q r c most (inl s) =
-    any_of f r.line (q.id ∷ r.id ∷ r.id ∷ r.id ∷ []) (c.line ∙ line_is q.level 1 q.line (q.id ∷ q.id ∷ q.id ∷ q.id ∷ []) r.id s.0 s.1)
-    ∙ (or_one (f q.id) (f r.id) ∙ sym (ap (λ (b : Bool). b || f r.id) (any_of f q.line (q.id ∷ q.id ∷ q.id ∷ q.id ∷ []) s.1)))
+    any_of f r.lineage (q.id ∷ r.id ∷ r.id ∷ r.id ∷ []) (c.lineage ∙ lineage_is q.level 1 q.lineage (q.id ∷ q.id ∷ q.id ∷ q.id ∷ []) r.id s.0 s.1)
+    ∙ (or_one (f q.id) (f r.id) ∙ sym (ap (λ (b : Bool). b || f r.id) (any_of f q.lineage (q.id ∷ q.id ∷ q.id ∷ q.id ∷ []) s.1)))
 any_child f q r c most (inr (inl s)) =
-    any_of f r.line (s.0 ∷ q.id ∷ r.id ∷ r.id ∷ []) (c.line ∙ line_is q.level 2 q.line (s.0 ∷ q.id ∷ q.id ∷ q.id ∷ []) r.id s.2 s.3)
-    ∙ (or_two (f s.0) (f q.id) (f r.id) ∙ sym (ap (λ (b : Bool). b || f r.id) (any_of f q.line (s.0 ∷ q.id ∷ q.id ∷ q.id ∷ []) s.3)))
+    any_of f r.lineage (s.0 ∷ q.id ∷ r.id ∷ r.id ∷ []) (c.lineage ∙ lineage_is q.level 2 q.lineage (s.0 ∷ q.id ∷ q.id ∷ q.id ∷ []) r.id s.2 s.3)
+    ∙ (or_two (f s.0) (f q.id) (f r.id) ∙ sym (ap (λ (b : Bool). b || f r.id) (any_of f q.lineage (s.0 ∷ q.id ∷ q.id ∷ q.id ∷ []) s.3)))
 any_child f q r c most (inr (inr (inl s))) =
-    any_of f r.line (s.0 ∷ s.1 ∷ q.id ∷ r.id ∷ []) (c.line ∙ line_is q.level 3 q.line (s.0 ∷ s.1 ∷ q.id ∷ q.id ∷ []) r.id s.4 s.5)
-    ∙ (or_three (f s.0) (f s.1) (f q.id) (f r.id) ∙ sym (ap (λ (b : Bool). b || f r.id) (any_of f q.line (s.0 ∷ s.1 ∷ q.id ∷ q.id ∷ []) s.5)))
+    any_of f r.lineage (s.0 ∷ s.1 ∷ q.id ∷ r.id ∷ []) (c.lineage ∙ lineage_is q.level 3 q.lineage (s.0 ∷ s.1 ∷ q.id ∷ q.id ∷ []) r.id s.4 s.5)
+    ∙ (or_three (f s.0) (f s.1) (f q.id) (f r.id) ∙ sym (ap (λ (b : Bool). b || f r.id) (any_of f q.lineage (s.0 ∷ s.1 ∷ q.id ∷ q.id ∷ []) s.5)))
 any_child f q r c most (inr (inr (inr s))) = let up = c.level in let at = s.6 in absurd (omega (arith, up, at, most))
 
 -- under an id is what has it, or whose parent is under it
@@ -186,10 +186,10 @@ or_four true h = refl
 or_four false h = cc
 
 pub under_root : (id : ℕ) (r : Row) → IsRoot r → is_under id r ≡ true → r.id ≡ id
-under_root id r p h = are_same r.id id (or_four (r.id == id) (sym (any_of (λ i. i == id) r.line (root_line r.id) p.line) ∙ h))
+under_root id r p h = are_same r.id id (or_four (r.id == id) (sym (any_of (λ i. i == id) r.lineage (root_lineage r.id) p.lineage) ∙ h))
 
 pub under_self : (r : Row) → Shaped r → is_under r.id r ≡ true
-under_self r (inl s) = any_of (λ i. i == r.id) r.line (r.id ∷ r.id ∷ r.id ∷ r.id ∷ []) s.1 ∙ rw (same_self r.id) refl
-under_self r (inr (inl s)) = any_of (λ i. i == r.id) r.line (s.0 ∷ r.id ∷ r.id ∷ r.id ∷ []) s.3 ∙ rw (same_self r.id) (or_true (s.0 == r.id))
-under_self r (inr (inr (inl s))) = any_of (λ i. i == r.id) r.line (s.0 ∷ s.1 ∷ r.id ∷ r.id ∷ []) s.5 ∙ rw (same_self r.id, or_true (s.1 == r.id)) (or_true (s.0 == r.id))
-under_self r (inr (inr (inr s))) = any_of (λ i. i == r.id) r.line (s.0 ∷ s.1 ∷ s.2 ∷ r.id ∷ []) s.7 ∙ rw (same_self r.id, or_true (s.2 == r.id), or_true (s.1 == r.id)) (or_true (s.0 == r.id))
+under_self r (inl s) = any_of (λ i. i == r.id) r.lineage (r.id ∷ r.id ∷ r.id ∷ r.id ∷ []) s.1 ∙ rw (same_self r.id) refl
+under_self r (inr (inl s)) = any_of (λ i. i == r.id) r.lineage (s.0 ∷ r.id ∷ r.id ∷ r.id ∷ []) s.3 ∙ rw (same_self r.id) (or_true (s.0 == r.id))
+under_self r (inr (inr (inl s))) = any_of (λ i. i == r.id) r.lineage (s.0 ∷ s.1 ∷ r.id ∷ r.id ∷ []) s.5 ∙ rw (same_self r.id, or_true (s.1 == r.id)) (or_true (s.0 == r.id))
+under_self r (inr (inr (inr s))) = any_of (λ i. i == r.id) r.lineage (s.0 ∷ s.1 ∷ s.2 ∷ r.id ∷ []) s.7 ∙ rw (same_self r.id, or_true (s.2 == r.id), or_true (s.1 == r.id)) (or_true (s.0 == r.id))

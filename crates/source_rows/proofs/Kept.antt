@@ -244,7 +244,7 @@ stays_at id f h = record {
   level = λ r. keeps (λ q. q.level) (has_id id r) (f r) r (h.level r);
   order = λ r. keeps (λ q. q.order) (has_id id r) (f r) r (h.order r);
   parent = λ r. keeps (λ q. q.parent) (has_id id r) (f r) r (h.parent r);
-  line = λ r. keeps (λ q. q.line) (has_id id r) (f r) r (h.line r);
+  lineage = λ r. keeps (λ q. q.lineage) (has_id id r) (f r) r (h.lineage r);
 }
 
 -- what a put of the found row, changed, does

@@ -30,11 +30,11 @@ is_moved id z n r e = ap (λ (b : Bool). cond b (moved_row id z n r) r) e
 pub not_moved : (id : ℕ) (z : ℤ) (n : ℕ) (r : Row) → is_under id r ≡ false → moved id z n r ≡ r
 not_moved id z n r e = ap (λ (b : Bool). cond b (moved_row id z n r) r) e
 
-pub moved_line : (id : ℕ) (z : ℤ) (n : ℕ) (r : Row) → (moved id z n r).line ≡ r.line
-moved_line id z n r = keeps (λ q. q.line) (is_under id r) (moved_row id z n r) r refl
+pub moved_lineage : (id : ℕ) (z : ℤ) (n : ℕ) (r : Row) → (moved id z n r).lineage ≡ r.lineage
+moved_lineage id z n r = keeps (λ q. q.lineage) (is_under id r) (moved_row id z n r) r refl
 
 pub moved_under : (id : ℕ) (z : ℤ) (n : ℕ) (r : Row) (k : ℕ) → is_under k (moved id z n r) ≡ is_under k r
-moved_under id z n r k = ap (list_any (λ i. i == k)) (moved_line id z n r)
+moved_under id z n r k = ap (list_any (λ i. i == k)) (moved_lineage id z n r)
 
 -- ---- its path
 

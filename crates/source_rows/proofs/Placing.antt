@@ -27,7 +27,7 @@ without_rows-push (q ∷ rs) r es = ap (λ (xs : List (Key × ℕ)). without_row
 
 -- the row that stands for none
 abbrev pub no_row : Row
-no_row = record { id = 0; kind = Idle; priority = pos 0; order = 0; parent = None; recurse = false; ready = pos 0; call = None; count = 0; level = 0; line = []; path = [] }
+no_row = record { id = 0; kind = Idle; priority = pos 0; order = 0; parent = None; recurse = false; ready = pos 0; call = None; count = 0; level = 0; lineage = []; path = [] }
 
 pub with_more : (xs : List Row) (i : ℕ) (es fs ds : List (Key × ℕ)) → i < length xs → es ≡ with_rows (take i xs) ds → fs ≡ with_row es (get_or xs i no_row) → fs ≡ with_rows (take (i + 1) xs) ds
 with_more xs i es fs ds h e f =

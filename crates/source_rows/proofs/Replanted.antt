@@ -55,7 +55,7 @@ root_moved id z n r p true e =
     let same : (r.id == id) ≡ true = ap (λ (m : ℕ). m == id) (under_root id r p e) ∙ same_self id in
     record {
       level = p.level;
-      line = p.line;
+      lineage = p.lineage;
       path = ap (λ (x : List ℕ). slice_set x 0 n) p.path ∙ ap (λ (b : Bool). root_path (cond b n r.order)) (sym same);
     }
 
@@ -74,7 +74,7 @@ child_moved_by id z n q r c s most other true true e =
     let up = c.level in
     record {
       level = c.level;
-      line = c.line;
+      lineage = c.lineage;
       path = ap (λ (x : List ℕ). slice_set x 0 n) c.path ∙ (paths_moved q r.order n s (omega (arith, up, most)) ∙ ap (λ (b : Bool). path_under q.level (slice_set q.path 0 n) (cond b n r.order)) (sym other));
       priority = refl;
     }

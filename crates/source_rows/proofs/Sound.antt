@@ -27,7 +27,7 @@ root_new spec now id n = record {
 
 pub sound_attached : (spec : SourceSpec) (now : ℕ) (s : RowSet) → s.next_order < 2 ^ 63 → IsSoundSet s → IsSoundSet (attached spec now s)
 sound_attached spec now s f h =
-    sound-push s.rows s.next_id s.next_order (root_row spec now s.next_id s.next_order) s.levels f h (root_new spec now s.next_id s.next_order) refl h.some refl (record { level = refl; line = refl; path = refl })
+    sound-push s.rows s.next_id s.next_order (root_row spec now s.next_id s.next_order) s.levels f h (root_new spec now s.next_id s.next_order) refl h.some refl (record { level = refl; lineage = refl; path = refl })
 
 -- a parent that may have a child is above the last level
 above_last : (level levels : ℕ) (fault : RowsFault) (b : Bool) → (level == levels) ≡ b → level ≤ levels → cond b (Some fault) None ≡ None → level + 1 ≤ levels
@@ -44,7 +44,7 @@ sound_below spec now id s f h (Some parent) e k =
     sound-push s.rows s.next_id s.next_order (child_row parent spec now s.next_id s.next_order) s.levels f h
     (child_new parent spec now s.next_id s.next_order (omega (arith, f)) below) refl
     (above_last parent.level s.levels _ (parent.level == s.levels) refl within k) refl
-    (parent, place, record { level = refl; line = refl; path = refl; priority = refl })
+    (parent, place, record { level = refl; lineage = refl; path = refl; priority = refl })
 
 pub sound_child : (spec : SourceSpec) (now id : ℕ) (s : RowSet) → s.next_order < 2 ^ 63 → child_fault s.levels (row_of id s.rows) ≡ None → IsSoundSet s → IsSoundSet (child_added spec now (row_of id s.rows) s)
 sound_child spec now id s f k h = sound_below spec now id s f h (row_of id s.rows) refl k
@@ -73,10 +73,10 @@ sound_changed id g stays s h =
     (kept_map (at_id id g) (stays_at id g stays) s.rows (map entry_of (in_order s.rows)) s.next_id s.next_order s.levels (record { sound = h; ordered = refl })).sound
 
 pub sound_ready_set : (id : ℕ) (ready : ℤ) (s : RowSet) → IsSoundSet s → IsSoundSet (ready_set id ready s)
-sound_ready_set id ready s h = sound_changed id (λ r. record r { ready = ready }) (record { key = λ r. refl; id = λ r. refl; level = λ r. refl; order = λ r. refl; parent = λ r. refl; line = λ r. refl }) s h
+sound_ready_set id ready s h = sound_changed id (λ r. record r { ready = ready }) (record { key = λ r. refl; id = λ r. refl; level = λ r. refl; order = λ r. refl; parent = λ r. refl; lineage = λ r. refl }) s h
 
 pub sound_counted : (id : ℕ) (s : RowSet) → IsSoundSet s → IsSoundSet (counted id s)
-sound_counted id s h = sound_changed id (λ r. record r { count = r.count + 1 }) (record { key = λ r. refl; id = λ r. refl; level = λ r. refl; order = λ r. refl; parent = λ r. refl; line = λ r. refl }) s h
+sound_counted id s h = sound_changed id (λ r. record r { count = r.count + 1 }) (record { key = λ r. refl; id = λ r. refl; level = λ r. refl; order = λ r. refl; parent = λ r. refl; lineage = λ r. refl }) s h
 
 pub sound_none : (levels : ℕ) → 1 ≤ levels → levels ≤ 4 → IsSoundSet (no_rows levels)
 sound_none levels h k = record {

@@ -17,19 +17,19 @@ ready_at (Cancel c) now = negsuc 0
 abbrev pub no_number : ℕ
 no_number = 2 ^ 64 - 1
 
--- the line of a root: its id alone
-abbrev pub root_line : ℕ → List ℕ
-root_line id = id ∷ id ∷ id ∷ id ∷ []
+-- the lineage of a root: its id alone
+abbrev pub root_lineage : ℕ → List ℕ
+root_lineage id = id ∷ id ∷ id ∷ id ∷ []
 
 -- the path of a root: its order number alone
 abbrev pub root_path : ℕ → List ℕ
 root_path order = order ∷ no_number ∷ no_number ∷ no_number ∷ []
 
 -- the ids from the root down, filled up with the last
-abbrev pub line_under : ℕ → List ℕ → ℕ → List ℕ
-line_under level line id = if level == 1 then slice_index line 0 ∷ id ∷ id ∷ id ∷ []
-    else if level == 2 then slice_index line 0 ∷ slice_index line 1 ∷ id ∷ id ∷ []
-    else slice_index line 0 ∷ slice_index line 1 ∷ slice_index line 2 ∷ id ∷ []
+abbrev pub lineage_under : ℕ → List ℕ → ℕ → List ℕ
+lineage_under level lineage id = if level == 1 then slice_index lineage 0 ∷ id ∷ id ∷ id ∷ []
+    else if level == 2 then slice_index lineage 0 ∷ slice_index lineage 1 ∷ id ∷ id ∷ []
+    else slice_index lineage 0 ∷ slice_index lineage 1 ∷ slice_index lineage 2 ∷ id ∷ []
 
 -- the order numbers from the root down, filled up with the greatest number: so a longer path stands before its beginnings
 abbrev pub path_under : ℕ → List ℕ → ℕ → List ℕ
@@ -50,7 +50,7 @@ root_row spec now id order = record {
   call = spec.call;
   count = 0;
   level = 1;
-  line = root_line id;
+  lineage = root_lineage id;
   path = root_path order;
 }
 
@@ -67,6 +67,6 @@ child_row parent spec now id order = record {
   call = spec.call;
   count = 0;
   level = parent.level + 1;
-  line = line_under parent.level parent.line id;
+  lineage = lineage_under parent.level parent.lineage id;
   path = path_under parent.level parent.path order;
 }

@@ -39,7 +39,7 @@ row_of id rows = find (has_id id) rows
 
 -- the row itself, or one above it, has the id
 abbrev pub is_under : ℕ → Row → Bool
-is_under id r = list_any (λ i. i == id) r.line
+is_under id r = list_any (λ i. i == id) r.lineage
 
 -- ---- the order within a context
 

@@ -4,7 +4,7 @@ use Rattle.std.specs.List.{AllByRecursion}
 use Rattle.std.specs.Ordering.{is_gt, nat_cmp}
 use Rattle.std.specs.Cmp.Lexicographic.{slice_cmp}
 use Rattle.source_rows.specs.declared.row.Row.{Row}
-use Rattle.source_rows.specs.Row.{no_number, root_line, root_path, line_under, path_under}
+use Rattle.source_rows.specs.Row.{no_number, root_lineage, root_path, lineage_under, path_under}
 use Rattle.source_rows.specs.Rows.{Key, row_of, is_under, stands_before}
 use Rattle.source_rows.specs.Lists.{Pairs}
 
@@ -21,13 +21,13 @@ OrdersDiffer rows = Pairs (λ r q. r.order ≢ q.order) rows
 -- a row that stands below none
 pub record IsRoot (r : Row) : Type 0 where
   pub level : r.level ≡ 1
-  pub line : r.line ≡ root_line r.id
+  pub lineage : r.lineage ≡ root_lineage r.id
   pub path : r.path ≡ root_path r.order
 
--- the line and the path of a row are its parent's, with its own id and its own number
+-- the lineage and the path of a row are its parent's, with its own id and its own number
 pub record IsChildOf (parent r : Row) : Type 0 where
   pub level : r.level ≡ parent.level + 1
-  pub line : r.line ≡ line_under parent.level parent.line r.id
+  pub lineage : r.lineage ≡ lineage_under parent.level parent.lineage r.id
   pub path : r.path ≡ path_under parent.level parent.path r.order
   pub priority : r.priority ≡ parent.priority
 

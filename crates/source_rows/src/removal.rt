@@ -28,7 +28,7 @@ fn last_under(
     let Some(row) = table.row(*last) else {
         return None;
     };
-    if !row.line.contains(&id) {
+    if !row.lineage.contains(&id) {
         return None;
     }
     Some(row)

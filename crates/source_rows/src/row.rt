@@ -6,7 +6,7 @@ ghost use Rattle.source_rows.specs.Moves.{moved_row};
 ghost use Rattle.source_rows.specs.Slots.{asks};
 ghost use Rattle.source_rows.specs.Seats.{seat_of};
 ghost use Rattle.source_rows.specs.Candidates.{is_awake, due_at, wakes_at};
-ghost use Rattle.source_rows.specs.Row.{ready_at, root_row, child_row, line_under, path_under};
+ghost use Rattle.source_rows.specs.Row.{ready_at, root_row, child_row, lineage_under, path_under};
 
 use crate::seats::{NEVER, Seat};
 use loop_script::{Kind, SourceSpec};
@@ -36,7 +36,7 @@ pub struct Row {
     /// 1 for a root, and one more for each step down.
     pub level: u8,
     /// The ids from the root down to the row, filled up with its own.
-    pub line: [u64; 4],
+    pub lineage: [u64; 4],
     /// The order numbers from the root down to the row, filled up with the greatest number.
     pub path: [u64; 4],
 }
@@ -160,18 +160,18 @@ pub(crate) fn make_root(spec: SourceSpec, now: u64, id: u64, order: u64) -> Row
         call: spec.call,
         count: 0,
         level: 1,
-        line: [id, id, id, id],
+        lineage: [id, id, id, id],
         path: [order, u64::MAX, u64::MAX, u64::MAX],
     }
 }
 
-fn line_below(level: u8, line: [u64; 4], id: u64) -> [u64; 4]
-    ensures { result ≡ line_under level line id }
+fn lineage_below(level: u8, lineage: [u64; 4], id: u64) -> [u64; 4]
+    ensures { result ≡ lineage_under level lineage id }
 {
     match level {
-        1 => [line[0], id, id, id],
-        2 => [line[0], line[1], id, id],
-        _ => [line[0], line[1], line[2], id],
+        1 => [lineage[0], id, id, id],
+        2 => [lineage[0], lineage[1], id, id],
+        _ => [lineage[0], lineage[1], lineage[2], id],
     }
 }
 
@@ -202,7 +202,7 @@ pub(crate) fn make_child(parent: Row, spec: SourceSpec, now: u64, id: u64, order
         call: spec.call,
         count: 0,
         level: parent.level + 1,
-        line: line_below(parent.level, parent.line, id),
+        lineage: lineage_below(parent.level, parent.lineage, id),
         path: path_below(parent.level, parent.path, order),
     }
 }

@@ -7,6 +7,6 @@ use Rattle.context_core.proofs.context.lend.Given as goal
 
 abbrev pub invariant-loop-id : goal.invariant-loop-id
 invariant-loop-id l = record {
-  ids : (i : ℕ) → (list_any (λ j. j == i) (drop l.id-index l.line) || contains nat_cmp l.ids i) ≡ (list_any (λ j. j == i) l.line || contains nat_cmp l.fn.ids i);
+  ids : (i : ℕ) → (list_any (λ j. j == i) (drop l.id-index l.lineage) || contains nat_cmp l.ids i) ≡ (list_any (λ j. j == i) l.lineage || contains nat_cmp l.fn.ids i);
   last : IfSome l.last (λ j. contains nat_cmp l.ids j ≡ true);
 }

@@ -11,7 +11,7 @@ pub returns : goal.returns
 returns c level e =
     let rows = c.args.self.now.rows.rows in
     let same : shown c.deref-2.result.now ≡ shown c.deref.result.now =
-        λ i fd. (ap (λ (l : List Shown). shown l fd) c.deref-2.ensures.value ∙ c.in_ok-shown.ensures fd) i in
+    λ i fd. (ap (λ (l : List Shown). shown l fd) c.deref-2.ensures.value ∙ c.in_ok-shown.ensures fd) i in
     IfOk-weaker c.walk.result _ _
     (λ ids i. i ∙ (ap (λ (f : ℕ → ℕ). walk (is_ready (own_ready f (in_view c.args.view.now) c.args.now) c.args.busy.now rows) c.args.prepared.now.priority (in_order rows)) same
     ∙ checked level (in_view c.args.view.now) c.args.now c.args.busy.now rows c.args.prepared.now.priority c.args.levels.now c.deref.result.now

@@ -40,4 +40,4 @@ add-requires-clause-place c =
     let above = c.in-Some.above in
     let is : row_of c.args.parent c.args.self.now.rows ≡ Some above = sym c.row.ensures ∙ c.in-Some.is in
     let id = found_id c.args.parent above c.args.self.now.rows is in
-    rw c.make_child-row.ensures (above, ap (λ (n : ℕ). row_of n c.args.self.now.rows) id ∙ is, record { level = refl; line = refl; path = refl; priority = refl })
+    rw c.make_child-row.ensures (above, ap (λ (n : ℕ). row_of n c.args.self.now.rows) id ∙ is, record { level = refl; lineage = refl; path = refl; priority = refl })

@@ -7,7 +7,7 @@ use Rattle.source_rows.proofs.Kept.{stays_at, at_id, kept_map, one_changed, none
 use Rattle.source_rows.proofs.rows.Rows.dispatched.Goals as goal
 
 stays : Stays (λ r. record r { count = r.count + 1 })
-stays = record { key = λ r. refl; id = λ r. refl; level = λ r. refl; order = λ r. refl; parent = λ r. refl; line = λ r. refl }
+stays = record { key = λ r. refl; id = λ r. refl; level = λ r. refl; order = λ r. refl; parent = λ r. refl; lineage = λ r. refl }
 
 pub set_count-requires : goal.set_count-requires
 set_count-requires c =

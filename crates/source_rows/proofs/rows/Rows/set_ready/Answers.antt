@@ -9,7 +9,7 @@ use Rattle.source_rows.proofs.Kept.{stays_at, at_id, kept_map, put_one, none_cha
 use Rattle.source_rows.proofs.rows.Rows.set_ready.Goals as goal
 
 stays : (t : ℤ) → Stays (λ r. record r { ready = t })
-stays t = record { key = λ r. refl; id = λ r. refl; level = λ r. refl; order = λ r. refl; parent = λ r. refl; line = λ r. refl }
+stays t = record { key = λ r. refl; id = λ r. refl; level = λ r. refl; order = λ r. refl; parent = λ r. refl; lineage = λ r. refl }
 
 pub put-requires : goal.put-requires
 put-requires c =

@@ -15,7 +15,7 @@ use Rattle.source_rows.proofs.Slots.{at_id, put_done, looked, none_there, id_of,
 use Rattle.source_rows.proofs.table.Table.set_count.Goals as goal
 
 stays : (n : ℕ) → Stays (λ r. record r { count = n })
-stays n = record { key = λ r. refl; id = λ r. refl; level = λ r. refl; order = λ r. refl; parent = λ r. refl; line = λ r. refl }
+stays n = record { key = λ r. refl; id = λ r. refl; level = λ r. refl; order = λ r. refl; parent = λ r. refl; lineage = λ r. refl }
 
 neither : (a b : Bool) → a ≡ false → b ≡ false → (a || b) ≡ false
 neither a b h k = rw (h, k) refl
