@@ -337,7 +337,7 @@ KNOWN = {
     "pending beside sources that are ready": "each pending and iteration, the sources that are ready, or would be but for a call",
     "pending in calls, beside sources that sleep": "each pending and iteration in a call, where nothing is ready, the sources of the context",
     "pending in a call, beside its source's children": "the same",
-    "pending beside sources of descriptors": "each pending and iteration, the sources of descriptors, for each of them",
+    "pending beside sources of descriptors": "each pending and iteration, the sources of descriptors",
     "ticks beside sources of a descriptor that shows other bits": "each tick with a turn, the sources of descriptors",
     "ticks beside sources of a cancellable": "each tick with a turn, the sources of cancellables",
     "ticks beside sources that wait for others": "each tick with a turn, the idle sources of a context that has had a descriptor's",

@@ -1,5 +1,5 @@
 -- What the next id of an iteration leads to.
-use Rattle.std.proofs.Common.{◌≡◌, ℕ, zero, suc, ◌+◌, ◌<◌, ◌≤◌, Bool, true, cond, Option, Some, None, List, [], ◌∷◌, ◌++◌, length, refl, ap, sym, ◌∙◌, arith, subst, append_assoc, lt-ltb}
+use Rattle.std.proofs.Common.{◌≡◌, ℕ, zero, suc, ◌+◌, ◌<◌, ◌≤◌, true, cond, Option, Some, None, List, [], ◌∷◌, ◌++◌, length, refl, ap, sym, ◌∙◌, arith, subst, append_assoc, lt-ltb}
 use Rattle.std.specs.Prelude.{nat_lt}
 use Rattle.loop_script.specs.declared.plan.Plan.{Plan}
 use Rattle.source_rows.specs.declared.row.Row.{Row}

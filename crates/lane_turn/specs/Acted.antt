@@ -1,5 +1,5 @@
 -- What each action does. Each stands on a lane whose innermost call has taken it.
-use Rattle.std.specs.Prelude.{List, [], ◌∷◌, ℕ, ℤ, Bool, true, false, Option, Some, None, is_some, is_none, if◌then◌else◌}
+use Rattle.std.specs.Prelude.{List, [], ◌∷◌, ℤ, Bool, true, false, Option, Some, None, is_some, is_none, if◌then◌else◌}
 use Rattle.loop_script.specs.declared.action.Action.{Action}
 use Rattle.loop_script.specs.declared.action.Action.TheVariants.{Attach, Child, Destroy, SetReady, SetPriority, Iterate, Pending, Run, Quit, Cancel, Connect, Disconnect, Task, Push, Pop, ShowDefault, Acquire, Release, Invoke, Give, Log}
 use Rattle.loop_script.specs.declared.plan.Plan.{Plan}

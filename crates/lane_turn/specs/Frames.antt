@@ -1,5 +1,5 @@
 -- What a lane is in the middle of.
-use Rattle.std.specs.Prelude.{◌≡◌, ℕ, reverse, filter_map, ◌+◌, ◌<◌, ◌^◌, Bool, false, Option, Some, None, List, [], ◌∷◌, map, drop, slice_get, count_by, ◌==◌, if◌then◌else◌, true}
+use Rattle.std.specs.Prelude.{◌≡◌, ℕ, reverse, filter_map, ◌+◌, ◌<◌, Bool, false, Option, Some, None, List, [], ◌∷◌, map, drop, slice_get, count_by, ◌==◌, if◌then◌else◌, true}
 use Rattle.lane_turn.specs.declared.layer.Asker.{Asker}
 use Rattle.lane_turn.specs.declared.layer.Call.{Call}
 use Rattle.lane_turn.specs.declared.layer.Origin.{Origin}

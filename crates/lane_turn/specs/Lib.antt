@@ -20,6 +20,7 @@ pub mod Taken
 pub mod Polls
 pub mod Sound
 pub mod Meaning
+pub mod Lending
 pub mod Iterations
 pub mod Levels
 pub mod Traces

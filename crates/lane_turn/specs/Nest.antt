@@ -1,5 +1,5 @@
 -- Frames in boxes: the same frames as they are met on the way inwards.
-use Rattle.std.specs.Prelude.{ℕ, length, nat_lt, filter_map, ◌<◌, ◌^◌, ◌+◌, Bool, true, false, Option, Some, None, List, [], ◌∷◌, ◌++◌, drop, slice_get, ◌==◌, if◌then◌else◌}
+use Rattle.std.specs.Prelude.{ℕ, length, nat_lt, filter_map, ◌<◌, ◌+◌, Bool, true, false, Option, Some, None, List, [], ◌∷◌, ◌++◌, drop, slice_get, ◌==◌, if◌then◌else◌}
 use Rattle.lane_turn.specs.declared.layer.Iteration.{Iteration}
 use Rattle.lane_turn.specs.declared.layer.Layer.{Layer}
 use Rattle.lane_turn.specs.declared.layer.Layer.TheVariants as layers

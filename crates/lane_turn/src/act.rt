@@ -85,11 +85,11 @@ impl Lane {
         let Some(place) = self.place(slot) else {
             return self.miss(tick, Word::SetReady);
         };
-        if self.row(place.context, place.id).is_none() {
-            return self.miss(tick, Word::SetReady);
+        if self.set_ready(place.context, place.id, ready) {
+            Ok(())
+        } else {
+            self.miss(tick, Word::SetReady)
         }
-        self.set_ready(place.context, place.id, ready);
-        Ok(())
     }
 
     fn act_set_priority(&mut self, tick: u32, slot: u8, priority: i32) -> Result<(), AllocError>

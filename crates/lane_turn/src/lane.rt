@@ -1,27 +1,20 @@
 //! What a lane keeps, and the changes of its parts.
 ghost use Rattle.std.specs.Prelude.{◌≡◌, ◌^◌, ◌≤◌, IfOk, OnOk, IfSome, OnSome, None, true, false, is_some, is_none, slice_get};
-ghost use Rattle.source_rows.specs.Rows.{attached, destroyed, ready_set, reprioritised, counted, priority_fault};
-ghost use Rattle.lane_turn.specs.Sources.{restarted};
-ghost use Rattle.lane_turn.specs.Lane.{written, set_running, is_running, context_at, next_id, edited, row_of, row_at, held, place_at, handler_at, set_slot, chosen, stopped};
-ghost use Rattle.lane_turn.specs.Acted.{born, can_bear, missed};
-ghost use Rattle.lane_turn.specs.Sound.{IsWithin};
+ghost use Rattle.std.specs.Borrow.{sem};
+ghost use Rattle.std.specs.Option.{option_copied, option_copied_mut};
+ghost use Rattle.lane_turn.specs.Lane.{written, set_running, is_running, context_at, held, place_at, handler_at, set_slot, chosen, stopped};
+ghost use Rattle.lane_turn.specs.Lending.{LendsContext};
+ghost use Rattle.lane_turn.specs.Acted.{missed};
 ghost use Rattle.lane_turn.specs.Meaning.{lane_of};
-ghost use Rattle.loop_script.specs.Bounds.{latest};
-ghost use Rattle.lane_turn.specs.Limits.{most_count};
 
 use crate::frames::Frames;
 use crate::line::{Event, Line, Word};
 use crate::replies::Awaited;
-use crate::select::select_in;
+use crate::select::select;
 use crate::slot::{Held, Place};
-use crate::sources::{
-    add_child_in, attach_in, count_in, destroy_in, restart_in, row_in, set_priority_in,
-    set_ready_in,
-};
 use context_core::{Context, DefaultStack};
 use lane_watch::Watch;
-use loop_script::{Script, SourceSpec};
-use source_rows::Row;
+use loop_script::Script;
 use std::alloc::{AllocError, Global};
 use std::collections::BTreeMap;
 
@@ -85,18 +78,32 @@ impl Lane {
     pub(crate) fn has(&self, context: u32) -> bool
         ensures { result ≡ is_some (context_at context (lane_of self.now)) }
     {
+        self.context(context).is_some()
+    }
+
+    /// One of the lane's contexts; none of another lane's.
+    pub(crate) fn context(&self, context: u32) -> Option<&Context>
+        ensures { option_copied result ≡ context_at context (lane_of self.now) }
+    {
         match self.contexts.get(context as usize) {
-            Some(Some(_)) => true,
-            _ => false,
+            Some(Some(context)) => Some(context),
+            _ => None,
         }
     }
 
-    /// The row of a context's source.
-    pub(crate) fn row(&self, context: u32, id: u64) -> Option<Row>
-        ensures { result ≡ row_of context id (lane_of self.now) }
+    /// One of the lane's contexts, to change it; none of another lane's.
+    pub(crate) fn context_mut(&mut self, context: u32) -> Option<&mut Context>
+        ensures* writes_back { sem 𝓛 (LendsContext self.entry context result) }
+        ensures context { option_copied_mut result ≡ context_at context (lane_of self.old) }
     {
-        match self.contexts.get(context as usize) {
-            Some(context) => row_in(context, id),
+        if !self.has(context) {
+            return None;
+        }
+        match self.contexts.get_mut(context as usize) {
+            Some(slot) => match slot {
+                Some(context) => Some(context),
+                None => None,
+            },
             None => None,
         }
     }
@@ -151,101 +158,9 @@ impl Lane {
         ensures { IfOk result (λ ids. ids.items ≡ chosen script.now tick context (lane_of self.now)) }
     {
         let busy = self.frames.busy(context)?;
-        match self.contexts.get(context as usize) {
-            Some(context) => select_in(alloc, context, script, tick, &busy, self.watch.view()),
+        match self.context(context) {
+            Some(context) => select(alloc, context, script, tick, &busy, self.watch.view()),
             None => Ok(Vec::new(alloc)),
-        }
-    }
-
-    /// Attaches a source to a context, and answers its id; to another lane's nothing.
-    pub(crate) fn attach(
-        &mut self,
-        context: u32,
-        spec: SourceSpec,
-        now: u64,
-    ) -> Result<u64, AllocError>
-        requires within { IsWithin most_count (lane_of self.old) }
-        requires now { now ≤ latest }
-        ensures attached { OnOk result (lane_of self.new ≡ edited context (attached spec now) (lane_of self.old)) }
-        ensures id { IfOk result (λ id. id ≡ next_id (context_at context (lane_of self.old))) }
-    {
-        match self.contexts.get_mut(context as usize) {
-            Some(context) => attach_in(context, spec, now),
-            None => Ok(0),
-        }
-    }
-
-    /// Attaches a source below another, and answers its id; none where the other is not there or can have no child.
-    pub(crate) fn add_child(
-        &mut self,
-        parent: Place,
-        spec: SourceSpec,
-        now: u64,
-    ) -> Result<Option<u64>, AllocError>
-        requires within { IsWithin most_count (lane_of self.old) }
-        requires now { now ≤ latest }
-        ensures bears { IfOk result (λ child. is_some child ≡ can_bear parent (lane_of self.old)) }
-        ensures id { IfOk result (λ child. IfSome child (λ id. id ≡ next_id (context_at parent.context (lane_of self.old)))) }
-        ensures born { IfOk result (λ child. OnSome child (lane_of self.new ≡ edited parent.context (born spec now parent.id) (lane_of self.old))) }
-        ensures none { IfOk result (λ child. child ≡ None → lane_of self.new ≡ lane_of self.old) }
-    {
-        match self.contexts.get_mut(parent.context as usize) {
-            Some(context) => add_child_in(context, parent.id, spec, now),
-            None => Ok(None),
-        }
-    }
-
-    /// Gives a source a priority, and answers whether it is there and no child.
-    pub(crate) fn set_priority(&mut self, place: Place, priority: i32) -> Result<bool, AllocError>
-        requires { IsWithin most_count (lane_of self.old) }
-        ensures moves { IfOk result (λ moves. moves ≡ is_none (priority_fault (row_at place (lane_of self.old)))) }
-        ensures moved { IfOk result (λ moves. moves ≡ true → lane_of self.new ≡ edited place.context (reprioritised place.id priority) (lane_of self.old)) }
-        ensures none { IfOk result (λ moves. moves ≡ false → lane_of self.new ≡ lane_of self.old) }
-    {
-        match self.contexts.get_mut(place.context as usize) {
-            Some(context) => set_priority_in(context, place.id, priority),
-            None => Ok(false),
-        }
-    }
-
-    /// Destroys a source of a context, and answers whether it is there.
-    pub(crate) fn destroy(&mut self, context: u32, id: u64) -> bool
-        ensures there { result ≡ is_some (row_of context id (lane_of self.old)) }
-        ensures destroyed { lane_of self.new ≡ edited context (destroyed id) (lane_of self.old) }
-        ensures none { result ≡ false → lane_of self.new ≡ lane_of self.old }
-    {
-        match self.contexts.get_mut(context as usize) {
-            Some(context) => destroy_in(context, id),
-            None => false,
-        }
-    }
-
-    /// Gives a source of a context a ready time.
-    pub(crate) fn set_ready(&mut self, context: u32, id: u64, ready: i64)
-        ensures { lane_of self.new ≡ edited context (ready_set id ready) (lane_of self.old) }
-    {
-        if let Some(context) = self.contexts.get_mut(context as usize) {
-            set_ready_in(context, id, ready);
-        }
-    }
-
-    /// Counts a dispatch of a source of a context.
-    pub(crate) fn count(&mut self, context: u32, id: u64)
-        requires { IsWithin most_count (lane_of self.old) }
-        ensures { lane_of self.new ≡ edited context (counted id) (lane_of self.old) }
-    {
-        if let Some(context) = self.contexts.get_mut(context as usize) {
-            count_in(context, id);
-        }
-    }
-
-    /// Gives a timeout of a context its next ready time.
-    pub(crate) fn restart(&mut self, context: u32, id: u64, now: u64)
-        requires { now ≤ latest }
-        ensures { lane_of self.new ≡ edited context (restarted now id) (lane_of self.old) }
-    {
-        if let Some(context) = self.contexts.get_mut(context as usize) {
-            restart_in(context, id, now);
         }
     }
 

@@ -1,9 +1,9 @@
 //! Who owns a context, and what is done where it is owned or not.
-ghost use Rattle.std.specs.Prelude.{◌≡◌, ◌≤◌, ◌^◌, true, false, None, option_map, OnOk};
+ghost use Rattle.std.specs.Prelude.{◌≡◌, ◌≤◌, ◌^◌, true, false, None, OnOk};
 ghost use Rattle.context_core.specs.Defaults.{acquired, released};
 ghost use Rattle.lane_turn.specs.Lane.{context_at, with_context};
 ghost use Rattle.lane_turn.specs.Owned.{default_context, is_owned, may_release, push, pop, show_default, acquire, release, invoke_spec, called_at_once, invoke};
-ghost use Rattle.lane_turn.specs.Sound.{Bounded, IsWithin};
+ghost use Rattle.lane_turn.specs.Sound.{IsWithin};
 ghost use Rattle.lane_turn.specs.Meaning.{lane_of};
 ghost use Rattle.loop_script.specs.Bounds.{latest};
 ghost use Rattle.lane_turn.specs.Limits.{most_count};
@@ -12,7 +12,6 @@ use crate::lane::Lane;
 use crate::layer::{Call, Origin};
 use crate::limits::MOST_CALLS;
 use crate::line::{Event, Invoked, Word};
-use context_core::Context;
 use loop_script::{Body, Kind, SourceSpec};
 use std::alloc::AllocError;
 
@@ -28,28 +27,6 @@ pub(crate) fn invoke_spec(proc: u32) -> SourceSpec
     }
 }
 
-/// Acquires a context.
-fn acquire_in(context: &mut Option<Context>)
-    requires { Bounded most_count context.old }
-    ensures { context.new ≡ option_map acquired context.old }
-{
-    if let Some(context) = context {
-        context.acquire();
-    }
-}
-
-/// Releases a context, and answers whether it was acquired.
-fn release_in(context: &mut Option<Context>) -> bool
-    ensures may { result ≡ may_release context.old }
-    ensures released { result ≡ true → context.new ≡ option_map released context.old }
-    ensures none { result ≡ false → context.new ≡ context.old }
-{
-    match context {
-        None => false,
-        Some(context) => context.release(),
-    }
-}
-
 impl Lane {
     /// The thread-default context.
     pub(crate) fn default_context(&self) -> u32
@@ -62,11 +39,11 @@ impl Lane {
     fn is_owned(&self, context: u32) -> bool
         ensures { result ≡ is_owned context (lane_of self.now) }
     {
-        match self.contexts.get(context as usize) {
-            Some(Some(kept)) => {
+        match self.context(context) {
+            Some(kept) => {
                 kept.is_owned() || self.defaults.contains(context) || self.frames.owns(context)
             }
-            _ => false,
+            None => false,
         }
     }
 
@@ -75,8 +52,8 @@ impl Lane {
         requires { IsWithin most_count (lane_of self.old) }
         ensures { lane_of self.new ≡ with_context context acquired (lane_of self.old) }
     {
-        if let Some(context) = self.contexts.get_mut(context as usize) {
-            acquire_in(context);
+        if let Some(context) = self.context_mut(context) {
+            context.acquire();
         }
     }
 
@@ -86,8 +63,8 @@ impl Lane {
         ensures released { result ≡ true → lane_of self.new ≡ with_context context released (lane_of self.old) }
         ensures none { result ≡ false → lane_of self.new ≡ lane_of self.old }
     {
-        match self.contexts.get_mut(context as usize) {
-            Some(context) => release_in(context),
+        match self.context_mut(context) {
+            Some(context) => context.release(),
             None => false,
         }
     }

@@ -24,7 +24,7 @@ fn poll(
 }
 
 /// The ids that an iteration of a context would dispatch at a tick.
-fn select(
+pub(crate) fn select(
     alloc: Global,
     context: &Context,
     script: &Script,
@@ -39,21 +39,4 @@ fn select(
     let interests = context.query(alloc, &prepared, busy)?;
     let levels = poll(alloc, script, tick, &interests)?;
     context.check(alloc, &prepared, now, busy, view, &levels)
-}
-
-/// The ids that an iteration of a context would dispatch at a tick: none of another lane's.
-pub(crate) fn select_in(
-    alloc: Global,
-    context: &Option<Context>,
-    script: &Script,
-    tick: u32,
-    busy: &[u64],
-    view: &View,
-) -> Result<Vec<u64>, AllocError>
-    ensures { IfOk result (λ ids. ids.items ≡ chosen_in script.now tick view.now busy.now context.now) }
-{
-    match context {
-        None => Ok(Vec::new(alloc)),
-        Some(context) => select(alloc, context, script, tick, busy, view),
-    }
 }

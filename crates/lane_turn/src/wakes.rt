@@ -175,30 +175,13 @@ fn context_wake(
     sooner(wake, next_due(script, context, from))
 }
 
-/// The same, where a lane may not have the context: then nothing is selected.
-fn wake_in(
-    script: &Script,
-    frames: &Frames,
-    number: u32,
-    context: &Option<Context>,
-    from: u32,
-    view: &View,
-) -> Option<u64>
-    ensures { (k : ℕ) → from ≤ k → IsAfter k result → chosen_in script.now k view.now (busy number frames.now) context.now ≡ [] }
-{
-    match context {
-        None => None,
-        Some(context) => context_wake(script, frames, number, context, from, view),
-    }
-}
-
 impl Lane {
     /// When an iteration of a context may select something, from a tick on.
     fn select_wake(&self, script: &Script, number: u32, from: u32) -> Option<u64>
         ensures { (k : ℕ) → from ≤ k → IsAfter k result → chosen script.now k number (lane_of self.now) ≡ [] }
     {
-        match self.contexts.get(number as usize) {
-            Some(context) => wake_in(
+        match self.context(number) {
+            Some(context) => context_wake(
                 script,
                 &self.frames,
                 number,
