@@ -1,6 +1,7 @@
 -- What a lane watches: its view of cancellations, and its tasks.
 use Rattle.std.specs.Prelude.{◌≡◌, ℕ, ◌+◌, ◌<◌, ◌≤◌, Bool, true, false, Option, Some, None, is_some, List, [], ◌∷◌, ◌++◌, slice_set, replicate, filter, map, if◌then◌else◌}
 use Rattle.std.specs.List.{AllByRecursion, filter_map}
+use Rattle.loop_script.specs.Bounds.{longest_tick}
 use Rattle.loop_script.specs.declared.task.TaskSpec.{TaskSpec}
 use Rattle.cancel_view.specs.Seen.{Seen, has, cancelled}
 use Rattle.task_steps.specs.declared.entry.Reply.{Reply}
@@ -125,7 +126,7 @@ IsLast tick (Some last) = last + 1 ≡ tick
 pub record IsJoined (tick tick_us : ℕ) (view : Seen) (came : List (Option ℕ)) (book : Book) (until : Option ℕ) : Type 0 where
   pub ticks : book.tick_us ≡ tick_us
   pub some : 0 < tick_us
-  pub short : tick_us ≤ 1000000000
+  pub short : tick_us ≤ longest_tick
   pub sound : book.spent ≡ false
   pub last : IsLast tick book.last
   pub wake : IsUpTo tick book.wake

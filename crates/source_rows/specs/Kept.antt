@@ -1,6 +1,7 @@
 -- What the rows of a context keep of themselves.
-use Rattle.std.specs.Prelude.{◌≡◌, ℕ, ◌<◌, ◌≤◌, ◌==◌, ◌^◌, false, List, map}
+use Rattle.std.specs.Prelude.{◌≡◌, ℕ, ◌<◌, ◌≤◌, ◌==◌, false, List, map}
 use Rattle.std.specs.List.{AllByRecursion, list_any}
+use Rattle.loop_script.specs.Bounds.{count_end}
 use Rattle.source_rows.specs.declared.row.Row.{Row}
 use Rattle.source_rows.specs.declared.rows.Rows.TheInside.{Inside}
 use Rattle.source_rows.specs.Rows.{RowSet, Key, key_of, in_order, level_count}
@@ -35,7 +36,7 @@ pub record IsSound (rows : List Row) (next_id next_order levels : ℕ) : Type 0 
   pub some : 1 ≤ levels
   pub few : levels ≤ 4
   pub numbered : AllByRecursion (λ r. r.order < next_order) rows
-  pub numbers : next_order ≤ 2 ^ 63
+  pub numbers : next_order ≤ count_end
   pub forest : IsForest rows
 
 -- and the order has each of them

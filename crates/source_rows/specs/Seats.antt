@@ -1,7 +1,8 @@
 -- The seats of rows in their order: where a row stands, its id, from when on it may be ready, and when it is due.
-use Rattle.std.specs.Prelude.{ℕ, zero, suc, nat_lt, ◌+◌, length, ◌≡◌, ◌≤◌, ◌^◌, Bool, false, not, Option, Some, None, List, [], ◌∷◌, map, filter, if◌then◌else◌}
+use Rattle.std.specs.Prelude.{ℕ, zero, suc, nat_lt, ◌+◌, length, ◌≡◌, ◌≤◌, Bool, false, not, Option, Some, None, List, [], ◌∷◌, map, filter, if◌then◌else◌}
 use Rattle.std.specs.Ordering.{is_lt, is_eq, ordering_then, nat_cmp}
 use Rattle.std.specs.declared.cmp.Ordering.{Ordering}
+use Rattle.loop_script.specs.Bounds.{count_end}
 use Rattle.source_rows.specs.declared.row.Row.{Row}
 use Rattle.source_rows.specs.declared.seats.Least.{Least}
 use Rattle.source_rows.specs.declared.seats.Seat.{Seat}
@@ -97,5 +98,5 @@ IsLow v = (v.1 ≤ length v.0) × (fewest v.1 ≤ length v.0)
 -- the seats of rows, in a tree that is low
 pub record IsSeated (rows : List Row) (seats : List Seat × ℕ) : Type 0 where
   pub are : seats.0 ≡ in_seats rows
-  pub few : length seats.0 ≤ 2 ^ 63
+  pub few : length seats.0 ≤ count_end
   pub low : IsLow seats

@@ -1,8 +1,9 @@
 -- How rows stand in trees.
-use Rattle.std.specs.Prelude.{◌≡◌, ◌≢◌, ℕ, ◌<◌, ◌≤◌, ◌+◌, ◌^◌, zero, suc, ◌==◌, ◌&&◌, Bool, true, false, Option, Some, None, List, [], ◌∷◌}
+use Rattle.std.specs.Prelude.{◌≡◌, ◌≢◌, ℕ, ◌<◌, ◌≤◌, ◌+◌, zero, suc, ◌==◌, ◌&&◌, Bool, true, false, Option, Some, None, List, [], ◌∷◌}
 use Rattle.std.specs.List.{AllByRecursion}
 use Rattle.std.specs.Ordering.{is_gt, nat_cmp}
 use Rattle.std.specs.Cmp.Lexicographic.{slice_cmp}
+use Rattle.loop_script.specs.Bounds.{count_end}
 use Rattle.source_rows.specs.declared.row.Row.{Row}
 use Rattle.source_rows.specs.Row.{no_number, root_lineage, root_path, lineage_under, path_under}
 use Rattle.source_rows.specs.Rows.{Key, row_of, is_under, stands_before}
@@ -41,7 +42,7 @@ pub record IsForest (rows : List Row) : Type 0 where
   pub rising : IdsRise rows
   pub placed : AllByRecursion (λ r. HasPlace rows r.parent r) rows
   pub differ : OrdersDiffer rows
-  pub numbers : AllByRecursion (λ r. r.order < 2 ^ 63) rows
+  pub numbers : AllByRecursion (λ r. r.order < count_end) rows
   pub levels : AllByRecursion (λ r. r.level ≤ 4) rows
 
 -- ---- what follows

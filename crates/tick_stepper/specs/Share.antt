@@ -1,8 +1,9 @@
 -- What a worker is handed, and what it gives back.
-use Rattle.std.specs.Prelude.{◌≡◌, ℕ, ◌+◌, ◌^◌, ◌<◌, ◌==◌, Bool, false, nat_lt, length, Result, Ok, List, [], ◌∷◌, map}
+use Rattle.std.specs.Prelude.{◌≡◌, ℕ, ◌+◌, ◌<◌, ◌==◌, Bool, false, nat_lt, length, Result, Ok, List, [], ◌∷◌, map}
 use Rattle.std.specs.List.{AllByRecursion, filter, flat_map}
 use Rattle.loop_script.specs.declared.plan.Plan.{Plan}
 use Rattle.post_office.specs.declared.letter.Letter.{Letter}
+use Rattle.lane_turn.specs.Limits.{half_count}
 use Rattle.lane_turn.specs.Lane.{Lane, State}
 use Rattle.lane_turn.specs.Turn.{turned, out_of}
 use Rattle.lane_turn.specs.Sound.{IsReady}
@@ -41,7 +42,7 @@ out_of_one script tick one = out_of script tick one.state.lane
 pub record IsReadyOne (script : Plan) (tick : ℕ) (one : Numbered) : Type 0 where
   pub named : one.number ≡ one.state.lane.number
   pub unspent : one.state.spent ≡ false
-  pub ready : IsReady script tick (2 ^ 61) one.state.lane
+  pub ready : IsReady script tick half_count one.state.lane
 
 -- lanes of a script by their rising numbers, each of which may take its turn at a tick
 pub record IsRound (script : Plan) (tick : ℕ) (ones : List Numbered) : Type 0 where
