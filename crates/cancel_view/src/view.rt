@@ -1,5 +1,6 @@
 //! A lane's view of the cancellables, with its handlers.
-ghost use Rattle.std.specs.Prelude.{◌≡◌, ◌+◌, ◌<◌, ◌^◌, [], Some, None, true, false, replicate, slice_index_or, slice_set, IsTrue, IsOk, IfOk, OnOk, OnErr, option_map, if◌then◌else◌};
+ghost use Rattle.std.specs.Prelude.{◌≡◌, ◌+◌, ◌<◌, [], Some, None, true, false, replicate, slice_index_or, slice_set, IsTrue, IsOk, IfOk, OnOk, OnErr, option_map, if◌then◌else◌};
+ghost use Rattle.cancel_view.specs.Bounds.{count_end};
 
 use crate::handler::{Connected, Fired, Handler};
 use crate::handlers::{handlers_of, holds, remove};
@@ -88,7 +89,7 @@ impl View {
     /// `OutOfMemory` the view is unchanged.
     #[tactic(auto, using(crate::proofs::Rising::rise_pushed))]
     pub fn connect(&mut self, c: u32, proc: u32) -> Result<Connected, OutOfMemory>
-        requires room { self.old.next_id < 2 ^ 63 }
+        requires room { self.old.next_id < count_end }
         ensures answer { IfOk result (λ r. r ≡ connecting c self.old) }
         ensures view { OnOk result (self.new ≡ connected c proc self.old) }
         ensures same { OnErr result (self.new ≡ self.old) }

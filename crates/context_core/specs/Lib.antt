@@ -1,3 +1,4 @@
+pub mod Units
 pub mod Ready
 pub mod Phases
 pub mod Lending

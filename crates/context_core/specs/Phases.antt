@@ -1,5 +1,5 @@
 -- The three phases of an iteration.
-use Rattle.std.specs.Prelude.{ℕ, ◌+◌, ◌-◌, ◌/◌, ◌==◌, ◌&&◌, Bool, true, false, not, ℤ, pos, negsuc, int_lt, Option, Some, None, List, [], ◌∷◌, map, filter, if◌then◌else◌}
+use Rattle.std.specs.Prelude.{◌+◌, ◌-◌, ◌/◌, ◌==◌, ◌&&◌, Bool, true, false, not, ℤ, pos, negsuc, int_lt, Option, Some, None, List, [], ◌∷◌, map, filter, if◌then◌else◌}
 use Rattle.std.specs.List.{find}
 use Rattle.loop_script.specs.declared.source.Kind.{Kind}
 use Rattle.loop_script.specs.declared.source.Kind.TheVariants.{Idle, Timeout, ReadyTime, Fd, Cancel}
@@ -8,6 +8,8 @@ use Rattle.source_rows.specs.Rows.{in_order, next_ready}
 use Rattle.context_core.specs.declared.interest.Interest.{Interest}
 use Rattle.context_core.specs.declared.interest.Shown.{Shown}
 use Rattle.context_core.specs.Ready.{own_ready, ready_rows, is_free}
+use Rattle.loop_script.specs.Units.{Microseconds, CancellableNumber, SourceId}
+use Rattle.context_core.specs.Units.{Descriptor, Bits}
 
 -- ---- prepare
 
@@ -22,21 +24,21 @@ least_of [] = None
 least_of (r ∷ rs) = if less_urgent (least_of rs) r.priority then least_of rs else Some r.priority
 
 -- no descriptor shows anything
-abbrev pub nothing_shown : ℕ → ℕ
+abbrev pub nothing_shown : Descriptor → Bits
 nothing_shown fd = 0
 
 -- the least priority of what is ready while no descriptor shows anything
-abbrev pub least_ready : (cancelled : ℕ → Bool) → ℕ → List ℕ → List Row → Option ℤ
+abbrev pub least_ready : (cancelled : CancellableNumber → Bool) → Microseconds → List SourceId → List Row → Option ℤ
 least_ready cancelled now busy rows = least_of (ready_rows (own_ready nothing_shown cancelled now) busy rows)
 
 -- whole milliseconds, rounded up, from a time in microseconds to another; -1 where there is no other
-abbrev pub ms_until : ℕ → Option ℤ → ℤ
+abbrev pub ms_until : Microseconds → Option ℤ → ℤ
 ms_until now None = negsuc 0
 ms_until now (Some (pos time)) = pos ((time - now + 999) / 1000)
 ms_until now (Some (negsuc n)) = pos 0
 
 -- how long a poll may wait: not at all where something is ready, else until the next ready time of a free row
-abbrev pub wait_of : ℕ → List ℕ → List Row → Option ℤ → ℤ
+abbrev pub wait_of : Microseconds → List SourceId → List Row → Option ℤ → ℤ
 wait_of now busy rows (Some priority) = pos 0
 wait_of now busy rows None = ms_until now (next_ready now (filter (is_free busy) rows))
 
@@ -51,7 +53,7 @@ is_fd (Fd fd bits) = true
 is_fd (Cancel c) = false
 
 -- its descriptor
-abbrev pub fd_of : Kind → ℕ
+abbrev pub fd_of : Kind → Descriptor
 fd_of Idle = 0
 fd_of (Timeout ms) = 0
 fd_of (ReadyTime us) = 0
@@ -59,7 +61,7 @@ fd_of (Fd fd bits) = fd
 fd_of (Cancel c) = 0
 
 -- the bits that it asks for
-abbrev pub bits_of : Kind → ℕ
+abbrev pub bits_of : Kind → Bits
 bits_of Idle = 0
 bits_of (Timeout ms) = 0
 bits_of (ReadyTime us) = 0
@@ -67,11 +69,11 @@ bits_of (Fd fd bits) = bits
 bits_of (Cancel c) = 0
 
 -- the free rows of descriptors that are not less urgent than a priority, in order
-abbrev pub is_asked : Option ℤ → List ℕ → Row → Bool
+abbrev pub is_asked : Option ℤ → List SourceId → Row → Bool
 is_asked priority busy r = is_fd r.kind && (is_free busy r && not (less_urgent priority r.priority))
 
 -- the rows whose descriptors are asked for, in order
-abbrev pub asked_rows : Option ℤ → List ℕ → List Row → List Row
+abbrev pub asked_rows : Option ℤ → List SourceId → List Row → List Row
 asked_rows priority busy rows = filter (is_asked priority busy) (in_order rows)
 
 -- what they ask of their descriptors
@@ -79,32 +81,32 @@ abbrev pub interest_of : Row → Interest
 interest_of r = record { fd = fd_of r.kind; bits = bits_of r.kind }
 
 -- what is asked of descriptors, in order
-abbrev pub interests : Option ℤ → List ℕ → List Row → List Interest
+abbrev pub interests : Option ℤ → List SourceId → List Row → List Interest
 interests priority busy rows = map interest_of (asked_rows priority busy rows)
 
 -- ---- check
 
 -- the levels that descriptors show to rows
-abbrev pub levels_for : (level : ℕ → ℕ) → List Row → List ℕ
+abbrev pub levels_for : (level : Descriptor → Bits) → List Row → List Bits
 levels_for level rows = map (λ r. level (fd_of r.kind)) rows
 
 -- what a list of descriptors and their levels shows of one: nothing where it is not listed
-abbrev pub level_of : Option Shown → ℕ
+abbrev pub level_of : Option Shown → Bits
 level_of None = 0
 level_of (Some s) = s.level
 
 -- the level that a list shows of a descriptor
-abbrev pub shown : List Shown → ℕ → ℕ
+abbrev pub shown : List Shown → Descriptor → Bits
 shown list fd = level_of (find (λ s. s.fd == fd) list)
 
 -- the descriptors of rows with the levels handed in for them
-abbrev pub handed : List Row → List ℕ → List Shown
+abbrev pub handed : List Row → List Bits → List Shown
 handed [] levels = []
 handed (r ∷ rs) [] = []
 handed (r ∷ rs) (level ∷ levels) = (record { fd = fd_of r.kind; level = level }) ∷ handed rs levels
 
 -- what is selected when rows are looked at in order, up to a bound
-abbrev pub walk : (ready : Row → Bool) → Option ℤ → List Row → List ℕ
+abbrev pub walk : (ready : Row → Bool) → Option ℤ → List Row → List SourceId
 walk ready bound [] = []
 walk ready bound (r ∷ rs) = if less_urgent bound r.priority then []
     else if ready r then r.id ∷ walk ready (Some r.priority) rs

@@ -1,5 +1,6 @@
 //! A lane's view with its ticks, and its tasks.
 ghost use Rattle.std.specs.Prelude.{◌≡◌, ℕ, [], ◌+◌, ◌<◌, ◌≤◌, ◌^◌, slice_set, Some, None, true, false, IsTrue, IsOk, IfOk, OnOk, OnErr, option_map, if◌then◌else◌, ◌↔◌};
+ghost use Rattle.loop_script.specs.Bounds.{count_end, longest_tick};
 ghost use Rattle.task_steps.specs.Run.{IsAfter};
 
 use cancel_view::{Connected, Fired, OutOfMemory, View};
@@ -71,7 +72,7 @@ impl Watch {
     /// microseconds long.
     pub fn new(alloc: Global, n: u32, tick_us: u64) -> Result<Watch, OutOfMemory>
         requires some { 0 < tick_us }
-        requires short { tick_us ≤ 1000000000 }
+        requires short { tick_us ≤ longest_tick }
         ensures { IfOk result (λ w. w ≡ record { view = nothing_seen n; tasks = no_tasks n tick_us }) }
     {
         Ok(Watch {
@@ -116,7 +117,7 @@ impl Watch {
 
     /// Connects a handler, where the view does not have its cancellable. After `OutOfMemory` nothing is changed.
     pub fn connect(&mut self, c: u32, proc: u32) -> Result<Connected, OutOfMemory>
-        requires { self.old.view.next_id < 2 ^ 63 }
+        requires { self.old.view.next_id < count_end }
         ensures answer { IfOk result (λ r. r ≡ connecting c self.old.view) }
         ensures view { OnOk result (self.new ≡ viewing (connected c proc self.old.view) self.old) }
         ensures same { OnErr result (self.new ≡ self.old) }
@@ -139,7 +140,7 @@ impl Watch {
     pub fn start(&mut self, spec: &TaskSpec, ctx: u32, tick: u32) -> Result<(), OutOfMemory>
         requires now { self.old.tasks.tick ≡ tick + 1 }
         requires tick { tick < 2 ^ 31 }
-        requires room { self.old.tasks.next < 2 ^ 63 }
+        requires room { self.old.tasks.next < count_end }
         requires known { IsIn self.old.view spec.now.cancel }
         ensures ok { OnOk result (self.new ≡ record self.old { tasks = starting tick ctx spec.now self.old.tasks }) }
         ensures err { OnErr result (self.new ≡ forgetful self.old) }

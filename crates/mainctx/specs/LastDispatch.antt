@@ -2,9 +2,10 @@
 use Rattle.std.specs.Prelude.{◌≡◌, ℕ, ℤ, ◌+◌, ◌≤◌, List, ◌++◌, codes, drop, length}
 use Rattle.std.specs.Fmt.{decimal, signed_decimal}
 use Rattle.mainctx.specs.declared.last_dispatch.LastDispatch.{LastDispatch}
+use Rattle.loop_script.specs.Units.{Tick, ContextNumber}
 
 -- what comes before the source
-abbrev pub head_text : ℕ → ℕ → List ℕ
+abbrev pub head_text : Tick → ContextNumber → List ℕ
 head_text tick context = decimal tick ++ (codes " dispatch ctx " ++ (decimal context ++ codes " source "))
 
 -- what follows it

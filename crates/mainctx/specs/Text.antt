@@ -14,6 +14,7 @@ use Rattle.lane_turn.specs.declared.line.Word.{Word}
 use Rattle.lane_turn.specs.declared.line.Word.TheVariants as words
 use Rattle.lane_turn.specs.Lane.{Lane}
 use Rattle.lane_turn.specs.Tick.{lanes_at}
+use Rattle.loop_script.specs.Units.{LaneNumber}
 
 -- a truth
 abbrev pub truth_text : Bool → List ℕ
@@ -75,7 +76,7 @@ abbrev pub line_text : Line → List ℕ
 line_text line = decimal line.tick ++ (codes " " ++ (event_text line.event ++ codes "\n"))
 
 -- a lane's part of the text: the heading, and the lines in order
-abbrev pub lane_text : ℕ → List Line → List ℕ
+abbrev pub lane_text : LaneNumber → List Line → List ℕ
 lane_text number lines = codes "thread " ++ (decimal number ++ (codes "\n" ++ flat_map line_text lines))
 
 -- the part of a lane, under its number

@@ -1,5 +1,6 @@
 //! The rounds that are measured.
-ghost use Rattle.std.specs.Prelude.{◌+◌, ◌≡◌, ◌≤◌, ◌<◌, ◌^◌};
+ghost use Rattle.std.specs.Prelude.{◌+◌, ◌≡◌, ◌≤◌, ◌<◌};
+ghost use Rattle.loop_script.specs.Bounds.{count_end};
 
 use crate::orders::Orders;
 use crate::refusal::Refusal;
@@ -13,8 +14,8 @@ use std::alloc::Global;
 pub(crate) struct Bench {
     pub(crate) rows: Rows,
     left: u64,
-    ghost ids: { rows.next_id + left ≤ 2 ^ 62 },
-    ghost orders: { rows.next_order + left ≤ 2 ^ 62 },
+    ghost ids: { rows.next_id + left ≤ count_end },
+    ghost orders: { rows.next_order + left ≤ count_end },
 }
 
 /// How many edits new rows have left.

@@ -4,9 +4,10 @@ use Rattle.loop_script.specs.declared.SourceSpec.{SourceSpec}
 use Rattle.loop_script.specs.declared.Kind.{Kind}
 use Rattle.loop_script.specs.declared.Kind.TheVariants.{Idle, Timeout, ReadyTime, Fd, Cancel}
 use Rattle.source_rows.specs.declared.row.Row.{Row}
+use Rattle.loop_script.specs.Units.{Microseconds, SourceId}
 
 -- the ready time of a source that is made at a time
-abbrev pub ready_at : Kind → ℕ → ℤ
+abbrev pub ready_at : Kind → Microseconds → ℤ
 ready_at Idle now = negsuc 0
 ready_at (Timeout ms) now = pos (now + ms * 1000)
 ready_at (ReadyTime us) now = us
@@ -18,7 +19,7 @@ abbrev pub no_number : ℕ
 no_number = 2 ^ 64 - 1
 
 -- the lineage of a root: its id alone
-abbrev pub root_lineage : ℕ → List ℕ
+abbrev pub root_lineage : SourceId → List SourceId
 root_lineage id = id ∷ id ∷ id ∷ id ∷ []
 
 -- the path of a root: its order number alone
@@ -26,7 +27,7 @@ abbrev pub root_path : ℕ → List ℕ
 root_path order = order ∷ no_number ∷ no_number ∷ no_number ∷ []
 
 -- the ids from the root down, filled up with the last
-abbrev pub lineage_under : ℕ → List ℕ → ℕ → List ℕ
+abbrev pub lineage_under : ℕ → List SourceId → SourceId → List SourceId
 lineage_under level lineage id = if level == 1 then slice_index lineage 0 ∷ id ∷ id ∷ id ∷ []
     else if level == 2 then slice_index lineage 0 ∷ slice_index lineage 1 ∷ id ∷ id ∷ []
     else slice_index lineage 0 ∷ slice_index lineage 1 ∷ slice_index lineage 2 ∷ id ∷ []
@@ -38,7 +39,7 @@ path_under level path order = if level == 1 then slice_index path 0 ∷ order �
     else slice_index path 0 ∷ slice_index path 1 ∷ slice_index path 2 ∷ order ∷ []
 
 -- the row of a source that is attached
-abbrev pub root_row : SourceSpec → ℕ → ℕ → ℕ → Row
+abbrev pub root_row : SourceSpec → Microseconds → SourceId → ℕ → Row
 root_row spec now id order = record {
   id = id;
   kind = spec.kind;
@@ -55,7 +56,7 @@ root_row spec now id order = record {
 }
 
 -- the row of a source that is added below another
-abbrev pub child_row : Row → SourceSpec → ℕ → ℕ → ℕ → Row
+abbrev pub child_row : Row → SourceSpec → Microseconds → SourceId → ℕ → Row
 child_row parent spec now id order = record {
   id = id;
   kind = spec.kind;

@@ -12,11 +12,12 @@ use Rattle.source_rows.specs.declared.fault.RowsFault.{RowsFault}
 use Rattle.source_rows.specs.declared.fault.RowsFault.TheVariants.{NoSource, IsChild, TooDeep}
 use Rattle.source_rows.specs.Row.{root_row, child_row}
 use Rattle.source_rows.specs.Inserted.{inserted}
+use Rattle.loop_script.specs.Units.{Microseconds, SourceId}
 
 -- the rows of a context by rising id, and what the next one gets
 pub record RowSet : Type 0 where
   pub rows : List Row
-  pub next_id : ℕ
+  pub next_id : SourceId
   pub next_order : ℕ
   pub levels : ℕ
 
@@ -30,15 +31,15 @@ abbrev pub no_rows : ℕ → RowSet
 no_rows levels = record { rows = []; next_id = 1; next_order = 0; levels = levels }
 
 -- whether a row has an id
-abbrev pub has_id : ℕ → Row → Bool
+abbrev pub has_id : SourceId → Row → Bool
 has_id id r = r.id == id
 
 -- the row of an id
-abbrev pub row_of : ℕ → List Row → Option Row
+abbrev pub row_of : SourceId → List Row → Option Row
 row_of id rows = find (has_id id) rows
 
 -- the row itself, or one above it, has the id
-abbrev pub is_under : ℕ → Row → Bool
+abbrev pub is_under : SourceId → Row → Bool
 is_under id r = list_any (λ i. i == id) r.lineage
 
 -- ---- the order within a context
@@ -75,11 +76,11 @@ abbrev pub added : Row → RowSet → RowSet
 added row s = record s { rows = s.rows ++ row ∷ []; next_id = s.next_id + 1; next_order = s.next_order + 1 }
 
 -- a source is attached
-abbrev pub attached : SourceSpec → ℕ → RowSet → RowSet
+abbrev pub attached : SourceSpec → Microseconds → RowSet → RowSet
 attached spec now s = added (root_row spec now s.next_id s.next_order) s
 
 -- a source is added below a row, where there is one
-abbrev pub child_added : SourceSpec → ℕ → Option Row → RowSet → RowSet
+abbrev pub child_added : SourceSpec → Microseconds → Option Row → RowSet → RowSet
 child_added spec now None s = s
 child_added spec now (Some parent) s = added (child_row parent spec now s.next_id s.next_order) s
 
@@ -94,29 +95,29 @@ priority_fault None = Some NoSource
 priority_fault (Some r) = if r.level == 1 then None else Some IsChild
 
 -- a row of a tree whose root gets a priority and an order number
-abbrev pub moved : ℕ → ℤ → ℕ → Row → Row
+abbrev pub moved : SourceId → ℤ → ℕ → Row → Row
 moved id priority order r = if is_under id r
     then record r { priority = priority; order = if r.id == id then order else r.order; path = slice_set r.path 0 order }
     else r
 
 -- a root is given a priority, with all that are under it
-abbrev pub reprioritised : ℕ → ℤ → RowSet → RowSet
+abbrev pub reprioritised : SourceId → ℤ → RowSet → RowSet
 reprioritised id priority s = record s { rows = map (moved id priority s.next_order) s.rows; next_order = s.next_order + 1 }
 
 -- the row and all under it go
-abbrev pub destroyed : ℕ → RowSet → RowSet
+abbrev pub destroyed : SourceId → RowSet → RowSet
 destroyed id s = record s { rows = filter (λ r. not (is_under id r)) s.rows }
 
 -- a change of the row of an id
-abbrev pub changed : ℕ → (Row → Row) → List Row → List Row
+abbrev pub changed : SourceId → (Row → Row) → List Row → List Row
 changed id f rows = map (λ r. if has_id id r then f r else r) rows
 
 -- a row is given a ready time
-abbrev pub ready_set : ℕ → ℤ → RowSet → RowSet
+abbrev pub ready_set : SourceId → ℤ → RowSet → RowSet
 ready_set id ready s = record s { rows = changed id (λ r. record r { ready = ready }) s.rows }
 
 -- a dispatch of a row is counted
-abbrev pub counted : ℕ → RowSet → RowSet
+abbrev pub counted : SourceId → RowSet → RowSet
 counted id s = record s { rows = changed id (λ r. record r { count = r.count + 1 }) s.rows }
 
 -- ---- the next ready time
@@ -127,6 +128,6 @@ sooner t None = t
 sooner t (Some u) = if int_lt u t then u else t
 
 -- the least ready time above now
-abbrev pub next_ready : ℕ → List Row → Option ℤ
+abbrev pub next_ready : Microseconds → List Row → Option ℤ
 next_ready now [] = None
 next_ready now (r ∷ rs) = if int_lt (pos now) r.ready then Some (sooner r.ready (next_ready now rs)) else next_ready now rs

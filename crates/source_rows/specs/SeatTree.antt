@@ -1,6 +1,7 @@
 -- What a search tree of seats is seen as, and when it is balanced.
-use Rattle.std.specs.Prelude.{◌≡◌, ℕ, ◌+◌, ◌^◌, ◌≤◌, max, Option, Some, None, List, [], ◌∷◌, ◌++◌, length, Box}
+use Rattle.std.specs.Prelude.{◌≡◌, ℕ, ◌+◌, ◌≤◌, max, Option, Some, None, List, [], ◌∷◌, ◌++◌, length, Box}
 use Rattle.std.specs.declared.alloc.Global.{Global}
+use Rattle.loop_script.specs.Bounds.{count_end}
 use Rattle.source_rows.specs.declared.seats.Fork.{Fork}
 use Rattle.source_rows.specs.declared.seats.Seat.{Seat}
 use Rattle.source_rows.specs.Seats.{IsLow, least_of}
@@ -33,7 +34,7 @@ IsEven (Some f) = IsEvenFork f.value
 
 -- the sides differ by at most two, and there is room for a height above theirs
 abbrev pub AreNearlyEven : List Seat × ℕ → List Seat × ℕ → Type 0
-AreNearlyEven sooner later = DifferBy 2 sooner.1 later.1 × IsLow sooner × IsLow later × (length sooner.0 + length later.0 ≤ 2 ^ 63)
+AreNearlyEven sooner later = DifferBy 2 sooner.1 later.1 × IsLow sooner × IsLow later × (length sooner.0 + length later.0 ≤ count_end)
 
 -- no root, or one with such sides
 abbrev pub IsNearlyEven : Root → Type 0

@@ -1,13 +1,15 @@
 -- The seats of rows in their order: where a row stands, its id, from when on it may be ready, and when it is due.
-use Rattle.std.specs.Prelude.{ℕ, zero, suc, nat_lt, ◌+◌, length, ◌≡◌, ◌≤◌, ◌^◌, Bool, false, not, Option, Some, None, List, [], ◌∷◌, map, filter, if◌then◌else◌}
+use Rattle.std.specs.Prelude.{ℕ, zero, suc, nat_lt, ◌+◌, length, ◌≡◌, ◌≤◌, Bool, false, not, Option, Some, None, List, [], ◌∷◌, map, filter, if◌then◌else◌}
 use Rattle.std.specs.Ordering.{is_lt, is_eq, ordering_then, nat_cmp}
 use Rattle.std.specs.declared.cmp.Ordering.{Ordering}
+use Rattle.loop_script.specs.Bounds.{count_end}
 use Rattle.source_rows.specs.declared.row.Row.{Row}
 use Rattle.source_rows.specs.declared.seats.Least.{Least}
 use Rattle.source_rows.specs.declared.seats.Seat.{Seat}
 use Rattle.source_rows.specs.Inserted.{inserted}
 use Rattle.source_rows.specs.Rows.{Key, key_cmp, key_of}
 use Rattle.source_rows.specs.Candidates.{never, due_at, wakes_at}
+use Rattle.loop_script.specs.Units.{Microseconds, SourceId}
 
 -- by key, then by id, then by the two times
 abbrev pub seat_cmp : Seat → Seat → Ordering
@@ -42,11 +44,11 @@ abbrev pub replaced : Seat → Seat → List Seat → List Seat
 replaced a b seats = if is_other a b then (if stays a b then swapped a b seats else inserted is_ahead b (without a seats)) else seats
 
 -- the lesser of two times
-abbrev pub lesser : ℕ → ℕ → ℕ
+abbrev pub lesser : Microseconds → Microseconds → Microseconds
 lesser a b = if nat_lt a b then a else b
 
 -- the least of a time of each seat, never for none
-abbrev pub least_by : (Seat → ℕ) → List Seat → ℕ
+abbrev pub least_by : (Seat → Microseconds) → List Seat → Microseconds
 least_by time [] = never
 least_by time (s ∷ seats) = lesser (time s) (least_by time seats)
 
@@ -60,18 +62,18 @@ is_passed None k = false
 is_passed (Some a) k = not (is_lt (key_cmp a k))
 
 -- the id of the first seat behind a key that wakes by a time
-abbrev pub first_awake : Option Key → ℕ → List Seat → Option ℕ
+abbrev pub first_awake : Option Key → Microseconds → List Seat → Option SourceId
 first_awake after now [] = None
 first_awake after now (s ∷ seats) = if is_passed after s.key then first_awake after now seats
     else if nat_lt now s.wake then first_awake after now seats
     else Some s.id
 
 -- when a seat is due where that is after a time, else never
-abbrev pub due_after : ℕ → Seat → ℕ
+abbrev pub due_after : Microseconds → Seat → Microseconds
 due_after now s = if nat_lt now s.due then s.due else never
 
 -- when the next of the seats is due, after a time
-abbrev pub next_due : ℕ → List Seat → ℕ
+abbrev pub next_due : Microseconds → List Seat → Microseconds
 next_due now seats = least_by (due_after now) seats
 
 -- the seat of a row
@@ -97,5 +99,5 @@ IsLow v = (v.1 ≤ length v.0) × (fewest v.1 ≤ length v.0)
 -- the seats of rows, in a tree that is low
 pub record IsSeated (rows : List Row) (seats : List Seat × ℕ) : Type 0 where
   pub are : seats.0 ≡ in_seats rows
-  pub few : length seats.0 ≤ 2 ^ 63
+  pub few : length seats.0 ≤ count_end
   pub low : IsLow seats

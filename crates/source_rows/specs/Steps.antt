@@ -1,5 +1,5 @@
 -- One step through the rows that may be ready at a time.
-use Rattle.std.specs.Prelude.{◌≡◌, ℕ, ◌==◌, ◌&&◌, ◌∷◌, [], Bool, true, false, not, Option, Some, None, List, filter, map, IfSome, if◌then◌else◌}
+use Rattle.std.specs.Prelude.{◌≡◌, ◌==◌, ◌&&◌, ◌∷◌, [], Bool, true, false, not, Option, Some, None, List, filter, map, IfSome, if◌then◌else◌}
 use Rattle.std.specs.Map.{values_of}
 use Rattle.std.specs.Option.{option_map}
 use Rattle.source_rows.specs.declared.row.Row.{Row}
@@ -11,21 +11,22 @@ use Rattle.source_rows.specs.Tree.{IsForest, parent_of}
 use Rattle.source_rows.specs.Kept.{AllApart, entry_of}
 use Rattle.source_rows.specs.Seats.{is_passed}
 use Rattle.source_rows.specs.Candidates.{is_awake, may_call}
+use Rattle.loop_script.specs.Units.{Microseconds, SourceId}
 
 -- a row stands behind the last one, if there was one
 abbrev pub follows : Option Row → Row → Bool
 follows last r = not (is_passed (option_map key_of last) (key_of r))
 
 -- a row behind the last one that may be ready, by itself or by one under it
-abbrev pub comes : ℕ → List Row → Option Row → Row → Bool
+abbrev pub comes : Microseconds → List Row → Option Row → Row → Bool
 comes now rows last r = follows last r && may_call now rows r
 
 -- a row behind the last one that may be ready by itself
-abbrev pub wakes : ℕ → Option Row → Row → Bool
+abbrev pub wakes : Microseconds → Option Row → Row → Bool
 wakes now last r = follows last r && is_awake now r
 
 -- the rows that are left behind the last one
-abbrev pub left_of : ℕ → List Row → Option Row → List Row
+abbrev pub left_of : Microseconds → List Row → Option Row → List Row
 left_of now rows last = filter (comes now rows last) (in_order rows)
 
 -- the parent of the last row
@@ -40,7 +41,7 @@ nearer (Some a) None = Some a
 nearer (Some a) (Some b) = if stands_before b a then Some b else Some a
 
 -- the last row is one that may be ready
-pub record IsStep (rows : List Row) (now : ℕ) (last : Option Row) : Type 0 where
+pub record IsStep (rows : List Row) (now : Microseconds) (last : Option Row) : Type 0 where
   pub forest : IsForest rows
   pub apart : AllApart rows
   pub valid : IfSome last (λ r. (row_of r.id rows ≡ Some r) × (may_call now rows r ≡ true))
@@ -48,7 +49,7 @@ pub record IsStep (rows : List Row) (now : ℕ) (last : Option Row) : Type 0 whe
 -- ---- a part of the order that is left
 
 -- the row has the id of a parent
-abbrev pub is_parent : Option ℕ → Row → Bool
+abbrev pub is_parent : Option SourceId → Row → Bool
 is_parent None r = false
 is_parent (Some id) r = id == r.id
 
@@ -58,26 +59,26 @@ is_above_last None r = false
 is_above_last (Some l) r = is_parent l.parent r
 
 -- the entries of an order that stand behind the last row
-abbrev pub behind : Option Row → List (Key × ℕ) → List (Key × ℕ)
+abbrev pub behind : Option Row → List (Key × SourceId) → List (Key × SourceId)
 behind last entries = filter (λ e. not (is_passed (option_map key_of last) e.0)) entries
 
 -- the rows that may be ready of those that a part of the order names
-abbrev pub ready_in : ℕ → List Row → List (Key × ℕ) → List Row
+abbrev pub ready_in : Microseconds → List Row → List (Key × SourceId) → List Row
 ready_in now rows entries = filter (may_call now rows) (rows_of rows (values_of entries))
 
 -- a part of the order has all that is left behind the last row
-pub record HasLeft (rows : List Row) (now : ℕ) (last : Option Row) (entries : List (Key × ℕ)) : Type 0 where
+pub record HasLeft (rows : List Row) (now : Microseconds) (last : Option Row) (entries : List (Key × SourceId)) : Type 0 where
   pub found : AllFound rows (values_of entries)
   pub ready : ready_in now rows entries ≡ left_of now rows last
 
 -- what a look at the next rows of a part of the order tells, and the part that it leaves
-abbrev pub Looks : ℕ → List Row → List (Key × ℕ) → List (Key × ℕ) → Near → Type 0
+abbrev pub Looks : Microseconds → List Row → List (Key × SourceId) → List (Key × SourceId) → Near → Type 0
 Looks now rows before after (Came r) = ready_in now rows before ≡ r.now ∷ ready_in now rows after
 Looks now rows before after Sleep = ready_in now rows before ≡ ready_in now rows after
 Looks now rows before after Ended = (ready_in now rows before ≡ []) × (ready_in now rows after ≡ [])
 
 -- the walk stands behind a row that may be ready, with a part of the order that has all that is left
-pub record IsWalk (rows : List Row) (order : List (Key × ℕ)) (now : ℕ) (last : Option Row) (entries : List (Key × ℕ)) : Type 0 where
+pub record IsWalk (rows : List Row) (order : List (Key × SourceId)) (now : Microseconds) (last : Option Row) (entries : List (Key × SourceId)) : Type 0 where
   pub step : IsStep rows now last
   pub ordered : order ≡ map entry_of (in_order rows)
   pub left : HasLeft rows now last entries

@@ -1,12 +1,14 @@
 -- How rows stand in trees.
-use Rattle.std.specs.Prelude.{◌≡◌, ◌≢◌, ℕ, ◌<◌, ◌≤◌, ◌+◌, ◌^◌, zero, suc, ◌==◌, ◌&&◌, Bool, true, false, Option, Some, None, List, [], ◌∷◌}
+use Rattle.std.specs.Prelude.{◌≡◌, ◌≢◌, ℕ, ◌<◌, ◌≤◌, ◌+◌, zero, suc, ◌==◌, ◌&&◌, Bool, true, false, Option, Some, None, List, [], ◌∷◌}
 use Rattle.std.specs.List.{AllByRecursion}
 use Rattle.std.specs.Ordering.{is_gt, nat_cmp}
 use Rattle.std.specs.Cmp.Lexicographic.{slice_cmp}
+use Rattle.loop_script.specs.Bounds.{count_end}
 use Rattle.source_rows.specs.declared.row.Row.{Row}
 use Rattle.source_rows.specs.Row.{no_number, root_lineage, root_path, lineage_under, path_under}
 use Rattle.source_rows.specs.Rows.{Key, row_of, is_under, stands_before}
 use Rattle.source_rows.specs.Lists.{Pairs}
+use Rattle.loop_script.specs.Units.{SourceId}
 
 -- ---- rows as trees
 
@@ -32,7 +34,7 @@ pub record IsChildOf (parent r : Row) : Type 0 where
   pub priority : r.priority ≡ parent.priority
 
 -- a row with no parent is a root; else the parent is one of the rows
-abbrev pub HasPlace : List Row → Option ℕ → Row → Type 0
+abbrev pub HasPlace : List Row → Option SourceId → Row → Type 0
 HasPlace rows None r = IsRoot r
 HasPlace rows (Some id) r = (parent : Row) × (row_of id rows ≡ Some parent) × IsChildOf parent r
 
@@ -41,7 +43,7 @@ pub record IsForest (rows : List Row) : Type 0 where
   pub rising : IdsRise rows
   pub placed : AllByRecursion (λ r. HasPlace rows r.parent r) rows
   pub differ : OrdersDiffer rows
-  pub numbers : AllByRecursion (λ r. r.order < 2 ^ 63) rows
+  pub numbers : AllByRecursion (λ r. r.order < count_end) rows
   pub levels : AllByRecursion (λ r. r.level ≤ 4) rows
 
 -- ---- what follows
@@ -74,12 +76,12 @@ order_or n None = n
 order_or n (Some r) = r.order
 
 -- the row of a parent
-abbrev pub parent_of : List Row → Option ℕ → Option Row
+abbrev pub parent_of : List Row → Option SourceId → Option Row
 parent_of rows None = None
 parent_of rows (Some id) = row_of id rows
 
 -- 0 for a child, 1 for a root
-abbrev pub side_of : Option ℕ → ℕ
+abbrev pub side_of : Option SourceId → ℕ
 side_of None = 1
 side_of (Some id) = 0
 

@@ -8,36 +8,37 @@ use Rattle.source_rows.specs.declared.fault.RowsFault.TheVariants.{NoSource, IsC
 use Rattle.source_rows.specs.Rows.{RowSet, key_cmp, is_under, row_of, in_order, child_fault, priority_fault, destroyed, reprioritised}
 use Rattle.source_rows.specs.Inserted.{inserted}
 use Rattle.source_rows.specs.Tree.{IsForest, parent_of, two_level_key}
+use Rattle.loop_script.specs.Units.{SourceId}
 
 -- no row stands below a level
 abbrev pub IsWithinLevels : ℕ → List Row → Type 0
 IsWithinLevels n rows = AllByRecursion (λ r. r.level ≤ n) rows
 
 -- the row's parent has the id
-abbrev pub is_named : ℕ → Option ℕ → Bool
+abbrev pub is_named : SourceId → Option SourceId → Bool
 is_named id None = false
 is_named id (Some parent) = parent == id
 
 -- whether a row is a child of an id's
-abbrev pub is_child_of : ℕ → Row → Bool
+abbrev pub is_child_of : SourceId → Row → Bool
 is_child_of id r = is_named id r.parent
 
 -- the row itself, or a child of it
-abbrev pub goes_with : ℕ → Row → Bool
+abbrev pub goes_with : SourceId → Row → Bool
 goes_with id r = r.id == id || is_child_of id r
 
 -- a row goes with its children
-abbrev pub destroyed_pair : ℕ → RowSet → RowSet
+abbrev pub destroyed_pair : SourceId → RowSet → RowSet
 destroyed_pair id s = record s { rows = filter (λ r. not (goes_with id r)) s.rows }
 
 -- a priority is the root's and its children's; the root gets the order number
-abbrev pub moved_pair : ℕ → ℤ → ℕ → Row → Row
+abbrev pub moved_pair : SourceId → ℤ → ℕ → Row → Row
 moved_pair id priority order r = if goes_with id r
     then record r { priority = priority; order = if r.id == id then order else r.order; path = slice_set r.path 0 order }
     else r
 
 -- a root and its children are given a priority
-abbrev pub reprioritised_pair : ℕ → ℤ → RowSet → RowSet
+abbrev pub reprioritised_pair : SourceId → ℤ → RowSet → RowSet
 reprioritised_pair id priority s = record s { rows = map (moved_pair id priority s.next_order) s.rows; next_order = s.next_order + 1 }
 
 -- a child has no child, and no priority of its own
@@ -57,7 +58,7 @@ in_order_at_two whole (r ∷ rs) = inserted (before_at_two whole) r (in_order_at
 -- ---- what ties the rules at any level to them
 
 -- the row above, if there is one, is under the id
-abbrev pub is_above_under : ℕ → Option Row → Bool
+abbrev pub is_above_under : SourceId → Option Row → Bool
 is_above_under id None = false
 is_above_under id (Some above) = is_under id above
 

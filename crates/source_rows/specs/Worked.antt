@@ -1,8 +1,9 @@
 -- Orders of small trees, worked out.
-use Rattle.std.specs.Prelude.{◌≡◌, ℕ, pos, false, None, List, [], ◌∷◌, map}
+use Rattle.std.specs.Prelude.{◌≡◌, pos, false, None, List, [], ◌∷◌, map}
 use Rattle.loop_script.specs.declared.SourceSpec.{SourceSpec}
 use Rattle.loop_script.specs.declared.Kind.TheVariants.{Idle}
 use Rattle.source_rows.specs.Rows.{RowSet, attached, child_added, row_of, in_order, destroyed, reprioritised}
+use Rattle.loop_script.specs.Units.{SourceId}
 
 -- an idle source
 abbrev pub idle : SourceSpec
@@ -13,11 +14,11 @@ abbrev pub fresh : RowSet
 fresh = record { rows = []; next_id = 1; next_order = 0; levels = 4 }
 
 -- an idle source below the row of an id
-abbrev pub under : ℕ → RowSet → RowSet
+abbrev pub under : SourceId → RowSet → RowSet
 under id s = child_added idle 0 (row_of id s.rows) s
 
 -- ids in the order of dispatch
-abbrev pub ids : RowSet → List ℕ
+abbrev pub ids : RowSet → List SourceId
 ids s = map (λ r. r.id) (in_order s.rows)
 
 -- a chain; a tree of two branches and its second root before it after a change of priority

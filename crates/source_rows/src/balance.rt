@@ -1,5 +1,6 @@
 //! The balance of the tree of seats.
 ghost use Rattle.std.specs.Prelude.{◌≡◌, ◌+◌, ◌≤◌, ◌<◌, ◌^◌, max, length, ◌∷◌, ◌++◌, Some, is_some};
+ghost use Rattle.loop_script.specs.Bounds.{count_end};
 ghost use Rattle.source_rows.specs.Seats.{least_of};
 ghost use Rattle.source_rows.specs.SeatTree.{seats_of, seen_of, LosesRoot, IsEven, IsNearlyEven, AreNearlyEven, IsHeight, IsLowered, Balances};
 
@@ -9,7 +10,7 @@ use crate::seats::{Fork, Room, Seats, least_over};
 #[tactic(auto, using(crate::proofs::Low::low_even, crate::proofs::Low::low_sides))]
 pub(crate) fn remove_root(root: &mut Option<Box<Fork>>) -> Option<Room>
     requires even { IsEven root.old }
-    requires few { length (seen_of root.old).0 ≤ 2 ^ 63 }
+    requires few { length (seen_of root.old).0 ≤ count_end }
     ensures room { is_some result ≡ is_some root.old }
     ensures seats { LosesRoot root.old root.new }
     ensures even { IsEven root.new }

@@ -1,5 +1,6 @@
 //! What is kept of a source.
-ghost use Rattle.std.specs.Prelude.{◌≡◌, ◌<◌, ◌≤◌, ◌^◌, length};
+ghost use Rattle.std.specs.Prelude.{◌≡◌, ◌<◌, ◌≤◌, length};
+ghost use Rattle.loop_script.specs.Bounds.{latest};
 ghost use Rattle.source_rows.specs.Rows.{key_of, stands_before};
 ghost use Rattle.source_rows.specs.Band.{first_key, last_key};
 ghost use Rattle.source_rows.specs.Moves.{moved_row};
@@ -134,7 +135,7 @@ fn wakes_at(kind: Kind, ready: i64) -> u64
 
 /// When a source is ready that is made at `now`.
 pub(crate) fn ready_time(kind: Kind, now: u64) -> i64
-    requires { now ≤ 2 ^ 62 }
+    requires { now ≤ latest }
     ensures { result ≡ ready_at kind now }
 {
     match kind {
@@ -146,7 +147,7 @@ pub(crate) fn ready_time(kind: Kind, now: u64) -> i64
 
 /// The row of a source with no parent.
 pub(crate) fn make_root(spec: SourceSpec, now: u64, id: u64, order: u64) -> Row
-    requires { now ≤ 2 ^ 62 }
+    requires { now ≤ latest }
     ensures { result ≡ root_row spec now id order }
 {
     Row {
@@ -187,7 +188,7 @@ fn path_below(level: u8, path: [u64; 4], order: u64) -> [u64; 4]
 
 /// The row of a child.
 pub(crate) fn make_child(parent: Row, spec: SourceSpec, now: u64, id: u64, order: u64) -> Row
-    requires now { now ≤ 2 ^ 62 }
+    requires now { now ≤ latest }
     requires level { parent.level < 4 }
     ensures { result ≡ child_row parent spec now id order }
 {

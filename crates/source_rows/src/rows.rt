@@ -1,5 +1,6 @@
 //! The rows of a context, and the calls that edit them.
-ghost use Rattle.std.specs.Prelude.{[], map, ◌≡◌, ◌≤◌, ◌<◌, ◌^◌, ◌+◌, ◌⊎◌, IfOk, OnOk, IfErr, OnErr, IfSome, Some, None, is_some, option_map, false};
+ghost use Rattle.std.specs.Prelude.{[], map, ◌≡◌, ◌≤◌, ◌<◌, ◌+◌, ◌⊎◌, IfOk, OnOk, IfErr, OnErr, IfSome, Some, None, is_some, option_map, false};
+ghost use Rattle.loop_script.specs.Bounds.{count_end, latest};
 ghost use Rattle.std.specs.List.{AllByRecursion};
 ghost use Rattle.std.specs.Option.{option_copied};
 ghost use Rattle.std.specs.Borrow.{Bor};
@@ -88,8 +89,8 @@ impl Rows {
         requires place { HasPlace self.old.rows row.parent row }
         requires id { row.id ≡ self.old.next_id }
         requires level { row.level ≤ self.old.levels }
-        requires ids { self.old.next_id < 2 ^ 63 }
-        requires orders { self.old.next_order < 2 ^ 63 }
+        requires ids { self.old.next_id < count_end }
+        requires orders { self.old.next_order < count_end }
         ensures ok { OnOk result (self.new ≡ added row self.old) }
         ensures err { OnErr result (self.new ≡ self.old) }
         ensures fault { IfErr result (λ e. e ≡ RowsFault.OutOfMemory) }
@@ -114,9 +115,9 @@ impl Rows {
     /// Attaches a source (GLib reference, `g_source_attach`), and answers its id. A timeout's ready time counts from
     /// `now`, in microseconds. After `OutOfMemory`, its one refusal, the rows are unchanged.
     pub fn attach(&mut self, spec: SourceSpec, now: u64) -> Result<u64, RowsFault>
-        requires now { now ≤ 2 ^ 62 }
-        requires ids { self.old.next_id < 2 ^ 63 }
-        requires orders { self.old.next_order < 2 ^ 63 }
+        requires now { now ≤ latest }
+        requires ids { self.old.next_id < count_end }
+        requires orders { self.old.next_order < count_end }
         ensures ok { OnOk result (self.new ≡ attached spec now self.old) }
         ensures id { IfOk result (λ id. id ≡ self.old.next_id) }
         ensures err { OnErr result (self.new ≡ self.old) }
@@ -132,9 +133,9 @@ impl Rows {
     /// parent, and not that of its spec. Refused where no row is the parent (`NoSource`), where the parent stands at the
     /// last level (`IsChild` of two, `TooDeep` of four) and for want of memory; the rows are then unchanged.
     pub fn add_child(&mut self, parent: u64, spec: SourceSpec, now: u64) -> Result<u64, RowsFault>
-        requires now { now ≤ 2 ^ 62 }
-        requires ids { self.old.next_id < 2 ^ 63 }
-        requires orders { self.old.next_order < 2 ^ 63 }
+        requires now { now ≤ latest }
+        requires ids { self.old.next_id < count_end }
+        requires orders { self.old.next_order < count_end }
         ensures ok { OnOk result (self.new ≡ child_added spec now (row_of parent self.old.rows) self.old) }
         ensures id { IfOk result (λ id. id ≡ self.old.next_id) }
         ensures allowed { OnOk result (child_fault self.old.levels (row_of parent self.old.rows) ≡ None) }
@@ -180,7 +181,7 @@ impl Rows {
     /// then stands behind the others of that priority, its own rows as they stood. Refused where no row has the id
     /// (`NoSource`), for a row with a parent (`IsChild`) and for want of memory; the rows are then unchanged.
     pub fn set_priority(&mut self, id: u64, priority: i32) -> Result<(), RowsFault>
-        requires orders { self.old.next_order < 2 ^ 63 }
+        requires orders { self.old.next_order < count_end }
         ensures ok { OnOk result (self.new ≡ reprioritised id priority self.old) }
         ensures allowed { OnOk result (priority_fault (row_of id self.old.rows) ≡ None) }
         ensures err { OnErr result (self.new ≡ self.old) }
@@ -206,7 +207,7 @@ impl Rows {
     fn move_tree(&mut self, root: Row, priority: i32) -> Result<(), AllocError>
         requires root { row_of root.id self.old.rows ≡ Some root }
         requires level { root.level ≡ 1 }
-        requires orders { self.old.next_order < 2 ^ 63 }
+        requires orders { self.old.next_order < count_end }
         ensures ok { OnOk result (self.new ≡ reprioritised root.id priority self.old) }
         ensures err { OnErr result (self.new ≡ self.old) }
     {
@@ -229,7 +230,7 @@ impl Rows {
 
     /// The least ready time above `now`, in microseconds; None where no row has one.
     pub fn next_ready(&self, now: u64) -> Option<i64>
-        requires { now ≤ 2 ^ 62 }
+        requires { now ≤ latest }
         ensures { result ≡ next_ready now self.now.rows }
     {
         self.table.next_ready(now)
@@ -253,7 +254,7 @@ impl Rows {
 
     /// Raises how often a row was dispatched, and answers it; None where there is no such row.
     pub fn dispatched(&mut self, id: u64) -> Option<u64>
-        requires { IfSome (row_of id self.old.rows) (λ r. r.count < 2 ^ 63) }
+        requires { IfSome (row_of id self.old.rows) (λ r. r.count < count_end) }
         ensures count { result ≡ option_map (λ r. r.count + 1) (row_of id self.old.rows) }
         ensures rows { self.new ≡ counted id self.old }
     {

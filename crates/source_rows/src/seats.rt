@@ -2,7 +2,8 @@
 //!
 //! A node has the least times of the seats from there on: so the next row that may be ready and the next ready time are found
 //! without a look at the others.
-ghost use Rattle.std.specs.Prelude.{◌≡◌, ◌≤◌, ◌<◌, ◌^◌, length, [], ◌∷◌, ◌++◌, true, Some, is_some, IfSome, IfNone};
+ghost use Rattle.std.specs.Prelude.{◌≡◌, ◌≤◌, ◌<◌, length, [], ◌∷◌, ◌++◌, true, Some, is_some, IfSome, IfNone};
+ghost use Rattle.loop_script.specs.Bounds.{count_end};
 ghost use Rattle.std.specs.List.{list_any};
 ghost use Rattle.std.specs.Ordering.{is_eq};
 ghost use Rattle.source_rows.specs.Inserted.{inserted, Rises};
@@ -157,7 +158,7 @@ impl Seats {
     #[tactic(auto, using(crate::proofs::Low::low_even))]
     pub fn insert(&mut self, room: Room, seat: Seat)
         requires rises { Rises is_ahead self.old.0 }
-        requires few { length self.old.0 < 2 ^ 63 }
+        requires few { length self.old.0 < count_end }
         requires low { IsLow self.old }
         ensures seats { self.new.0 ≡ inserted is_ahead seat self.old.0 }
         ensures low { IsLow self.new }
@@ -183,7 +184,7 @@ impl Seats {
     /// Takes the first seat out, in its room.
     #[tactic(auto, using(crate::proofs::Low::low_even))]
     pub(crate) fn remove_first(&mut self) -> Option<Box<Fork>>
-        requires few { length self.old.0 ≤ 2 ^ 63 }
+        requires few { length self.old.0 ≤ count_end }
         requires low { IsLow self.old }
         ensures some { IfSome result (λ f. self.old.0 ≡ f.value.seat ∷ self.new.0) }
         ensures none { IfNone result (self.old ≡ ([], 0)) }
@@ -213,7 +214,7 @@ impl Seats {
     #[tactic(auto, using(crate::proofs::Low::low_even))]
     fn take(&mut self, seat: Seat) -> Option<Room>
         requires rises { Rises is_ahead self.old.0 }
-        requires few { length self.old.0 ≤ 2 ^ 63 }
+        requires few { length self.old.0 ≤ count_end }
         requires low { IsLow self.old }
         ensures there { is_some result ≡ list_any (λ u. is_eq (seat_cmp seat u)) self.old.0 }
         ensures seats { self.new.0 ≡ without seat self.old.0 }
@@ -238,7 +239,7 @@ impl Seats {
     /// Gives a seat up, and its room.
     pub fn remove(&mut self, seat: Seat)
         requires rises { Rises is_ahead self.old.0 }
-        requires few { length self.old.0 ≤ 2 ^ 63 }
+        requires few { length self.old.0 ≤ count_end }
         requires low { IsLow self.old }
         ensures seats { self.new.0 ≡ without seat self.old.0 }
         ensures low { IsLow self.new }
@@ -249,7 +250,7 @@ impl Seats {
     /// Puts another seat into the place of one.
     pub fn change(&mut self, before: Seat, after: Seat)
         requires rises { Rises is_ahead self.old.0 }
-        requires few { length self.old.0 ≤ 2 ^ 63 }
+        requires few { length self.old.0 ≤ count_end }
         requires low { IsLow self.old }
         requires there { list_any (λ u. is_eq (seat_cmp before u)) self.old.0 ≡ true }
         ensures seats { self.new.0 ≡ inserted is_ahead after (without before self.old.0) }
@@ -283,7 +284,7 @@ impl Seats {
     /// Puts another seat into the place of one, where it is another.
     pub fn replace(&mut self, before: Seat, after: Seat)
         requires rises { Rises is_ahead self.old.0 }
-        requires few { length self.old.0 ≤ 2 ^ 63 }
+        requires few { length self.old.0 ≤ count_end }
         requires low { IsLow self.old }
         requires there { list_any (λ u. is_eq (seat_cmp before u)) self.old.0 ≡ true }
         ensures seats { self.new.0 ≡ replaced before after self.old.0 }

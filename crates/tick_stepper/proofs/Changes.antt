@@ -8,13 +8,13 @@ use Rattle.lane_turn.specs.Lane.{Lane, Turn}
 use Rattle.lane_turn.specs.Step.{step}
 use Rattle.lane_turn.proofs.Sends.{step_tells}
 use Rattle.post_office.specs.Parts.{without, claim_of, post_of}
-use Rattle.tick_stepper.specs.Machine.{Worker, Tick, Move, Claim, Step, Done, posted_by, takes, goes_on, lets_go, claimed, gone_on, ended, claim, go_on, end, by_worker, worker_of, taken_of, posted_of, work_of, mail_of}
+use Rattle.tick_stepper.specs.Machine.{Worker, TickState, Move, Claim, Step, Done, posted_by, takes, goes_on, lets_go, claimed, gone_on, ended, claim, go_on, end, by_worker, worker_of, taken_of, posted_of, work_of, mail_of}
 use Rattle.tick_stepper.specs.Law.{Changes, ChangesArePartial}
 use Rattle.tick_stepper.proofs.Readings.{same_lists, read_worker}
 use Rattle.tick_stepper.proofs.Turns.{posts_one}
 
 module _ (script : Plan) (tick : ℕ) where
-  claimed_changes : (s : Tick) (w n : ℕ) (v : Worker) (o : Option Lane) → slice_get s.workers w ≡ Some v → slice_get s.waiting n ≡ o → Changes (Claim w n) s (claimed tick s w n v o)
+  claimed_changes : (s : TickState) (w n : ℕ) (v : Worker) (o : Option Lane) → slice_get s.workers w ≡ Some v → slice_get s.waiting n ≡ o → Changes (Claim w n) s (claimed tick s w n v o)
   claimed_changes s w n v None at e = (inl refl, refl)
   claimed_changes s w n v (Some lane) at e =
       let taken : taken_of (claimed tick s w n v (Some lane)) ≡ set (taken_of s) w (v.taken ++ lane ∷ []) = map-set (λ v. v.taken) s.workers w (takes tick v lane) in
@@ -22,7 +22,7 @@ module _ (script : Plan) (tick : ℕ) where
       let work : work_of (claimed tick s w n v (Some lane)) ≡ claim_of w n (work_of s) (Some v.taken) (Some lane) = (λ i. record { waiting = without n s.waiting; taken = taken i }) in
       (inr (work ∙ (λ i. claim_of w n (work_of s) (sym (read_worker (λ v. v.taken) s.workers w v at) i) (sym e i))), λ i. record { posted = posted i; office = s.office })
 
-  gone_on_changes : (s : Tick) (w : ℕ) (v : Worker) (t : Turn) (o : Option Turn) → slice_get s.workers w ≡ Some v → step script tick t ≡ o → Changes (Step w) s (gone_on s w v t o)
+  gone_on_changes : (s : TickState) (w : ℕ) (v : Worker) (t : Turn) (o : Option Turn) → slice_get s.workers w ≡ Some v → step script tick t ≡ o → Changes (Step w) s (gone_on s w v t o)
   gone_on_changes s w v t None at e = (refl, inl refl)
   gone_on_changes s w v t (Some u) at e =
       let taken : taken_of (gone_on s w v t (Some u)) ≡ taken_of s = same_lists (λ v. v.taken) s.workers w v (goes_on v t u) at refl in (
@@ -39,19 +39,19 @@ module _ (script : Plan) (tick : ℕ) where
             (posts_one tick t u (step_tells script tick t u e)),
       )
 
-  ended_changes : (s : Tick) (w : ℕ) (v : Worker) (t : Turn) (o : Option Turn) → slice_get s.workers w ≡ Some v → Changes (Done w) s (ended s w v t o)
+  ended_changes : (s : TickState) (w : ℕ) (v : Worker) (t : Turn) (o : Option Turn) → slice_get s.workers w ≡ Some v → Changes (Done w) s (ended s w v t o)
   ended_changes s w v t (Some u) at = (refl, refl)
   ended_changes s w v t None at =
       let taken : taken_of (ended s w v t None) ≡ taken_of s = same_lists (λ v. v.taken) s.workers w v (lets_go v t) at refl in
       let posted : posted_of (ended s w v t None) ≡ posted_of s = same_lists (λ v. v.posted) s.workers w v (lets_go v t) at refl in
       ((λ i. record { waiting = s.waiting; taken = taken i }), λ i. record { posted = posted i; office = s.office })
 
-  none_changes : (s : Tick) (move : Move) → Changes move s s
+  none_changes : (s : TickState) (move : Move) → Changes move s s
   none_changes s (Claim w n) = (inl refl, refl)
   none_changes s (Step w) = (refl, inl refl)
   none_changes s (Done w) = (refl, refl)
 
-  held_changes : (s : Tick) (move : Move) (v : Worker) (o : Option Turn) → slice_get s.workers (worker_of move) ≡ Some v → v.held ≡ o → Changes move s (by_worker script tick s move (Some v))
+  held_changes : (s : TickState) (move : Move) (v : Worker) (o : Option Turn) → slice_get s.workers (worker_of move) ≡ Some v → v.held ≡ o → Changes move s (by_worker script tick s move (Some v))
   held_changes s (Claim w n) v None at is = subst (λ (o : Option Turn). Changes (Claim w n) s (claim tick s w n v o)) (sym is) (claimed_changes s w n v (slice_get s.waiting n) at refl)
   held_changes s (Claim w n) v (Some t) at is = subst (λ (o : Option Turn). Changes (Claim w n) s (claim tick s w n v o)) (sym is) (none_changes s (Claim w n))
   held_changes s (Step w) v None at is = subst (λ (o : Option Turn). Changes (Step w) s (go_on script tick s w v o)) (sym is) (none_changes s (Step w))
@@ -59,7 +59,7 @@ module _ (script : Plan) (tick : ℕ) where
   held_changes s (Done w) v None at is = subst (λ (o : Option Turn). Changes (Done w) s (end script tick s w v o)) (sym is) (none_changes s (Done w))
   held_changes s (Done w) v (Some t) at is = subst (λ (o : Option Turn). Changes (Done w) s (end script tick s w v o)) (sym is) (ended_changes s w v t (step script tick t) at)
 
-  worker_changes : (s : Tick) (move : Move) (o : Option Worker) → slice_get s.workers (worker_of move) ≡ o → Changes move s (by_worker script tick s move o)
+  worker_changes : (s : TickState) (move : Move) (o : Option Worker) → slice_get s.workers (worker_of move) ≡ o → Changes move s (by_worker script tick s move o)
   worker_changes s (Claim w n) None at = none_changes s (Claim w n)
   worker_changes s (Step w) None at = none_changes s (Step w)
   worker_changes s (Done w) None at = none_changes s (Done w)

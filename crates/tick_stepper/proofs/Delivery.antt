@@ -8,7 +8,7 @@ use Rattle.lane_turn.specs.Turn.{turned, out_of}
 use Rattle.lane_turn.specs.Deliver.{delivered}
 use Rattle.lane_turn.specs.Tick.{posted_at}
 use Rattle.post_office.specs.Merge.{IsMerge, concat}
-use Rattle.tick_stepper.specs.Machine.{Tick, after, opening, taken_of}
+use Rattle.tick_stepper.specs.Machine.{TickState, after, opening, taken_of}
 use Rattle.tick_stepper.specs.Law.{sent_by, IsTurned, DeliveryIsOne, TickIsOne}
 use Rattle.post_office.proofs.Merges.{merge_flat}
 use Rattle.tick_stepper.proofs.Concats.{concat_flat, flat_permuted}
@@ -26,7 +26,7 @@ delivery_is_one script tick lanes lists office sorted order split merge p up =
 
 pub tick_is_one : TickIsOne
 tick_is_one script tick workers lanes moves turns letters full order back by_number mixed up =
-    let s : Tick = after script tick moves (opening workers lanes) in
+    let s : TickState = after script tick moves (opening workers lanes) in
     let t : IsTurned script tick lanes s = each_turned_once script tick workers lanes moves full in
     ap (delivered script tick letters) (t.ends turns order back by_number)
     ∙ delivery_is_one script tick lanes (taken_of s) s.office letters order t.split (subst (λ (ls : List (List Letter)). IsMerge ls s.office) t.posted t.office) mixed up

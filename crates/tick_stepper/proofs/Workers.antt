@@ -12,7 +12,7 @@ use Rattle.lane_turn.specs.Tick.{posted_at}
 use Rattle.lane_turn.proofs.Sends.{step_tells}
 use Rattle.post_office.specs.Merge.{IsMerge, concat}
 use Rattle.post_office.specs.Parts.{without}
-use Rattle.tick_stepper.specs.Machine.{Worker, Tick, Move, Claim, Step, Done, posted_by, takes, goes_on, lets_go, claimed, gone_on, ended, claim, go_on, end, by_worker, worker_of, moved, after, idle, opening, AreFree, IsFull, taken_of, over_of, posted_of}
+use Rattle.tick_stepper.specs.Machine.{Worker, TickState, Move, Claim, Step, Done, posted_by, takes, goes_on, lets_go, claimed, gone_on, ended, claim, go_on, end, by_worker, worker_of, moved, after, idle, opening, AreFree, IsFull, taken_of, over_of, posted_of}
 use Rattle.tick_stepper.specs.Law.{sent_by, IsTurned, EachTurnedOnce}
 use Rattle.tick_stepper.proofs.Concats.{map_snoc, map_concat, flat_snoc}
 use Rattle.tick_stepper.proofs.Deals.{all_at, all_set, still_split, merge_pushes}
@@ -27,7 +27,7 @@ module _ (script : Plan) (tick : ℕ) where
   Honest v (Some t) = (before : List Lane) × (lane : Lane) × (v.taken ≡ before ++ lane ∷ []) × (v.over ≡ map (turned script tick) before)
       × (v.posted ≡ posted_at script tick before ++ t.posted) × (finished script tick t ≡ finished script tick (begun tick lane))
 
-  record Along (lanes : List Lane) (s : Tick) : Type 0 where
+  record Along (lanes : List Lane) (s : TickState) : Type 0 where
     honest : AllByRecursion (λ v. Honest v v.held) s.workers
     split : IsPermutation lanes (concat (taken_of s) ++ s.waiting)
     office : IsMerge (posted_of s) s.office
@@ -50,7 +50,7 @@ module _ (script : Plan) (tick : ℕ) where
       )
 
   module _ (lanes : List Lane) where
-    claimed_along : (s : Tick) (w n : ℕ) (v : Worker) (o : Option Lane) → slice_get s.workers w ≡ Some v → Honest v None → slice_get s.waiting n ≡ o → Along lanes s → Along lanes (claimed tick s w n v o)
+    claimed_along : (s : TickState) (w n : ℕ) (v : Worker) (o : Option Lane) → slice_get s.workers w ≡ Some v → Honest v None → slice_get s.waiting n ≡ o → Along lanes s → Along lanes (claimed tick s w n v o)
     claimed_along s w n v None at h e a = a
     claimed_along s w n v (Some lane) at h e a = record {
       honest = all_set (λ v. Honest v v.held) s.workers w (takes tick v lane) a.honest (v.taken, lane, refl, h.0, h.1 ∙ sym (append-nil _), refl);
@@ -59,7 +59,7 @@ module _ (script : Plan) (tick : ℕ) where
       office = subst (λ (ls : List (List Letter)). IsMerge ls s.office) (sym (same_lists (λ v. v.posted) s.workers w v (takes tick v lane) at refl)) a.office;
     }
 
-    gone_on_along : (s : Tick) (w : ℕ) (v : Worker) (t : Turn) (o : Option Turn) → slice_get s.workers w ≡ Some v → Honest v (Some t) → step script tick t ≡ o → Along lanes s → Along lanes (gone_on s w v t o)
+    gone_on_along : (s : TickState) (w : ℕ) (v : Worker) (t : Turn) (o : Option Turn) → slice_get s.workers w ≡ Some v → Honest v (Some t) → step script tick t ≡ o → Along lanes s → Along lanes (gone_on s w v t o)
     gone_on_along s w v t None at h e a = a
     gone_on_along s w v t (Some u) at h e a = record {
       honest = all_set (λ v. Honest v v.held) s.workers w (goes_on v t u) a.honest (goes_honest v t u e h);
@@ -68,7 +68,7 @@ module _ (script : Plan) (tick : ℕ) where
           (merge_pushes (posted_of s) s.office w (posted_by t u) (lt_lists (λ v. v.posted) s.workers w v at) a.office);
     }
 
-    ended_along : (s : Tick) (w : ℕ) (v : Worker) (t : Turn) (o : Option Turn) → slice_get s.workers w ≡ Some v → Honest v (Some t) → step script tick t ≡ o → Along lanes s → Along lanes (ended s w v t o)
+    ended_along : (s : TickState) (w : ℕ) (v : Worker) (t : Turn) (o : Option Turn) → slice_get s.workers w ≡ Some v → Honest v (Some t) → step script tick t ≡ o → Along lanes s → Along lanes (ended s w v t o)
     ended_along s w v t (Some u) at h e a = a
     ended_along s w v t None at h e a = record {
       honest = all_set (λ v. Honest v v.held) s.workers w (lets_go v t) a.honest (ends_honest v t e h);
@@ -76,7 +76,7 @@ module _ (script : Plan) (tick : ℕ) where
       office = subst (λ (ls : List (List Letter)). IsMerge ls s.office) (sym (same_lists (λ v. v.posted) s.workers w v (lets_go v t) at refl)) a.office;
     }
 
-    by_held : (s : Tick) (move : Move) (v : Worker) (o : Option Turn) → slice_get s.workers (worker_of move) ≡ Some v → v.held ≡ o → Honest v o → Along lanes s → Along lanes (by_worker script tick s move (Some v))
+    by_held : (s : TickState) (move : Move) (v : Worker) (o : Option Turn) → slice_get s.workers (worker_of move) ≡ Some v → v.held ≡ o → Honest v o → Along lanes s → Along lanes (by_worker script tick s move (Some v))
     by_held s (Claim w n) v None at is h a = subst (λ (o : Option Turn). Along lanes (claim tick s w n v o)) (sym is) (claimed_along s w n v (slice_get s.waiting n) at h refl a)
     by_held s (Claim w n) v (Some t) at is h a = subst (λ (o : Option Turn). Along lanes (claim tick s w n v o)) (sym is) a
     by_held s (Step w) v None at is h a = subst (λ (o : Option Turn). Along lanes (go_on script tick s w v o)) (sym is) a
@@ -84,13 +84,13 @@ module _ (script : Plan) (tick : ℕ) where
     by_held s (Done w) v None at is h a = subst (λ (o : Option Turn). Along lanes (end script tick s w v o)) (sym is) a
     by_held s (Done w) v (Some t) at is h a = subst (λ (o : Option Turn). Along lanes (end script tick s w v o)) (sym is) (ended_along s w v t (step script tick t) at h refl a)
 
-    by_worker_along : (s : Tick) (move : Move) (o : Option Worker) → slice_get s.workers (worker_of move) ≡ o → Along lanes s → Along lanes (by_worker script tick s move o)
+    by_worker_along : (s : TickState) (move : Move) (o : Option Worker) → slice_get s.workers (worker_of move) ≡ o → Along lanes s → Along lanes (by_worker script tick s move o)
     by_worker_along s (Claim w n) None at a = a
     by_worker_along s (Step w) None at a = a
     by_worker_along s (Done w) None at a = a
     by_worker_along s move (Some v) at a = by_held s move v v.held at refl (all_at (λ v. Honest v v.held) s.workers (worker_of move) v a.honest at) a
 
-    after_along : (moves : List Move) (s : Tick) → Along lanes s → Along lanes (after script tick moves s)
+    after_along : (moves : List Move) (s : TickState) → Along lanes s → Along lanes (after script tick moves s)
     after_along [] s a = a
     after_along (move ∷ moves) s a = after_along moves (moved script tick s move) (by_worker_along s move (slice_get s.workers (worker_of move)) refl a)
 
@@ -123,7 +123,7 @@ module _ (script : Plan) (tick : ℕ) where
   each_posted [] h k = refl
   each_posted (v ∷ vs) h k = let o = subst (Honest v) k.0 h.0 in λ i. o.1 i ∷ each_posted vs h.1 k.1 i
 
-  at_end : (lanes : List Lane) (s : Tick) → Along lanes s → IsFull s → IsTurned script tick lanes s
+  at_end : (lanes : List Lane) (s : TickState) → Along lanes s → IsFull s → IsTurned script tick lanes s
   at_end lanes s a f =
       let split : IsPermutation lanes (concat (taken_of s)) = subst (IsPermutation lanes) (ap (λ (l : List Lane). concat (taken_of s) ++ l) f.waiting ∙ append-nil (concat (taken_of s))) a.split in
       let over = each_over s.workers a.honest f.held in

@@ -7,6 +7,7 @@ use Rattle.tick_stepper.specs.declared.crew.Sharing.TheVariants.{Round, Fixed, Q
 use Rattle.tick_stepper.specs.declared.crew.Crew.{Crew}
 use Rattle.tick_stepper.specs.declared.fault.StepFault.{StepFault}
 use Rattle.tick_stepper.specs.declared.fault.StepFault.TheVariants.{Workers, Table}
+use Rattle.loop_script.specs.Units.{LaneNumber}
 
 -- lanes go round the workers, or a table names the worker of each; a queue names none, and there this number means nothing
 abbrev pub worker_by : Sharing → (workers lane : ℕ) → ℕ
@@ -15,7 +16,7 @@ worker_by (Fixed table) workers lane = unwrap_or (slice_get table.items lane) 0
 worker_by Queue workers lane = 0
 
 -- who takes a lane
-abbrev pub worker_of : Crew → ℕ → ℕ
+abbrev pub worker_of : Crew → LaneNumber → ℕ
 worker_of crew lane = worker_by crew.sharing crew.workers lane
 
 -- a table has one of the workers for each lane, and no more; the other ways need none

@@ -10,15 +10,16 @@ use Rattle.lane_turn.specs.Tick.{posted_at, ticked}
 use Rattle.post_office.specs.Merge.{IsMerge, concat}
 use Rattle.post_office.specs.Parts.{claims, posts, all_claims, unclaimed}
 use Rattle.tick_stepper.specs.Order.{ByNumber}
-use Rattle.tick_stepper.specs.Machine.{Tick, Move, Claim, Step, Done, moved, after, opening, AreFree, IsFull, taken_of, over_of, posted_of, work_of, mail_of}
+use Rattle.tick_stepper.specs.Machine.{TickState, Move, Claim, Step, Done, moved, after, opening, AreFree, IsFull, taken_of, over_of, posted_of, work_of, mail_of}
+use Rattle.loop_script.specs.Units.{Tick}
 
 -- what the lanes of each list post at a tick, in order
-abbrev pub sent_by : Plan → ℕ → List (List Lane) → List (List Letter)
+abbrev pub sent_by : Plan → Tick → List (List Lane) → List (List Letter)
 sent_by script tick lists = map (posted_at script tick) lists
 
 -- each lane was taken once, each worker posted what its lanes post, the office is a merge of that, and the lanes are the turned ones:
 -- put in order again, they are those that one thread turns
-pub record IsTurned (script : Plan) (tick : ℕ) (lanes : List Lane) (s : Tick) : Type 0 where
+pub record IsTurned (script : Plan) (tick : Tick) (lanes : List Lane) (s : TickState) : Type 0 where
   pub split : IsPermutation lanes (concat (taken_of s))
   pub posted : posted_of s ≡ sent_by script tick (taken_of s)
   pub office : IsMerge (posted_of s) s.office
@@ -43,14 +44,14 @@ TickIsOne = (script : Plan) (tick workers : ℕ) (lanes : List Lane) (moves : Li
     → IsPermutation s.office letters → InOrder letters → delivered script tick letters turns ≡ ticked script tick lanes)
 
 -- a claim changes the work by one taken lane, a step the mail by at most one letter, and nothing else changes either
-abbrev pub Changes : Move → Tick → Tick → Type 0
+abbrev pub Changes : Move → TickState → TickState → Type 0
 Changes (Claim w n) s s' = ((work_of s' ≡ work_of s) ⊎ (work_of s' ≡ claims w n (work_of s))) × (mail_of s' ≡ mail_of s)
 Changes (Step w) s s' = (work_of s' ≡ work_of s) × ((mail_of s' ≡ mail_of s) ⊎ ((x : Letter) × (mail_of s' ≡ posts w x (mail_of s))))
 Changes (Done w) s s' = (work_of s' ≡ work_of s) × (mail_of s' ≡ mail_of s)
 
 -- each move changes the parts that it says, and no other
 abbrev pub ChangesArePartial : Type 0
-ChangesArePartial = (script : Plan) (tick : ℕ) (s : Tick) (move : Move) → Changes move s (moved script tick s move)
+ChangesArePartial = (script : Plan) (tick : ℕ) (s : TickState) (move : Move) → Changes move s (moved script tick s move)
 
 -- whatever workers claim the first that waits, one after another: there are moves that do just that, and end each turn
 abbrev pub ClaimsHappen : Type 0

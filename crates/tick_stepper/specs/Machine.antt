@@ -7,6 +7,7 @@ use Rattle.lane_turn.specs.Lane.{Lane, Turn}
 use Rattle.lane_turn.specs.Step.{step}
 use Rattle.lane_turn.specs.Turn.{begun}
 use Rattle.post_office.specs.Parts.{Work, Mail, without}
+use Rattle.loop_script.specs.Units.{Tick}
 
 -- a worker: the turn that it is in the middle of, the lanes that it took, those whose turn it ended, and what it posted
 pub record Worker : Type 0 where
@@ -16,7 +17,7 @@ pub record Worker : Type 0 where
   pub posted : List Letter
 
 -- a tick: the lanes that wait, the workers, and all that was posted
-pub record Tick : Type 0 where
+pub record TickState : Type 0 where
   pub waiting : List Lane
   pub workers : List Worker
   pub office : List Letter
@@ -32,7 +33,7 @@ abbrev pub posted_by : Turn → Turn → List Letter
 posted_by t u = drop (length t.posted) u.posted
 
 -- a worker takes a lane, whose turn begins; the turn goes on from t to u; it is over, and the lane let go
-abbrev pub takes : ℕ → Worker → Lane → Worker
+abbrev pub takes : Tick → Worker → Lane → Worker
 takes tick worker lane = record worker { held = Some (begun tick lane); taken = worker.taken ++ lane ∷ [] }
 
 -- a worker goes on with its lane, and posts what the step posts
@@ -44,37 +45,37 @@ abbrev pub lets_go : Worker → Turn → Worker
 lets_go worker t = record worker { held = None; over = worker.over ++ t.lane ∷ [] }
 
 -- the same within the tick, where worker is the one of number w; a move that cannot be made changes nothing
-abbrev pub claimed : ℕ → Tick → (w n : ℕ) → Worker → Option Lane → Tick
+abbrev pub claimed : Tick → TickState → (w n : ℕ) → Worker → Option Lane → TickState
 claimed tick s w n worker None = s
 claimed tick s w n worker (Some lane) = record { waiting = without n s.waiting; workers = set s.workers w (takes tick worker lane); office = s.office }
 
 -- the tick after a worker's step, where there is one
-abbrev pub gone_on : Tick → ℕ → Worker → Turn → Option Turn → Tick
+abbrev pub gone_on : TickState → ℕ → Worker → Turn → Option Turn → TickState
 gone_on s w worker t None = s
 gone_on s w worker t (Some u) = record { waiting = s.waiting; workers = set s.workers w (goes_on worker t u); office = s.office ++ posted_by t u }
 
 -- the tick after the last step of a worker's lane
-abbrev pub ended : Tick → ℕ → Worker → Turn → Option Turn → Tick
+abbrev pub ended : TickState → ℕ → Worker → Turn → Option Turn → TickState
 ended s w worker t None = record { waiting = s.waiting; workers = set s.workers w (lets_go worker t); office = s.office }
 ended s w worker t (Some u) = s
 
 -- a worker without a lane takes one that waits
-abbrev pub claim : ℕ → Tick → (w n : ℕ) → Worker → Option Turn → Tick
+abbrev pub claim : Tick → TickState → (w n : ℕ) → Worker → Option Turn → TickState
 claim tick s w n worker None = claimed tick s w n worker (slice_get s.waiting n)
 claim tick s w n worker (Some t) = s
 
 -- a worker with a lane takes a step
-abbrev pub go_on : Plan → ℕ → Tick → ℕ → Worker → Option Turn → Tick
+abbrev pub go_on : Plan → Tick → TickState → ℕ → Worker → Option Turn → TickState
 go_on script tick s w worker None = s
 go_on script tick s w worker (Some t) = gone_on s w worker t (step script tick t)
 
 -- a worker whose lane has no step left lets it go
-abbrev pub end : Plan → ℕ → Tick → ℕ → Worker → Option Turn → Tick
+abbrev pub end : Plan → Tick → TickState → ℕ → Worker → Option Turn → TickState
 end script tick s w worker None = s
 end script tick s w worker (Some t) = ended s w worker t (step script tick t)
 
 -- a move of a worker that there is
-abbrev pub by_worker : Plan → ℕ → Tick → Move → Option Worker → Tick
+abbrev pub by_worker : Plan → Tick → TickState → Move → Option Worker → TickState
 by_worker script tick s move None = s
 by_worker script tick s (Claim w n) (Some worker) = claim tick s w n worker worker.held
 by_worker script tick s (Step w) (Some worker) = go_on script tick s w worker worker.held
@@ -87,11 +88,11 @@ worker_of (Step w) = w
 worker_of (Done w) = w
 
 -- a move is made; moves are made, one after another
-abbrev pub moved : Plan → ℕ → Tick → Move → Tick
+abbrev pub moved : Plan → Tick → TickState → Move → TickState
 moved script tick s move = by_worker script tick s move (slice_get s.workers (worker_of move))
 
 -- the tick after some moves
-abbrev pub after : Plan → ℕ → List Move → Tick → Tick
+abbrev pub after : Plan → Tick → List Move → TickState → TickState
 after script tick [] s = s
 after script tick (move ∷ moves) s = after script tick moves (moved script tick s move)
 
@@ -100,7 +101,7 @@ abbrev pub idle : Worker
 idle = record { held = None; taken = []; over = []; posted = [] }
 
 -- a tick in which all lanes wait
-abbrev pub opening : ℕ → List Lane → Tick
+abbrev pub opening : ℕ → List Lane → TickState
 opening workers lanes = record { waiting = lanes; workers = replicate workers idle; office = [] }
 
 -- no worker is in the middle of a turn; and then no lane waits either
@@ -108,26 +109,26 @@ abbrev pub AreFree : List Worker → Type 0
 AreFree workers = AllByRecursion (λ worker. worker.held ≡ None) workers
 
 -- no lane waits, and no worker has one
-pub record IsFull (s : Tick) : Type 0 where
+pub record IsFull (s : TickState) : Type 0 where
   pub waiting : s.waiting ≡ []
   pub held : AreFree s.workers
 
 -- the lanes that the workers took, those whose turn they ended, and what they posted
-abbrev pub taken_of : Tick → List (List Lane)
+abbrev pub taken_of : TickState → List (List Lane)
 taken_of s = map (λ worker. worker.taken) s.workers
 
 -- the lanes that each worker has turned
-abbrev pub over_of : Tick → List (List Lane)
+abbrev pub over_of : TickState → List (List Lane)
 over_of s = map (λ worker. worker.over) s.workers
 
 -- what each worker posted
-abbrev pub posted_of : Tick → List (List Letter)
+abbrev pub posted_of : TickState → List (List Letter)
 posted_of s = map (λ worker. worker.posted) s.workers
 
 -- its two parts
-abbrev pub work_of : Tick → Work Lane
+abbrev pub work_of : TickState → Work Lane
 work_of s = record { waiting = s.waiting; taken = taken_of s }
 
 -- what was posted, by workers and in all
-abbrev pub mail_of : Tick → Mail Letter
+abbrev pub mail_of : TickState → Mail Letter
 mail_of s = record { posted = posted_of s; office = s.office }

@@ -8,6 +8,7 @@ use Rattle.tick_stepper.specs.declared.share.Numbered.{Numbered}
 use Rattle.tick_stepper.specs.declared.work.Hired.{Hired}
 use Rattle.tick_stepper.specs.declared.work.Haul.{Haul}
 use Rattle.tick_stepper.specs.Share.{turned_one, out_of_one, IsReadyOne}
+use Rattle.loop_script.specs.Units.{Tick}
 
 -- a list into which these were put, and from which nothing was taken
 abbrev pub filled : ℕ × ℕ → List Numbered → WorkState Numbered
@@ -19,12 +20,12 @@ pub record IsHired (list office : ℕ × ℕ) (lanes : List Numbered) (hired : H
   pub post : hired.post ≡ record { home = office; posted = [] }
 
 -- and all lanes that were put may take their turns
-pub record MayWork (script : Plan) (tick : ℕ) (list office : ℕ × ℕ) (hired : Hired) : Type 0 where
+pub record MayWork (script : Plan) (tick : Tick) (list office : ℕ × ℕ) (hired : Hired) : Type 0 where
   pub fresh : IsHired list office hired.work.put hired
   pub ready : AllByRecursion (IsReadyOne script tick) hired.work.put
 
 -- its lanes are the turns of those that it took, and it posted what these send, in that order
-pub record IsHaul (script : Plan) (tick : ℕ) (list office : ℕ × ℕ) (haul : Haul) : Type 0 where
+pub record IsHaul (script : Plan) (tick : Tick) (list office : ℕ × ℕ) (haul : Haul) : Type 0 where
   pub home : haul.work.home ≡ list
   pub desk : haul.post.home ≡ office
   pub turns : haul.lanes.items ≡ map (turned_one script tick) haul.work.taken

@@ -10,50 +10,51 @@ use Rattle.lane_turn.specs.Tick.{lanes_at}
 use Rattle.tick_stepper.specs.declared.share.Numbered.{Numbered}
 use Rattle.tick_stepper.specs.declared.rest.Resting.{Resting}
 use Rattle.tick_stepper.specs.Share.{unspent}
+use Rattle.loop_script.specs.Units.{Tick}
 
 -- the lane as it is at the beginning of a tick
-abbrev pub lane_at : ℕ → Resting → Lane
+abbrev pub lane_at : Tick → Resting → Lane
 lane_at tick one = at_tick tick one.lane.state.lane
 
 -- lanes brought to a tick
-abbrev pub all_at : ℕ → List Resting → List Lane
+abbrev pub all_at : Tick → List Resting → List Lane
 all_at tick ones = map (lane_at tick) ones
 
 -- whether its turn comes at a tick
-abbrev pub comes_by : ℕ → Option ℕ → Bool
+abbrev pub comes_by : Tick → Option Tick → Bool
 comes_by tick None = false
 comes_by tick (Some next) = nat_le next tick
 
 -- whether a lane's turn comes at a tick
-abbrev pub is_due : ℕ → Resting → Bool
+abbrev pub is_due : Tick → Resting → Bool
 is_due tick one = comes_by tick one.next
 
 -- the same lane, brought to a tick
-abbrev pub woken : ℕ → Resting → Numbered
+abbrev pub woken : Tick → Resting → Numbered
 woken tick one = record { number = one.lane.number; state = unspent (lane_at tick one) }
 
 -- the same of all
-abbrev pub all_woken : ℕ → List Resting → List Numbered
+abbrev pub all_woken : Tick → List Resting → List Numbered
 all_woken tick ones = map (woken tick) ones
 
 -- a lane by its own number, whose tasks tell nothing from their last poll up to a tick
-pub record HasPassed (tick : ℕ) (one : Resting) : Type 0 where
+pub record HasPassed (tick : Tick) (one : Resting) : Type 0 where
   pub named : one.lane.number ≡ one.lane.state.lane.number
   pub unspent : one.lane.state.spent ≡ false
   pub past : one.lane.state.lane.tasks.tick ≤ tick
   pub tasks : (k : ℕ) → one.lane.state.lane.tasks.tick ≤ k → k < tick → GivesNothing k one.lane.state.lane.tasks
 
 -- and whose turns from there on are quiet, up to its next one
-pub record Rests (script : Plan) (tick : ℕ) (one : Resting) : Type 0 where
+pub record Rests (script : Plan) (tick : Tick) (one : Resting) : Type 0 where
   pub passed : HasPassed tick one
   pub quiet : (k : ℕ) → tick ≤ k → k < script.ticks → IsAfter k one.next → IsQuiet script k one.lane.state.lane
 
 -- lanes after a tick, that rest from the next one on
-pub record IsSettled (script : Plan) (tick : ℕ) (lanes : List Numbered) (ones : List Resting) : Type 0 where
+pub record IsSettled (script : Plan) (tick : Tick) (lanes : List Numbered) (ones : List Resting) : Type 0 where
   pub same : map (λ one. one.lane) ones ≡ lanes
   pub rest : AllByRecursion (Rests script (tick + 1)) ones
 
 -- the lanes of a run at a tick, each resting until its next turn
-pub record AreAt (script : Plan) (tick : ℕ) (ones : List Resting) : Type 0 where
+pub record AreAt (script : Plan) (tick : Tick) (ones : List Resting) : Type 0 where
   pub lanes : all_at tick ones ≡ lanes_at script tick
   pub rest : AllByRecursion (Rests script tick) ones

@@ -1,8 +1,9 @@
 -- What a worker is handed, and what it gives back.
-use Rattle.std.specs.Prelude.{◌≡◌, ℕ, ◌+◌, ◌^◌, ◌<◌, ◌==◌, Bool, false, nat_lt, length, Result, Ok, List, [], ◌∷◌, map}
+use Rattle.std.specs.Prelude.{◌≡◌, ℕ, ◌+◌, ◌<◌, ◌==◌, Bool, false, nat_lt, length, Result, Ok, List, [], ◌∷◌, map}
 use Rattle.std.specs.List.{AllByRecursion, filter, flat_map}
 use Rattle.loop_script.specs.declared.plan.Plan.{Plan}
 use Rattle.post_office.specs.declared.letter.Letter.{Letter}
+use Rattle.lane_turn.specs.Limits.{half_count}
 use Rattle.lane_turn.specs.Lane.{Lane, State}
 use Rattle.lane_turn.specs.Turn.{turned, out_of}
 use Rattle.lane_turn.specs.Sound.{IsReady}
@@ -12,6 +13,7 @@ use Rattle.tick_stepper.specs.declared.crew.Crew.{Crew}
 use Rattle.tick_stepper.specs.declared.share.Numbered.{Numbered}
 use Rattle.tick_stepper.specs.declared.share.Share.{Share}
 use Rattle.lane_turn.specs.declared.state.LaneFault.{LaneFault}
+use Rattle.loop_script.specs.Units.{Tick}
 
 -- a lane of which no call was refused memory
 abbrev pub unspent : Lane → State
@@ -30,32 +32,32 @@ abbrev pub stepped_one : (Lane → Lane) → Numbered → Numbered
 stepped_one step one = record { number = one.number; state = unspent (step one.state.lane) }
 
 -- a lane after its turn
-abbrev pub turned_one : Plan → ℕ → Numbered → Numbered
+abbrev pub turned_one : Plan → Tick → Numbered → Numbered
 turned_one script tick one = stepped_one (turned script tick) one
 
 -- the letters of its turn
-abbrev pub out_of_one : Plan → ℕ → Numbered → List Letter
+abbrev pub out_of_one : Plan → Tick → Numbered → List Letter
 out_of_one script tick one = out_of script tick one.state.lane
 
 -- a lane by its own number that may take its turn at a tick, or the delivery before it
-pub record IsReadyOne (script : Plan) (tick : ℕ) (one : Numbered) : Type 0 where
+pub record IsReadyOne (script : Plan) (tick : Tick) (one : Numbered) : Type 0 where
   pub named : one.number ≡ one.state.lane.number
   pub unspent : one.state.spent ≡ false
-  pub ready : IsReady script tick (2 ^ 61) one.state.lane
+  pub ready : IsReady script tick half_count one.state.lane
 
 -- lanes of a script by their rising numbers, each of which may take its turn at a tick
-pub record IsRound (script : Plan) (tick : ℕ) (ones : List Numbered) : Type 0 where
+pub record IsRound (script : Plan) (tick : Tick) (ones : List Numbered) : Type 0 where
   pub ready : AllByRecursion (IsReadyOne script tick) ones
   pub order : RisesBy (λ (one : Numbered). one.number) ones
   pub below : AllByRecursion (λ one. one.number < length script.lanes) ones
 
 -- lanes that may take their turns, and an empty tray
-pub record IsFresh (script : Plan) (tick : ℕ) (share : Share) : Type 0 where
+pub record IsFresh (script : Plan) (tick : Tick) (share : Share) : Type 0 where
   pub lanes : AllByRecursion (IsReadyOne script tick) share.lanes.items
   pub tray : share.tray ≡ []
 
 -- the lanes after their turns, in their order, and what they posted
-pub record IsTurned (script : Plan) (tick : ℕ) (old new : Share) : Type 0 where
+pub record IsTurned (script : Plan) (tick : Tick) (old new : Share) : Type 0 where
   pub lanes : new.lanes.items ≡ map (turned_one script tick) old.lanes.items
   pub letters : new.tray ≡ flat_map (out_of_one script tick) old.lanes.items
 

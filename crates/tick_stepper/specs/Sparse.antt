@@ -7,22 +7,23 @@ use Rattle.lane_turn.specs.Turn.{turned}
 use Rattle.lane_turn.specs.Deliver.{delivered}
 use Rattle.lane_turn.specs.Quiet.{at_tick, IsQuiet}
 use Rattle.lane_turn.specs.Tick.{posted_at, opened, lanes_at}
+use Rattle.loop_script.specs.Units.{Tick}
 
 -- a lane after its turn, or left as it was
-abbrev pub turned_if : Plan → ℕ → (Lane → Bool) → Lane → Lane
+abbrev pub turned_if : Plan → Tick → (Lane → Bool) → Lane → Lane
 turned_if script tick due lane = if due lane then turned script tick lane else at_tick (tick + 1) lane
 
 -- a tick in which those lanes that are due take their turns; letters are delivered to all
-abbrev pub ticked_by : Plan → ℕ → (Lane → Bool) → List Lane → List Lane
+abbrev pub ticked_by : Plan → Tick → (Lane → Bool) → List Lane → List Lane
 ticked_by script tick due lanes = delivered script tick (posted_at script tick (filter due lanes)) (map (turned_if script tick due) lanes)
 
 -- the lanes at a tick of a run, where `due` says which of them take their turns at each
-abbrev pub sparse_at : Plan → (ℕ → Lane → Bool) → ℕ → List Lane
+abbrev pub sparse_at : Plan → (Tick → Lane → Bool) → ℕ → List Lane
 sparse_at script due zero = opened script
 sparse_at script due (suc k) = ticked_by script k (due k) (sparse_at script due k)
 
 -- the turn of each lane that takes none would be quiet
-abbrev pub LeavesQuiet : Plan → (Lane → Bool) → ℕ → Type 0
+abbrev pub LeavesQuiet : Plan → (Lane → Bool) → Tick → Type 0
 LeavesQuiet script due tick = AllByRecursion (λ lane. due lane ≡ false → IsQuiet script tick lane) (lanes_at script tick)
 
 -- then the run is the one in which all take them
