@@ -348,6 +348,9 @@ back-left s t id key es fs b u l gone k r g = by_test (k == key) refl
 abbrev Quiet : Row → Type 0
 Quiet r = asks r.kind ≡ false
 
+pub neither : (a b : Bool) → a ≡ false → b ≡ false → (a || b) ≡ false
+neither a b h k = rw (h, k) refl
+
 pub may-same : (may : Bool) (rows new : List Row) → MayAsk may rows → new ≡ rows → MayAsk may new
 may-same may rows new h e f = rw e (h f)
 

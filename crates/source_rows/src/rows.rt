@@ -167,14 +167,7 @@ impl Rows {
         ensures row { result ≡ is_some (row_of id self.old.rows) }
         ensures rows { self.new ≡ ready_set id ready self.old }
     {
-        match self.table.found(id) {
-            None => false,
-            Some(found) => {
-                let row = Row { ready, ..*found };
-                self.table.put(row);
-                true
-            }
-        }
+        self.table.set_ready(id, ready)
     }
 
     /// Gives a root and all that are under it a priority (`g_source_set_priority`), also the one that they have: the tree
@@ -258,14 +251,7 @@ impl Rows {
         ensures count { result ≡ option_map (λ r. r.count + 1) (row_of id self.old.rows) }
         ensures rows { self.new ≡ counted id self.old }
     {
-        match self.table.found(id) {
-            None => None,
-            Some(found) => {
-                let count = found.count + 1;
-                self.table.set_count(id, count);
-                Some(count)
-            }
-        }
+        self.table.count_one(id)
     }
 
     /// The rows in the order in which an iteration dispatches them. It takes no memory. Its clauses also say what holds

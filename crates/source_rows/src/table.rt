@@ -1,10 +1,11 @@
 //! Rows by their ids.
-ghost use Rattle.std.specs.Prelude.{◌≡◌, ◌<◌, ◌≤◌, ◌^◌, ◌++◌, ◌∷◌, [], OnOk, OnErr, is_some, IsSome, filter, not, ◌||◌};
+ghost use Rattle.std.specs.Prelude.{◌≡◌, ◌<◌, ◌≤◌, ◌+◌, ◌++◌, ◌∷◌, [], OnOk, OnErr, IfSome, is_some, IsSome, option_map, filter, not, ◌||◌};
 ghost use Rattle.std.specs.List.{AllByRecursion};
 ghost use Rattle.std.specs.Map.{lookup};
 ghost use Rattle.std.specs.Option.{option_copied};
 ghost use Rattle.std.specs.Ordering.{nat_cmp};
 ghost use Rattle.std.specs.BTreeMap.{is_at};
+ghost use Rattle.loop_script.specs.Bounds.{count_end, latest};
 ghost use Rattle.source_rows.specs.Rows.{row_of, has_id, changed, next_ready};
 ghost use Rattle.source_rows.specs.Seats.{first_awake, in_seats};
 ghost use Rattle.source_rows.specs.Slots.{AllNamed, MayAsk, asks};
@@ -109,7 +110,7 @@ impl Table {
 
     /// The least ready time above `now`.
     pub fn next_ready(&self, now: u64) -> Option<i64>
-        requires { now ≤ 2 ^ 62 }
+        requires { now ≤ latest }
         ensures { result ≡ next_ready now self.now }
     {
         let due = self.seats.next_due(now);
@@ -126,7 +127,7 @@ impl Table {
     /// Puts a row behind the others.
     pub fn push(&mut self, row: Row) -> Result<(), AllocError>
         requires last { AllByRecursion (λ r. r.id < row.id) self.old }
-        requires few { row.id < 2 ^ 63 }
+        requires few { row.id < count_end }
         ensures ok { OnOk result (self.new ≡ self.old ++ row ∷ []) }
         ensures err { OnErr result (self.new ≡ self.old) }
     {
@@ -165,16 +166,37 @@ impl Table {
         }
     }
 
-    /// Gives the row of an id another count.
-    pub fn set_count(&mut self, id: u64, count: u64)
-        requires { IsSome (row_of id self.old) }
-        ensures { self.new ≡ changed id (λ r. record r { count = count }) self.old }
+    /// Raises the count of the row of an id, and answers it; None where there is no such row.
+    pub fn count_one(&mut self, id: u64) -> Option<u64>
+        requires { IfSome (row_of id self.old) (λ r. r.count < count_end) }
+        ensures count { result ≡ option_map (λ r. r.count + 1) (row_of id self.old) }
+        ensures rows { self.new ≡ changed id (λ r. record r { count = r.count + 1 }) self.old }
     {
         if let Some(key) = slot_of(&self.slots, &self.keys, &self.guesses, id) {
             if let Some(slot) = self.slots.get_mut(key) {
+                let count = slot.count + 1;
                 slot.count = count;
+                return Some(count);
             }
         }
+        None
+    }
+
+    /// Gives the row of an id another ready time; false where there is no such row.
+    pub fn set_ready(&mut self, id: u64, ready: i64) -> bool
+        ensures there { result ≡ is_some (row_of id self.old) }
+        ensures set { self.new ≡ changed id (λ r. record r { ready = ready }) self.old }
+    {
+        if let Some(key) = slot_of(&self.slots, &self.keys, &self.guesses, id) {
+            if let Some(slot) = self.slots.get_mut(key) {
+                let before = slot.seat();
+                slot.ready = ready;
+                let after = slot.seat();
+                self.seats.replace(before, after);
+                return true;
+            }
+        }
+        false
     }
 
     /// Takes the row of an id away.
