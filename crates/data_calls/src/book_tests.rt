@@ -1,5 +1,6 @@
 //! The book alone: single calls, the tasks of a worked script, and memory refused.
 ghost use Rattle.std.specs.Prelude.{IfOk, ◌≤◌};
+ghost use Rattle.loop_script.specs.Bounds.{longest_time};
 ghost use Rattle.data_calls.specs.Going.{GoesOn, IsKnown};
 
 use crate::trees::{first, seq, sleep, value, within};
@@ -148,15 +149,15 @@ fn one_task(rt: HostRuntime) -> Result<(), Fail> {
 }
 
 fn after_sleep(alloc: Global, us: u64, number: i64) -> Result<TaskTree, AllocError>
-    requires { us ≤ 1000000000000000 }
+    requires { us ≤ longest_time }
 {
     seq(alloc, sleep(us), value(number))
 }
 
 fn tie(alloc: Global) -> Result<TaskTree, AllocError> {
-    let a = after_sleep(alloc, 1000, 1)?;
-    let b = after_sleep(alloc, 1000, 2)?;
-    first(alloc, a, b)
+    let one = after_sleep(alloc, 1000, 1)?;
+    let other = after_sleep(alloc, 1000, 2)?;
+    first(alloc, one, other)
 }
 
 fn end_at_the_limit(alloc: Global) -> Result<TaskTree, AllocError> {

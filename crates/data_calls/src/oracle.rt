@@ -36,13 +36,13 @@ pub(crate) fn end(tree: &TaskTree, begun: &Begun) -> (u64, Outcome) {
             Some(from) if from <= begun.tick => (begun.tick, Outcome::Cancelled),
             _ => (begun.tick, Outcome::Ok(0)),
         },
-        Node::Seq(a, b) => match end(a, begun) {
-            (tick, Outcome::Ok(_)) => end(b, &begun.at(tick)),
+        Node::Seq { first, next } => match end(first, begun) {
+            (tick, Outcome::Ok(_)) => end(next, &begun.at(tick)),
             fault => fault,
         },
-        Node::Both(a, b) => {
-            let (first_tick, first) = end(a, begun);
-            let (second_tick, second) = end(b, begun);
+        Node::Both { one, other } => {
+            let (first_tick, first) = end(one, begun);
+            let (second_tick, second) = end(other, begun);
             let outcome = if let Outcome::Ok(_) = first {
                 second
             } else {
@@ -50,17 +50,17 @@ pub(crate) fn end(tree: &TaskTree, begun: &Begun) -> (u64, Outcome) {
             };
             (first_tick.max(second_tick), outcome)
         }
-        Node::First(a, b) => {
-            let first = end(a, begun);
-            let second = end(b, begun);
+        Node::First { one, other } => {
+            let first = end(one, begun);
+            let second = end(other, begun);
             if second.0 < first.0 { second } else { first }
         }
-        Node::Within(us, a) => {
-            let body = end(a, begun);
-            if body.0 > begun.after(*us) {
+        Node::Within(us, body) => {
+            let ended = end(body, begun);
+            if ended.0 > begun.after(*us) {
                 (begun.after(*us), Outcome::TimedOut)
             } else {
-                body
+                ended
             }
         }
     }
@@ -73,17 +73,17 @@ pub(crate) fn wake(tree: &TaskTree, begun: &Begun, now: u64) -> Option<u64> {
     }
     match &tree.node {
         Node::Sleep(us) => Some(begun.after(*us)),
-        Node::Seq(a, b) => {
-            let (tick, _) = end(a, begun);
+        Node::Seq { first, next } => {
+            let (tick, _) = end(first, begun);
             if tick <= now {
-                wake(b, &begun.at(tick), now)
+                wake(next, &begun.at(tick), now)
             } else {
-                wake(a, begun, now)
+                wake(first, begun, now)
             }
         }
-        Node::Both(a, b) => least(wake(a, begun, now), wake(b, begun, now)),
-        Node::First(a, b) => least(wake(a, begun, now), wake(b, begun, now)),
-        Node::Within(us, a) => least(Some(begun.after(*us)), wake(a, begun, now)),
+        Node::Both { one, other } => least(wake(one, begun, now), wake(other, begun, now)),
+        Node::First { one, other } => least(wake(one, begun, now), wake(other, begun, now)),
+        Node::Within(us, body) => least(Some(begun.after(*us)), wake(body, begun, now)),
         _ => None,
     }
 }

@@ -1,5 +1,6 @@
 //! For tests: trees made by hand, and trees from a seed.
 ghost use Rattle.std.specs.Prelude.{◌<◌, ◌≤◌};
+ghost use Rattle.loop_script.specs.Bounds.{longest_time};
 
 use loop_script::{Node, TaskTree};
 use std::alloc::{AllocError, Global};
@@ -19,43 +20,43 @@ pub(crate) fn check() -> TaskTree {
 }
 
 pub(crate) fn sleep(us: u64) -> TaskTree
-    requires { us ≤ 1000000000000000 }
+    requires { us ≤ longest_time }
 {
     TaskTree {
         node: Node::Sleep(us),
     }
 }
 
-pub(crate) fn seq(alloc: Global, a: TaskTree, b: TaskTree) -> Result<TaskTree, AllocError> {
-    let a = Box::new(alloc, a)?;
-    let b = Box::new(alloc, b)?;
+pub(crate) fn seq(alloc: Global, first: TaskTree, next: TaskTree) -> Result<TaskTree, AllocError> {
+    let first = Box::new(alloc, first)?;
+    let next = Box::new(alloc, next)?;
     Ok(TaskTree {
-        node: Node::Seq(a, b),
+        node: Node::Seq { first, next },
     })
 }
 
-pub(crate) fn both(alloc: Global, a: TaskTree, b: TaskTree) -> Result<TaskTree, AllocError> {
-    let a = Box::new(alloc, a)?;
-    let b = Box::new(alloc, b)?;
+pub(crate) fn both(alloc: Global, one: TaskTree, other: TaskTree) -> Result<TaskTree, AllocError> {
+    let one = Box::new(alloc, one)?;
+    let other = Box::new(alloc, other)?;
     Ok(TaskTree {
-        node: Node::Both(a, b),
+        node: Node::Both { one, other },
     })
 }
 
-pub(crate) fn first(alloc: Global, a: TaskTree, b: TaskTree) -> Result<TaskTree, AllocError> {
-    let a = Box::new(alloc, a)?;
-    let b = Box::new(alloc, b)?;
+pub(crate) fn first(alloc: Global, one: TaskTree, other: TaskTree) -> Result<TaskTree, AllocError> {
+    let one = Box::new(alloc, one)?;
+    let other = Box::new(alloc, other)?;
     Ok(TaskTree {
-        node: Node::First(a, b),
+        node: Node::First { one, other },
     })
 }
 
-pub(crate) fn within(alloc: Global, us: u64, a: TaskTree) -> Result<TaskTree, AllocError>
-    requires { us ≤ 1000000000000000 }
+pub(crate) fn within(alloc: Global, us: u64, body: TaskTree) -> Result<TaskTree, AllocError>
+    requires { us ≤ longest_time }
 {
-    let a = Box::new(alloc, a)?;
+    let body = Box::new(alloc, body)?;
     Ok(TaskTree {
-        node: Node::Within(us, a),
+        node: Node::Within(us, body),
     })
 }
 

@@ -4,6 +4,7 @@ use Rattle.std.specs.Prelude.{ℤ, pos, negsuc, nat_le, int_le, is_some, option_
 use Rattle.std.specs.Str.{bytes_eq}
 use Rattle.serde_json.specs.Data.{Data, null, boolean, number, string, array, object, Num, unsigned, negative, float, Items, no_items, item, Members}
 use Rattle.serde_json.specs.Find.{as_number, as_bool, as_null, as_array, as_object}
+use Rattle.loop_script.specs.Bounds.{longest_tick, longest_time}
 use Rattle.loop_script.specs.Read.{Read, done, misshapen, beyond, ◌>>=◌, optional, nullable}
 use Rattle.loop_script.specs.Number.{number_within, whole, integer_from, integer_within, integer, index, index_or_null, slot, bits, priority, ready_time, count_or, flag_from, flag, flag_or}
 use Rattle.loop_script.specs.Object.{are_among, names, only_among, only, field}
@@ -252,7 +253,7 @@ of_fail_form d s = along (arity 1 d) (of_arity 1 d) s _ (same _)
 
 of_sleep_form : (d : Option Data) → ClearsNone (sleep_form d)
 unfolding sleep_form
-of_sleep_form d s = along (arity 2 d) (of_arity 2 d) s _ (along (whole 0 1000000000000000 (part 1 d)) (of_whole 0 1000000000000000 _) _ _ (same _))
+of_sleep_form d s = along (arity 2 d) (of_arity 2 d) s _ (along (whole 0 longest_time (part 1 d)) (of_whole 0 longest_time _) _ _ (same _))
 
 of_check_form : (d : Option Data) → ClearsNone (check_form d)
 unfolding check_form
@@ -264,7 +265,7 @@ of_pair join d parts h s = along (arity 3 d) (of_arity 3 d) s _ (along (parts 1)
 of_within : (d : Option Data) (parts : ℕ → Read Tree) → ((n : ℕ) → ClearsNone (parts n)) → ClearsNone (within_from d parts)
 of_within d parts h s =
     along (arity 3 d) (of_arity 3 d) s _ (
-    along (whole 0 1000000000000000 (part 1 d)) (of_whole 0 1000000000000000 _) _ _ (
+    along (whole 0 longest_time (part 1 d)) (of_whole 0 longest_time _) _ _ (
     along (parts 2) (h 2) _ _ (same _)))
 
 of_tree_from : (d : Option Data) (parts : ℕ → Read Tree) → ((n : ℕ) → ClearsNone (parts n)) → ClearsNone (tree_from d parts)
@@ -456,7 +457,7 @@ of_plan d s =
     along (only (codes "version" ∷ codes "ticks" ∷ codes "tick_us" ∷ codes "lanes" ∷ codes "cancellables" ∷ codes "fds" ∷ codes "loops" ∷ codes "procs" ∷ []) d) (of_only _ d) s _ (
     along (whole 1 2 (field (codes "version") d)) (of_whole 1 2 _) _ _ (
     along (whole 1 4096 (field (codes "ticks") d)) (of_whole 1 4096 _) _ _ (
-    along (whole 1 1000000000 (field (codes "tick_us") d)) (of_whole 1 1000000000 _) _ _ (
+    along (whole 1 longest_tick (field (codes "tick_us") d)) (of_whole 1 longest_tick _) _ _ (
     along (lanes (field (codes "lanes") d)) (of_lanes _) _ _ (
     along (count_or 256 (field (codes "cancellables") d)) (of_count_or 256 _) _ _ (
     along (rows_or 256 levels (field (codes "fds") d)) (of_rows_or 256 levels of_levels _) _ _ (

@@ -9,23 +9,23 @@ Tick = ℕ
 abbrev pub Microseconds : Type 0
 Microseconds = ℕ
 
--- a lane, context, loop, cancellable or procedure by its number in the script, from 0
+-- a lane by its number in the script, from 0
 abbrev pub LaneNumber : Type 0
 LaneNumber = ℕ
 
--- a context, over all lanes
+-- a context by its number, counted over all lanes, from 0
 abbrev pub ContextNumber : Type 0
 ContextNumber = ℕ
 
--- a loop
+-- a loop by its number, from 0
 abbrev pub LoopNumber : Type 0
 LoopNumber = ℕ
 
--- a cancellable
+-- a cancellable by its number, from 0
 abbrev pub CancellableNumber : Type 0
 CancellableNumber = ℕ
 
--- a procedure
+-- a procedure by its number, from 0
 abbrev pub ProcNumber : Type 0
 ProcNumber = ℕ
 
@@ -33,10 +33,14 @@ ProcNumber = ℕ
 abbrev pub Slot : Type 0
 Slot = ℕ
 
--- a source in its context, or a handler in its lane, from 1
+-- a source in its context, from 1
 abbrev pub SourceId : Type 0
 SourceId = ℕ
 
 -- a handler in its lane, from 1
 abbrev pub HandlerId : Type 0
 HandlerId = ℕ
+
+-- a task of a book, in the order of starting, from 0
+abbrev pub TaskNumber : Type 0
+TaskNumber = ℕ

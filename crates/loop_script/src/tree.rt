@@ -19,9 +19,18 @@ pub enum Node {
     Fail,
     Sleep(u64),
     Check,
-    Seq(Box<TaskTree>, Box<TaskTree>),
-    Both(Box<TaskTree>, Box<TaskTree>),
-    First(Box<TaskTree>, Box<TaskTree>),
+    Seq {
+        first: Box<TaskTree>,
+        next: Box<TaskTree>,
+    },
+    Both {
+        one: Box<TaskTree>,
+        other: Box<TaskTree>,
+    },
+    First {
+        one: Box<TaskTree>,
+        other: Box<TaskTree>,
+    },
     Within(u64, Box<TaskTree>),
 }
 
@@ -55,19 +64,22 @@ impl TaskTree {
             Node::Fail => Node::Fail,
             Node::Sleep(us) => Node::Sleep(*us),
             Node::Check => Node::Check,
-            Node::Seq(a, b) => {
-                let a = Box::new(alloc, a.copy(alloc)?)?;
-                Node::Seq(a, Box::new(alloc, b.copy(alloc)?)?)
+            Node::Seq { first, next } => {
+                let first = Box::new(alloc, first.copy(alloc)?)?;
+                let next = Box::new(alloc, next.copy(alloc)?)?;
+                Node::Seq { first, next }
             }
-            Node::Both(a, b) => {
-                let a = Box::new(alloc, a.copy(alloc)?)?;
-                Node::Both(a, Box::new(alloc, b.copy(alloc)?)?)
+            Node::Both { one, other } => {
+                let one = Box::new(alloc, one.copy(alloc)?)?;
+                let other = Box::new(alloc, other.copy(alloc)?)?;
+                Node::Both { one, other }
             }
-            Node::First(a, b) => {
-                let a = Box::new(alloc, a.copy(alloc)?)?;
-                Node::First(a, Box::new(alloc, b.copy(alloc)?)?)
+            Node::First { one, other } => {
+                let one = Box::new(alloc, one.copy(alloc)?)?;
+                let other = Box::new(alloc, other.copy(alloc)?)?;
+                Node::First { one, other }
             }
-            Node::Within(us, a) => Node::Within(*us, Box::new(alloc, a.copy(alloc)?)?),
+            Node::Within(us, body) => Node::Within(*us, Box::new(alloc, body.copy(alloc)?)?),
         };
         Ok(TaskTree { node })
     }
@@ -108,43 +120,55 @@ impl TaskTree {
         TaskTree { node: Node::Check }
     }
 
-    pub(crate) fn seq(alloc: Global, a: TaskTree, b: TaskTree) -> Result<TaskTree, AllocError>
-        ensures { IfOk result (λ t. t ≡ seq a b) }
+    pub(crate) fn seq(
+        alloc: Global,
+        first: TaskTree,
+        next: TaskTree,
+    ) -> Result<TaskTree, AllocError>
+        ensures { IfOk result (λ t. t ≡ seq first next) }
     {
-        let a = Box::new(alloc, a)?;
-        let b = Box::new(alloc, b)?;
+        let first = Box::new(alloc, first)?;
+        let next = Box::new(alloc, next)?;
         Ok(TaskTree {
-            node: Node::Seq(a, b),
+            node: Node::Seq { first, next },
         })
     }
 
-    pub(crate) fn both(alloc: Global, a: TaskTree, b: TaskTree) -> Result<TaskTree, AllocError>
-        ensures { IfOk result (λ t. t ≡ both a b) }
+    pub(crate) fn both(
+        alloc: Global,
+        one: TaskTree,
+        other: TaskTree,
+    ) -> Result<TaskTree, AllocError>
+        ensures { IfOk result (λ t. t ≡ both one other) }
     {
-        let a = Box::new(alloc, a)?;
-        let b = Box::new(alloc, b)?;
+        let one = Box::new(alloc, one)?;
+        let other = Box::new(alloc, other)?;
         Ok(TaskTree {
-            node: Node::Both(a, b),
+            node: Node::Both { one, other },
         })
     }
 
-    pub(crate) fn first(alloc: Global, a: TaskTree, b: TaskTree) -> Result<TaskTree, AllocError>
-        ensures { IfOk result (λ t. t ≡ first a b) }
+    pub(crate) fn first(
+        alloc: Global,
+        one: TaskTree,
+        other: TaskTree,
+    ) -> Result<TaskTree, AllocError>
+        ensures { IfOk result (λ t. t ≡ first one other) }
     {
-        let a = Box::new(alloc, a)?;
-        let b = Box::new(alloc, b)?;
+        let one = Box::new(alloc, one)?;
+        let other = Box::new(alloc, other)?;
         Ok(TaskTree {
-            node: Node::First(a, b),
+            node: Node::First { one, other },
         })
     }
 
-    pub(crate) fn within(alloc: Global, us: u64, a: TaskTree) -> Result<TaskTree, AllocError>
+    pub(crate) fn within(alloc: Global, us: u64, body: TaskTree) -> Result<TaskTree, AllocError>
         requires { us ≤ longest_time }
-        ensures { IfOk result (λ t. t ≡ within us a) }
+        ensures { IfOk result (λ t. t ≡ within us body) }
     {
-        let a = Box::new(alloc, a)?;
+        let body = Box::new(alloc, body)?;
         Ok(TaskTree {
-            node: Node::Within(us, a),
+            node: Node::Within(us, body),
         })
     }
 
@@ -157,10 +181,10 @@ impl TaskTree {
             return false;
         }
         match &self.node {
-            Node::Seq(a, b) => a.fits(levels - 1) && b.fits(levels - 1),
-            Node::Both(a, b) => a.fits(levels - 1) && b.fits(levels - 1),
-            Node::First(a, b) => a.fits(levels - 1) && b.fits(levels - 1),
-            Node::Within(_, a) => a.fits(levels - 1),
+            Node::Seq { first, next } => first.fits(levels - 1) && next.fits(levels - 1),
+            Node::Both { one, other } => one.fits(levels - 1) && other.fits(levels - 1),
+            Node::First { one, other } => one.fits(levels - 1) && other.fits(levels - 1),
+            Node::Within(_, body) => body.fits(levels - 1),
             _ => true,
         }
     }

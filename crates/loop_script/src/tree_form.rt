@@ -90,9 +90,9 @@ fn read_seq(alloc: Global, value: &Value, faults: &mut Faults) -> Result<TaskTre
     ensures faults { OnOk result (faults.new ≡ after faults.old (seq_form (Some (view value.now)))) }
 {
     check_arity(Some(value), 3, faults);
-    let a = read_tree(alloc, part_of(Some(value), 1), faults)?;
-    let b = read_tree(alloc, part_of(Some(value), 2), faults)?;
-    TaskTree::seq(alloc, a, b)
+    let first = read_tree(alloc, part_of(Some(value), 1), faults)?;
+    let next = read_tree(alloc, part_of(Some(value), 2), faults)?;
+    TaskTree::seq(alloc, first, next)
 }
 
 #[cycle(read_tree)]
@@ -102,9 +102,9 @@ fn read_both(alloc: Global, value: &Value, faults: &mut Faults) -> Result<TaskTr
     ensures faults { OnOk result (faults.new ≡ after faults.old (both_form (Some (view value.now)))) }
 {
     check_arity(Some(value), 3, faults);
-    let a = read_tree(alloc, part_of(Some(value), 1), faults)?;
-    let b = read_tree(alloc, part_of(Some(value), 2), faults)?;
-    TaskTree::both(alloc, a, b)
+    let one = read_tree(alloc, part_of(Some(value), 1), faults)?;
+    let other = read_tree(alloc, part_of(Some(value), 2), faults)?;
+    TaskTree::both(alloc, one, other)
 }
 
 #[cycle(read_tree)]
@@ -114,9 +114,9 @@ fn read_first(alloc: Global, value: &Value, faults: &mut Faults) -> Result<TaskT
     ensures faults { OnOk result (faults.new ≡ after faults.old (first_form (Some (view value.now)))) }
 {
     check_arity(Some(value), 3, faults);
-    let a = read_tree(alloc, part_of(Some(value), 1), faults)?;
-    let b = read_tree(alloc, part_of(Some(value), 2), faults)?;
-    TaskTree::first(alloc, a, b)
+    let one = read_tree(alloc, part_of(Some(value), 1), faults)?;
+    let other = read_tree(alloc, part_of(Some(value), 2), faults)?;
+    TaskTree::first(alloc, one, other)
 }
 
 #[cycle(read_tree)]
@@ -127,6 +127,6 @@ fn read_within(alloc: Global, value: &Value, faults: &mut Faults) -> Result<Task
 {
     check_arity(Some(value), 3, faults);
     let us = whole_number(part_of(Some(value), 1), 0, LONGEST_TIME, faults);
-    let a = read_tree(alloc, part_of(Some(value), 2), faults)?;
-    TaskTree::within(alloc, us, a)
+    let body = read_tree(alloc, part_of(Some(value), 2), faults)?;
+    TaskTree::within(alloc, us, body)
 }

@@ -1,5 +1,6 @@
 -- A task's run as its callers see it.
-use Rattle.std.specs.Prelude.{◌≡◌, ℕ, ◌<◌, ◌≤◌, Bool, true, false, nat_le, Option, Some, None, if◌then◌else◌}
+use Rattle.std.specs.Prelude.{◌≡◌, ◌<◌, ◌≤◌, Bool, true, false, nat_le, Option, Some, None, if◌then◌else◌}
+use Rattle.loop_script.specs.Units.{Tick, Microseconds}
 use Rattle.loop_script.specs.Tree.{Tree}
 use Rattle.loop_script.specs.declared.outcome.Outcome.{Outcome}
 use Rattle.task_steps.specs.declared.stage.Stage.{Stage}
@@ -10,66 +11,66 @@ use Rattle.task_steps.specs.End.{End, end_of, seen}
 -- at which a wait in progress ends
 pub record Run : Type 0 where
   pub tree : Tree
-  pub tick_us : ℕ
+  pub tick_us : Microseconds
   pub stage : Stage
-  pub clear : Option ℕ
-  pub cancelled : Option ℕ
-  pub wake : Option ℕ
+  pub clear : Option Tick
+  pub cancelled : Option Tick
+  pub wake : Option Tick
 
 -- from when on polls see the cancellable as cancelled, as far as the ticks show that were set: later than one that was not cancelled,
 -- and not later than one that was
-abbrev pub IsUnseenTo : Option ℕ → Option ℕ → Type 0
+abbrev pub IsUnseenTo : Option Tick → Option Tick → Type 0
 IsUnseenTo None c = Unit {0}
-IsUnseenTo (Some last) c = (tick : ℕ) → tick ≤ last → seen c tick ≡ false
+IsUnseenTo (Some last) c = (tick : Tick) → tick ≤ last → seen c tick ≡ false
 
 -- a cancellable was seen at this tick at the latest
-abbrev pub IsSeenFrom : Option ℕ → Option ℕ → Type 0
+abbrev pub IsSeenFrom : Option Tick → Option Tick → Type 0
 IsSeenFrom None c = Unit {0}
-IsSeenFrom (Some from) c = (tick : ℕ) → from ≤ tick → seen c tick ≡ true
+IsSeenFrom (Some from) c = (tick : Tick) → from ≤ tick → seen c tick ≡ true
 
 -- the ticks in which a cancellable may have come, by what polls saw
-abbrev pub MayCome : Option ℕ → Option ℕ → Option ℕ → Type 0
+abbrev pub MayCome : Option Tick → Option Tick → Option Tick → Type 0
 MayCome clear cancelled c = IsUnseenTo clear c × IsSeenFrom cancelled c
 
 -- the outcome of an end that has come
-abbrev pub due : ℕ → End → Option Outcome
+abbrev pub due : Tick → End → Option Outcome
 due tick end = if nat_le end.tick tick then Some end.outcome else None
 
 -- it was unseen up to a tick
-abbrev pub IsUpTo : ℕ → Option ℕ → Type 0
+abbrev pub IsUpTo : Tick → Option Tick → Type 0
 IsUpTo tick None = Unit {0}
 IsUpTo tick (Some limit) = tick ≤ limit
 
 -- it is seen only after a tick
-abbrev pub IsAfter : ℕ → Option ℕ → Type 0
+abbrev pub IsAfter : Tick → Option Tick → Type 0
 IsAfter tick None = Unit {0}
 IsAfter tick (Some limit) = tick < limit
 
 -- a tick in which the run may be polled next: later ones than before, that pass over no wake
-abbrev pub MaySet : ℕ → Stage → Option ℕ → Type 0
+abbrev pub MaySet : Tick → Stage → Option Tick → Type 0
 MaySet tick Fresh wake = Unit {0}
 MaySet tick (Set begun at) wake = ⊥
 MaySet tick (Polled begun at) wake = at < tick × IsUpTo tick wake
 MaySet tick Done wake = ⊥
 
 -- the stage at a tick
-abbrev pub set_to : ℕ → Stage → Stage
+abbrev pub set_to : Tick → Stage → Stage
 set_to tick Fresh = Set tick tick
 set_to tick (Set begun at) = Set begun tick
 set_to tick (Polled begun at) = Set begun tick
 set_to tick Done = Done
 
 -- from which tick on it was seen
-abbrev pub seen_from : ℕ → Bool → Option ℕ → Option ℕ
+abbrev pub seen_from : Tick → Bool → Option Tick → Option Tick
 seen_from tick cancelled (Some from) = Some from
 seen_from tick cancelled None = if cancelled then Some tick else None
 
 -- up to which tick it was not
-abbrev pub clear_to : ℕ → Bool → Option ℕ → Option ℕ
+abbrev pub clear_to : Tick → Bool → Option Tick → Option Tick
 clear_to tick cancelled clear = if cancelled then clear else Some tick
 
 -- a flag that stays once set
-abbrev pub StaysSet : Option ℕ → Bool → Type 0
+abbrev pub StaysSet : Option Tick → Bool → Type 0
 StaysSet None cancelled = Unit {0}
 StaysSet (Some from) cancelled = cancelled ≡ true
 
@@ -84,7 +85,7 @@ IsSet Done = ⊥
 abbrev pub IsAnswered : Stage → Run → Option Outcome → Type 0
 IsAnswered Fresh r result = Unit {0}
 IsAnswered (Set begun tick) r result =
-    (c : Option ℕ) → MayCome r.clear r.cancelled c
+    (c : Option Tick) → MayCome r.clear r.cancelled c
     → (result ≡ due tick (end_of r.tick_us r.tree begun c)) × (tick ≤ (end_of r.tick_us r.tree begun c).tick)
 IsAnswered (Polled begun tick) r result = Unit {0}
 IsAnswered Done r result = Unit {0}
@@ -102,12 +103,12 @@ stage_after (Polled begun tick) None = Polled begun tick
 stage_after Done None = Done
 
 -- a wake after a tick
-abbrev pub IsLater : ℕ → Option ℕ → Type 0
+abbrev pub IsLater : Tick → Option Tick → Type 0
 IsLater tick None = ⊥
 IsLater tick (Some wake) = tick < wake
 
 -- a wake comes after the last poll
-abbrev pub wakes_later : Stage → Option ℕ → Type 0
+abbrev pub wakes_later : Stage → Option Tick → Type 0
 wakes_later Fresh wake = Unit {0}
 wakes_later (Set begun tick) wake = Unit {0}
 wakes_later (Polled begun tick) wake = IsLater tick wake
@@ -118,13 +119,13 @@ abbrev pub WakesLater : Run → Type 0
 WakesLater r = wakes_later r.stage r.wake
 
 -- no poll before the wake gives anything
-abbrev pub none_before : Stage → Run → ℕ → Type 0
+abbrev pub none_before : Stage → Run → Tick → Type 0
 none_before Fresh r wake = Unit {0}
 none_before (Set begun tick) r wake = Unit {0}
-none_before (Polled begun tick) r wake = (c : Option ℕ) → MayCome r.clear r.cancelled c → wake ≤ (end_of r.tick_us r.tree begun c).tick
+none_before (Polled begun tick) r wake = (c : Option Tick) → MayCome r.clear r.cancelled c → wake ≤ (end_of r.tick_us r.tree begun c).tick
 none_before Done r wake = Unit {0}
 
 -- no end that may still come is before the wake
-abbrev pub NoneBefore : Run → Option ℕ → Type 0
+abbrev pub NoneBefore : Run → Option Tick → Type 0
 NoneBefore r None = Unit {0}
 NoneBefore r (Some wake) = none_before r.stage r wake

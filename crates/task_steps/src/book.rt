@@ -73,13 +73,15 @@ impl Model for TaskBook {
 impl TaskBook {
     ghost use Rattle.task_steps.specs.Book.{with_task, exhausted, IsStart, IsNext, HasGrown, MayComeToAll, all_noticed, replies_in, late_in, goes_on, wake_under, IsQuietTo, IsIdle, passed, OwesNone, IsAsPolled};
     ghost use Rattle.cancel_view.specs.Seen.{Seen};
+    ghost use Rattle.loop_script.specs.Bounds.{longest_tick, count_end};
+    ghost use Rattle.loop_script.specs.Units.{Tick, TaskNumber};
     ghost use Rattle.task_steps.specs.Run.{IsUpTo, IsAfter};
     ghost use Rattle.task_steps.specs.RunInside.{IsBy};
 
     /// A book with no task, for ticks of so many microseconds.
     pub fn new(alloc: Global, tick_us: u64) -> TaskBook
         requires some { 0 < tick_us }
-        requires short { tick_us ≤ 1000000000 }
+        requires short { tick_us ≤ longest_tick }
         ensures { result ≡ record { tick_us = tick_us; tasks = []; next = 0; last = None; wake = None; spent = false } }
     {
         TaskBook {
@@ -96,7 +98,7 @@ impl TaskBook {
     /// tick. After `OutOfMemory` the book is spent.
     #[tactic(auto, using(crate::proofs::Waiting::spent_forgets))]
     pub fn start(&mut self, spec: &TaskSpec, ctx: u32, tick: u32) -> Result<u64, BookFault>
-        requires room { self.old.next < 2 ^ 63 }
+        requires room { self.old.next < count_end }
         requires tick { tick < 2 ^ 31 }
         requires last { IsStart tick self.old.last }
         ensures number { IfOk result (λ n. n ≡ self.old.next) }
@@ -118,7 +120,7 @@ impl TaskBook {
     /// Adds a task to a book that is not spent.
     #[tactic(auto, using(crate::proofs::Waiting::waiting_added, crate::proofs::Waiting::map_added, crate::proofs::PollAll::wake_added))]
     fn add(&mut self, spec: &TaskSpec, ctx: u32, tick: u32) -> Result<(), AllocError>
-        requires room { self.old.next < 2 ^ 63 }
+        requires room { self.old.next < count_end }
         requires tick { tick < 2 ^ 31 }
         requires last { IsStart tick self.old.last }
         requires goes_on { self.old.spent ≡ false }
@@ -148,11 +150,11 @@ impl TaskBook {
         requires last { IsNext tick self.old.last }
         requires wake { IsUpTo tick self.old.wake }
         requires view { HasGrown view.now self.old.tasks }
-        ensures replies { (c : ℕ → Option ℕ) → MayComeToAll c (all_noticed tick view.now self.old.tasks)
+        ensures replies { (c : TaskNumber → Option Tick) → MayComeToAll c (all_noticed tick view.now self.old.tasks)
             → IfOk result (λ p. p.replies ≡ replies_in tick c (all_noticed tick view.now self.old.tasks)) }
-        ensures late { (c : ℕ → Option ℕ) → MayComeToAll c (all_noticed tick view.now self.old.tasks)
+        ensures late { (c : TaskNumber → Option Tick) → MayComeToAll c (all_noticed tick view.now self.old.tasks)
             → IfOk result (λ p. p.late ≡ late_in tick c (all_noticed tick view.now self.old.tasks)) }
-        ensures tasks { (c : ℕ → Option ℕ) → MayComeToAll c (all_noticed tick view.now self.old.tasks)
+        ensures tasks { (c : TaskNumber → Option Tick) → MayComeToAll c (all_noticed tick view.now self.old.tasks)
             → OnOk result (self.new.tasks ≡ filter (goes_on tick c) (all_noticed tick view.now self.old.tasks)) }
         ensures rest { OnOk result (self.new ≡ record self.old { tasks = self.new.tasks; last = Some tick; wake = self.new.wake }) }
         ensures wake { OnOk result (IsAfter tick self.new.wake) }
@@ -188,7 +190,7 @@ impl TaskBook {
         requires wake { IsAfter tick self.old.wake }
         requires goes_on { self.old.spent ≡ false }
         ensures passed { self.new ≡ passed tick self.old }
-        ensures idle { (view : Seen) (c : ℕ → Option ℕ) → OwesNone view self.old.tasks → MayComeToAll c (all_noticed tick view self.old.tasks)
+        ensures idle { (view : Seen) (c : TaskNumber → Option Tick) → OwesNone view self.old.tasks → MayComeToAll c (all_noticed tick view self.old.tasks)
             → IsIdle tick c self.old.tasks }
         ensures same { (view : Seen) → OwesNone view self.old.tasks → IsAsPolled tick view self.old.tasks }
     {

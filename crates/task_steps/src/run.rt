@@ -40,13 +40,14 @@ impl Model for TaskRun {
 }
 
 impl TaskRun {
+    ghost use Rattle.loop_script.specs.Bounds.{longest_tick};
     ghost use Rattle.task_steps.specs.Run.{MaySet, StaysSet, IsSet, Answered, WakesLater, NoneBefore, set_to, seen_from, clear_to, stage_after};
     ghost use Rattle.task_steps.specs.declared.stage.Stage.TheVariants.{Fresh, Done};
 
     /// A task that no poll has begun, with all the memory that it will take; a tick is so many microseconds long.
     pub fn new(alloc: Global, tree: &TaskTree, tick_us: u64) -> Result<TaskRun, AllocError>
         requires some { 0 < tick_us }
-        requires short { tick_us ≤ 1000000000 }
+        requires short { tick_us ≤ longest_tick }
         ensures { IfOk result (λ r. r ≡ record { tree = tree.now; tick_us = tick_us; stage = Fresh; clear = None; cancelled = None; wake = None }) }
     {
         let steps = Steps::of(alloc, tree, tick_us)?;

@@ -1,5 +1,6 @@
 //! A task's tree as steps that are polled.
 ghost use Rattle.std.specs.Prelude.{◌≡◌, ◌+◌, ◌<◌, ◌≤◌, IfOk};
+ghost use Rattle.loop_script.specs.Bounds.{longest_tick};
 ghost use Rattle.task_steps.specs.End.{both_of};
 ghost use Rattle.task_steps.specs.Rest.{Polled, InTime, StandsFor, wake_of, sooner};
 
@@ -23,9 +24,19 @@ pub(crate) enum Steps {
     Fail,
     Sleep(Time),
     Check,
-    Seq(Box<Steps>, Box<Steps>),
-    Both(Over, Box<Steps>, Box<Steps>),
-    First(Box<Steps>, Box<Steps>),
+    Seq {
+        first: Box<Steps>,
+        next: Box<Steps>,
+    },
+    Both {
+        over: Over,
+        one: Box<Steps>,
+        other: Box<Steps>,
+    },
+    First {
+        one: Box<Steps>,
+        other: Box<Steps>,
+    },
     Within(Time, Box<Steps>),
 }
 
@@ -54,7 +65,7 @@ impl Steps {
     /// The steps of a tree of which nothing is begun.
     pub(crate) fn of(alloc: Global, tree: &TaskTree, tick_us: u64) -> Result<Steps, AllocError>
         requires some { 0 < tick_us }
-        requires short { tick_us ≤ 1000000000 }
+        requires short { tick_us ≤ longest_tick }
         ensures { IfOk result (λ s. StandsFor tick_us tree.now s) }
     {
         match &tree.node {
@@ -62,24 +73,28 @@ impl Steps {
             Node::Fail => Ok(Steps::Fail),
             Node::Sleep(us) => Ok(Steps::Sleep(wait_of(*us, tick_us))),
             Node::Check => Ok(Steps::Check),
-            Node::Seq(a, b) => {
-                let a = Box::new(alloc, Steps::of(alloc, a, tick_us)?)?;
-                let b = Box::new(alloc, Steps::of(alloc, b, tick_us)?)?;
-                Ok(Steps::Seq(a, b))
+            Node::Seq { first, next } => {
+                let first = Box::new(alloc, Steps::of(alloc, first, tick_us)?)?;
+                let next = Box::new(alloc, Steps::of(alloc, next, tick_us)?)?;
+                Ok(Steps::Seq { first, next })
             }
-            Node::Both(a, b) => {
-                let a = Box::new(alloc, Steps::of(alloc, a, tick_us)?)?;
-                let b = Box::new(alloc, Steps::of(alloc, b, tick_us)?)?;
-                Ok(Steps::Both(Over::Neither, a, b))
+            Node::Both { one, other } => {
+                let one = Box::new(alloc, Steps::of(alloc, one, tick_us)?)?;
+                let other = Box::new(alloc, Steps::of(alloc, other, tick_us)?)?;
+                Ok(Steps::Both {
+                    over: Over::Neither,
+                    one,
+                    other,
+                })
             }
-            Node::First(a, b) => {
-                let a = Box::new(alloc, Steps::of(alloc, a, tick_us)?)?;
-                let b = Box::new(alloc, Steps::of(alloc, b, tick_us)?)?;
-                Ok(Steps::First(a, b))
+            Node::First { one, other } => {
+                let one = Box::new(alloc, Steps::of(alloc, one, tick_us)?)?;
+                let other = Box::new(alloc, Steps::of(alloc, other, tick_us)?)?;
+                Ok(Steps::First { one, other })
             }
-            Node::Within(us, a) => {
-                let a = Box::new(alloc, Steps::of(alloc, a, tick_us)?)?;
-                Ok(Steps::Within(wait_of(*us, tick_us), a))
+            Node::Within(us, body) => {
+                let body = Box::new(alloc, Steps::of(alloc, body, tick_us)?)?;
+                Ok(Steps::Within(wait_of(*us, tick_us), body))
             }
         }
     }
@@ -93,13 +108,13 @@ impl Steps {
             Steps::Fail => None,
             Steps::Sleep(time) => time.wake(),
             Steps::Check => None,
-            Steps::Seq(a, _) => a.next_wake(),
-            Steps::Both(over, a, b) => match *over {
-                Over::Neither => sooner(a.next_wake(), b.next_wake()),
-                Over::First(_) => b.next_wake(),
-                Over::Second(_) => a.next_wake(),
+            Steps::Seq { first, .. } => first.next_wake(),
+            Steps::Both { over, one, other } => match *over {
+                Over::Neither => sooner(one.next_wake(), other.next_wake()),
+                Over::First(_) => other.next_wake(),
+                Over::Second(_) => one.next_wake(),
             },
-            Steps::First(a, b) => sooner(a.next_wake(), b.next_wake()),
+            Steps::First { one, other } => sooner(one.next_wake(), other.next_wake()),
             Steps::Within(limit, body) => sooner(limit.wake(), body.next_wake()),
         }
     }
@@ -127,37 +142,41 @@ impl Steps {
                     Some(Outcome::Ok(0))
                 }
             }
-            Steps::Seq(a, b) => match a.poll(tick, cancelled) {
+            Steps::Seq { first, next } => match first.poll(tick, cancelled) {
                 None => None,
                 Some(Outcome::Ok(_)) => {
-                    let outcome = b.poll(tick, cancelled);
-                    let next = std::mem::replace(&mut **b, Steps::Fail);
-                    *self = next;
+                    let outcome = next.poll(tick, cancelled);
+                    let rest = std::mem::replace(&mut **next, Steps::Fail);
+                    *self = rest;
                     outcome
                 }
                 Some(outcome) => Some(outcome),
             },
-            Steps::Both(over, a, b) => match *over {
-                Over::Neither => match (a.poll(tick, cancelled), b.poll(tick, cancelled)) {
+            Steps::Both { over, one, other } => match *over {
+                Over::Neither => match (one.poll(tick, cancelled), other.poll(tick, cancelled)) {
                     (None, None) => None,
                     (Some(first), None) => {
                         *over = Over::First(first);
-                        **a = Steps::Fail;
+                        **one = Steps::Fail;
                         None
                     }
                     (None, Some(second)) => {
                         *over = Over::Second(second);
-                        **b = Steps::Fail;
+                        **other = Steps::Fail;
                         None
                     }
                     (Some(first), Some(second)) => Some(both_of(first, second)),
                 },
-                Over::First(first) => b.poll(tick, cancelled).map(|second| both_of(first, second)),
-                Over::Second(second) => a.poll(tick, cancelled).map(|first| both_of(first, second)),
+                Over::First(first) => other
+                    .poll(tick, cancelled)
+                    .map(|second| both_of(first, second)),
+                Over::Second(second) => one
+                    .poll(tick, cancelled)
+                    .map(|first| both_of(first, second)),
             },
-            Steps::First(a, b) => match a.poll(tick, cancelled) {
+            Steps::First { one, other } => match one.poll(tick, cancelled) {
                 Some(outcome) => Some(outcome),
-                None => b.poll(tick, cancelled),
+                None => other.poll(tick, cancelled),
             },
             Steps::Within(limit, body) => {
                 let limit = limit.begin(tick);

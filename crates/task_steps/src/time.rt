@@ -1,11 +1,12 @@
 //! Moments that a step waits for.
 ghost use Rattle.std.specs.Prelude.{◌≡◌, ◌+◌, ◌<◌, ◌≤◌};
+ghost use Rattle.loop_script.specs.Bounds.{longest_tick, longest_time};
 
 /// How many ticks a step waits from the one in which it is begun.
 #[derive(Clone, Copy)]
 pub(crate) struct Span {
     pub ticks: u64,
-    pub ghost short: { ticks ≤ 1000001000000000 },
+    pub ghost short: { ticks ≤ longest_time + longest_tick },
 }
 
 /// When a wait ends.

@@ -1,4 +1,4 @@
-use Rattle.std.proofs.Common.{◌≡◌, ℕ, Option, false, map, subst, sym}
+use Rattle.std.proofs.Common.{◌≡◌, false, map, subst, sym}
 use Rattle.task_steps.specs.Book.{Book, IsNext, IsIdle, IsAsPolled, OwesNone, MayComeToAll, all_noticed}
 use Rattle.task_steps.specs.BookInside.{wake_of_all}
 use Rattle.task_steps.specs.Run.{IsAfter}
