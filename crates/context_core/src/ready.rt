@@ -90,6 +90,22 @@ fn is_listed(id: u64, busy: &[u64]) -> bool
     busy.iter().any(|b| *b == id)
 }
 
+/// Whether an id of a lineage is listed. A lineage is filled up with its last id, which is looked for once.
+fn has_listed(lineage: &[u64], busy: &[u64]) -> bool
+    ensures { result ≡ list_any (λ id. list_any (λ b. b == id) busy.now) lineage.now }
+{
+    let mut last = None;
+    for id in lineage {
+        if last != Some(*id) {
+            if is_listed(*id, busy) {
+                return true;
+            }
+            last = Some(*id);
+        }
+    }
+    false
+}
+
 /// Whether a call of a source, or of one above it, is in progress.
 fn is_blocked(row: &Row, busy: &[u64]) -> bool
     ensures { result ≡ is_blocked busy.now row.now }
@@ -97,7 +113,7 @@ fn is_blocked(row: &Row, busy: &[u64]) -> bool
     if busy.is_empty() {
         return false;
     }
-    row.lineage.iter().any(|id| is_listed(*id, busy))
+    has_listed(&row.lineage, busy)
 }
 
 /// Whether no call of a source, or of one above it, is in progress.
