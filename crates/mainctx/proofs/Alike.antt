@@ -3,7 +3,7 @@ use Rattle.std.proofs.Common.{◌≡◌, ℕ, List, [], ◌++◌, Option, Some, 
 use Rattle.std.proofs.lemmas.List.{append_cancel_left}
 use Rattle.std.specs.Io.KnownBytes.{Appends, Keeps}
 use Rattle.mainctx.specs.Writing.{GrowAlike}
-use Rattle.mainctx.specs.Run.{Writes, IsTextOf, HoldsText}
+use Rattle.mainctx.specs.Run.{Writes, HoldsText}
 use Rattle.mainctx.specs.Text.{text_of}
 
 -- nothing more is held
@@ -48,7 +48,6 @@ holds_text bytes old new held holds writes alike =
     let same : alike.bytes ≡ text_of writes.script = append_cancel_left old alike.bytes (text_of writes.script) (sym alike.told ∙ writes.gained) in
     record { script = writes.script; read = writes.read; gained = subst (Appends held holds) same alike.known }
 
-pub holds_made : (bytes text slice old new : List ℕ) (held holds : Option (List ℕ)) → IsTextOf bytes text → slice ≡ text → new ≡ old ++ slice → GrowAlike old new held holds → HoldsText bytes held holds
-holds_made bytes text slice old new held holds made same whole alike =
-    let writes : Writes bytes old new = record { script = made.script; read = made.read; gained = whole ∙ ap (λ (t : List ℕ). old ++ t) (same ∙ made.made) } in
-    holds_text bytes old new held holds writes alike
+-- what grew alike twice grew alike
+pub alike_then : (old now new : List ℕ) (held has holds : Option (List ℕ)) → GrowAlike old now held has → GrowAlike now new has holds → GrowAlike old new held holds
+alike_then old now new held has holds first next = alike_more old now new held has holds next.bytes first next.told next.known

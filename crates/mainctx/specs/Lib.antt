@@ -5,3 +5,4 @@ pub mod Run
 pub mod Serving
 pub mod Laws
 pub mod LastDispatch
+pub mod Ended

@@ -49,12 +49,6 @@ IsSetup steps.Table fault = fault ≡ faults.Setup steps.Table
 IsSetup steps.OutOfMemory fault = fault ≡ faults.OutOfMemory
 IsSetup steps.Spent fault = fault ≡ faults.OutOfMemory
 
--- the text of the script of the bytes
-pub record IsTextOf (bytes text : List ℕ) : Type 0 where
-  pub script : Plan
-  pub read : IsScriptOf bytes script
-  pub made : text ≡ text_of script
-
 -- the workers can share the lanes of the script of the bytes
 pub record IsCrewFor (bytes : List ℕ) (workers : ℕ) (sharing : Sharing) : Type 0 where
   pub script : Plan

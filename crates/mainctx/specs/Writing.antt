@@ -26,3 +26,9 @@ pub record GrowAlike (old new : List ℕ) (held holds : Option (List ℕ)) : Typ
   pub bytes : List ℕ
   pub told : new ≡ old ++ bytes
   pub known : Appends held holds bytes
+
+-- of some bytes that waited and some more a front was taken, and the rest waits
+pub record PassesOn (old new waited waits more : List ℕ) : Type 0 where
+  pub front : List ℕ
+  pub whole : front ++ waits ≡ waited ++ more
+  pub added : new ≡ old ++ front

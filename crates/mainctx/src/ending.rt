@@ -1,7 +1,7 @@
 //! Texts that are written from their ends: each part before those that follow it.
-ghost use Rattle.std.specs.Prelude.{◌≡◌, ◌+◌, ◌≤◌, ◌++◌, codes, drop, length};
+ghost use Rattle.std.specs.Prelude.{◌≡◌, ◌+◌, ◌≤◌, ◌++◌, [], codes, drop, length};
 ghost use Rattle.std.specs.Fmt.{decimal, signed_decimal};
-ghost use Rattle.mainctx.specs.Text.{event_text, outcome_text, line_text, truth_text};
+ghost use Rattle.mainctx.specs.Text.{event_text, lane_text, outcome_text, line_text, truth_text};
 
 use crate::words::{action_word, invoked_word};
 use itoa::write_digits;
@@ -188,4 +188,13 @@ pub(crate) fn put_line(bytes: &mut [u8; ROOM], line: Line) -> usize
     let at = put_event(bytes, at, line.event);
     let at = put(bytes, at, " ");
     put_number(bytes, at, u64::from(line.tick))
+}
+
+/// Writes a lane's heading at the end, and answers where it starts.
+pub(crate) fn put_heading(bytes: &mut [u8; ROOM], lane: u32) -> usize
+    ensures within { result ≤ 256 }
+    ensures written { drop result bytes.new ≡ lane_text lane [] }
+{
+    let at = put(bytes, ROOM, "\n");
+    put_numbered(bytes, at, "thread ", u64::from(lane))
 }

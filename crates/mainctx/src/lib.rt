@@ -2,10 +2,13 @@
 #![tactic(auto)]
 
 mod arguments;
+mod buffer;
+mod ended;
 mod ending;
 mod input;
 mod last_dispatch;
 mod laws;
+mod printed;
 mod run;
 mod status;
 mod text;

@@ -98,15 +98,15 @@ impl<W: Write> Out for OverWrite<W> {
     }
 }
 
-/// Writes the whole text and flushes. It stops at the first failure, with a front of the text taken.
-pub(crate) fn write_whole<W: Out>(out: &mut W, text: &[u8]) -> Result<(), OutFault>
-    ensures whole { OnOk result (W.taken out.new ≡ W.taken out.old ++ text.now) }
+/// Writes all bytes. It stops at the first failure, with a prefix of them taken.
+pub(crate) fn write_all<W: Out>(out: &mut W, bytes: &[u8]) -> Result<(), OutFault>
+    ensures whole { OnOk result (W.taken out.new ≡ W.taken out.old ++ bytes.now) }
     ensures clean { OnOk result (W.failures out.new ≡ W.failures out.old) }
-    ensures front { OnErr result (AddsFront (W.taken out.old) (W.taken out.new) text.now) }
+    ensures front { OnErr result (AddsFront (W.taken out.old) (W.taken out.new) bytes.now) }
     ensures failed { OnErr result (W.failures out.old < W.failures out.new) }
     ensures known { GrowAlike (W.taken out.old) (W.taken out.new) (W.contents out.old) (W.contents out.new) }
 {
-    let mut rest = text;
+    let mut rest = bytes;
     'rest: while !rest.is_empty() {
         let n = out.write(rest)?;
         if n == 0 {
@@ -114,5 +114,5 @@ pub(crate) fn write_whole<W: Out>(out: &mut W, text: &[u8]) -> Result<(), OutFau
         }
         rest = &rest[n..];
     }
-    out.flush()
+    Ok(())
 }

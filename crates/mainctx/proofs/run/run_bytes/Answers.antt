@@ -1,7 +1,8 @@
-use Rattle.mainctx.proofs.Alike.{holds_made}
+use Rattle.mainctx.specs.Run.{Writes}
+use Rattle.mainctx.proofs.Alike.{holds_text}
 use Rattle.mainctx.proofs.run.run_bytes.Goals as goal
 
 pub returns-in-Ok-clause-holds : goal.returns-in-Ok-clause-holds
 returns-in-Ok-clause-holds g c =
-    let made = c.in_ok-text.ensures.text in
-    holds_made _ _ _ _ _ _ _ made c.as_slice.ensures.value c.in-Ok.ensures.whole c.write_whole.ensures.known
+    let writes : Writes c.args.bytes.now (g.W.Out.taken c.args.out.now) (g.W.Out.taken c.write.new.out) = record { script = c.in_ok-ended.ended; read = c.in_ok-ended.ensures.script; gained = c.in-Ok.ensures.whole } in
+    holds_text _ _ _ _ _ writes c.write.ensures.known

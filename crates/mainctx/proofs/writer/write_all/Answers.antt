@@ -2,7 +2,7 @@ use Rattle.std.proofs.Common.{take, arith}
 use Rattle.std.proofs.lemmas.Grind.{common_steps}
 use Rattle.mainctx.proofs.Fronts.{left_more}
 use Rattle.mainctx.proofs.Alike.{alike_more}
-use Rattle.mainctx.proofs.writer.write_whole.Goals as goal
+use Rattle.mainctx.proofs.writer.write_all.Goals as goal
 
 pub rest-preserved : goal.rest-preserved
 rest-preserved g c = record {
