@@ -1,4 +1,3 @@
-pub mod Units
 pub mod Ready
 pub mod Phases
 pub mod Lending

@@ -8,8 +8,7 @@ use Rattle.source_rows.specs.Rows.{in_order, next_ready}
 use Rattle.context_core.specs.declared.interest.Interest.{Interest}
 use Rattle.context_core.specs.declared.interest.Shown.{Shown}
 use Rattle.context_core.specs.Ready.{own_ready, ready_rows, is_free}
-use Rattle.loop_script.specs.Units.{Microseconds, CancellableNumber, SourceId}
-use Rattle.context_core.specs.Units.{Descriptor, Bits}
+use Rattle.loop_script.specs.Units.{Microseconds, CancellableNumber, Descriptor, Bits, SourceId}
 
 -- ---- prepare
 

@@ -6,8 +6,7 @@ use Rattle.loop_script.specs.declared.source.Kind.TheVariants.{Idle, Timeout, Re
 use Rattle.source_rows.specs.declared.row.Row.{Row}
 use Rattle.cancel_view.specs.Seen.{Seen, has}
 use Rattle.source_rows.specs.Rows.{in_order, is_under}
-use Rattle.loop_script.specs.Units.{Microseconds, CancellableNumber, SourceId}
-use Rattle.context_core.specs.Units.{Descriptor, Bits}
+use Rattle.loop_script.specs.Units.{Microseconds, CancellableNumber, Descriptor, Bits, SourceId}
 
 -- ---- what makes a source ready by itself
 

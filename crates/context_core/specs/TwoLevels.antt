@@ -1,5 +1,5 @@
 -- What is dispatched next where each source is a root, or a child of one and has no children.
-use Rattle.std.specs.Prelude.{◌≡◌, ℕ, ◌==◌, ◌&&◌, ◌||◌, Bool, false, not, Option, Some, None, List, map, filter}
+use Rattle.std.specs.Prelude.{◌≡◌, ◌==◌, ◌&&◌, ◌||◌, Bool, false, not, Option, Some, None, List, map, filter}
 use Rattle.std.specs.List.{AllByRecursion, list_any}
 use Rattle.source_rows.specs.declared.row.Row.{Row}
 use Rattle.source_rows.specs.Tree.{IsForest, parent_of}
@@ -47,9 +47,9 @@ is_above_blocked busy (Some above) = is_blocked busy above
 -- what blocks a source, by its parents; and at two levels
 pub record LevelLaws : Type 0 where
   -- at any level: a call of the source blocks it, and so does what blocks its parent
-  pub by_parents : (rows : List Row) → IsForest rows → (busy : List ℕ) → AllByRecursion (λ r. is_blocked busy r ≡ (is_above_blocked busy (parent_of rows r.parent) || is_busy busy r.id)) rows
+  pub by_parents : (rows : List Row) → IsForest rows → (busy : List SourceId) → AllByRecursion (λ r. is_blocked busy r ≡ (is_above_blocked busy (parent_of rows r.parent) || is_busy busy r.id)) rows
   -- at two levels: a call of the source, or of its parent
-  pub blocked : (rows : List Row) → IsForest rows → IsWithinLevels 2 rows → (busy : List ℕ) → AllByRecursion (λ r. is_blocked busy r ≡ is_blocked_at_two busy r) rows
+  pub blocked : (rows : List Row) → IsForest rows → IsWithinLevels 2 rows → (busy : List SourceId) → AllByRecursion (λ r. is_blocked busy r ≡ is_blocked_at_two busy r) rows
   -- at two levels a child that calls lends its readiness to its parent
-  pub ready : (rows : List Row) → IsForest rows → IsWithinLevels 2 rows → (own : Own) (busy : List ℕ) → AllByRecursion (λ r. is_ready own busy rows r ≡ is_ready_at_two own busy rows r) rows
-  pub selected : (rows : List Row) → IsForest rows → IsWithinLevels 2 rows → (own : Own) (busy : List ℕ) → selected own busy rows ≡ selected_at_two own busy rows
+  pub ready : (rows : List Row) → IsForest rows → IsWithinLevels 2 rows → (own : Own) (busy : List SourceId) → AllByRecursion (λ r. is_ready own busy rows r ≡ is_ready_at_two own busy rows r) rows
+  pub selected : (rows : List Row) → IsForest rows → IsWithinLevels 2 rows → (own : Own) (busy : List SourceId) → selected own busy rows ≡ selected_at_two own busy rows

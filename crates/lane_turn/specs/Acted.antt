@@ -23,7 +23,7 @@ use Rattle.post_office.specs.declared.letter.Body.{Body as Mail}
 use Rattle.post_office.specs.declared.letter.Body.TheVariants as mails
 use Rattle.lane_watch.specs.Watch.{starting}
 use Rattle.lane_turn.specs.Lane.{Lane, written, pushed, set_running, context_at, edited, place_at, handler_at, row_at, next_place, set_slot, viewing, noting, chosen, is_any, iterating}
-use Rattle.loop_script.specs.Units.{Tick, Microseconds, ContextNumber, LoopNumber, CancellableNumber, ProcNumber, Slot, SourceId, HandlerId}
+use Rattle.loop_script.specs.Units.{Tick, Microseconds, ContextNumber, LoopNumber, CancellableNumber, ProcNumber, Slot, SourceId, HandlerId, Priority}
 
 -- an action that found nothing to act on
 abbrev pub missed : Tick → Word → Lane → Lane
@@ -76,7 +76,7 @@ abbrev pub set_ready : Tick → Slot → ℤ → Lane → Lane
 set_ready tick slot us lane = on_source tick words.SetReady (λ id. ready_set id us) (place_at slot lane) lane
 
 -- a priority of a source that is there and no child
-abbrev pub set_priority_of : Tick → ℤ → Option Place → Lane → Lane
+abbrev pub set_priority_of : Tick → Priority → Option Place → Lane → Lane
 set_priority_of tick priority None lane = missed tick words.SetPriority lane
 set_priority_of tick priority (Some place) lane =
     if is_none (priority_fault (row_at place lane))
@@ -84,7 +84,7 @@ set_priority_of tick priority (Some place) lane =
     else missed tick words.SetPriority lane
 
 -- the source of a slot gets a priority, and all that are under it get it too
-abbrev pub set_priority : Tick → Slot → ℤ → Lane → Lane
+abbrev pub set_priority : Tick → Slot → Priority → Lane → Lane
 set_priority tick slot priority lane = set_priority_of tick priority (place_at slot lane) lane
 
 -- an iteration of a context begins, whose `iterate` is told whether anything was selected; of another lane's it is told false

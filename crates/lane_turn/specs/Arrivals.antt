@@ -1,5 +1,5 @@
 -- Which lane has which context, and what its letters attach there.
-use Rattle.std.specs.Prelude.{◌≡◌, ℕ, ◌<◌, ◌==◌, Bool, false, Option, Some, None, is_some, List, [], ◌∷◌, ◌+◌, ◌++◌, map, length, if◌then◌else◌}
+use Rattle.std.specs.Prelude.{◌≡◌, ◌<◌, ◌==◌, Bool, false, Option, Some, None, is_some, List, [], ◌∷◌, ◌+◌, ◌++◌, map, length, if◌then◌else◌}
 use Rattle.std.specs.List.{filter_map, range_with_len}
 use Rattle.loop_script.specs.declared.plan.Plan.{Plan}
 use Rattle.loop_script.specs.Parts.{home_of}
@@ -14,14 +14,14 @@ use Rattle.lane_turn.specs.declared.line.Event.TheVariants as events
 use Rattle.lane_turn.specs.Lane.{Lane, context_at}
 use Rattle.lane_turn.specs.Deliver.{received_all}
 use Rattle.lane_turn.specs.Tick.{lanes_at}
-use Rattle.loop_script.specs.Units.{ContextNumber, SourceId}
+use Rattle.loop_script.specs.Units.{Tick, LaneNumber, ContextNumber, SourceId}
 
 -- of each context of the script, whether it is the lane's
 abbrev pub held_of : List (Option Context) → List Bool
 held_of contexts = map is_some contexts
 
 -- whether the script gives a context to a lane
-abbrev pub is_home : Plan → (context lane : ℕ) → Bool
+abbrev pub is_home : Plan → ContextNumber → LaneNumber → Bool
 is_home script context lane = home_of script context == lane
 
 -- whether a letter attaches a source to a context
@@ -44,17 +44,17 @@ abbrev pub arrivals : ContextNumber → List Line → List SourceId
 arrivals context lines = filter_map (λ line. arrival_of context line.event) lines
 
 -- the ids that the letters for a context get: each the next one
-abbrev pub ids_for : (context next : ℕ) → List Letter → List ℕ
+abbrev pub ids_for : ContextNumber → SourceId → List Letter → List SourceId
 ids_for context next [] = []
 ids_for context next (letter ∷ letters) = if is_for context letter then next ∷ ids_for context (next + 1) letters else ids_for context next letters
 
 -- each letter that attaches is attached once, by the lane that has its context
 pub record LettersArrive : Type 0 where
   -- at each tick a context is the lane's to which the script gives it, and no other's
-  pub held : (script : Plan) (tick context : ℕ) → context < (sizes script).contexts → map (λ lane. is_some (context_at context lane)) (lanes_at script tick) ≡ map (is_home script context) (range_with_len 0 (length script.lanes))
+  pub held : (script : Plan) (tick : Tick) (context : ContextNumber) → context < (sizes script).contexts → map (λ lane. is_some (context_at context lane)) (lanes_at script tick) ≡ map (is_home script context) (range_with_len 0 (length script.lanes))
   -- a letter for a context is attached once, by the lane that has it, with the next id, in the order of the letters
-  pub once : (script : Plan) (tick context : ℕ) (letters : List Letter) (lane : Lane) (c : Context) → context_at context lane ≡ Some c
+  pub once : (script : Plan) (tick : Tick) (context : ContextNumber) (letters : List Letter) (lane : Lane) (c : Context) → context_at context lane ≡ Some c
       → arrivals context (received_all script tick letters lane).trace ≡ arrivals context lane.trace ++ ids_for context c.rows.next_id letters
   -- and by no other
-  pub others : (script : Plan) (tick context : ℕ) (letters : List Letter) (lane : Lane) → context_at context lane ≡ None
+  pub others : (script : Plan) (tick : Tick) (context : ContextNumber) (letters : List Letter) (lane : Lane) → context_at context lane ≡ None
       → arrivals context (received_all script tick letters lane).trace ≡ arrivals context lane.trace

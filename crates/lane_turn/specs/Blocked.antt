@@ -12,13 +12,14 @@ use Rattle.lane_turn.specs.Turn.{begun, finish}
 use Rattle.lane_turn.specs.Tick.{lanes_at}
 use Rattle.lane_turn.specs.Traces.{Grows}
 use Rattle.lane_turn.specs.Depths.{callers}
+use Rattle.loop_script.specs.Units.{Tick, ContextNumber, SourceId}
 
 -- each call in progress of a source is of one that may recurse
-abbrev pub MayRecur : List Frame → (context id : ℕ) → Type 0
+abbrev pub MayRecur : List Frame → ContextNumber → SourceId → Type 0
 MayRecur frames context id = AllByRecursion (λ caller. caller.context ≡ context → caller.id ≡ id → caller.recurse ≡ true) (callers frames)
 
 -- so is each of a source and of those above it, whose ids are its line
-abbrev pub IsFree : List Frame → (context : ℕ) → Row → Type 0
+abbrev pub IsFree : List Frame → ContextNumber → Row → Type 0
 IsFree frames context row = AllByRecursion (MayRecur frames context) row.lineage
 
 -- a dispatch is of a source that is there, and free
@@ -27,12 +28,12 @@ IsOfFree lane (events.Dispatch context id priority depth) = (row : Row) × (row_
 IsOfFree lane _ = Unit {0}
 
 -- a turn of a lane at a tick, after some steps
-abbrev pub turn_within : Plan → (tick steps : ℕ) → Lane → Turn
+abbrev pub turn_within : Plan → (tick : Tick) (steps : ℕ) → Lane → Turn
 turn_within script tick steps lane = finish script tick steps (begun tick lane)
 
 -- each step of each lane of a run
 abbrev pub OfEachStep : Plan → (Turn → Turn → Type 0) → Type 0
-OfEachStep script P = (tick steps : ℕ) → AllByRecursion (λ lane. (u : Turn) → step script tick (turn_within script tick steps lane) ≡ Some u → P (turn_within script tick steps lane) u) (lanes_at script tick)
+OfEachStep script P = (tick : Tick) (steps : ℕ) → AllByRecursion (λ lane. (u : Turn) → step script tick (turn_within script tick steps lane) ≡ Some u → P (turn_within script tick steps lane) u) (lanes_at script tick)
 
 -- in a run no source is dispatched while it, or one above it, is in a call that may not recurse
 abbrev pub BlockedWait : Type 0

@@ -1,5 +1,5 @@
 -- What lanes do with the letters of a tick.
-use Rattle.std.specs.Prelude.{ℕ, Some, false, is_some, List, [], ◌∷◌, map, if◌then◌else◌}
+use Rattle.std.specs.Prelude.{Some, false, is_some, List, [], ◌∷◌, map, if◌then◌else◌}
 use Rattle.loop_script.specs.declared.plan.Plan.{Plan}
 use Rattle.loop_script.specs.declared.source.SourceSpec.{SourceSpec}
 use Rattle.loop_script.specs.declared.source.Kind.TheVariants.{Idle}
@@ -13,18 +13,18 @@ use Rattle.lane_turn.specs.declared.line.Event.TheVariants as events
 use Rattle.lane_turn.specs.Lane.{Lane, context_at, edited, next_id, written}
 use Rattle.lane_turn.specs.Replies.{with_reply}
 use Rattle.lane_turn.specs.Acted.{cancel}
-use Rattle.loop_script.specs.Units.{Tick}
+use Rattle.loop_script.specs.Units.{Tick, Microseconds, LaneNumber, ContextNumber, SourceId}
 
 -- the source of a reply: idle, and without a recurse flag
 abbrev pub reply_spec : Reply → SourceSpec
 reply_spec reply = record { kind = Idle; priority = reply.priority; recurse = false; call = Some reply.call }
 
 -- a source holds a reply
-abbrev pub holding : (context id sender : ℕ) → Reply → Lane → Lane
+abbrev pub holding : ContextNumber → SourceId → LaneNumber → Reply → Lane → Lane
 holding context id sender reply lane = record lane { replies = with_reply context id (record { sender = sender; reply = reply }) lane.replies }
 
 -- a reply is attached by the lane that has its context
-abbrev pub arrived : Plan → (tick sender : ℕ) → Reply → Lane → Lane
+abbrev pub arrived : Plan → Tick → LaneNumber → Reply → Lane → Lane
 arrived script tick sender reply lane =
     if is_some (context_at reply.ctx lane)
     then written tick (events.Arrive reply.ctx (next_id (context_at reply.ctx lane)))
@@ -32,14 +32,14 @@ arrived script tick sender reply lane =
     else lane
 
 -- so is the source of an invoked procedure
-abbrev pub arrived_source : (tick now context : ℕ) → SourceSpec → Lane → Lane
+abbrev pub arrived_source : Tick → Microseconds → ContextNumber → SourceSpec → Lane → Lane
 arrived_source tick now context spec lane =
     if is_some (context_at context lane)
     then written tick (events.Arrive context (next_id (context_at context lane))) (edited context (attached spec now) lane)
     else lane
 
 -- a cancellation that the lane has not seen is seen; no letter is sent for it
-abbrev pub received_body : Plan → (tick sender : ℕ) → Body → Lane → Lane
+abbrev pub received_body : Plan → Tick → LaneNumber → Body → Lane → Lane
 received_body script tick sender (Attach context spec) lane = arrived_source tick (time_of script tick) context spec lane
 received_body script tick sender (Complete reply) lane = arrived script tick sender reply lane
 received_body script tick sender (Cancelled c) lane = cancel script tick c lane

@@ -12,6 +12,7 @@ use Rattle.lane_turn.specs.Lane.{Turn}
 use Rattle.lane_turn.specs.Step.{step}
 use Rattle.lane_turn.specs.Tick.{lanes_at, lane_within}
 use Rattle.lane_turn.specs.Traces.{Grows}
+use Rattle.loop_script.specs.Units.{Tick}
 
 -- the source that a call is the dispatch of
 abbrev pub caller_of : Origin → Option Caller
@@ -63,9 +64,9 @@ HaltsOver frames _ = Unit {0}
 -- the depth of a dispatch is the number of dispatches in progress, and at most 32
 pub record DepthsHold : Type 0 where
   -- a dispatch that a step begins tells how many dispatches are then in progress: 1 to 32
-  pub steps : (script : Plan) (tick : ℕ) (t u : Turn) → step script tick t ≡ Some u
+  pub steps : (script : Plan) (tick : Tick) (t u : Turn) → step script tick t ≡ Some u
       → Grows (λ line. TellsDepth u.lane.frames line.event × IsShallow line.event) t.lane.trace u.lane.trace
   -- where a lane halts at a depth, a call would be the 33rd
-  pub halts : (script : Plan) (tick : ℕ) (t u : Turn) → step script tick t ≡ Some u → Grows (λ line. HaltsOver t.lane.frames line.event) t.lane.trace u.lane.trace
+  pub halts : (script : Plan) (tick : Tick) (t u : Turn) → step script tick t ≡ Some u → Grows (λ line. HaltsOver t.lane.frames line.event) t.lane.trace u.lane.trace
   -- the depth of each dispatch in the traces of a run is 1 to 32, before and after each step
-  pub run : (script : Plan) (tick steps : ℕ) → AllByRecursion (λ lane. AllByRecursion (λ line. IsShallow line.event) (lane_within script tick steps lane).trace) (lanes_at script tick)
+  pub run : (script : Plan) (tick : Tick) (steps : ℕ) → AllByRecursion (λ lane. AllByRecursion (λ line. IsShallow line.event) (lane_within script tick steps lane).trace) (lanes_at script tick)

@@ -7,14 +7,14 @@ use Rattle.lane_turn.specs.declared.layer.Origin.TheVariants.{Start, Source, Inv
 use Rattle.lane_turn.specs.declared.layer.Top.{Top}
 use Rattle.lane_turn.specs.declared.layer.Top.TheVariants as tops
 use Rattle.loop_script.specs.Bounds.{count_end}
-use Rattle.loop_script.specs.Units.{ContextNumber, SourceId}
+use Rattle.loop_script.specs.Units.{ContextNumber, LoopNumber, SourceId}
 
 -- a call of an action list; an iteration with the ids left and who asked for it; a run of a loop,
 -- with the loop's context
 pub data Frame : Type 0 where
   CallOf : (call : Call) → Frame
-  IterOf : (context : ℕ) (ids : List ℕ) (asker : Asker) → Frame
-  LoopOf : (number : ℕ) (context : ℕ) → Frame
+  IterOf : (context : ContextNumber) (ids : List SourceId) (asker : Asker) → Frame
+  LoopOf : (number : LoopNumber) (context : ContextNumber) → Frame
 
 -- what the innermost frame takes next
 abbrev pub top_of : List Frame → Top

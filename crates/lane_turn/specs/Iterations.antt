@@ -14,10 +14,10 @@ use Rattle.lane_turn.specs.Lane.{Turn, row_of, chosen}
 use Rattle.lane_turn.specs.Step.{step}
 use Rattle.lane_turn.specs.declared.layer.Asker.{Asker}
 use Rattle.lane_turn.specs.declared.layer.Asker.TheVariants as askers
-use Rattle.loop_script.specs.Units.{ContextNumber, SourceId}
+use Rattle.loop_script.specs.Units.{Tick, ContextNumber, SourceId}
 
 -- ids from some place on
-abbrev pub IsRest : List ℕ → List ℕ → Type 0
+abbrev pub IsRest : List SourceId → List SourceId → Type 0
 IsRest left ids = (k : ℕ) × (left ≡ drop k ids)
 
 -- a frame later on: the same call; the same iteration, which has no id left that it did not have; the same run of a loop
@@ -46,8 +46,8 @@ IsOver context (IterOf c ids asker) = c ≡ context → ids ≡ []
 IsOver context (LoopOf number c) = Unit {0}
 
 -- an id is taken: it was the next one of the innermost iteration, of that context, which has the ids after it left
-pub record Takes (context id : ℕ) (before now : List Frame) : Type 0 where
-  pub ids : List ℕ
+pub record Takes (context : ContextNumber) (id : SourceId) (before now : List Frame) : Type 0 where
+  pub ids : List SourceId
   pub asker : Asker
   pub below : List Frame
   pub was : before ≡ IterOf context (id ∷ ids) asker ∷ below
@@ -67,18 +67,18 @@ TellsAny ids (askers.Iterate false) = ids ≡ []
 
 -- what may be begun over frames that were those: a call, where fewer than 32 are in progress; an iteration, of what is selected
 -- then, and no older one of its context has an id left; a loop
-abbrev pub MayBegin : (selected : ℕ → List ℕ) (before now : List Frame) → Frame → Type 0
+abbrev pub MayBegin : (selected : ContextNumber → List SourceId) (before now : List Frame) → Frame → Type 0
 MayBegin selected before now (CallOf call) = (length (begun_calls before) < 32) × IsCalledBy before now call.origin
 MayBegin selected before now (IterOf context ids asker) = AllByRecursion (IsOver context) now × (ids ≡ selected context) × TellsAny ids asker
 MayBegin selected before now (LoopOf number context) = Unit {0}
 
 -- what is innermost now was begun over frames that were those
-abbrev pub Begun : (selected : ℕ → List ℕ) → List Frame → List Frame → Type 0
+abbrev pub Begun : (selected : ContextNumber → List SourceId) → List Frame → List Frame → Type 0
 Begun selected frames [] = ⊥
 Begun selected frames (f ∷ now) = EachLater frames now × MayBegin selected frames now f
 
 -- the frames go on, or the innermost ends, or one is begun in it
-abbrev pub FramesGoOn : (selected : ℕ → List ℕ) → List Frame → List Frame → Type 0
+abbrev pub FramesGoOn : (selected : ContextNumber → List SourceId) → List Frame → List Frame → Type 0
 FramesGoOn selected frames now = EachLater frames now ⊎ (EachLater (drop 1 frames) now ⊎ Begun selected frames now)
 
 -- what a step may do to what is in progress
@@ -86,15 +86,15 @@ pub record IterationsGoOn : Type 0 where
   -- no iteration ever has an id that it was not given when it began, which are the ids selected then; none has one left when a
   -- newer one of its context begins; what is dispatched is the next id of the innermost, which has it no more; no call begins
   -- over 32; and each call, iteration and run that goes on is the one that it was
-  pub frames : (script : Plan) (tick : ℕ) (t u : Turn) → step script tick t ≡ Some u → FramesGoOn (λ context. chosen script tick context t.lane) t.lane.frames u.lane.frames
+  pub frames : (script : Plan) (tick : Tick) (t u : Turn) → step script tick t ≡ Some u → FramesGoOn (λ context. chosen script tick context t.lane) t.lane.frames u.lane.frames
   -- an iteration that has no id left ends, and an `iterate` that asked for it is told its answer
-  pub answers : (script : Plan) (tick : ℕ) (t u : Turn) (context : ℕ) (any : Bool) (below : List Frame) → t.unpolled ≡ [] → t.lane.status ≡ GoesOn → t.lane.frames ≡ IterOf context [] (askers.Iterate any) ∷ below
+  pub answers : (script : Plan) (tick : Tick) (t u : Turn) (context : ContextNumber) (any : Bool) (below : List Frame) → t.unpolled ≡ [] → t.lane.status ≡ GoesOn → t.lane.frames ≡ IterOf context [] (askers.Iterate any) ∷ below
       → step script tick t ≡ Some u → (u.lane.frames ≡ below) × (u.lane.trace ≡ t.lane.trace ++ (record { tick = tick; event = events.Iterate context any }) ∷ [])
   -- the next id of the innermost iteration is dispatched, where the turn may count one more and fewer than 32 calls are in progress: the
   -- line shows the priority of that moment, and how many dispatches are then in progress
-  pub dispatches : (script : Plan) (tick : ℕ) (t u : Turn) (context id : ℕ) (ids : List ℕ) (asker : Asker) (below : List Frame) (row : Row) → t.unpolled ≡ [] → t.lane.status ≡ GoesOn → t.lane.frames ≡ IterOf context (id ∷ ids) asker ∷ below
+  pub dispatches : (script : Plan) (tick : Tick) (t u : Turn) (context : ContextNumber) (id : SourceId) (ids : List SourceId) (asker : Asker) (below : List Frame) (row : Row) → t.unpolled ≡ [] → t.lane.status ≡ GoesOn → t.lane.frames ≡ IterOf context (id ∷ ids) asker ∷ below
       → row_of context id t.lane ≡ Some row → 1 ≤ t.left → length (begun_calls t.lane.frames) < 32 → step script tick t ≡ Some u
       → (more : List Line) × (u.lane.trace ≡ t.lane.trace ++ (record { tick = tick; event = events.Dispatch context id row.priority (length (callers u.lane.frames)) }) ∷ more)
   -- one whose source is destroyed is passed over
-  pub passes : (script : Plan) (tick : ℕ) (t u : Turn) (context id : ℕ) (ids : List ℕ) (asker : Asker) (below : List Frame) → t.unpolled ≡ [] → t.lane.status ≡ GoesOn → t.lane.frames ≡ IterOf context (id ∷ ids) asker ∷ below
+  pub passes : (script : Plan) (tick : Tick) (t u : Turn) (context : ContextNumber) (id : SourceId) (ids : List SourceId) (asker : Asker) (below : List Frame) → t.unpolled ≡ [] → t.lane.status ≡ GoesOn → t.lane.frames ≡ IterOf context (id ∷ ids) asker ∷ below
       → row_of context id t.lane ≡ None → step script tick t ≡ Some u → (u.lane.frames ≡ IterOf context ids asker ∷ below) × (u.lane.trace ≡ t.lane.trace)

@@ -18,13 +18,13 @@ use Rattle.lane_turn.specs.Sources.{chosen_in}
 use Rattle.post_office.specs.declared.letter.Letter.{Letter}
 use Rattle.lane_turn.specs.Replies.{Replies}
 use Rattle.lane_watch.specs.Tasks.{Started, Tasks}
-use Rattle.loop_script.specs.Units.{Tick, ContextNumber, LoopNumber, CancellableNumber, Slot, SourceId, HandlerId}
+use Rattle.loop_script.specs.Units.{Tick, LaneNumber, ContextNumber, LoopNumber, CancellableNumber, Slot, SourceId, HandlerId}
 
 -- a lane: its number; its contexts by number, where those of other lanes are none; what its slots name; its view of
 -- cancellations, with its handlers; its tasks; its frames with the innermost first; the loops that run; the stack of its
 -- thread-default contexts; the replies that its sources hold; what it wrote
 pub record Lane : Type 0 where
-  pub number : ℕ
+  pub number : LaneNumber
   pub contexts : List (Option Context)
   pub slots : List (Option Held)
   pub view : Seen
@@ -139,7 +139,7 @@ abbrev pub row_at : Place → Lane → Option Row
 row_at place lane = row_of place.context place.id lane
 
 -- where the next source of a context will be
-abbrev pub next_id : Option Context → ℕ
+abbrev pub next_id : Option Context → SourceId
 next_id None = 0
 next_id (Some context) = context.rows.next_id
 

@@ -5,9 +5,10 @@ use Rattle.post_office.specs.declared.letter.Letter.{Letter}
 use Rattle.lane_turn.specs.Lane.{Lane}
 use Rattle.lane_turn.specs.Turn.{turned, out_of}
 use Rattle.lane_turn.specs.Deliver.{received_all}
+use Rattle.loop_script.specs.Units.{Tick, LaneNumber}
 
 -- letters of one sender and tick, numbered on
-abbrev pub AreNumbered : (tick sender n : ℕ) → List Letter → Type 0
+abbrev pub AreNumbered : (tick : Tick) (sender : LaneNumber) (n : ℕ) → List Letter → Type 0
 AreNumbered tick sender n [] = Unit {0}
 AreNumbered tick sender n (letter ∷ letters) =
     (letter.tick ≡ tick) × ((letter.sender ≡ sender) × ((letter.number ≡ n) × AreNumbered tick sender (n + 1) letters))
@@ -15,7 +16,7 @@ AreNumbered tick sender n (letter ∷ letters) =
 -- how letters are numbered
 pub record LettersTell : Type 0 where
   -- a turn's letters carry its tick, its lane's number, and their own from 0 on
-  pub numbered : (script : Plan) (tick : ℕ) (lane : Lane) → AreNumbered tick lane.number 0 (out_of script tick lane)
+  pub numbered : (script : Plan) (tick : Tick) (lane : Lane) → AreNumbered tick lane.number 0 (out_of script tick lane)
   -- no lane changes its number
-  pub turned : (script : Plan) (tick : ℕ) (lane : Lane) → (turned script tick lane).number ≡ lane.number
-  pub received : (script : Plan) (tick : ℕ) (letters : List Letter) (lane : Lane) → (received_all script tick letters lane).number ≡ lane.number
+  pub turned : (script : Plan) (tick : Tick) (lane : Lane) → (turned script tick lane).number ≡ lane.number
+  pub received : (script : Plan) (tick : Tick) (letters : List Letter) (lane : Lane) → (received_all script tick letters lane).number ≡ lane.number

@@ -1,5 +1,5 @@
 -- At how many levels the sources of a lane stand, before and after each step of a run.
-use Rattle.std.specs.Prelude.{◌≡◌, ℕ, ℤ, ◌≤◌, Option, Some, None, List, length}
+use Rattle.std.specs.Prelude.{◌≡◌, ℕ, ◌≤◌, Option, Some, None, List, length}
 use Rattle.std.specs.List.{AllByRecursion}
 use Rattle.loop_script.specs.declared.plan.Plan.{Plan}
 use Rattle.source_rows.specs.Rows.{RowSet, row_of, child_fault, priority_fault, destroyed, reprioritised}
@@ -11,6 +11,7 @@ use Rattle.context_core.specs.TwoLevels.{selected_at_two}
 use Rattle.lane_turn.specs.Sources.{tree_levels}
 use Rattle.lane_turn.specs.Lane.{Lane}
 use Rattle.lane_turn.specs.Tick.{lanes_at, lane_within}
+use Rattle.loop_script.specs.Units.{Tick, SourceId, Priority}
 
 -- the sources stand in trees, at so many levels at most
 pub record IsGrown (levels : ℕ) (s : RowSet) : Type 0 where
@@ -25,11 +26,11 @@ Grown levels (Some context) = IsGrown levels context.rows
 -- the sources do what the rules of two levels say
 pub record IsOfTwoLevels (s : RowSet) : Type 0 where
   pub low : IsWithinLevels 2 s.rows
-  pub selected : (own : Own) (busy : List ℕ) → selected own busy s.rows ≡ selected_at_two own busy s.rows
-  pub child : (id : ℕ) → child_fault s.levels (row_of id s.rows) ≡ child_refused (row_of id s.rows)
-  pub priority : (id : ℕ) → priority_fault (row_of id s.rows) ≡ child_refused (row_of id s.rows)
-  pub destroyed : (id : ℕ) → destroyed id s ≡ destroyed_pair id s
-  pub reprioritised : (id : ℕ) (priority : ℤ) → reprioritised id priority s ≡ reprioritised_pair id priority s
+  pub selected : (own : Own) (busy : List SourceId) → selected own busy s.rows ≡ selected_at_two own busy s.rows
+  pub child : (id : SourceId) → child_fault s.levels (row_of id s.rows) ≡ child_refused (row_of id s.rows)
+  pub priority : (id : SourceId) → priority_fault (row_of id s.rows) ≡ child_refused (row_of id s.rows)
+  pub destroyed : (id : SourceId) → destroyed id s ≡ destroyed_pair id s
+  pub reprioritised : (id : SourceId) (priority : Priority) → reprioritised id priority s ≡ reprioritised_pair id priority s
 
 -- the same of a context, where there is one
 abbrev pub OfTwoLevels : Option Context → Type 0
@@ -38,7 +39,7 @@ OfTwoLevels (Some context) = IsOfTwoLevels context.rows
 
 -- what all lanes of a script are at each tick, before and after each step of their turns
 abbrev pub OfAllLanes : Plan → (Lane → Type 0) → Type 0
-OfAllLanes script P = (tick steps : ℕ) → tick ≤ 4096 → AllByRecursion (λ lane. P (lane_within script tick steps lane)) (lanes_at script tick)
+OfAllLanes script P = (tick : Tick) (steps : ℕ) → tick ≤ 4096 → AllByRecursion (λ lane. P (lane_within script tick steps lane)) (lanes_at script tick)
 
 -- at how many levels sources stand
 pub record LevelsHold : Type 0 where

@@ -1,9 +1,9 @@
 -- How many actions and dispatches a turn takes.
-use Rattle.std.specs.Prelude.{◌≡◌, ◌⊎◌, ◌+◌, ◌≤◌, ℕ, Some, List, [], ◌∷◌, ◌++◌, slice_get}
+use Rattle.std.specs.Prelude.{◌≡◌, ◌⊎◌, ◌+◌, ◌≤◌, Some, List, [], ◌∷◌, ◌++◌, slice_get}
 use Rattle.loop_script.specs.declared.plan.Plan.{Plan}
 use Rattle.loop_script.specs.declared.action.Action.{Action}
 use Rattle.loop_script.specs.Parts.{actions_of}
-use Rattle.loop_script.specs.Units.{Tick}
+use Rattle.loop_script.specs.Units.{Tick, ContextNumber, SourceId}
 use Rattle.source_rows.specs.declared.row.Row.{Row}
 use Rattle.lane_turn.specs.declared.layer.Asker.{Asker}
 use Rattle.lane_turn.specs.declared.layer.Call.{Call}
@@ -25,12 +25,12 @@ TakesOne tick before now = (now.left + 1 ≡ before.left) ⊎ ((before.left ≡ 
 -- a turn takes 10,000 actions and dispatches at most
 pub record StepsAreLimited : Type 0 where
   -- so many it may take at its beginning
-  pub first : (tick : ℕ) (lane : Lane) → (begun tick lane).left ≡ 10000
+  pub first : (tick : Tick) (lane : Lane) → (begun tick lane).left ≡ 10000
   -- the next action of the innermost call takes one
-  pub actions : (script : Plan) (tick : ℕ) (t u : Turn) (call : Call) (action : Action) (below : List Frame) → t.unpolled ≡ [] → t.lane.status ≡ GoesOn → t.lane.frames ≡ CallOf call ∷ below
+  pub actions : (script : Plan) (tick : Tick) (t u : Turn) (call : Call) (action : Action) (below : List Frame) → t.unpolled ≡ [] → t.lane.status ≡ GoesOn → t.lane.frames ≡ CallOf call ∷ below
       → slice_get (actions_of script call.body) call.place ≡ Some action → step script tick t ≡ Some u → TakesOne tick t u
   -- so does the dispatch of the next id of the innermost iteration
-  pub dispatches : (script : Plan) (tick : ℕ) (t u : Turn) (context id : ℕ) (ids : List ℕ) (asker : Asker) (below : List Frame) (row : Row) → t.unpolled ≡ [] → t.lane.status ≡ GoesOn
+  pub dispatches : (script : Plan) (tick : Tick) (t u : Turn) (context : ContextNumber) (id : SourceId) (ids : List SourceId) (asker : Asker) (below : List Frame) (row : Row) → t.unpolled ≡ [] → t.lane.status ≡ GoesOn
       → t.lane.frames ≡ IterOf context (id ∷ ids) asker ∷ below → row_of context id t.lane ≡ Some row → step script tick t ≡ Some u → TakesOne tick t u
   -- no step gives one back
-  pub falls : (script : Plan) (tick : ℕ) (t u : Turn) → step script tick t ≡ Some u → u.left ≤ t.left
+  pub falls : (script : Plan) (tick : Tick) (t u : Turn) → step script tick t ≡ Some u → u.left ≤ t.left

@@ -21,6 +21,10 @@ most_count = 2 ^ 62
 abbrev pub half_count : ℕ
 half_count = 2 ^ 61
 
+-- by how much a turn may raise a counter: by two at each step, and by one where it iterates by itself
+abbrev pub turn_growth : ℕ
+turn_growth = 20001
+
 -- the most letters of a delivery
 abbrev pub most_letters : ℕ
 most_letters = 2 ^ 60

@@ -10,32 +10,36 @@ use Rattle.lane_turn.specs.declared.layer.Top.{Top}
 use Rattle.lane_turn.specs.declared.layer.Top.TheVariants as tops
 use Rattle.lane_turn.specs.Frames.{Frame, CallOf, IterOf, LoopOf, blocked_by, is_acquired_by, is_source, is_dispatch_or_invoke, top_of}
 use Rattle.loop_script.specs.Bounds.{count_end}
-use Rattle.loop_script.specs.Units.{ContextNumber}
+use Rattle.loop_script.specs.Units.{ContextNumber, SourceId}
+
+-- a layer by how many stand round it, from 0
+abbrev pub Height : Type 0
+Height = ℕ
 
 -- the height of the live iteration of a context
-abbrev pub named_height : Option (Option ℕ) → Option ℕ
+abbrev pub named_height : Option (Option Height) → Option Height
 named_height None = None
 named_height (Some height) = height
 
 -- the height of the live iteration of a context
-abbrev pub height_at : List (Option ℕ) → ContextNumber → Option ℕ
+abbrev pub height_at : List (Option Height) → ContextNumber → Option Height
 height_at live context = named_height (slice_get live context)
 
 -- an iteration is live at the height that its context names
-abbrev pub is_height : Option ℕ → ℕ → Bool
+abbrev pub is_height : Option Height → Height → Bool
 is_height None height = false
 is_height (Some k) height = k == height
 
 -- whether an iteration of a context at a height is the live one
-abbrev pub is_live : List (Option ℕ) → ℕ → ContextNumber → Bool
+abbrev pub is_live : List (Option Height) → Height → ContextNumber → Bool
 is_live live height context = is_height (height_at live context) height
 
 -- the ids that an iteration at a height still has: none where its context has a newer one
-abbrev pub ids_left : List (Option ℕ) → ℕ → Iteration → List ℕ
+abbrev pub ids_left : List (Option Height) → Height → Iteration → List SourceId
 ids_left live height i = if is_live live height i.context then drop i.place i.ids.items else []
 
 -- the frame of a layer at a height
-abbrev pub frame_of : List (Option ℕ) → ℕ → Layer → Frame
+abbrev pub frame_of : List (Option Height) → Height → Layer → Frame
 frame_of live height (layers.Call call) = CallOf call
 frame_of live height (layers.Iteration i) = IterOf i.context (ids_left live height i) i.asker
 frame_of live height (layers.Loop number context) = LoopOf number context
@@ -46,17 +50,17 @@ layers_of Nothing = []
 layers_of (Begun' layer p inner) = layers_of inner ++ layer ∷ []
 
 -- the same as frames: each stands at the height that is the number of those round it
-abbrev pub frames_of : List (Option ℕ) → List Layer → List Frame
+abbrev pub frames_of : List (Option Height) → List Layer → List Frame
 frames_of live [] = []
 frames_of live (layer ∷ outer) = frame_of live (length outer) layer ∷ frames_of live outer
 
 -- the same where the outermost stands at a height
-abbrev pub frames_from : ℕ → List (Option ℕ) → List Layer → List Frame
+abbrev pub frames_from : Height → List (Option Height) → List Layer → List Frame
 frames_from height live [] = []
 frames_from height live (layer ∷ outer) = frame_of live (height + length outer) layer ∷ frames_from height live outer
 
 -- what the innermost takes next, at its height
-abbrev pub top_of_layers : List (Option ℕ) → ℕ → List Layer → Top
+abbrev pub top_of_layers : List (Option Height) → Height → List Layer → Top
 top_of_layers live height [] = tops.Nothing
 top_of_layers live height (layer ∷ outer) = top_of (frame_of live height layer ∷ [])
 
@@ -85,13 +89,13 @@ is_blocking_layer (layers.Iteration i) = false
 is_blocking_layer (layers.Loop number context) = false
 
 -- the source of a context that a layer blocks
-abbrev pub blocked_by_layer : ContextNumber → Layer → Option ℕ
+abbrev pub blocked_by_layer : ContextNumber → Layer → Option SourceId
 blocked_by_layer context (layers.Call call) = blocked_by context call.origin
 blocked_by_layer context (layers.Iteration i) = None
 blocked_by_layer context (layers.Loop number c) = None
 
 -- the sources of a context that calls in progress block
-abbrev pub busy_layers : ContextNumber → List Layer → List ℕ
+abbrev pub busy_layers : ContextNumber → List Layer → List SourceId
 busy_layers context layers = filter_map (blocked_by_layer context) layers
 
 -- what owns a context

@@ -11,6 +11,7 @@ use Rattle.lane_turn.specs.Lane.{Lane}
 use Rattle.lane_turn.specs.Turn.{opening, turned, out_of}
 use Rattle.lane_turn.specs.Deliver.{received_all}
 use Rattle.lane_turn.specs.Tick.{posted_at, lanes_at}
+use Rattle.loop_script.specs.Units.{Tick, LaneNumber, TaskNumber}
 
 -- one for what is so
 abbrev pub one_for : Bool → ℕ
@@ -21,42 +22,42 @@ abbrev pub replies_in : Tasks → Started → ℕ
 replies_in tasks t = reply_tick t.spec.return_on_cancel (first_seen tasks.came t) (end_of_task tasks.tick_us tasks.came t)
 
 -- whether a task of a number replies in a tick or later
-abbrev pub owes : (tick number : ℕ) → Tasks → Started → Bool
+abbrev pub owes : Tick → TaskNumber → Tasks → Started → Bool
 owes tick number tasks t = (t.number == number) && nat_le tick (replies_in tasks t)
 
 -- how many replies of a number are owed from a tick on: by the tasks that go on, and by the one that is still to be started
-abbrev pub owed_by : (tick number : ℕ) → Tasks → List Started → ℕ
+abbrev pub owed_by : Tick → TaskNumber → Tasks → List Started → ℕ
 owed_by tick number tasks [] = 0
 owed_by tick number tasks (t ∷ ts) = one_for (owes tick number tasks t) + owed_by tick number tasks ts
 
 -- how many replies a lane still owes under a number
-abbrev pub owed : (tick number : ℕ) → Tasks → ℕ
+abbrev pub owed : Tick → TaskNumber → Tasks → ℕ
 owed tick number tasks = owed_by tick number tasks tasks.started + one_for (nat_le tasks.next number)
 
 -- how many letters are replies of a number
-abbrev pub is_reply : ℕ → Body → Bool
+abbrev pub is_reply : TaskNumber → Body → Bool
 is_reply number (Attach context spec) = false
 is_reply number (Complete reply) = reply.task == number
 is_reply number (Cancelled c) = false
 
 -- how many replies under a number are among letters
-abbrev pub replied : ℕ → List Letter → ℕ
+abbrev pub replied : TaskNumber → List Letter → ℕ
 replied number [] = 0
 replied number (l ∷ letters) = one_for (is_reply number l.body) + replied number letters
 
 -- a lane of a script at the beginning of a tick, whatever letters are delivered to it; and the replies of a number that it posted before
-abbrev pub lane_under : Plan → (ℕ → List Letter) → (number tick : ℕ) → Lane
+abbrev pub lane_under : Plan → (Tick → List Letter) → LaneNumber → Tick → Lane
 lane_under script mail number zero = opening script number
 lane_under script mail number (suc k) = received_all script k (mail k) (turned script k (lane_under script mail number k))
 
 -- how many a lane posted before a tick
-abbrev pub posted_before : Plan → (ℕ → List Letter) → (lane number tick : ℕ) → ℕ
+abbrev pub posted_before : Plan → (Tick → List Letter) → LaneNumber → TaskNumber → Tick → ℕ
 posted_before script mail lane number zero = 0
 posted_before script mail lane number (suc k) = posted_before script mail lane number k + replied number (out_of script k (lane_under script mail lane k))
 
 -- each task's reply is posted once, and owed until then
 pub record RepliesComeOnce : Type 0 where
   -- of each number of a lane's tasks there is one reply: it is owed still, or it was posted, once
-  pub posted : (script : Plan) (mail : ℕ → List Letter) (lane number tick : ℕ) → posted_before script mail lane number tick + owed tick number (lane_under script mail lane tick).tasks ≡ 1
+  pub posted : (script : Plan) (mail : Tick → List Letter) (lane : LaneNumber) (number : TaskNumber) (tick : Tick) → posted_before script mail lane number tick + owed tick number (lane_under script mail lane tick).tasks ≡ 1
   -- the lanes of a run are such lanes
-  pub run : (script : Plan) (tick : ℕ) → lanes_at script tick ≡ map (λ lane. lane_under script (λ k. posted_at script k (lanes_at script k)) lane tick) (range_with_len 0 (length script.lanes))
+  pub run : (script : Plan) (tick : Tick) → lanes_at script tick ≡ map (λ lane. lane_under script (λ k. posted_at script k (lanes_at script k)) lane tick) (range_with_len 0 (length script.lanes))

@@ -1,5 +1,5 @@
 -- Who owns a context, and what is done where it is owned or not.
-use Rattle.std.specs.Prelude.{ℕ, pos, ◌==◌, ◌||◌, Bool, true, false, Option, Some, None, is_some, nat_lt, unwrap_or, if◌then◌else◌}
+use Rattle.std.specs.Prelude.{pos, ◌==◌, ◌||◌, Bool, true, false, Option, Some, None, is_some, nat_lt, unwrap_or, if◌then◌else◌}
 use Rattle.std.specs.List.{list_any}
 use Rattle.loop_script.specs.declared.source.SourceSpec.{SourceSpec}
 use Rattle.loop_script.specs.declared.source.Kind.TheVariants.{Idle}
@@ -17,10 +17,10 @@ use Rattle.lane_turn.specs.declared.lane.Status.TheVariants.{Halted}
 use Rattle.lane_turn.specs.Frames.{CallOf, owns, calls_in_progress}
 use Rattle.lane_turn.specs.Lane.{Lane, written, pushed as begun, stopped, context_at, with_context, edited}
 use Rattle.lane_turn.specs.Limits.{most_calls}
-use Rattle.loop_script.specs.Units.{Tick, ContextNumber, ProcNumber}
+use Rattle.loop_script.specs.Units.{Tick, Microseconds, ContextNumber, ProcNumber}
 
 -- the thread-default context: what was pushed last, else the first context of all
-abbrev pub default_context : Lane → ℕ
+abbrev pub default_context : Lane → ContextNumber
 default_context lane = unwrap_or (top_of lane.defaults) 0
 
 -- a context of the lane is owned where it was acquired or pushed, or where a frame owns it
@@ -72,34 +72,34 @@ abbrev pub invoke_spec : ProcNumber → SourceSpec
 invoke_spec proc = record { kind = Idle; priority = pos 0; recurse = false; call = Some proc }
 
 -- a procedure is called at once, with the context that is acquired until the call returns
-abbrev pub calling : (tick context proc : ℕ) → Option ℕ → Lane → Lane
+abbrev pub calling : Tick → ContextNumber → ProcNumber → Option ContextNumber → Lane → Lane
 calling tick context proc acquires lane =
     begun (CallOf (record { origin = Invoke acquires; body = Procedure proc; place = 0 })) (written tick (events.Invoke context Direct) lane)
 
 -- the same where fewer than the most calls are in progress; else the lane is halted
-abbrev pub called_at_once : (tick context proc : ℕ) → Option ℕ → Lane → Lane
+abbrev pub called_at_once : Tick → ContextNumber → ProcNumber → Option ContextNumber → Lane → Lane
 called_at_once tick context proc acquires lane =
     if nat_lt (calls_in_progress lane.frames) most_calls
     then calling tick context proc acquires lane
     else stopped Halted (written tick events.HaltDepth lane)
 
 -- a procedure is attached to a context of the lane
-abbrev pub attaching : (tick now context proc : ℕ) → Lane → Lane
+abbrev pub attaching : Tick → Microseconds → ContextNumber → ProcNumber → Lane → Lane
 attaching tick now context proc lane = written tick (events.Invoke context Attached) (edited context (attached (invoke_spec proc) now) lane)
 
 -- a context that is owned needs not be acquired; the thread-default one is acquired; any other of the lane gets a source, and one of
 -- another lane is sent it
-abbrev pub invoke_own : (tick now context proc : ℕ) → Lane → Lane
+abbrev pub invoke_own : Tick → Microseconds → ContextNumber → ProcNumber → Lane → Lane
 invoke_own tick now context proc lane =
     if is_owned context lane then called_at_once tick context proc None lane
     else if default_context lane == context then called_at_once tick context proc (Some context) lane
     else attaching tick now context proc lane
 
 -- the invoke of a procedure: in a context of the lane, or posted to the lane that has it
-abbrev pub invoke : (tick now context proc : ℕ) → Lane → Lane
+abbrev pub invoke : Tick → Microseconds → ContextNumber → ProcNumber → Lane → Lane
 invoke tick now context proc lane =
     if is_some (context_at context lane) then invoke_own tick now context proc lane else written tick (events.Invoke context Posted) lane
 
 -- what an invoke sends: to another lane's context the source
-abbrev pub invoke_sends : (context proc : ℕ) → Lane → Option Mail
+abbrev pub invoke_sends : ContextNumber → ProcNumber → Lane → Option Mail
 invoke_sends context proc lane = if is_some (context_at context lane) then None else Some (Attach context (invoke_spec proc))

@@ -7,10 +7,10 @@ use Rattle.post_office.specs.declared.letter.Body.TheVariants as mails
 use Rattle.lane_watch.specs.Tasks.{Started, Tasks, reply_at, is_late_at, stays_at}
 use Rattle.lane_turn.specs.Lane.{Lane, Turn}
 use Rattle.lane_turn.specs.Step.{late_line}
-use Rattle.loop_script.specs.Units.{Tick}
+use Rattle.loop_script.specs.Units.{Tick, LaneNumber, TaskNumber}
 
 -- the letters of replies, numbered on
-abbrev pub letters_of : (tick sender number : ℕ) → List Reply → List Letter
+abbrev pub letters_of : (tick : Tick) (sender : LaneNumber) (number : ℕ) → List Reply → List Letter
 letters_of tick sender number [] = []
 letters_of tick sender number (reply ∷ replies) =
     record { tick = tick; sender = sender; number = number; body = mails.Complete reply } ∷ letters_of tick sender (number + 1) replies
@@ -20,7 +20,7 @@ abbrev pub replies_among : Tick → Tasks → List Started → List Reply
 replies_among tick tasks ts = filter_map (reply_at tick tasks) ts
 
 -- the numbers of the tasks that are late
-abbrev pub late_among : Tick → Tasks → List Started → List ℕ
+abbrev pub late_among : Tick → Tasks → List Started → List TaskNumber
 late_among tick tasks ts = map (λ t. t.number) (filter (is_late_at tick tasks) ts)
 
 -- the tasks that go on

@@ -17,14 +17,14 @@ at_tick tick lane = record lane { tasks = polled_at tick lane.tasks }
 
 -- a turn at a tick, of a lane that was left alone until then: it writes nothing, sends nothing, and leaves the lane as it was; and no
 -- task tells anything
-pub record IsQuiet (script : Plan) (tick : ℕ) (lane : Lane) : Type 0 where
+pub record IsQuiet (script : Plan) (tick : Tick) (lane : Lane) : Type 0 where
   pub stays : turned script tick (at_tick tick lane) ≡ at_tick (tick + 1) lane
   pub letters : out_of script tick (at_tick tick lane) ≡ []
   pub tasks : GivesNothing tick lane.tasks
 
 -- all turns after a tick are quiet, up to another, or to the end of the script
 abbrev pub IsQuietUntil : Plan → Tick → Option ℕ → Lane → Type 0
-IsQuietUntil script tick limit lane = (k : ℕ) → tick < k → k < script.ticks → IsAfter k limit → IsQuiet script k lane
+IsQuietUntil script tick limit lane = (k : Tick) → tick < k → k < script.ticks → IsAfter k limit → IsQuiet script k lane
 
 -- ---- what makes it so
 

@@ -1,5 +1,5 @@
 -- The replies that sources hold until they are dispatched.
-use Rattle.std.specs.Prelude.{ℕ, Option, List}
+use Rattle.std.specs.Prelude.{Option, List}
 use Rattle.std.specs.Ordering.{nat_cmp, ordering_then}
 use Rattle.std.specs.declared.cmp.Ordering.{Ordering}
 use Rattle.std.specs.Map.{lookup, remove_entry}
@@ -8,12 +8,12 @@ use Rattle.lane_turn.specs.declared.replies.Awaited.{Awaited}
 use Rattle.loop_script.specs.Units.{ContextNumber, SourceId}
 
 -- by context, those of one context by id
-abbrev pub by_source : ℕ × ℕ → ℕ × ℕ → Ordering
+abbrev pub by_source : ContextNumber × SourceId → ContextNumber × SourceId → Ordering
 by_source p q = ordering_then (nat_cmp p.0 q.0) (nat_cmp p.1 q.1)
 
 -- a map from the context and the id of a source to the reply that it holds
 abbrev pub Replies : Type 0
-Replies = List ((ℕ × ℕ) × Awaited)
+Replies = List ((ContextNumber × SourceId) × Awaited)
 
 -- the reply that a source holds
 abbrev pub reply_held : ContextNumber → SourceId → Replies → Option Awaited

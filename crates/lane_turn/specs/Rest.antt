@@ -1,5 +1,5 @@
 -- What a lane that has ended or is halted still does, and what a delivery does.
-use Rattle.std.specs.Prelude.{◌≡◌, ◌≢◌, ℕ, Some, None, List, []}
+use Rattle.std.specs.Prelude.{◌≡◌, ◌≢◌, Some, None, List, []}
 use Rattle.loop_script.specs.declared.plan.Plan.{Plan}
 use Rattle.post_office.specs.declared.letter.Letter.{Letter}
 use Rattle.lane_turn.specs.declared.line.Event.{Event}
@@ -10,6 +10,7 @@ use Rattle.lane_turn.specs.Step.{step}
 use Rattle.lane_turn.specs.Turn.{turned}
 use Rattle.lane_turn.specs.Deliver.{received_all}
 use Rattle.lane_turn.specs.Traces.{Grows}
+use Rattle.loop_script.specs.Units.{Tick}
 
 -- what a poll writes: that a task is late
 abbrev pub IsLate : Event → Type 0
@@ -39,9 +40,9 @@ pub record IsSent (before now : Lane) : Type 0 where
 -- a lane that has ended or is halted takes no step
 pub record EndedLanesRest : Type 0 where
   -- a lane that has ended or is halted takes no step once its tasks are polled, at any tick
-  pub none : (script : Plan) (tick : ℕ) (t : Turn) → t.lane.status ≢ GoesOn → t.unpolled ≡ [] → step script tick t ≡ None
+  pub none : (script : Plan) (tick : Tick) (t : Turn) → t.lane.status ≢ GoesOn → t.unpolled ≡ [] → step script tick t ≡ None
   -- so each step of it is a poll, and each turn polls alone
-  pub steps : (script : Plan) (tick : ℕ) (t u : Turn) → t.lane.status ≢ GoesOn → step script tick t ≡ Some u → IsPolled t.lane u.lane
-  pub turns : (script : Plan) (tick : ℕ) (lane : Lane) → lane.status ≢ GoesOn → IsPolled lane (turned script tick lane)
+  pub steps : (script : Plan) (tick : Tick) (t u : Turn) → t.lane.status ≢ GoesOn → step script tick t ≡ Some u → IsPolled t.lane u.lane
+  pub turns : (script : Plan) (tick : Tick) (lane : Lane) → lane.status ≢ GoesOn → IsPolled lane (turned script tick lane)
   -- a delivery lets no lane take a step, and none go on
-  pub deliveries : (script : Plan) (tick : ℕ) (letters : List Letter) (lane : Lane) → IsSent lane (received_all script tick letters lane)
+  pub deliveries : (script : Plan) (tick : Tick) (letters : List Letter) (lane : Lane) → IsSent lane (received_all script tick letters lane)

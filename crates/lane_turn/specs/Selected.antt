@@ -12,24 +12,24 @@ use Rattle.lane_turn.specs.Sources.{own_ready_at}
 use Rattle.lane_turn.specs.Lane.{context_at, chosen}
 use Rattle.lane_turn.specs.Levels.{OfAllLanes}
 use Rattle.lane_turn.specs.Tick.{lanes_at, lane_within}
-use Rattle.loop_script.specs.Units.{SourceId}
+use Rattle.loop_script.specs.Units.{Tick, Microseconds, ContextNumber, SourceId}
 
 -- a ready source, and none that is ready is more urgent: a smaller priority is
-abbrev pub IsUrgent : Own → (busy : List ℕ) → List Row → SourceId → Type 0
+abbrev pub IsUrgent : Own → (busy : List SourceId) → List Row → SourceId → Type 0
 IsUrgent context_at busy rows id = (r : Row) × (row_of id rows ≡ Some r) × (is_ready context_at busy rows r ≡ true) × AllByRecursion (λ q. is_ready context_at busy rows q ≡ true → int_le r.priority q.priority ≡ true) rows
 
 -- of two sources, dispatched one before the other: they have one priority, and of two roots, or two children of one parent, the
 -- first has the smaller number, which each source gets when it is attached and when its priority is set
-abbrev pub GoesBefore : List Row → (first second : ℕ) → Type 0
+abbrev pub GoesBefore : List Row → (first second : SourceId) → Type 0
 GoesBefore rows first second = (r q : Row) → row_of first rows ≡ Some r → row_of second rows ≡ Some q → (r.priority ≡ q.priority) × (r.parent ≡ q.parent → r.order < q.order)
 
 -- ids of the most urgent ready sources, in the order of their numbers
-pub record IsInOrder (context_at : Own) (busy : List ℕ) (rows : List Row) (ids : List ℕ) : Type 0 where
+pub record IsInOrder (context_at : Own) (busy : List SourceId) (rows : List Row) (ids : List SourceId) : Type 0 where
   pub urgent : AllByRecursion (IsUrgent context_at busy rows) ids
   pub order : Pairs (GoesBefore rows) ids
 
 -- no id twice
-abbrev pub AreOnce : List ℕ → Type 0
+abbrev pub AreOnce : List SourceId → Type 0
 AreOnce ids = Pairs (λ i j. i ≢ j) ids
 
 -- no iteration in progress has an id twice
@@ -42,7 +42,7 @@ HasEachOnce (LoopOf number context) = Unit {0}
 pub record IterationsHaveOrder : Type 0 where
   -- in a run no iteration in progress has an id twice: and a dispatch takes its id, by the law on iterations, so none dispatches
   -- an id twice
-  pub once : (script : Plan) (tick steps : ℕ) → AllByRecursion (λ lane. AllByRecursion HasEachOnce (lane_within script tick steps lane).frames) (lanes_at script tick)
+  pub once : (script : Plan) (tick : Tick) (steps : ℕ) → AllByRecursion (λ lane. AllByRecursion HasEachOnce (lane_within script tick steps lane).frames) (lanes_at script tick)
   -- what an iteration of a context would dispatch at a tick, before and after each step of a run, stands in the order of its numbers
   pub order : (script : Plan) → length script.lanes ≤ 64
-      → OfAllLanes script (λ lane. (now context : ℕ) (c : Context) → context_at context lane ≡ Some c → IsInOrder (own_ready_at script now lane.view) (busy context lane.frames) c.rows.rows (chosen script now context lane))
+      → OfAllLanes script (λ lane. (now : Microseconds) (context : ContextNumber) (c : Context) → context_at context lane ≡ Some c → IsInOrder (own_ready_at script now lane.view) (busy context lane.frames) c.rows.rows (chosen script now context lane))

@@ -6,6 +6,7 @@ use Rattle.source_rows.specs.Rows.{RowSet}
 use Rattle.context_core.specs.declared.context.Context.{Context}
 use Rattle.lane_turn.specs.Lane.{Lane, Turn}
 use Rattle.lane_turn.specs.Limits.{most_steps}
+use Rattle.loop_script.specs.Units.{Tick}
 
 -- no counter of a context's sources is above m
 pub record IsBounded (m : ℕ) (s : RowSet) : Type 0 where
@@ -30,7 +31,7 @@ pub record IsWithin (m : ℕ) (lane : Lane) : Type 0 where
   pub handlers : lane.view.next_id ≤ m
 
 -- a lane of a script at the beginning of a tick: no counter is above m, and each turn before started as many tasks as it may take steps at most
-pub record IsReady (script : Plan) (tick m : ℕ) (lane : Lane) : Type 0 where
+pub record IsReady (script : Plan) (tick : Tick) (m : ℕ) (lane : Lane) : Type 0 where
   pub within : IsWithin m lane
   pub view : length lane.view.members ≡ script.cancellables
   pub now : lane.tasks.tick ≡ tick

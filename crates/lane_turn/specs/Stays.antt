@@ -20,9 +20,10 @@ use Rattle.lane_turn.specs.Tick.{lanes_at}
 use Rattle.lane_turn.specs.Replies.{reply_held}
 use Rattle.lane_turn.specs.Traces.{Grows}
 use Rattle.lane_turn.specs.Blocked.{turn_within, OfEachStep}
+use Rattle.loop_script.specs.Units.{Tick, ContextNumber, ProcNumber, SourceId}
 
 -- a source that is there
-abbrev pub IsThere : (context id : ℕ) → Lane → Type 0
+abbrev pub IsThere : ContextNumber → SourceId → Lane → Type 0
 IsThere context id lane = is_some (row_of context id lane) ≡ true
 
 -- what `keep` says of a source after its n-th dispatch: it stays where n is at most `keep`, and always where that is null
@@ -51,22 +52,22 @@ pub record IsAtEnd (script : Plan) (caller : Caller) (body : Body) (t : Turn) : 
   pub over : slice_get (actions_of script body) place ≡ None
 
 -- how many lines tell a dispatch of a source
-abbrev pub is_dispatch_of : (context id : ℕ) → Event → Bool
+abbrev pub is_dispatch_of : ContextNumber → SourceId → Event → Bool
 is_dispatch_of context id (events.Dispatch c i priority depth) = (c == context) && (i == id)
 is_dispatch_of context id _ = false
 
 -- how many dispatches of a source lines tell
-abbrev pub dispatches : (context id : ℕ) → List Line → ℕ
+abbrev pub dispatches : ContextNumber → SourceId → List Line → ℕ
 dispatches context id lines = count_by (λ line. is_dispatch_of context id line.event) lines
 
 -- a source calls its procedure; a dummy calls nothing
-abbrev pub Calls : Option ℕ → Body → Type 0
+abbrev pub Calls : Option ProcNumber → Body → Type 0
 Calls None body = body ≡ Nothing
 Calls (Some proc) body = body ≡ Procedure proc
 
 -- a source's dispatch began: its call is the innermost now, and knows which dispatch of the source it is, whether the source may
 -- recurse, and whether it held a reply; its line is one
-pub record IsBegun (context id : ℕ) (before now : Lane) : Type 0 where
+pub record IsBegun (context : ContextNumber) (id : SourceId) (before now : Lane) : Type 0 where
   pub row : Row
   pub there : row_of context id before ≡ Some row
   pub caller : Caller
@@ -92,6 +93,6 @@ pub record SourcesStay : Type 0 where
   pub begins : (script : Plan) → OfEachStep script (λ t u. Grows (λ line. Begins t.lane u.lane line.event) t.lane.trace u.lane.trace)
   -- when the call of a source's n-th dispatch ends, the source is there exactly where it was not destroyed before, it was no
   -- reply's, and `keep` lets it stay
-  pub ends : (script : Plan) → length script.lanes ≤ 64 → (tick steps : ℕ) → tick ≤ 4096
+  pub ends : (script : Plan) → length script.lanes ≤ 64 → (tick : Tick) (steps : ℕ) → tick ≤ 4096
       → AllByRecursion (λ lane. (caller : Caller) (body : Body) (u : Turn) → IsAtEnd script caller body (turn_within script tick steps lane) → step script tick (turn_within script tick steps lane) ≡ Some u
       → (IsThere caller.context caller.id u.lane ↔ (IsThere caller.context caller.id (turn_within script tick steps lane).lane × (caller.once ≡ false) × Stays script body caller.number))) (lanes_at script tick)

@@ -35,10 +35,10 @@ use Rattle.post_office.specs.declared.letter.Letter.{Letter}
 use Rattle.post_office.specs.declared.letter.Body.{Body as Mail}
 use Rattle.post_office.specs.declared.letter.Body.TheVariants as mails
 use Rattle.lane_turn.specs.Limits.{most_calls}
-use Rattle.loop_script.specs.Units.{Tick, ContextNumber, LoopNumber, SourceId}
+use Rattle.loop_script.specs.Units.{Tick, LaneNumber, ContextNumber, LoopNumber, ProcNumber, SourceId, TaskNumber}
 
 -- what a source calls
-abbrev pub body_of : Option ℕ → Body
+abbrev pub body_of : Option ProcNumber → Body
 body_of None = Nothing
 body_of (Some proc) = Procedure proc
 
@@ -105,7 +105,7 @@ abbrev pub with_lane : (Lane → Lane) → Turn → Turn
 with_lane f t = record t { lane = f t.lane }
 
 -- a letter of the turn: they are numbered from 0
-abbrev pub letter : (tick sender number : ℕ) → Mail → Letter
+abbrev pub letter : (tick : Tick) (sender : LaneNumber) (number : ℕ) → Mail → Letter
 letter tick sender number body = record { tick = tick; sender = sender; number = number; body = body }
 
 -- how many letters were sent, with this one
@@ -114,7 +114,7 @@ sent_with None n = n
 sent_with (Some body) n = n + 1
 
 -- what is posted, with this letter
-abbrev pub posted_with : (tick sender number : ℕ) → List Letter → Option Mail → List Letter
+abbrev pub posted_with : (tick : Tick) (sender : LaneNumber) (number : ℕ) → List Letter → Option Mail → List Letter
 posted_with tick sender number posted None = posted
 posted_with tick sender number posted (Some body) = posted ++ letter tick sender number body ∷ []
 
@@ -175,7 +175,7 @@ step_going script tick t Ended = None
 step_going script tick t Halted = None
 
 -- the line of a body that ends after its reply or with it
-abbrev pub late_line : (tick lane number : ℕ) → Line
+abbrev pub late_line : Tick → LaneNumber → TaskNumber → Line
 late_line tick lane number = record { tick = tick; event = events.TaskLate lane number }
 
 -- one, if so

@@ -13,49 +13,50 @@ use Rattle.lane_turn.specs.Replies.{Replies}
 use Rattle.lane_turn.specs.Lane.{Lane, context_at}
 use Rattle.lane_turn.specs.Tick.{posted_at, lanes_at}
 use Rattle.lane_turn.specs.Owed.{lane_under, posted_before}
+use Rattle.loop_script.specs.Units.{Tick, LaneNumber, TaskNumber}
 
 -- how many lines tell the result of a task, which goes by its lane, the sender of its reply, and its number there
-abbrev pub is_result : (sender number : ℕ) → Event → Bool
+abbrev pub is_result : LaneNumber → TaskNumber → Event → Bool
 is_result sender number (events.Task lane task outcome) = (lane == sender) && (task == number)
 is_result sender number _ = false
 
 -- how many results of a task lines tell
-abbrev pub results : (sender number : ℕ) → List Line → ℕ
+abbrev pub results : LaneNumber → TaskNumber → List Line → ℕ
 results sender number lines = count_by (λ line. is_result sender number line.event) lines
 
 -- how many replies of the task are held
-abbrev pub is_awaited : (sender number : ℕ) → Awaited → Bool
+abbrev pub is_awaited : LaneNumber → TaskNumber → Awaited → Bool
 is_awaited sender number awaited = (awaited.sender == sender) && (awaited.reply.task == number)
 
 -- how many replies of a task are held
-abbrev pub awaited : (sender number : ℕ) → Replies → ℕ
+abbrev pub awaited : LaneNumber → TaskNumber → Replies → ℕ
 awaited sender number replies = count_by (λ entry. is_awaited sender number entry.1) replies
 
 -- how many replies of the task a lane accounts for: it holds them still, or it told their results
-abbrev pub accounted : (sender number : ℕ) → Lane → ℕ
+abbrev pub accounted : LaneNumber → TaskNumber → Lane → ℕ
 accounted sender number lane = results sender number lane.trace + awaited sender number lane.replies
 
 -- how many letters bring a lane a reply of the task: it goes to a context of the lane
-abbrev pub brings : (number : ℕ) → Lane → Body → Bool
+abbrev pub brings : TaskNumber → Lane → Body → Bool
 brings number lane (Attach context spec) = false
 brings number lane (Complete reply) = (reply.task == number) && is_some (context_at reply.ctx lane)
 brings number lane (Cancelled c) = false
 
 -- how many of its replies letters bring to the lane
-abbrev pub brought : (sender number : ℕ) → Lane → List Letter → ℕ
+abbrev pub brought : LaneNumber → TaskNumber → Lane → List Letter → ℕ
 brought sender number lane letters = count_by (λ letter. (letter.sender == sender) && brings number lane letter.body) letters
 
 -- how many came before a tick
-abbrev pub brought_before : Plan → (ℕ → List Letter) → (lane sender number tick : ℕ) → ℕ
+abbrev pub brought_before : Plan → (Tick → List Letter) → (lane sender : LaneNumber) (number : TaskNumber) (tick : Tick) → ℕ
 brought_before script mail lane sender number zero = 0
 brought_before script mail lane sender number (suc k) = brought_before script mail lane sender number k + brought sender number (lane_under script mail lane k) (mail k)
 
 -- each reply that came is held still, or its result was told, once
 pub record RepliesAreTakenOnce : Type 0 where
   -- each reply that came to a lane is held still, or its result was told, once
-  pub taken : (script : Plan) (mail : ℕ → List Letter) (lane sender number tick : ℕ) → accounted sender number (lane_under script mail lane tick) ≡ brought_before script mail lane sender number tick
+  pub taken : (script : Plan) (mail : Tick → List Letter) (lane sender : LaneNumber) (number : TaskNumber) (tick : Tick) → accounted sender number (lane_under script mail lane tick) ≡ brought_before script mail lane sender number tick
   -- so of each task of a run at most one result is told, in all lanes together, and none as long as a reply of it is held
-  pub once : (script : Plan) (sender number tick : ℕ) → sum_by (accounted sender number) (lanes_at script tick) ≤ 1
+  pub once : (script : Plan) (sender : LaneNumber) (number : TaskNumber) (tick : Tick) → sum_by (accounted sender number) (lanes_at script tick) ≤ 1
   -- and where the script has a context no reply is lost: what a lane posted before a tick is held at it, or its result was told
-  pub kept : (script : Plan) (sender number tick : ℕ) → 0 < (sizes script).contexts → sender < length script.lanes
+  pub kept : (script : Plan) (sender : LaneNumber) (number : TaskNumber) (tick : Tick) → 0 < (sizes script).contexts → sender < length script.lanes
       → sum_by (accounted sender number) (lanes_at script tick) ≡ posted_before script (λ k. posted_at script k (lanes_at script k)) sender number tick

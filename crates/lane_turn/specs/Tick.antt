@@ -21,10 +21,10 @@ abbrev pub opened : Plan → List Lane
 opened script = map (opening script) (range_with_len 0 (length script.lanes))
 
 -- the lanes when so many ticks are over
-abbrev pub lanes_at : Plan → ℕ → List Lane
+abbrev pub lanes_at : Plan → Tick → List Lane
 lanes_at script zero = opened script
 lanes_at script (suc k) = ticked script k (lanes_at script k)
 
 -- a lane after some steps of its turn at a tick
-abbrev pub lane_within : Plan → (tick steps : ℕ) → Lane → Lane
+abbrev pub lane_within : Plan → (tick : Tick) (steps : ℕ) → Lane → Lane
 lane_within script tick steps lane = (finish script tick steps (begun tick lane)).lane

@@ -1,5 +1,5 @@
 -- How the trace of a lane goes on.
-use Rattle.std.specs.Prelude.{◌≡◌, ℕ, ◌<◌, ◌≤◌, ◌++◌, Some, List, [], ◌∷◌}
+use Rattle.std.specs.Prelude.{◌≡◌, ◌<◌, ◌≤◌, ◌++◌, Some, List, [], ◌∷◌}
 use Rattle.std.specs.List.{AllByRecursion}
 use Rattle.loop_script.specs.declared.plan.Plan.{Plan}
 use Rattle.post_office.specs.declared.letter.Letter.{Letter}
@@ -27,15 +27,15 @@ NoTickFalls [] = Unit {0}
 NoTickFalls (line ∷ lines) = AllByRecursion (λ later. line.tick ≤ later.tick) lines × NoTickFalls lines
 
 -- lines of ticks before this one
-pub record IsBefore (tick : ℕ) (lines : List Line) : Type 0 where
+pub record IsBefore (tick : Tick) (lines : List Line) : Type 0 where
   pub past : AllByRecursion (λ line. line.tick < tick) lines
   pub rising : NoTickFalls lines
 
 -- a trace only grows, by lines of the tick
 pub record TracesGrow : Type 0 where
   -- a step, a turn and a delivery leave the lines that there are, and add lines of their own tick alone
-  pub steps : (script : Plan) (tick : ℕ) (t u : Turn) → step script tick t ≡ Some u → Grows (IsOf tick) t.lane.trace u.lane.trace
-  pub turns : (script : Plan) (tick : ℕ) (lane : Lane) → Grows (IsOf tick) lane.trace (turned script tick lane).trace
-  pub deliveries : (script : Plan) (tick : ℕ) (letters : List Letter) (lane : Lane) → Grows (IsOf tick) lane.trace (received_all script tick letters lane).trace
+  pub steps : (script : Plan) (tick : Tick) (t u : Turn) → step script tick t ≡ Some u → Grows (IsOf tick) t.lane.trace u.lane.trace
+  pub turns : (script : Plan) (tick : Tick) (lane : Lane) → Grows (IsOf tick) lane.trace (turned script tick lane).trace
+  pub deliveries : (script : Plan) (tick : Tick) (letters : List Letter) (lane : Lane) → Grows (IsOf tick) lane.trace (received_all script tick letters lane).trace
   -- so what the lanes of a run have written when a tick begins is of the ticks before it, in their order
-  pub run : (script : Plan) (tick : ℕ) → AllByRecursion (λ lane. IsBefore tick lane.trace) (lanes_at script tick)
+  pub run : (script : Plan) (tick : Tick) → AllByRecursion (λ lane. IsBefore tick lane.trace) (lanes_at script tick)

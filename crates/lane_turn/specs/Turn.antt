@@ -127,4 +127,4 @@ opening script lane = record {
 
 -- a turn leaves no step
 abbrev pub TurnsEnd : Type 0
-TurnsEnd = (script : Plan) (tick : ℕ) (lane : Lane) → step script tick (finished script tick (begun tick lane)) ≡ None
+TurnsEnd = (script : Plan) (tick : Tick) (lane : Lane) → step script tick (finished script tick (begun tick lane)) ≡ None

@@ -5,7 +5,7 @@ ghost use Rattle.lane_turn.specs.Acted.{attach, child, destroy, set_ready, set_p
 ghost use Rattle.task_steps.specs.Book.{IsIn};
 ghost use Rattle.lane_turn.specs.Sound.{IsWithin};
 ghost use Rattle.lane_turn.specs.Meaning.{lane_of};
-ghost use Rattle.loop_script.specs.Bounds.{count_end, latest};
+ghost use Rattle.loop_script.specs.Bounds.{count_end, latest, tick_end};
 ghost use Rattle.lane_turn.specs.Limits.{most_count};
 
 use crate::lane::Lane;
@@ -169,7 +169,7 @@ impl Lane {
     fn act_task(&mut self, tick: u32, spec: &TaskSpec) -> Result<(), AllocError>
         requires room { (lane_of self.old).tasks.next < count_end }
         requires now { (lane_of self.old).tasks.tick ≡ tick + 1 }
-        requires tick { tick < 2 ^ 31 }
+        requires tick { tick < tick_end }
         requires known { IsIn (lane_of self.old).view spec.now.cancel }
         ensures { OnOk result (lane_of self.new ≡ start_task tick spec.now (lane_of self.old)) }
     {
@@ -190,7 +190,7 @@ impl Lane {
     ) -> Result<(), AllocError>
         requires within { IsWithin most_count (lane_of self.old) }
         requires now { (lane_of self.old).tasks.tick ≡ tick + 1 }
-        requires tick { tick < 2 ^ 31 }
+        requires tick { tick < tick_end }
         requires room { (lane_of self.old).tasks.next < count_end }
         requires view { length (lane_of self.old).view.members ≡ script.now.cancellables }
         requires refers { action_refers (sizes script.now) action.now ≡ true }

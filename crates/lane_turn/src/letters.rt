@@ -5,7 +5,7 @@ ghost use Rattle.lane_turn.specs.Acted.{acted, sends};
 ghost use Rattle.lane_turn.specs.Step.{sending};
 ghost use Rattle.lane_turn.specs.Sound.{IsWithin};
 ghost use Rattle.lane_turn.specs.Meaning.{lane_of, turn_of};
-ghost use Rattle.loop_script.specs.Bounds.{count_end};
+ghost use Rattle.loop_script.specs.Bounds.{count_end, tick_end};
 ghost use Rattle.lane_turn.specs.Limits.{most_count};
 
 use crate::lane::Lane;
@@ -77,7 +77,7 @@ impl Lane {
     ) -> Result<(), AllocError>
         requires within { IsWithin most_count (lane_of self.old) }
         requires now { (lane_of self.old).tasks.tick ≡ tick + 1 }
-        requires tick { tick < 2 ^ 31 }
+        requires tick { tick < tick_end }
         requires room { (lane_of self.old).tasks.next < count_end }
         requires view { length (lane_of self.old).view.members ≡ script.now.cancellables }
         requires refers { action_refers (sizes script.now) action.now ≡ true }

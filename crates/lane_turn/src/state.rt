@@ -1,5 +1,6 @@
 //! A lane between its turns.
 ghost use Rattle.std.specs.Prelude.{◌≡◌, ℕ, ◌+◌, ◌*◌, ◌^◌, ◌<◌, ◌≤◌, ◌++◌, ◌↔◌, ◌≢◌, [], false, length, IsTrue, IsOk, OnOk, IfOk, IfSome, Err};
+ghost use Rattle.loop_script.specs.Bounds.{tick_end};
 ghost use Rattle.lane_turn.specs.Turn.{turned, out_of, opening, open_context, open_contexts, open_slots, open_loops};
 ghost use Rattle.lane_turn.specs.Deliver.{received_all};
 ghost use Rattle.lane_turn.specs.Quiet.{at_tick, IsQuietUntil};
@@ -9,7 +10,7 @@ ghost use Rattle.source_rows.specs.Rows.{level_count};
 ghost use Rattle.lane_turn.specs.Sources.{tree_levels};
 ghost use Rattle.lane_turn.specs.Meaning.{lane_of};
 ghost use Rattle.lane_turn.specs.Sound.{IsReady};
-ghost use Rattle.lane_turn.specs.Limits.{half_count, most_letters, most_steps};
+ghost use Rattle.lane_turn.specs.Limits.{half_count, most_letters, most_steps, turn_growth};
 
 use crate::frames::Frames;
 use crate::lane::{Lane, Status};
@@ -205,11 +206,11 @@ impl LaneState {
         post: &mut P,
     ) -> Result<(), LaneFault>
         requires ready { self.old.spent ≡ false → IsReady script.now tick half_count self.old.lane }
-        requires tick { tick < 2 ^ 31 }
+        requires tick { tick < tick_end }
         ensures turned { OnOk result (self.new.lane ≡ turned script.now tick self.old.lane) }
         ensures letters { OnOk result (P.letters post.new ≡ P.letters post.old ++ out_of script.now tick self.old.lane) }
         ensures home { P.home post.new ≡ P.home post.old }
-        ensures ready { (m : ℕ) → IsReady script.now tick m self.old.lane → OnOk result (IsReady script.now (tick + 1) (m + 20001) self.new.lane) }
+        ensures ready { (m : ℕ) → IsReady script.now tick m self.old.lane → OnOk result (IsReady script.now (tick + 1) (m + turn_growth) self.new.lane) }
         ensures few { OnOk result (length (out_of script.now tick self.old.lane) ≤ most_steps * (tick + 1)) }
         ensures lasts { OnOk result (self.new.spent ≡ false) }
         ensures spent { (result ≡ Err LaneFault.Spent) ↔ IsTrue self.old.spent }
@@ -270,7 +271,7 @@ impl LaneState {
     /// Ticks that are passed over are told to the lane by `pass_to`.
     pub fn next_tick(&self, script: &Script, tick: u32) -> Option<u32>
         requires ready { self.now.spent ≡ false → IsReady script.now (tick + 1) half_count self.now.lane }
-        requires tick { tick < 2 ^ 31 }
+        requires tick { tick < tick_end }
         ensures later { IfSome result (λ next. tick < next) }
         ensures within { IfSome result (λ next. next < script.now.ticks) }
         ensures quiet { self.now.spent ≡ false → IsQuietUntil script.now tick result self.now.lane }
@@ -291,7 +292,7 @@ impl LaneState {
     ///
     /// After `OutOfMemory` the lane is spent, as after `turn`.
     pub fn pass_to(&mut self, tick: u32) -> Result<(), LaneFault>
-        requires tick { tick < 2 ^ 31 }
+        requires tick { tick < tick_end }
         requires past { self.old.spent ≡ false → self.old.lane.tasks.tick ≤ tick }
         requires nothing { self.old.spent ≡ false → (k : ℕ) → self.old.lane.tasks.tick ≤ k → k < tick → GivesNothing k self.old.lane.tasks }
         ensures passed { OnOk result (self.new.lane ≡ at_tick tick self.old.lane) }

@@ -9,7 +9,7 @@ ghost use Rattle.task_steps.specs.Book.{sees};
 ghost use Rattle.post_office.specs.declared.letter.Letter.{Letter};
 ghost use Rattle.lane_turn.specs.Sound.{IsWithin};
 ghost use Rattle.lane_turn.specs.Meaning.{lane_of, turn_of};
-ghost use Rattle.loop_script.specs.Bounds.{count_end};
+ghost use Rattle.loop_script.specs.Bounds.{count_end, tick_end};
 ghost use Rattle.lane_turn.specs.Limits.{most_calls, most_count};
 
 use crate::lane::{Lane, Status};
@@ -109,7 +109,7 @@ impl Lane {
     ) -> Result<(), AllocError>
         requires within { IsWithin most_count (lane_of self.old) }
         requires now { (lane_of self.old).tasks.tick ≡ tick + 1 }
-        requires tick { tick < 2 ^ 31 }
+        requires tick { tick < tick_end }
         requires room { (lane_of self.old).tasks.next < count_end }
         requires view { length (lane_of self.old).view.members ≡ script.now.cancellables }
         requires sent { progress.old.sent < count_end }
@@ -290,7 +290,7 @@ impl Lane {
     ) -> Result<bool, AllocError>
         requires within { IsWithin most_count (lane_of self.old) }
         requires now { (lane_of self.old).tasks.tick ≡ tick + 1 }
-        requires tick { tick < 2 ^ 31 }
+        requires tick { tick < tick_end }
         requires room { (lane_of self.old).tasks.next < count_end }
         requires view { length (lane_of self.old).view.members ≡ script.now.cancellables }
         requires sent { progress.old.sent < count_end }
@@ -355,7 +355,7 @@ impl Lane {
     ) -> Result<bool, AllocError>
         requires within { IsWithin most_count (lane_of self.old) }
         requires now { (lane_of self.old).tasks.tick ≡ tick + 1 }
-        requires tick { tick < 2 ^ 31 }
+        requires tick { tick < tick_end }
         requires room { (lane_of self.old).tasks.next < count_end }
         requires view { length (lane_of self.old).view.members ≡ script.now.cancellables }
         requires sent { progress.old.sent < count_end }

@@ -5,7 +5,7 @@ ghost use Rattle.lane_turn.specs.Step.{late_line};
 ghost use Rattle.lane_turn.specs.Polls.{letters_of, after_polls};
 ghost use Rattle.lane_turn.specs.Sound.{IsReady};
 ghost use Rattle.lane_turn.specs.Meaning.{lane_of, turn_of};
-ghost use Rattle.loop_script.specs.Bounds.{count_end};
+ghost use Rattle.loop_script.specs.Bounds.{count_end, tick_end};
 ghost use Rattle.lane_turn.specs.Limits.{half_count};
 
 use crate::lane::{Lane, Status};
@@ -60,7 +60,7 @@ impl Lane {
         post: &mut P,
     ) -> Result<(), AllocError>
         requires now { (lane_of self.old).tasks.tick ≡ tick }
-        requires tick { tick < 2 ^ 31 }
+        requires tick { tick < tick_end }
         requires sent { progress.old.sent + length (lane_of self.old).tasks.started < count_end }
         ensures polled { OnOk result (turn_of self.new progress.new (P.letters post.new)
             ≡ after_polls tick (record (turn_of self.old progress.old (P.letters post.old)) {
@@ -86,7 +86,7 @@ impl Lane {
         post: &mut P,
     ) -> Result<(), AllocError>
         requires ready { IsReady script.now tick half_count (lane_of self.old) }
-        requires tick { tick < 2 ^ 31 }
+        requires tick { tick < tick_end }
         ensures turned { OnOk result (lane_of self.new ≡ turned script.now tick (lane_of self.old)) }
         ensures letters { OnOk result (P.letters post.new ≡ P.letters post.old ++ out_of script.now tick (lane_of self.old)) }
         ensures home { P.home post.new ≡ P.home post.old }

@@ -9,7 +9,7 @@ use Rattle.task_steps.specs.Task.{Task}
 use Rattle.task_steps.specs.Book.{Book, IsIn, IsIdle, MayComeToAll, OwesNone, all_noticed}
 use Rattle.task_steps.specs.Run.{IsUpTo, IsAfter}
 use Rattle.lane_watch.specs.Tasks.{Started, Tasks, first_seen, reply_at, is_late_at, stays_at}
-use Rattle.loop_script.specs.Units.{Tick, Microseconds}
+use Rattle.loop_script.specs.Units.{Tick, Microseconds, ContextNumber, CancellableNumber, TaskNumber}
 
 -- a view, and tasks that know when its cancellables came into it
 pub record Watched : Type 0 where
@@ -17,15 +17,15 @@ pub record Watched : Type 0 where
   pub tasks : Tasks
 
 -- nothing seen cancelled of so many, no handler, and no task
-abbrev pub nothing_seen : ℕ → Seen
+abbrev pub nothing_seen : (cancellables : ℕ) → Seen
 nothing_seen n = record { members = replicate n false; handlers = []; next_id = 1 }
 
 -- no task was started, and nothing came into the view
-abbrev pub no_tasks : (n tick_us : ℕ) → Tasks
+abbrev pub no_tasks : (n : ℕ) (tick_us : Microseconds) → Tasks
 no_tasks n tick_us = record { started = []; next = 0; tick_us = tick_us; came = replicate n None; tick = 0 }
 
 -- a cancellable has come into the view in a tick, if it was not there
-abbrev pub cancelled_at : (tick c : ℕ) → Watched → Watched
+abbrev pub cancelled_at : Tick → CancellableNumber → Watched → Watched
 cancelled_at tick c w =
     if has c w.view then w else record { view = cancelled c w.view; tasks = record w.tasks { came = slice_set w.tasks.came c (Some tick) } }
 
@@ -34,7 +34,7 @@ abbrev pub viewing : Seen → Watched → Watched
 viewing view w = record w { view = view }
 
 -- one more task, first polled in the next tick
-abbrev pub starting : (tick ctx : ℕ) → TaskSpec → Tasks → Tasks
+abbrev pub starting : Tick → ContextNumber → TaskSpec → Tasks → Tasks
 starting tick ctx spec tasks = record tasks {
   started = tasks.started ++ (record { number = tasks.next; spec = spec; ctx = ctx; first = tick + 1 }) ∷ [];
   next = tasks.next + 1;
@@ -45,7 +45,7 @@ abbrev pub replies_of : Tick → Tasks → List Reply
 replies_of tick tasks = filter_map (reply_at tick tasks) tasks.started
 
 -- the numbers of the tasks that are late at a tick
-abbrev pub late_of : Tick → Tasks → List ℕ
+abbrev pub late_of : Tick → Tasks → List TaskNumber
 late_of tick tasks = map (λ t. t.number) (filter (is_late_at tick tasks) tasks.started)
 
 -- the tasks after a poll
@@ -116,7 +116,7 @@ IsIdleUnder tick view ts = (c : ℕ → Option Tick) → MayComeToAll c (all_not
 
 -- before its wake nothing wakes in the book, no task owes the view a reply, and polls are idle
 abbrev pub IsAsleep : (tick : Tick) (wake : Option Tick) (view : Seen) → Book → Type 0
-IsAsleep tick wake view book = (later : ℕ) → tick ≤ later → IsAfter later wake → IsAfter later book.wake × OwesNone view book.tasks × IsIdleUnder later view book.tasks
+IsAsleep tick wake view book = (later : Tick) → tick ≤ later → IsAfter later wake → IsAfter later book.wake × OwesNone view book.tasks × IsIdleUnder later view book.tasks
 
 -- the last poll, pass or start was in the tick before
 abbrev pub IsLast : Tick → Option Tick → Type 0

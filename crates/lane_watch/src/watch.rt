@@ -1,6 +1,6 @@
 //! A lane's view with its ticks, and its tasks.
 ghost use Rattle.std.specs.Prelude.{◌≡◌, ℕ, [], ◌+◌, ◌<◌, ◌≤◌, ◌^◌, slice_set, Some, None, true, false, IsTrue, IsOk, IfOk, OnOk, OnErr, option_map, if◌then◌else◌, ◌↔◌};
-ghost use Rattle.loop_script.specs.Bounds.{count_end, longest_tick};
+ghost use Rattle.loop_script.specs.Bounds.{count_end, longest_tick, tick_end};
 ghost use Rattle.task_steps.specs.Run.{IsAfter};
 
 use cancel_view::{Connected, Fired, OutOfMemory, View};
@@ -139,7 +139,7 @@ impl Watch {
     /// `OutOfMemory` the tasks are forgotten.
     pub fn start(&mut self, spec: &TaskSpec, ctx: u32, tick: u32) -> Result<(), OutOfMemory>
         requires now { self.old.tasks.tick ≡ tick + 1 }
-        requires tick { tick < 2 ^ 31 }
+        requires tick { tick < tick_end }
         requires room { self.old.tasks.next < count_end }
         requires known { IsIn self.old.view spec.now.cancel }
         ensures ok { OnOk result (self.new ≡ record self.old { tasks = starting tick ctx spec.now self.old.tasks }) }
@@ -158,7 +158,7 @@ impl Watch {
     /// A tick in which none wakes costs the same however many sleep.
     pub fn poll(&mut self, alloc: Global, tick: u32) -> Result<Polled, OutOfMemory>
         requires now { self.old.tasks.tick ≡ tick }
-        requires tick { tick < 2 ^ 31 }
+        requires tick { tick < tick_end }
         ensures replies { IfOk result (λ p. p.replies ≡ replies_of tick self.old.tasks) }
         ensures late { IfOk result (λ p. p.late ≡ late_of tick self.old.tasks) }
         ensures ok { OnOk result (self.new ≡ record self.old { tasks = polled tick self.old.tasks }) }
@@ -209,7 +209,7 @@ impl Watch {
     /// Passes over the ticks before one, in place of their polls, which give nothing. Ticks that are before `next_wake`
     /// cost the same however many they are, and take no memory. After `OutOfMemory` the tasks are forgotten.
     pub fn pass_to(&mut self, alloc: Global, tick: u32) -> Result<(), OutOfMemory>
-        requires tick { tick < 2 ^ 31 }
+        requires tick { tick < tick_end }
         requires past { self.old.tasks.tick ≤ tick }
         requires nothing { (k : ℕ) → self.old.tasks.tick ≤ k → k < tick → GivesNothing k self.old.tasks }
         ensures ok { OnOk result (self.new ≡ record self.old { tasks = at_tick tick self.old.tasks }) }

@@ -29,6 +29,10 @@ longest_time = 1000000000000000
 abbrev pub latest : ℕ
 latest = 2 ^ 62
 
+-- a tick below this can be counted on
+abbrev pub tick_end : ℕ
+tick_end = 2 ^ 31
+
 -- a number below this can be counted on
 abbrev pub count_end : ℕ
 count_end = 2 ^ 63

@@ -8,6 +8,7 @@ use Rattle.loop_script.specs.Array.{part, arity}
 use Rattle.loop_script.specs.Rows.{rows}
 use Rattle.loop_script.specs.declared.level.Level.{Level}
 use Rattle.loop_script.specs.Bounds.{most_ticks}
+use Rattle.loop_script.specs.Units.{Tick, Bits}
 
 -- `[tick,bits]`
 unfoldable pub level : Option Data → Read Level
@@ -36,17 +37,17 @@ least [] = None
 least (n ∷ ns) = Some (min n (unwrap_or (least ns) n))
 
 -- the levels whose tick has come, and those whose tick is to come
-abbrev pub come : ℕ → List Level → List Level
+abbrev pub come : Tick → List Level → List Level
 come tick ls = filter (λ l. nat_le l.tick tick) ls
 
 -- the levels that begin after a tick
-abbrev pub to_come : ℕ → List Level → List Level
+abbrev pub to_come : Tick → List Level → List Level
 to_come tick ls = filter (λ l. nat_lt tick l.tick) ls
 
 -- the bits of the last level that has come, and none before the first
-abbrev pub bits_at : ℕ → List Level → ℕ
+abbrev pub bits_at : Tick → List Level → Bits
 bits_at tick ls = unwrap_or (option_map (λ l. l.bits) (last (come tick ls))) 0
 
 -- the least tick to come
-abbrev pub change_after : ℕ → List Level → Option ℕ
+abbrev pub change_after : Tick → List Level → Option Tick
 change_after tick ls = least (map (λ l. l.tick) (to_come tick ls))

@@ -1,5 +1,5 @@
 -- What a script's parts must keep to beside one another.
-use Rattle.std.specs.Prelude.{ℕ, ◌&&◌, ◌||◌, not, Bool, true, false, List, slice_get}
+use Rattle.std.specs.Prelude.{◌&&◌, ◌||◌, not, Bool, true, false, List, slice_get}
 use Rattle.std.specs.List.{list_all}
 use Rattle.loop_script.specs.Level.{rises}
 use Rattle.loop_script.specs.Parts.{actions_of_proc, keeps}
@@ -7,6 +7,7 @@ use Rattle.loop_script.specs.declared.action.Action.{Action}
 use Rattle.loop_script.specs.declared.action.Action.TheVariants.{Destroy, SetReady, Quit, Connect, Task, Invoke, Log}
 use Rattle.loop_script.specs.declared.plan.Proc.{Proc}
 use Rattle.loop_script.specs.declared.plan.Plan.{Plan}
+use Rattle.loop_script.specs.Units.{ProcNumber}
 
 -- what a handler may do
 abbrev pub is_plain : Action → Bool
@@ -17,11 +18,11 @@ is_plain (Log n) = true
 is_plain _ = false
 
 -- a procedure of plain actions alone
-abbrev pub is_handler : List Proc → ℕ → Bool
+abbrev pub is_handler : List Proc → ProcNumber → Bool
 is_handler procs proc = list_all is_plain (actions_of_proc (slice_get procs proc))
 
 -- a procedure after whose first call a source goes; the number of none is one
-abbrev pub goes_at_once : List Proc → ℕ → Bool
+abbrev pub goes_at_once : List Proc → ProcNumber → Bool
 goes_at_once procs proc = not (keeps (slice_get procs proc) 1)
 
 -- what is connected is a handler, what is invoked goes after its one call, and a task that returns on cancel checks its

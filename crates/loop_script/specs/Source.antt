@@ -1,5 +1,5 @@
 -- Sources and their kinds.
-use Rattle.std.specs.Prelude.{ℕ, ℤ, pos, false, List, [], ◌∷◌, codes, Option}
+use Rattle.std.specs.Prelude.{ℕ, pos, false, List, [], ◌∷◌, codes, Option}
 use Rattle.serde_json.specs.Data.{Data}
 use Rattle.loop_script.specs.Read.{Read, done, misshapen, ◌>>=◌, optional}
 use Rattle.loop_script.specs.Number.{whole, bits, index, index_or_null, priority, ready_time, flag_or}
@@ -9,6 +9,7 @@ use Rattle.loop_script.specs.Words.{choice}
 use Rattle.loop_script.specs.declared.source.Kind.{Kind}
 use Rattle.loop_script.specs.declared.source.Kind.TheVariants.{Idle, Timeout, ReadyTime, Fd, Cancel}
 use Rattle.loop_script.specs.declared.source.SourceSpec.{SourceSpec}
+use Rattle.loop_script.specs.Units.{Priority}
 
 -- `["idle"]`
 unfoldable pub idle : Option Data → Read Kind
@@ -60,7 +61,7 @@ unfoldable pub kind : Option Data → Read Kind
 kind d = choice (word d) (kinds d) (misshapen Idle)
 
 -- 200 for an idle source, and 0 for any other
-abbrev pub usual_priority : Kind → ℤ
+abbrev pub usual_priority : Kind → Priority
 usual_priority Idle = pos 200
 usual_priority (Timeout ms) = pos 0
 usual_priority (ReadyTime us) = pos 0
@@ -68,7 +69,7 @@ usual_priority (Fd f bits) = pos 0
 usual_priority (Cancel c) = pos 0
 
 -- a priority, where nothing is said the kind's usual one
-unfoldable pub priority_or : Kind → Option Data → Read ℤ
+unfoldable pub priority_or : Kind → Option Data → Read Priority
 priority_or k d = optional (usual_priority k) priority d
 
 -- a source

@@ -1,5 +1,5 @@
 -- Tasks as objects.
-use Rattle.std.specs.Prelude.{ℤ, pos, true, false, [], ◌∷◌, codes, Option, if◌then◌else◌}
+use Rattle.std.specs.Prelude.{pos, true, false, [], ◌∷◌, codes, Option, if◌then◌else◌}
 use Rattle.serde_json.specs.Data.{Data}
 use Rattle.loop_script.specs.Read.{Read, done, beyond, ◌>>=◌, optional}
 use Rattle.loop_script.specs.Number.{priority, index, index_or_null, flag_or}
@@ -8,6 +8,7 @@ use Rattle.loop_script.specs.Tree.{Tree, fail}
 use Rattle.loop_script.specs.TreeDepth.{fits_in}
 use Rattle.loop_script.specs.TreeForm.{tree}
 use Rattle.loop_script.specs.declared.task.TaskSpec.{TaskSpec}
+use Rattle.loop_script.specs.Units.{Priority}
 
 -- a tree within its depth
 abbrev pub limited : Tree → Read Tree
@@ -18,7 +19,7 @@ unfoldable pub shallow_tree : Option Data → Read Tree
 shallow_tree d = tree d >>= limited
 
 -- a priority, where nothing is said 0
-unfoldable pub priority_or_zero : Option Data → Read ℤ
+unfoldable pub priority_or_zero : Option Data → Read Priority
 priority_or_zero d = optional (pos 0) priority d
 
 -- a task

@@ -1,5 +1,5 @@
 -- What the numbers of a script and its run stand for.
-use Rattle.std.specs.Prelude.{ℕ}
+use Rattle.std.specs.Prelude.{ℕ, ℤ}
 
 -- a tick of the run, from 0
 abbrev pub Tick : Type 0
@@ -20,6 +20,14 @@ ContextNumber = ℕ
 -- a loop by its number, from 0
 abbrev pub LoopNumber : Type 0
 LoopNumber = ℕ
+
+-- a descriptor by its number, from 0
+abbrev pub Descriptor : Type 0
+Descriptor = ℕ
+
+-- the conditions of a descriptor, as a number of bits
+abbrev pub Bits : Type 0
+Bits = ℕ
 
 -- a cancellable by its number, from 0
 abbrev pub CancellableNumber : Type 0
@@ -44,3 +52,11 @@ HandlerId = ℕ
 -- a task of a book, in the order of starting, from 0
 abbrev pub TaskNumber : Type 0
 TaskNumber = ℕ
+
+-- a priority, of which the least goes first
+abbrev pub Priority : Type 0
+Priority = ℤ
+
+-- the order of attaching: a source that came later has a greater one
+abbrev pub Order : Type 0
+Order = ℕ

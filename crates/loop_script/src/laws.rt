@@ -8,7 +8,7 @@ pub fn no_fault_is_cleared()
 {}
 
 /// Bytes have one reading: two scripts, two classes of fault, or a script and a class are never both right for them.
-/// So each class, and the script, is answered exactly for its bytes, want of memory apart.
+/// So each class, and the script, is answered exactly for its bytes, running out of memory apart.
 pub fn bytes_have_one_reading()
     ensures { OneReading }
 {}

@@ -1,8 +1,8 @@
 pub mod Alike
 pub mod Asking
 pub mod Endings
-pub mod Fronts
 pub mod Inputs
-pub mod Setups
 pub mod Parts
+pub mod Prefixes
+pub mod Setups
 pub mod Statuses

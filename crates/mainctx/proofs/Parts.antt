@@ -10,8 +10,8 @@ use Rattle.lane_turn.specs.Lane.{Lane}
 use Rattle.lane_turn.specs.Tick.{lanes_at}
 use Rattle.tick_stepper.proofs.Counted.{Counted, counted_at, lane_count}
 use Rattle.mainctx.specs.Text.{part_of, lane_text, text_of}
-use Rattle.mainctx.specs.Writing.{AddsFront, PassesOn}
-use Rattle.mainctx.proofs.Fronts.{all_passed, front_longer, front_passed, front_then}
+use Rattle.mainctx.specs.Writing.{AddsPrefix, PassesOn}
+use Rattle.mainctx.proofs.Prefixes.{all_passed, prefix_longer, prefix_passed, prefix_then}
 
 some_lines : (a b : List Line) → Some a ≡ Some b → a ≡ b
 some_lines a b e = cc
@@ -44,14 +44,14 @@ parts_all script n lanes same few =
     let within : length all ≤ n = omega (arith, few, lane_count script script.ticks) in
     ap (λ (ls : List Lane). flat_map part_of (take n ls)) same ∙ ap (flat_map part_of) (take_all n all within)
 
--- a front of a lane's part, after the parts before it, is one of the text
-pub front_part : (old now new has : List ℕ) (script : Plan) (n : ℕ) (lanes : List Lane) (lines : List Line) → lanes ≡ lanes_at script script.ticks → PassesOn old now [] has (flat_map part_of (take n lanes))
-    → flat_map part_of (take (n + 1) lanes) ≡ flat_map part_of (take n lanes) ++ lane_text n lines → AddsFront now new (has ++ lane_text n lines) → AddsFront old new (text_of script)
-front_part old now new has script n lanes lines same passes more front =
+-- a prefix of a lane's part, after the parts before it, is one of the text
+pub prefix_part : (old now new has : List ℕ) (script : Plan) (n : ℕ) (lanes : List Lane) (lines : List Line) → lanes ≡ lanes_at script script.ticks → PassesOn old now [] has (flat_map part_of (take n lanes))
+    → flat_map part_of (take (n + 1) lanes) ≡ flat_map part_of (take n lanes) ++ lane_text n lines → AddsPrefix now new (has ++ lane_text n lines) → AddsPrefix old new (text_of script)
+prefix_part old now new has script n lanes lines same passes more prefix =
     let before : List ℕ = flat_map part_of (take n lanes) in
     let rest : List ℕ = flat_map part_of (drop (n + 1) lanes) in
     let whole : flat_map part_of (take (n + 1) lanes) ++ rest ≡ flat_map part_of lanes = sym (flat_map-append part_of (take (n + 1) lanes) (drop (n + 1) lanes)) ∙ ap (flat_map part_of) (take-append-drop (n + 1) lanes) in
-    front_longer old new (before ++ lane_text n lines) rest (text_of script) (front_then old now new [] has before (lane_text n lines) passes front)
+    prefix_longer old new (before ++ lane_text n lines) rest (text_of script) (prefix_then old now new [] has before (lane_text n lines) passes prefix)
     (ap (λ (t : List ℕ). t ++ rest) (sym more) ∙ (whole ∙ ap (flat_map part_of) same))
 
 -- the text, where all parts were made and what waited is taken
@@ -60,8 +60,8 @@ pub text_passed : (old now new waits : List ℕ) (script : Plan) (n : ℕ) (lane
 text_passed old now new waits script n lanes same few passes e =
     all_passed old now new waits (flat_map part_of (take n lanes)) passes e ∙ ap (λ (t : List ℕ). old ++ t) (parts_all script n lanes same few)
 
--- a front of the text, where a front of what waited is taken
-pub front_waits : (old now new waits : List ℕ) (script : Plan) (n : ℕ) (lanes : List Lane) → lanes ≡ lanes_at script script.ticks → length script.lanes ≤ n → PassesOn old now [] waits (flat_map part_of (take n lanes))
-    → AddsFront now new waits → AddsFront old new (text_of script)
-front_waits old now new waits script n lanes same few passes front =
-    subst (AddsFront old new) (parts_all script n lanes same few) (front_passed old now new waits (flat_map part_of (take n lanes)) passes front)
+-- a prefix of the text, where a prefix of what waited is taken
+pub prefix_waits : (old now new waits : List ℕ) (script : Plan) (n : ℕ) (lanes : List Lane) → lanes ≡ lanes_at script script.ticks → length script.lanes ≤ n → PassesOn old now [] waits (flat_map part_of (take n lanes))
+    → AddsPrefix now new waits → AddsPrefix old new (text_of script)
+prefix_waits old now new waits script n lanes same few passes prefix =
+    subst (AddsPrefix old new) (parts_all script n lanes same few) (prefix_passed old now new waits (flat_map part_of (take n lanes)) passes prefix)

@@ -6,7 +6,7 @@ use Rattle.mainctx.specs.declared.status.Refusal.TheVariants.{Usage, Script, Set
 use Rattle.mainctx.specs.Run.{IsRunFaultOf}
 use Rattle.mainctx.specs.declared.run.MainFault.TheVariants as run_faults
 use Rattle.loop_script.specs.declared.fault.ScriptFault.{ScriptFault}
-use Rattle.mainctx.specs.Serving.{IsRestOf, Leaves, Refuses, ServesFront, HasNoCrew, status_of}
+use Rattle.mainctx.specs.Serving.{IsRestOf, Leaves, Refuses, ServesPrefix, HasNoCrew, status_of}
 use Rattle.mainctx.specs.declared.arguments.Asked.{Asked}
 use Rattle.mainctx.specs.Arguments.{AskFor, IsWordOf}
 use Rattle.std.specs.Prelude.{String, string_bytes, nat_le}
@@ -52,13 +52,13 @@ leaves_nothing args left Memory old new leaves low = leaves
 leaves_nothing args left Read old new leaves low = leaves
 leaves_nothing args left Write old new leaves low = absurd (omega (arith, low))
 
-pub leaves_front : (args : List (String Global)) (left : Option (List ℕ)) (refusal : Refusal) (old new : List ℕ) → Leaves args left refusal old new → (new ≡ old) ⊎ ServesFront left old new
-leaves_front args left Usage old new leaves = inl leaves
-leaves_front args left (Script fault) old new leaves = inl leaves.nothing
-leaves_front args left Setup old new leaves = inl leaves.1
-leaves_front args left Memory old new leaves = inl leaves
-leaves_front args left Read old new leaves = inl leaves
-leaves_front args left Write old new leaves = inr leaves
+pub leaves_prefix : (args : List (String Global)) (left : Option (List ℕ)) (refusal : Refusal) (old new : List ℕ) → Leaves args left refusal old new → (new ≡ old) ⊎ ServesPrefix left old new
+leaves_prefix args left Usage old new leaves = inl leaves
+leaves_prefix args left (Script fault) old new leaves = inl leaves.nothing
+leaves_prefix args left Setup old new leaves = inl leaves.1
+leaves_prefix args left Memory old new leaves = inl leaves
+leaves_prefix args left Read old new leaves = inl leaves
+leaves_prefix args left Write old new leaves = inr leaves
 
 -- a run of all that is left that found a fault of the script
 pub refuses_by : (left : Option (List ℕ)) (bytes items : List ℕ) (workers : ℕ) (sharing : Sharing) (fault : ScriptFault) (old new : List ℕ) → IsRestOf left items → bytes ≡ items → IsRunFaultOf bytes workers sharing (run_faults.Script fault) → new ≡ old → Refuses left fault old new

@@ -1,4 +1,5 @@
 pub mod Arguments
+pub mod Bounds
 pub mod Text
 pub mod Writing
 pub mod Run

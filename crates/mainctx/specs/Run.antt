@@ -12,13 +12,13 @@ use Rattle.tick_stepper.specs.declared.fault.StepFault.{StepFault}
 use Rattle.tick_stepper.specs.declared.fault.StepFault.TheVariants as steps
 use Rattle.tick_stepper.specs.Crew.{refusal_of}
 use Rattle.mainctx.specs.Text.{text_of}
-use Rattle.mainctx.specs.Writing.{AddsFront}
+use Rattle.mainctx.specs.Writing.{AddsPrefix}
 
 -- the bytes are those of a script
 abbrev pub IsScriptOf : List ℕ → Plan → Type 0
 IsScriptOf bytes script = Answers bytes (Ok script)
 
--- the bytes are no script's, and this is the class of their fault; want of memory is none
+-- the bytes are no script's, and this is the class of their fault; out of memory is none
 abbrev pub IsFaultOf : List ℕ → ScriptFault → Type 0
 IsFaultOf bytes fault = (fault ≢ OutOfMemory) × Answers bytes (Err fault)
 
@@ -61,11 +61,11 @@ pub record Writes (bytes old new : List ℕ) : Type 0 where
   pub read : IsScriptOf bytes script
   pub gained : new ≡ old ++ text_of script
 
--- what was written gained a front of that text
-pub record WritesFront (bytes old new : List ℕ) : Type 0 where
+-- what was written gained a prefix of that text
+pub record WritesPrefix (bytes old new : List ℕ) : Type 0 where
   pub script : Plan
   pub read : IsScriptOf bytes script
-  pub gained : AddsFront old new (text_of script)
+  pub gained : AddsPrefix old new (text_of script)
 
 -- what the writer itself holds, where that is known, gained the text of the script of the bytes
 pub record HoldsText (bytes : List ℕ) (held holds : Option (List ℕ)) : Type 0 where

@@ -2,7 +2,7 @@
 use Rattle.std.specs.Prelude.{◌≡◌, ℕ, List, Option, Some, IfSome, String}
 use Rattle.loop_script.specs.declared.fault.ScriptFault.{ScriptFault}
 use Rattle.loop_script.specs.declared.fault.ScriptFault.TheVariants as faults
-use Rattle.mainctx.specs.Run.{Writes, WritesFront, HoldsText, IsFaultOf, IsScriptOf}
+use Rattle.mainctx.specs.Run.{Writes, WritesPrefix, HoldsText, IsFaultOf, IsScriptOf}
 use Rattle.std.specs.declared.alloc.Global.{Global}
 use Rattle.loop_script.specs.declared.plan.Plan.{Plan}
 use Rattle.tick_stepper.specs.declared.fault.StepFault.TheVariants.{Workers}
@@ -56,11 +56,11 @@ pub record HasNoCrew (args : List (String Global)) (left : Option (List ℕ)) : 
   pub ask : AskFor args asked
   pub refused : refusal_of script asked.workers asked.sharing ≡ Some Workers
 
--- a front of the text was written
-pub record ServesFront (left : Option (List ℕ)) (old new : List ℕ) : Type 0 where
+-- a prefix of the text was written
+pub record ServesPrefix (left : Option (List ℕ)) (old new : List ℕ) : Type 0 where
   pub bytes : List ℕ
   pub input : IsRestOf left bytes
-  pub writes : WritesFront bytes old new
+  pub writes : WritesPrefix bytes old new
 
 -- the exit status of a refusal
 abbrev pub status_of : Refusal → ℕ
@@ -83,4 +83,4 @@ Leaves args left (Script fault) old new = Refuses left fault old new
 Leaves args left Setup old new = HasNoCrew args left × (new ≡ old)
 Leaves args left Memory old new = new ≡ old
 Leaves args left Read old new = new ≡ old
-Leaves args left Write old new = ServesFront left old new
+Leaves args left Write old new = ServesPrefix left old new

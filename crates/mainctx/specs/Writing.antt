@@ -14,12 +14,12 @@ missed (Ok zero) (b ∷ bytes) = 1
 missed (Ok (suc n)) bytes = 0
 missed (Err e) bytes = 1
 
--- a front of the text was added to a list
-pub record AddsFront (old new text : List ℕ) : Type 0 where
-  pub front : List ℕ
+-- a prefix of the text was added to a list
+pub record AddsPrefix (old new text : List ℕ) : Type 0 where
+  pub prefix : List ℕ
   pub rest : List ℕ
-  pub whole : front ++ rest ≡ text
-  pub added : new ≡ old ++ front
+  pub whole : prefix ++ rest ≡ text
+  pub added : new ≡ old ++ prefix
 
 -- what is told as taken, and what the writer itself holds where that is known, grew by the same bytes
 pub record GrowAlike (old new : List ℕ) (held holds : Option (List ℕ)) : Type 0 where
@@ -27,8 +27,8 @@ pub record GrowAlike (old new : List ℕ) (held holds : Option (List ℕ)) : Typ
   pub told : new ≡ old ++ bytes
   pub known : Appends held holds bytes
 
--- of some bytes that waited and some more a front was taken, and the rest waits
+-- of some bytes that waited and some more a prefix was taken, and the rest waits
 pub record PassesOn (old new waited waits more : List ℕ) : Type 0 where
-  pub front : List ℕ
-  pub whole : front ++ waits ≡ waited ++ more
-  pub added : new ≡ old ++ front
+  pub prefix : List ℕ
+  pub whole : prefix ++ waits ≡ waited ++ more
+  pub added : new ≡ old ++ prefix

@@ -1,6 +1,6 @@
 //! Bytes that wait for a writer: so a text is written in few calls, and is never in memory as a whole.
 ghost use Rattle.std.specs.Prelude.{◌≡◌, ◌≤◌, ◌<◌, [], ◌++◌, length, IfOk, OnOk, OnErr};
-ghost use Rattle.mainctx.specs.Writing.{AddsFront, GrowAlike, PassesOn};
+ghost use Rattle.mainctx.specs.Writing.{AddsPrefix, GrowAlike, PassesOn};
 
 use crate::text::OutOfMemory;
 use crate::writer::{Out, OutFault, write_all};
@@ -40,7 +40,7 @@ impl Buffer {
         ensures whole { OnOk result (W.taken out.new ≡ W.taken out.old ++ self.old) }
         ensures empty { OnOk result (self.new ≡ []) }
         ensures clean { OnOk result (W.failures out.new ≡ W.failures out.old) }
-        ensures front { OnErr result (AddsFront (W.taken out.old) (W.taken out.new) self.old) }
+        ensures prefix { OnErr result (AddsPrefix (W.taken out.old) (W.taken out.new) self.old) }
         ensures failed { OnErr result (W.failures out.old < W.failures out.new) }
         ensures known { GrowAlike (W.taken out.old) (W.taken out.new) (W.contents out.old) (W.contents out.new) }
     {
@@ -55,7 +55,7 @@ impl Buffer {
         requires { length bytes.now ≤ 65536 }
         ensures passes { OnOk result (PassesOn (W.taken out.old) (W.taken out.new) self.old self.new bytes.now) }
         ensures clean { OnOk result (W.failures out.new ≡ W.failures out.old) }
-        ensures front { OnErr result (AddsFront (W.taken out.old) (W.taken out.new) (self.old ++ bytes.now)) }
+        ensures prefix { OnErr result (AddsPrefix (W.taken out.old) (W.taken out.new) (self.old ++ bytes.now)) }
         ensures failed { OnErr result (W.failures out.old < W.failures out.new) }
         ensures known { GrowAlike (W.taken out.old) (W.taken out.new) (W.contents out.old) (W.contents out.new) }
     {

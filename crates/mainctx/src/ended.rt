@@ -3,7 +3,7 @@ ghost use Rattle.std.specs.Prelude.{◌≡◌, ◌<◌, None, [], ◌++◌, IfOk
 ghost use Rattle.tick_stepper.specs.Crew.{refusal_of};
 ghost use Rattle.mainctx.specs.Run.{IsSetup, IsSetupFaultOf};
 ghost use Rattle.mainctx.specs.Text.{lane_text, text_of};
-ghost use Rattle.mainctx.specs.Writing.{AddsFront, GrowAlike, PassesOn};
+ghost use Rattle.mainctx.specs.Writing.{AddsPrefix, GrowAlike, PassesOn};
 
 use crate::buffer::Buffer;
 use crate::printed::Printed;
@@ -79,7 +79,7 @@ impl Ended {
         requires { buffer.old ≡ [] }
         ensures whole { OnOk result (W.taken out.new ≡ W.taken out.old ++ text_of self.now) }
         ensures clean { OnOk result (W.failures out.new ≡ W.failures out.old) }
-        ensures front { OnErr result (AddsFront (W.taken out.old) (W.taken out.new) (text_of self.now)) }
+        ensures prefix { OnErr result (AddsPrefix (W.taken out.old) (W.taken out.new) (text_of self.now)) }
         ensures failed { OnErr result (W.failures out.old < W.failures out.new) }
         ensures known { GrowAlike (W.taken out.old) (W.taken out.new) (W.contents out.old) (W.contents out.new) }
     {
@@ -104,7 +104,7 @@ fn add_part<W: Out>(
 ) -> Result<(), OutFault>
     ensures passes { OnOk result (PassesOn (W.taken out.old) (W.taken out.new) buffer.old buffer.new (lane_text lane lines.now)) }
     ensures clean { OnOk result (W.failures out.new ≡ W.failures out.old) }
-    ensures front { OnErr result (AddsFront (W.taken out.old) (W.taken out.new) (buffer.old ++ lane_text lane lines.now)) }
+    ensures prefix { OnErr result (AddsPrefix (W.taken out.old) (W.taken out.new) (buffer.old ++ lane_text lane lines.now)) }
     ensures failed { OnErr result (W.failures out.old < W.failures out.new) }
     ensures known { GrowAlike (W.taken out.old) (W.taken out.new) (W.contents out.old) (W.contents out.new) }
 {

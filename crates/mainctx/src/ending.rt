@@ -1,6 +1,7 @@
 //! Texts that are written from their ends: each part before those that follow it.
 ghost use Rattle.std.specs.Prelude.{◌≡◌, ◌+◌, ◌≤◌, ◌++◌, [], codes, drop, length};
 ghost use Rattle.std.specs.Fmt.{decimal, signed_decimal};
+ghost use Rattle.mainctx.specs.Bounds.{longest_line};
 ghost use Rattle.mainctx.specs.Text.{event_text, lane_text, outcome_text, line_text, truth_text};
 
 use crate::words::{action_word, invoked_word};
@@ -9,12 +10,12 @@ use lane_turn::{Event, Line};
 use loop_script::Outcome;
 
 /// The bytes that a line may take: each of its parts, of which it has twelve at most, has at most 20.
-pub(crate) const ROOM: usize = 256;
+pub(crate) const LONGEST_LINE: usize = 256;
 
 /// Writes a label so that it ends at `end`, and answers where it starts.
 #[inline(always)]
-pub(crate) fn put(bytes: &mut [u8; ROOM], end: usize, label: &str) -> usize
-    requires { (length label.now ≤ 20) × (20 ≤ end) × (end ≤ 256) }
+pub(crate) fn put(bytes: &mut [u8; LONGEST_LINE], end: usize, label: &str) -> usize
+    requires { (length label.now ≤ 20) × (20 ≤ end) × (end ≤ longest_line) }
     ensures start { result + length label.now ≡ end }
     ensures short { end ≤ result + 20 }
     ensures written { drop result bytes.new ≡ label.now ++ drop end bytes.old }
@@ -26,8 +27,8 @@ pub(crate) fn put(bytes: &mut [u8; ROOM], end: usize, label: &str) -> usize
 
 /// Writes a number.
 #[inline(always)]
-pub(crate) fn put_number(bytes: &mut [u8; ROOM], end: usize, number: u64) -> usize
-    requires { (20 ≤ end) × (end ≤ 256) }
+pub(crate) fn put_number(bytes: &mut [u8; LONGEST_LINE], end: usize, number: u64) -> usize
+    requires { (20 ≤ end) × (end ≤ longest_line) }
     ensures start { result + length (decimal number) ≡ end }
     ensures short { end ≤ result + 20 }
     ensures written { drop result bytes.new ≡ decimal number ++ drop end bytes.old }
@@ -37,8 +38,8 @@ pub(crate) fn put_number(bytes: &mut [u8; ROOM], end: usize, number: u64) -> usi
 
 /// Writes a number that may be below zero.
 #[inline(always)]
-pub(crate) fn put_signed(bytes: &mut [u8; ROOM], end: usize, number: i64) -> usize
-    requires { (20 ≤ end) × (end ≤ 256) }
+pub(crate) fn put_signed(bytes: &mut [u8; LONGEST_LINE], end: usize, number: i64) -> usize
+    requires { (20 ≤ end) × (end ≤ longest_line) }
     ensures start { result + length (signed_decimal number) ≡ end }
     ensures short { end ≤ result + 20 }
     ensures written { drop result bytes.new ≡ signed_decimal number ++ drop end bytes.old }
@@ -52,8 +53,8 @@ pub(crate) fn put_signed(bytes: &mut [u8; ROOM], end: usize, number: i64) -> usi
 }
 
 /// Writes how a task ended.
-fn put_outcome(bytes: &mut [u8; ROOM], end: usize, outcome: Outcome) -> usize
-    requires { (40 ≤ end) × (end ≤ 256) }
+fn put_outcome(bytes: &mut [u8; LONGEST_LINE], end: usize, outcome: Outcome) -> usize
+    requires { (40 ≤ end) × (end ≤ longest_line) }
     ensures short { end ≤ result + 40 }
     ensures within { result ≤ end }
     ensures written { drop result bytes.new ≡ outcome_text outcome ++ drop end bytes.old }
@@ -71,8 +72,8 @@ fn put_outcome(bytes: &mut [u8; ROOM], end: usize, outcome: Outcome) -> usize
 
 /// Writes an answer.
 #[inline]
-fn put_truth(bytes: &mut [u8; ROOM], end: usize, truth: bool) -> usize
-    requires { (20 ≤ end) × (end ≤ 256) }
+fn put_truth(bytes: &mut [u8; LONGEST_LINE], end: usize, truth: bool) -> usize
+    requires { (20 ≤ end) × (end ≤ longest_line) }
     ensures short { end ≤ result + 20 }
     ensures within { result ≤ end }
     ensures written { drop result bytes.new ≡ truth_text truth ++ drop end bytes.old }
@@ -86,8 +87,8 @@ fn put_truth(bytes: &mut [u8; ROOM], end: usize, truth: bool) -> usize
 
 /// Writes a label and a number after it.
 #[inline]
-fn put_numbered(bytes: &mut [u8; ROOM], end: usize, label: &str, number: u64) -> usize
-    requires { (length label.now ≤ 20) × (40 ≤ end) × (end ≤ 256) }
+fn put_numbered(bytes: &mut [u8; LONGEST_LINE], end: usize, label: &str, number: u64) -> usize
+    requires { (length label.now ≤ 20) × (40 ≤ end) × (end ≤ longest_line) }
     ensures short { end ≤ result + 40 }
     ensures within { result ≤ end }
     ensures written { drop result bytes.new ≡ label.now ++ (decimal number ++ drop end bytes.old) }
@@ -97,8 +98,8 @@ fn put_numbered(bytes: &mut [u8; ROOM], end: usize, label: &str, number: u64) ->
 }
 
 /// Writes what a line tells.
-fn put_event(bytes: &mut [u8; ROOM], end: usize, event: Event) -> usize
-    requires { (200 ≤ end) × (end ≤ 256) }
+fn put_event(bytes: &mut [u8; LONGEST_LINE], end: usize, event: Event) -> usize
+    requires { (200 ≤ end) × (end ≤ longest_line) }
     ensures short { end ≤ result + 160 }
     ensures within { result ≤ end }
     ensures written { drop result bytes.new ≡ event_text event ++ drop end bytes.old }
@@ -180,21 +181,21 @@ fn put_event(bytes: &mut [u8; ROOM], end: usize, event: Event) -> usize
 }
 
 /// Writes a line at the end, and answers where it starts.
-pub(crate) fn put_line(bytes: &mut [u8; ROOM], line: Line) -> usize
-    ensures within { result ≤ 256 }
+pub(crate) fn put_line(bytes: &mut [u8; LONGEST_LINE], line: Line) -> usize
+    ensures within { result ≤ longest_line }
     ensures written { drop result bytes.new ≡ line_text line }
 {
-    let at = put(bytes, ROOM, "\n");
+    let at = put(bytes, LONGEST_LINE, "\n");
     let at = put_event(bytes, at, line.event);
     let at = put(bytes, at, " ");
     put_number(bytes, at, u64::from(line.tick))
 }
 
 /// Writes a lane's heading at the end, and answers where it starts.
-pub(crate) fn put_heading(bytes: &mut [u8; ROOM], lane: u32) -> usize
-    ensures within { result ≤ 256 }
+pub(crate) fn put_heading(bytes: &mut [u8; LONGEST_LINE], lane: u32) -> usize
+    ensures within { result ≤ longest_line }
     ensures written { drop result bytes.new ≡ lane_text lane [] }
 {
-    let at = put(bytes, ROOM, "\n");
+    let at = put(bytes, LONGEST_LINE, "\n");
     put_numbered(bytes, at, "thread ", u64::from(lane))
 }

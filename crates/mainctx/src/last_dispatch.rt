@@ -1,19 +1,20 @@
 //! The line of the dispatch that was written last.
 ghost use Rattle.std.specs.Prelude.{◌≡◌, ◌+◌, ◌≤◌, ◌++◌, drop, length};
+ghost use Rattle.mainctx.specs.Bounds.{longest_line};
 ghost use Rattle.mainctx.specs.Text.{line_text};
 ghost use Rattle.mainctx.specs.LastDispatch.{HoldsLine, head_text, tail_text};
 ghost use Rattle.lane_turn.specs.declared.line.Event.TheVariants.{Dispatch};
 
-use crate::ending::{ROOM, put, put_number, put_signed};
+use crate::ending::{LONGEST_LINE, put, put_number, put_signed};
 use itoa::write_digits;
 
 /// Writes what follows the source in the line of a dispatch.
-fn put_tail(bytes: &mut [u8; ROOM], priority: i32, depth: u64) -> usize
-    ensures short { 256 ≤ result + 100 }
-    ensures within { result ≤ 256 }
+fn put_tail(bytes: &mut [u8; LONGEST_LINE], priority: i32, depth: u64) -> usize
+    ensures short { longest_line ≤ result + 100 }
+    ensures within { result ≤ longest_line }
     ensures written { drop result bytes.new ≡ tail_text priority depth }
 {
-    let at = put(bytes, ROOM, "\n");
+    let at = put(bytes, LONGEST_LINE, "\n");
     let at = put_number(bytes, at, depth);
     let at = put(bytes, at, " depth ");
     let at = put_signed(bytes, at, i64::from(priority));
@@ -21,8 +22,8 @@ fn put_tail(bytes: &mut [u8; ROOM], priority: i32, depth: u64) -> usize
 }
 
 /// Writes what comes before the source in the line of a dispatch.
-fn put_head(bytes: &mut [u8; ROOM], end: usize, tick: u32, context: u32) -> usize
-    requires { (100 ≤ end) × (end ≤ 256) }
+fn put_head(bytes: &mut [u8; LONGEST_LINE], end: usize, tick: u32, context: u32) -> usize
+    requires { (100 ≤ end) × (end ≤ longest_line) }
     ensures start { result + length (head_text tick context) ≡ end }
     ensures written { drop result bytes.new ≡ head_text tick context ++ drop end bytes.old }
 {
@@ -36,7 +37,7 @@ fn put_head(bytes: &mut [u8; ROOM], end: usize, tick: u32, context: u32) -> usiz
 /// one before in the source alone.
 #[derive(Clone, Copy)]
 pub(crate) struct LastDispatch {
-    bytes: [u8; ROOM],
+    bytes: [u8; LONGEST_LINE],
     start: usize,
     /// Where the source starts.
     number: usize,
@@ -60,7 +61,7 @@ impl LastDispatch {
         ensures holds { HoldsLine result }
         ensures line { drop result.start result.bytes ≡ line_text (record { tick = tick; event = Dispatch context source priority depth }) }
     {
-        let mut bytes = [0; ROOM];
+        let mut bytes = [0; LONGEST_LINE];
         let tail = put_tail(&mut bytes, priority, depth);
         let number = write_digits(source, &mut bytes, tail);
         let start = put_head(&mut bytes, number, tick, context);

@@ -1,8 +1,9 @@
 //! The line that was printed last.
 ghost use Rattle.std.specs.Prelude.{◌≡◌, ◌≤◌, [], length};
+ghost use Rattle.mainctx.specs.Bounds.{longest_line};
 ghost use Rattle.mainctx.specs.Text.{lane_text, line_text};
 
-use crate::ending::{ROOM, put_heading, put_line};
+use crate::ending::{LONGEST_LINE, put_heading, put_line};
 use crate::last_dispatch::LastDispatch;
 use lane_turn::{Event, Line};
 use std::marker::Model;
@@ -12,20 +13,21 @@ use std::marker::Model;
 pub(crate) struct Printed {
     dispatch: LastDispatch,
     /// A line that is none of a dispatch stands here, at the end.
-    other: [u8; ROOM],
+    other: [u8; LONGEST_LINE],
     start: usize,
     is_dispatch: bool,
 }
 
 impl Model for Printed {
     ghost use Rattle.std.specs.Prelude.{ℕ, List, drop, if◌then◌else◌, ◌≤◌};
+    ghost use Rattle.mainctx.specs.Bounds.{longest_line};
     ghost use Rattle.mainctx.specs.LastDispatch.{HoldsLine};
 
     ghost Value = { List ℕ };
 
     ghost view = { λ p. if p.is_dispatch then drop p.dispatch.start p.dispatch.bytes else drop p.start p.other };
 
-    ghost invariant = { λ p. HoldsLine p.dispatch × (p.start ≤ 256) };
+    ghost invariant = { λ p. HoldsLine p.dispatch × (p.start ≤ longest_line) };
 }
 
 impl Printed {
@@ -33,7 +35,7 @@ impl Printed {
     pub fn heading(lane: u32) -> Self
         ensures { result ≡ lane_text lane [] }
     {
-        let mut other = [0; ROOM];
+        let mut other = [0; LONGEST_LINE];
         let start = put_heading(&mut other, lane);
         Printed {
             dispatch: LastDispatch::new(),
@@ -70,7 +72,7 @@ impl Printed {
     #[inline]
     pub fn bytes(&self) -> &[u8]
         ensures value { result.now ≡ self.now }
-        ensures short { length result.now ≤ 256 }
+        ensures short { length result.now ≤ longest_line }
     {
         if self.is_dispatch {
             self.dispatch.line()

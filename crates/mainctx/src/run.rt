@@ -1,6 +1,6 @@
 //! From the bytes of a script to the bytes of its text.
 ghost use Rattle.std.specs.Prelude.{◌≡◌, ◌≢◌, ◌<◌, ◌↔◌, OnOk, OnErr, IfOk, IfErr, Err};
-ghost use Rattle.mainctx.specs.Run.{IsCrewFor, IsRunFaultOf, IsScriptOf, Writes, WritesFront, HoldsText};
+ghost use Rattle.mainctx.specs.Run.{IsCrewFor, IsRunFaultOf, IsScriptOf, Writes, WritesPrefix, HoldsText};
 ghost use Rattle.mainctx.specs.Writing.{GrowAlike};
 
 use crate::buffer::Buffer;
@@ -80,7 +80,7 @@ pub fn run_bytes<R: Threads + Wait + Sync, G: Gate, W: Out>(
     ensures crew { OnOk result (IsCrewFor bytes.now workers sharing) }
     ensures script { IfErr result (λ fault. IsRunFaultOf bytes.now workers sharing fault) }
     ensures write { (result ≡ Err MainFault.Write) ↔ (W.failures out.old < W.failures out.new) }
-    ensures front { result ≡ Err MainFault.Write → WritesFront bytes.now (W.taken out.old) (W.taken out.new) }
+    ensures prefix { result ≡ Err MainFault.Write → WritesPrefix bytes.now (W.taken out.old) (W.taken out.new) }
     ensures nothing { OnErr result (result ≢ Err MainFault.Write → W.taken out.new ≡ W.taken out.old) }
     ensures known { GrowAlike (W.taken out.old) (W.taken out.new) (W.contents out.old) (W.contents out.new) }
     ensures holds { OnOk result (HoldsText bytes.now (W.contents out.old) (W.contents out.new)) }

@@ -2,7 +2,7 @@
 ghost use Rattle.std.specs.Prelude.{◌≡◌, ◌≤◌, ◌⊎◌, ◌↔◌, ℕ, OnOk, IfErr, IfSome, Some, Err};
 ghost use Rattle.mainctx.specs.declared.arguments.Asked.{Asked};
 ghost use Rattle.mainctx.specs.Arguments.{AskFor};
-ghost use Rattle.mainctx.specs.Serving.{Serves, ServesFront, ServesHolder, HasFault, HasNoCrew, Leaves, status_of};
+ghost use Rattle.mainctx.specs.Serving.{Serves, ServesPrefix, ServesHolder, HasFault, HasNoCrew, Leaves, status_of};
 ghost use Rattle.mainctx.specs.Writing.{GrowAlike};
 
 use crate::arguments::Asked;
@@ -121,7 +121,7 @@ pub fn serve<X: Threads + Wait + Sync, R: Read, W: Out, E: Write>(
 ) -> u8
     ensures text { result ≡ 0 → Serves (R.remaining input.old) (W.taken out.old) (W.taken out.new) }
     ensures nothing { 1 ≤ result → result ≤ 3 → W.taken out.new ≡ W.taken out.old }
-    ensures front { result ≡ 4 → (W.taken out.new ≡ W.taken out.old) ⊎ ServesFront (R.remaining input.old) (W.taken out.old) (W.taken out.new) }
+    ensures prefix { result ≡ 4 → (W.taken out.new ≡ W.taken out.old) ⊎ ServesPrefix (R.remaining input.old) (W.taken out.old) (W.taken out.new) }
     ensures status { result ≤ 4 }
     ensures usage { (result ≡ 1) ↔ ¬ ((asked : Asked) × AskFor args.now asked) }
     ensures script { result ≡ 2 → HasFault (R.remaining input.old) ⊎ HasNoCrew args.now (R.remaining input.old) }

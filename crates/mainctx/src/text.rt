@@ -1,7 +1,7 @@
 //! A lane's part of the text.
 ghost use Rattle.std.specs.Prelude.{◌≡◌, ◌++◌, OnOk, OnErr};
 ghost use Rattle.mainctx.specs.Text.{lane_text};
-ghost use Rattle.mainctx.specs.Writing.{AddsFront};
+ghost use Rattle.mainctx.specs.Writing.{AddsPrefix};
 
 use crate::printed::Printed;
 use lane_turn::Line;
@@ -20,11 +20,11 @@ impl From<AllocError> for OutOfMemory {
 }
 
 /// Adds a lane's part of the text to a list: the line `thread N`, and the lines of its trace. After `OutOfMemory` a
-/// front of that part was added.
-#[tactic(auto, using(crate::proofs::Fronts::adds_lines, crate::proofs::Fronts::adds_nothing))]
+/// prefix of that part was added.
+#[tactic(auto, using(crate::proofs::Prefixes::adds_lines, crate::proofs::Prefixes::adds_nothing))]
 pub fn add_text(out: &mut Vec<u8>, lane: u32, lines: &[Line]) -> Result<(), OutOfMemory>
     ensures added { OnOk result (out.new.items ≡ out.old.items ++ lane_text lane lines.now) }
-    ensures front { OnErr result (AddsFront out.old.items out.new.items (lane_text lane lines.now)) }
+    ensures prefix { OnErr result (AddsPrefix out.old.items out.new.items (lane_text lane lines.now)) }
 {
     let mut printed = Printed::heading(lane);
     out.extend_from_slice(printed.bytes())?;

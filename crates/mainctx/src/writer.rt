@@ -1,7 +1,7 @@
 //! Writers that tell what they take and count what fails.
 ghost use Rattle.std.specs.Prelude.{◌≡◌, ℕ, ◌+◌, ◌<◌, ◌≤◌, List, [], ◌++◌, Option, length, is_ok, if◌then◌else◌, IfOk, OnOk, OnErr};
 ghost use Rattle.std.specs.Io.KnownBytes.{Keeps, WriteAppends};
-ghost use Rattle.mainctx.specs.Writing.{took, missed, AddsFront, GrowAlike};
+ghost use Rattle.mainctx.specs.Writing.{took, missed, AddsPrefix, GrowAlike};
 
 use std::io::Write;
 use thiserror::Error;
@@ -22,7 +22,7 @@ pub trait Out {
     // The bytes that the writer itself holds, where they are known.
     ghost contents: { Self → Option (List ℕ) };
 
-    /// Takes a front of `bytes`, and answers how many.
+    /// Takes a prefix of `bytes`, and answers how many.
     fn write(&mut self, bytes: &[u8]) -> Result<usize, OutFault>
         ensures bound { IfOk result (λ n. n ≤ length bytes.now) }
         ensures taken { taken self.new ≡ taken self.old ++ took result bytes.now }
@@ -102,7 +102,7 @@ impl<W: Write> Out for OverWrite<W> {
 pub(crate) fn write_all<W: Out>(out: &mut W, bytes: &[u8]) -> Result<(), OutFault>
     ensures whole { OnOk result (W.taken out.new ≡ W.taken out.old ++ bytes.now) }
     ensures clean { OnOk result (W.failures out.new ≡ W.failures out.old) }
-    ensures front { OnErr result (AddsFront (W.taken out.old) (W.taken out.new) bytes.now) }
+    ensures prefix { OnErr result (AddsPrefix (W.taken out.old) (W.taken out.new) bytes.now) }
     ensures failed { OnErr result (W.failures out.old < W.failures out.new) }
     ensures known { GrowAlike (W.taken out.old) (W.taken out.new) (W.contents out.old) (W.contents out.new) }
 {

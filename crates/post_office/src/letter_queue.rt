@@ -108,7 +108,7 @@ impl Model for LetterQueue {
 }
 
 impl LetterQueue {
-    /// Posts a letter behind those that the pass posted. For want of memory alone it comes back, and then nothing is changed.
+    /// Posts a letter behind those that the pass posted. Only where memory runs out it comes back, and then nothing is changed.
     pub fn post_as<R: Wait>(
         &self,
         rt: &R,

@@ -66,7 +66,7 @@ impl Office {
         &self.shared
     }
 
-    /// Posts a letter behind those that the pass posted. For want of memory alone it comes back, and then nothing is changed.
+    /// Posts a letter behind those that the pass posted. Only where memory runs out it comes back, and then nothing is changed.
     pub fn post_as<R: Wait>(
         &self,
         rt: &R,

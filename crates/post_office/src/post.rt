@@ -12,7 +12,7 @@ pub trait Post {
     /// Which office it posts to. No call changes that, so one who lent a post knows it again.
     ghost home: { Self → ℕ × ℕ };
 
-    /// Takes a letter. For want of memory alone it comes back, and then nothing is changed.
+    /// Takes a letter. Only where memory runs out it comes back, and then nothing is changed.
     fn post(&mut self, letter: Letter) -> Result<(), Letter>
         ensures took { MatchResult result (λ _. letters self.new ≡ letters self.old ++ letter ∷ []) (λ back. (back ≡ letter) × (letters self.new ≡ letters self.old)) }
         ensures home { home self.new ≡ home self.old };

@@ -42,7 +42,7 @@ impl<T: Numbered + Drop> WorkList<T> {
         })
     }
 
-    /// Puts a value, while no pass is out. For want of memory alone it comes back, and then nothing is changed.
+    /// Puts a value, while no pass is out. Only where memory runs out it comes back, and then nothing is changed.
     pub fn put<R: Wait>(&mut self, rt: &R, value: T) -> Result<(), T>
         requires out { self.old.out ≡ 0 }
         ensures put { MatchResult result (λ _. self.new ≡ puts self.old value) (λ back. (back ≡ value) × (self.new ≡ self.old)) }

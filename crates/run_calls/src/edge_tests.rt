@@ -76,7 +76,7 @@ fn ran_over<T: Threads + Wait + Sync>(
 }
 
 #[test]
-fn writes_a_front(rt: HostRuntime) {
+fn writes_a_prefix(rt: HostRuntime) {
     let text = first_run_text().as_bytes();
     for then in [Then::Fail, Then::TakeNone] {
         for room in 0..text.len() {
@@ -141,7 +141,7 @@ fn served<T: Threads + Wait + Sync>(
 
 /// Wherever the input breaks off, behind its last byte too: status 4 with its line, and nothing written.
 #[test]
-fn reads_no_front(rt: HostRuntime) {
+fn reads_no_prefix(rt: HostRuntime) {
     let script = first_run().as_bytes();
     let Some(args) = right_arguments(rt.alloc()) else {
         return;

@@ -111,7 +111,7 @@ fn step_or_spend<T: Threads + Wait + Sync + Abort>(rt: &T, stepper: &mut Stepper
     }
 }
 
-/// Whatever request is refused: a stepper that steps all ticks, or one that is spent, or none for want of memory.
+/// Whatever request is refused: a stepper that steps all ticks, or one that is spent, or none where memory ran out.
 fn expect_stepped<T: Threads + Wait + Sync + Abort>(
     rt: &T,
     alloc: Global,

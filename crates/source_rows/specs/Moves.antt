@@ -1,10 +1,10 @@
 -- Rows put into the entries of an order, and taken out again.
-use Rattle.std.specs.Prelude.{◌≡◌, ℕ, ℤ, ◌==◌, List, [], ◌∷◌, slice_set, if◌then◌else◌}
+use Rattle.std.specs.Prelude.{◌≡◌, ◌==◌, List, [], ◌∷◌, slice_set, if◌then◌else◌}
 use Rattle.std.specs.BTreeMap.{insert_entry, is_at}
 use Rattle.std.specs.Map.{remove_entry}
 use Rattle.source_rows.specs.declared.row.Row.{Row}
 use Rattle.source_rows.specs.Rows.{Key, key_cmp, key_of, changed}
-use Rattle.loop_script.specs.Units.{SourceId}
+use Rattle.loop_script.specs.Units.{SourceId, Priority, Order}
 
 -- the order with a row
 abbrev pub with_row : List (Key × SourceId) → Row → List (Key × SourceId)
@@ -35,5 +35,5 @@ with_each [] rows = rows
 with_each (r ∷ rs) rows = with_each rs (changed r.id (λ _. r) rows)
 
 -- a row under a root that gets a priority and an order number
-abbrev pub moved_row : SourceId → ℤ → ℕ → Row → Row
+abbrev pub moved_row : SourceId → Priority → Order → Row → Row
 moved_row id priority order r = record r { priority = priority; order = if r.id == id then order else r.order; path = slice_set r.path 0 order }

@@ -4,7 +4,7 @@ use Rattle.loop_script.specs.declared.SourceSpec.{SourceSpec}
 use Rattle.loop_script.specs.declared.Kind.{Kind}
 use Rattle.loop_script.specs.declared.Kind.TheVariants.{Idle, Timeout, ReadyTime, Fd, Cancel}
 use Rattle.source_rows.specs.declared.row.Row.{Row}
-use Rattle.loop_script.specs.Units.{Microseconds, SourceId}
+use Rattle.loop_script.specs.Units.{Microseconds, SourceId, Order}
 
 -- the ready time of a source that is made at a time
 abbrev pub ready_at : Kind → Microseconds → ℤ
@@ -23,7 +23,7 @@ abbrev pub root_lineage : SourceId → List SourceId
 root_lineage id = id ∷ id ∷ id ∷ id ∷ []
 
 -- the path of a root: its order number alone
-abbrev pub root_path : ℕ → List ℕ
+abbrev pub root_path : Order → List Order
 root_path order = order ∷ no_number ∷ no_number ∷ no_number ∷ []
 
 -- the ids from the root down, filled up with the last
@@ -33,13 +33,13 @@ lineage_under level lineage id = if level == 1 then slice_index lineage 0 ∷ id
     else slice_index lineage 0 ∷ slice_index lineage 1 ∷ slice_index lineage 2 ∷ id ∷ []
 
 -- the order numbers from the root down, filled up with the greatest number: so a longer path stands before its beginnings
-abbrev pub path_under : ℕ → List ℕ → ℕ → List ℕ
+abbrev pub path_under : ℕ → List Order → Order → List Order
 path_under level path order = if level == 1 then slice_index path 0 ∷ order ∷ no_number ∷ no_number ∷ []
     else if level == 2 then slice_index path 0 ∷ slice_index path 1 ∷ order ∷ no_number ∷ []
     else slice_index path 0 ∷ slice_index path 1 ∷ slice_index path 2 ∷ order ∷ []
 
 -- the row of a source that is attached
-abbrev pub root_row : SourceSpec → Microseconds → SourceId → ℕ → Row
+abbrev pub root_row : SourceSpec → Microseconds → SourceId → Order → Row
 root_row spec now id order = record {
   id = id;
   kind = spec.kind;
@@ -56,7 +56,7 @@ root_row spec now id order = record {
 }
 
 -- the row of a source that is added below another
-abbrev pub child_row : Row → SourceSpec → Microseconds → SourceId → ℕ → Row
+abbrev pub child_row : Row → SourceSpec → Microseconds → SourceId → Order → Row
 child_row parent spec now id order = record {
   id = id;
   kind = spec.kind;

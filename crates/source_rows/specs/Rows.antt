@@ -12,13 +12,13 @@ use Rattle.source_rows.specs.declared.fault.RowsFault.{RowsFault}
 use Rattle.source_rows.specs.declared.fault.RowsFault.TheVariants.{NoSource, IsChild, TooDeep}
 use Rattle.source_rows.specs.Row.{root_row, child_row}
 use Rattle.source_rows.specs.Inserted.{inserted}
-use Rattle.loop_script.specs.Units.{Microseconds, SourceId}
+use Rattle.loop_script.specs.Units.{Microseconds, SourceId, Priority, Order}
 
 -- the rows of a context by rising id, and what the next one gets
 pub record RowSet : Type 0 where
   pub rows : List Row
   pub next_id : SourceId
-  pub next_order : ℕ
+  pub next_order : Order
   pub levels : ℕ
 
 -- how many levels
@@ -95,13 +95,13 @@ priority_fault None = Some NoSource
 priority_fault (Some r) = if r.level == 1 then None else Some IsChild
 
 -- a row of a tree whose root gets a priority and an order number
-abbrev pub moved : SourceId → ℤ → ℕ → Row → Row
+abbrev pub moved : SourceId → Priority → Order → Row → Row
 moved id priority order r = if is_under id r
     then record r { priority = priority; order = if r.id == id then order else r.order; path = slice_set r.path 0 order }
     else r
 
 -- a root is given a priority, with all that are under it
-abbrev pub reprioritised : SourceId → ℤ → RowSet → RowSet
+abbrev pub reprioritised : SourceId → Priority → RowSet → RowSet
 reprioritised id priority s = record s { rows = map (moved id priority s.next_order) s.rows; next_order = s.next_order + 1 }
 
 -- the row and all under it go

@@ -8,7 +8,7 @@ use Rattle.source_rows.specs.declared.fault.RowsFault.TheVariants.{NoSource, IsC
 use Rattle.source_rows.specs.Rows.{RowSet, key_cmp, is_under, row_of, in_order, child_fault, priority_fault, destroyed, reprioritised}
 use Rattle.source_rows.specs.Inserted.{inserted}
 use Rattle.source_rows.specs.Tree.{IsForest, parent_of, two_level_key}
-use Rattle.loop_script.specs.Units.{SourceId}
+use Rattle.loop_script.specs.Units.{SourceId, Priority, Order}
 
 -- no row stands below a level
 abbrev pub IsWithinLevels : ℕ → List Row → Type 0
@@ -32,7 +32,7 @@ abbrev pub destroyed_pair : SourceId → RowSet → RowSet
 destroyed_pair id s = record s { rows = filter (λ r. not (goes_with id r)) s.rows }
 
 -- a priority is the root's and its children's; the root gets the order number
-abbrev pub moved_pair : SourceId → ℤ → ℕ → Row → Row
+abbrev pub moved_pair : SourceId → Priority → Order → Row → Row
 moved_pair id priority order r = if goes_with id r
     then record r { priority = priority; order = if r.id == id then order else r.order; path = slice_set r.path 0 order }
     else r
@@ -65,13 +65,13 @@ is_above_under id (Some above) = is_under id above
 -- what trees are, by parents; and at two levels
 pub record LevelLaws : Type 0 where
   -- at any level: under an id is what has it, or whose parent is under it
-  pub by_parents : (rows : List Row) → IsForest rows → (id : ℕ) → AllByRecursion (λ r. is_under id r ≡ (is_above_under id (parent_of rows r.parent) || r.id == id)) rows
+  pub by_parents : (rows : List Row) → IsForest rows → (id : SourceId) → AllByRecursion (λ r. is_under id r ≡ (is_above_under id (parent_of rows r.parent) || r.id == id)) rows
   -- at any level: a root alone may get a priority
-  pub roots : (rows : List Row) → IsForest rows → (id : ℕ) → priority_fault (row_of id rows) ≡ child_refused (row_of id rows)
+  pub roots : (rows : List Row) → IsForest rows → (id : SourceId) → priority_fault (row_of id rows) ≡ child_refused (row_of id rows)
   -- at two levels: under an id is what has it, and its children
-  pub under : (rows : List Row) → IsForest rows → IsWithinLevels 2 rows → (id : ℕ) → AllByRecursion (λ r. is_under id r ≡ goes_with id r) rows
-  pub children : (rows : List Row) → IsForest rows → IsWithinLevels 2 rows → (id : ℕ) → child_fault 2 (row_of id rows) ≡ child_refused (row_of id rows)
-  pub destroyed : (s : RowSet) → IsForest s.rows → IsWithinLevels 2 s.rows → (id : ℕ) → destroyed id s ≡ destroyed_pair id s
-  pub reprioritised : (s : RowSet) → IsForest s.rows → IsWithinLevels 2 s.rows → (id : ℕ) (priority : ℤ) → reprioritised id priority s ≡ reprioritised_pair id priority s
+  pub under : (rows : List Row) → IsForest rows → IsWithinLevels 2 rows → (id : SourceId) → AllByRecursion (λ r. is_under id r ≡ goes_with id r) rows
+  pub children : (rows : List Row) → IsForest rows → IsWithinLevels 2 rows → (id : SourceId) → child_fault 2 (row_of id rows) ≡ child_refused (row_of id rows)
+  pub destroyed : (s : RowSet) → IsForest s.rows → IsWithinLevels 2 s.rows → (id : SourceId) → destroyed id s ≡ destroyed_pair id s
+  pub reprioritised : (s : RowSet) → IsForest s.rows → IsWithinLevels 2 s.rows → (id : SourceId) (priority : Priority) → reprioritised id priority s ≡ reprioritised_pair id priority s
   -- at two levels the order is the one by priority, the root's number, children before their parent, the own number
   pub ordered : (rows : List Row) → IsForest rows → IsWithinLevels 2 rows → (p : Row → Bool) → in_order (filter p rows) ≡ in_order_at_two rows (filter p rows)

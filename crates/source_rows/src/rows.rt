@@ -131,7 +131,7 @@ impl Rows {
 
     /// Attaches a source below another (`g_source_add_child_source`), and answers its id. It has the priority of its
     /// parent, and not that of its spec. Refused where no row is the parent (`NoSource`), where the parent stands at the
-    /// last level (`IsChild` of two, `TooDeep` of four) and for want of memory; the rows are then unchanged.
+    /// last level (`IsChild` of two, `TooDeep` of four) and where memory runs out; the rows are then unchanged.
     pub fn add_child(&mut self, parent: u64, spec: SourceSpec, now: u64) -> Result<u64, RowsFault>
         requires now { now ≤ latest }
         requires ids { self.old.next_id < count_end }
@@ -172,7 +172,7 @@ impl Rows {
 
     /// Gives a root and all that are under it a priority (`g_source_set_priority`), also the one that they have: the tree
     /// then stands behind the others of that priority, its own rows as they stood. Refused where no row has the id
-    /// (`NoSource`), for a row with a parent (`IsChild`) and for want of memory; the rows are then unchanged.
+    /// (`NoSource`), for a row with a parent (`IsChild`) and where memory runs out; the rows are then unchanged.
     pub fn set_priority(&mut self, id: u64, priority: i32) -> Result<(), RowsFault>
         requires orders { self.old.next_order < count_end }
         ensures ok { OnOk result (self.new ≡ reprioritised id priority self.old) }

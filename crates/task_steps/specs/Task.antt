@@ -1,6 +1,6 @@
 -- The tasks of the book, and their replies.
-use Rattle.std.specs.Prelude.{◌≡◌, ◌<◌, ◌==◌, ◌&&◌, Bool, true, false, not, ℤ, Option, Some, None, is_some, if◌then◌else◌}
-use Rattle.loop_script.specs.Units.{Tick, Microseconds, ContextNumber, CancellableNumber, ProcNumber, TaskNumber}
+use Rattle.std.specs.Prelude.{◌≡◌, ◌<◌, ◌==◌, ◌&&◌, Bool, true, false, not, Option, Some, None, is_some, if◌then◌else◌}
+use Rattle.loop_script.specs.Units.{Tick, Microseconds, ContextNumber, CancellableNumber, ProcNumber, TaskNumber, Priority}
 use Rattle.loop_script.specs.Tree.{Tree}
 use Rattle.loop_script.specs.declared.outcome.Outcome.{Outcome}
 use Rattle.loop_script.specs.declared.outcome.Outcome.TheVariants.{Cancelled}
@@ -16,7 +16,7 @@ pub record Task : Type 0 where
   pub number : TaskNumber
   pub ctx : ContextNumber
   pub call : ProcNumber
-  pub priority : ℤ
+  pub priority : Priority
   pub cancel : Option CancellableNumber
   pub check : Bool
   pub return_on_cancel : Bool

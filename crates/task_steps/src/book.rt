@@ -73,7 +73,7 @@ impl Model for TaskBook {
 impl TaskBook {
     ghost use Rattle.task_steps.specs.Book.{with_task, exhausted, IsStart, IsNext, HasGrown, MayComeToAll, all_noticed, replies_in, late_in, goes_on, wake_under, IsQuietTo, IsIdle, passed, OwesNone, IsAsPolled};
     ghost use Rattle.cancel_view.specs.Seen.{Seen};
-    ghost use Rattle.loop_script.specs.Bounds.{longest_tick, count_end};
+    ghost use Rattle.loop_script.specs.Bounds.{count_end, longest_tick, tick_end};
     ghost use Rattle.loop_script.specs.Units.{Tick, TaskNumber};
     ghost use Rattle.task_steps.specs.Run.{IsUpTo, IsAfter};
     ghost use Rattle.task_steps.specs.RunInside.{IsBy};
@@ -99,7 +99,7 @@ impl TaskBook {
     #[tactic(auto, using(crate::proofs::Waiting::spent_forgets))]
     pub fn start(&mut self, spec: &TaskSpec, ctx: u32, tick: u32) -> Result<u64, BookFault>
         requires room { self.old.next < count_end }
-        requires tick { tick < 2 ^ 31 }
+        requires tick { tick < tick_end }
         requires last { IsStart tick self.old.last }
         ensures number { IfOk result (λ n. n ≡ self.old.next) }
         ensures ok { OnOk result (self.new ≡ with_task spec.now ctx tick self.old) }
@@ -121,7 +121,7 @@ impl TaskBook {
     #[tactic(auto, using(crate::proofs::Waiting::waiting_added, crate::proofs::Waiting::map_added, crate::proofs::PollAll::wake_added))]
     fn add(&mut self, spec: &TaskSpec, ctx: u32, tick: u32) -> Result<(), AllocError>
         requires room { self.old.next < count_end }
-        requires tick { tick < 2 ^ 31 }
+        requires tick { tick < tick_end }
         requires last { IsStart tick self.old.last }
         requires goes_on { self.old.spent ≡ false }
         ensures ok { OnOk result (self.new ≡ with_task spec.now ctx tick self.old) }
@@ -146,7 +146,7 @@ impl TaskBook {
     /// Polls each task in start order. Where there is none, that takes no memory. After `OutOfMemory` the book is spent.
     #[tactic(auto, using(crate::proofs::PollAll::wakes_later_all, crate::proofs::Waiting::kept_none, crate::proofs::Waiting::spent_forgets))]
     pub fn poll_all(&mut self, alloc: Global, tick: u32, view: &View) -> Result<Polled, BookFault>
-        requires tick { tick < 2 ^ 31 }
+        requires tick { tick < tick_end }
         requires last { IsNext tick self.old.last }
         requires wake { IsUpTo tick self.old.wake }
         requires view { HasGrown view.now self.old.tasks }

@@ -1,6 +1,6 @@
 //! Lists of tasks.
 ghost use Rattle.std.specs.Prelude.{◌≡◌, ◌+◌, ◌<◌, ◌≤◌, ◌^◌, ◌++◌, ◌∷◌, [], IfOk, OnOk, OnErr, filter};
-ghost use Rattle.loop_script.specs.Bounds.{longest_tick};
+ghost use Rattle.loop_script.specs.Bounds.{longest_tick, tick_end};
 ghost use Rattle.task_steps.specs.Task.{task_of, is_waiting};
 ghost use Rattle.task_steps.specs.Book.{started};
 ghost use Rattle.task_steps.specs.declared.stage.Stage.TheVariants.{Fresh};
@@ -21,7 +21,7 @@ pub(crate) fn new_entry(
 ) -> Result<Entry, AllocError>
     requires some { 0 < tick_us }
     requires short { tick_us ≤ longest_tick }
-    requires tick { tick < 2 ^ 31 }
+    requires tick { tick < tick_end }
     ensures task { IfOk result (λ e. task_of e ≡ started tick_us number spec.now ctx tick) }
     ensures stage { IfOk result (λ e. e.run.stage ≡ Fresh) }
 {

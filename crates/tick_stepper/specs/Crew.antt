@@ -10,7 +10,7 @@ use Rattle.tick_stepper.specs.declared.fault.StepFault.TheVariants.{Workers, Tab
 use Rattle.loop_script.specs.Units.{LaneNumber}
 
 -- lanes go round the workers, or a table names the worker of each; a queue names none, and there this number means nothing
-abbrev pub worker_by : Sharing → (workers lane : ℕ) → ℕ
+abbrev pub worker_by : Sharing → (workers : ℕ) (lane : LaneNumber) → ℕ
 worker_by Round workers lane = lane % workers
 worker_by (Fixed table) workers lane = unwrap_or (slice_get table.items lane) 0
 worker_by Queue workers lane = 0
@@ -25,9 +25,13 @@ names_workers lanes workers Round = true
 names_workers lanes workers Queue = true
 names_workers lanes workers (Fixed table) = (length table.items == lanes) && list_all (λ worker. nat_lt worker workers) table.items
 
--- why workers can't share the lanes of a script: they are not 1 to 64, which is looked at first, or the table is not one for them
-abbrev pub refusal_of : Plan → ℕ → Sharing → Option StepFault
+-- the most workers
+abbrev pub most_workers : ℕ
+most_workers = 64
+
+-- why workers can't share the lanes of a script: they are none or more than the most, which is looked at first, or the table is not one for them
+abbrev pub refusal_of : Plan → (workers : ℕ) → Sharing → Option StepFault
 refusal_of script workers sharing =
-    if nat_le 1 workers && nat_le workers 64
+    if nat_le 1 workers && nat_le workers most_workers
     then (if names_workers (length script.lanes) workers sharing then None else Some Table)
     else Some Workers

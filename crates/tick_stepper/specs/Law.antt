@@ -28,18 +28,18 @@ pub record IsTurned (script : Plan) (tick : Tick) (lanes : List Lane) (s : TickS
 
 -- whatever workers there are and however their moves fall, where all is done the tick's turns are those of one thread
 abbrev pub EachTurnedOnce : Type 0
-EachTurnedOnce = (script : Plan) (tick workers : ℕ) (lanes : List Lane) (moves : List Move)
+EachTurnedOnce = (script : Plan) (tick : Tick) (workers : ℕ) (lanes : List Lane) (moves : List Move)
     → IsFull (after script tick moves (opening workers lanes)) → IsTurned script tick lanes (after script tick moves (opening workers lanes))
 
 -- whoever turned the lanes, and however their letters were mixed, what is put in order and delivered leads to the tick of one thread
 abbrev pub DeliveryIsOne : Type 0
-DeliveryIsOne = (script : Plan) (tick : ℕ) (lanes : List Lane) (lists : List (List Lane)) (office sorted : List Letter)
+DeliveryIsOne = (script : Plan) (tick : Tick) (lanes : List Lane) (lists : List (List Lane)) (office sorted : List Letter)
     → ByNumber lanes → IsPermutation lanes (concat lists) → IsMerge (sent_by script tick lists) office → IsPermutation office sorted → InOrder sorted
     → delivered script tick sorted (map (turned script tick) lanes) ≡ ticked script tick lanes
 
 -- so the tick of several workers is the tick of one thread, once its lanes and its letters are put in order
 abbrev pub TickIsOne : Type 0
-TickIsOne = (script : Plan) (tick workers : ℕ) (lanes : List Lane) (moves : List Move) (turns : List Lane) (letters : List Letter)
+TickIsOne = (script : Plan) (tick : Tick) (workers : ℕ) (lanes : List Lane) (moves : List Move) (turns : List Lane) (letters : List Letter)
     → (let s = after script tick moves (opening workers lanes) in IsFull s → ByNumber lanes → IsPermutation (concat (over_of s)) turns → ByNumber turns
     → IsPermutation s.office letters → InOrder letters → delivered script tick letters turns ≡ ticked script tick lanes)
 
@@ -51,10 +51,10 @@ Changes (Done w) s s' = (work_of s' ≡ work_of s) × (mail_of s' ≡ mail_of s)
 
 -- each move changes the parts that it says, and no other
 abbrev pub ChangesArePartial : Type 0
-ChangesArePartial = (script : Plan) (tick : ℕ) (s : TickState) (move : Move) → Changes move s (moved script tick s move)
+ChangesArePartial = (script : Plan) (tick : Tick) (s : TickState) (move : Move) → Changes move s (moved script tick s move)
 
 -- whatever workers claim the first that waits, one after another: there are moves that do just that, and end each turn
 abbrev pub ClaimsHappen : Type 0
-ClaimsHappen = (script : Plan) (tick workers : ℕ) (lanes : List Lane) (who : List ℕ)
+ClaimsHappen = (script : Plan) (tick : Tick) (workers : ℕ) (lanes : List Lane) (who : List ℕ)
     → (moves : List Move) × (let s = after script tick moves (opening workers lanes) in
     (work_of s ≡ all_claims who (unclaimed workers lanes)) × AreFree s.workers)

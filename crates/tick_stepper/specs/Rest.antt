@@ -1,5 +1,5 @@
 -- Lanes that are left alone until their next turn.
-use Rattle.std.specs.Prelude.{◌≡◌, ℕ, ◌+◌, ◌<◌, ◌≤◌, Bool, false, nat_le, Option, Some, None, List, map}
+use Rattle.std.specs.Prelude.{◌≡◌, ◌+◌, ◌<◌, ◌≤◌, Bool, false, nat_le, Option, Some, None, List, map}
 use Rattle.std.specs.List.{AllByRecursion}
 use Rattle.loop_script.specs.declared.plan.Plan.{Plan}
 use Rattle.task_steps.specs.Run.{IsAfter}
@@ -42,12 +42,12 @@ pub record HasPassed (tick : Tick) (one : Resting) : Type 0 where
   pub named : one.lane.number ≡ one.lane.state.lane.number
   pub unspent : one.lane.state.spent ≡ false
   pub past : one.lane.state.lane.tasks.tick ≤ tick
-  pub tasks : (k : ℕ) → one.lane.state.lane.tasks.tick ≤ k → k < tick → GivesNothing k one.lane.state.lane.tasks
+  pub tasks : (k : Tick) → one.lane.state.lane.tasks.tick ≤ k → k < tick → GivesNothing k one.lane.state.lane.tasks
 
 -- and whose turns from there on are quiet, up to its next one
 pub record Rests (script : Plan) (tick : Tick) (one : Resting) : Type 0 where
   pub passed : HasPassed tick one
-  pub quiet : (k : ℕ) → tick ≤ k → k < script.ticks → IsAfter k one.next → IsQuiet script k one.lane.state.lane
+  pub quiet : (k : Tick) → tick ≤ k → k < script.ticks → IsAfter k one.next → IsQuiet script k one.lane.state.lane
 
 -- lanes after a tick, that rest from the next one on
 pub record IsSettled (script : Plan) (tick : Tick) (lanes : List Numbered) (ones : List Resting) : Type 0 where

@@ -1,5 +1,5 @@
 -- Ticks in which only some lanes take their turn.
-use Rattle.std.specs.Prelude.{◌≡◌, ℕ, zero, suc, ◌+◌, ◌<◌, ◌≤◌, Bool, false, List, length, map, filter, if◌then◌else◌}
+use Rattle.std.specs.Prelude.{◌≡◌, zero, suc, ◌+◌, ◌<◌, ◌≤◌, Bool, false, List, length, map, filter, if◌then◌else◌}
 use Rattle.std.specs.List.{AllByRecursion}
 use Rattle.loop_script.specs.declared.plan.Plan.{Plan}
 use Rattle.lane_turn.specs.Lane.{Lane}
@@ -18,7 +18,7 @@ abbrev pub ticked_by : Plan → Tick → (Lane → Bool) → List Lane → List 
 ticked_by script tick due lanes = delivered script tick (posted_at script tick (filter due lanes)) (map (turned_if script tick due) lanes)
 
 -- the lanes at a tick of a run, where `due` says which of them take their turns at each
-abbrev pub sparse_at : Plan → (Tick → Lane → Bool) → ℕ → List Lane
+abbrev pub sparse_at : Plan → (Tick → Lane → Bool) → Tick → List Lane
 sparse_at script due zero = opened script
 sparse_at script due (suc k) = ticked_by script k (due k) (sparse_at script due k)
 
@@ -28,5 +28,5 @@ LeavesQuiet script due tick = AllByRecursion (λ lane. due lane ≡ false → Is
 
 -- then the run is the one in which all take them
 abbrev pub SparseIsDense : Type 0
-SparseIsDense = (script : Plan) (due : ℕ → Lane → Bool) (tick : ℕ) → length script.lanes ≤ 64 → tick ≤ 4096
-    → ((k : ℕ) → k < tick → LeavesQuiet script (due k) k) → sparse_at script due tick ≡ lanes_at script tick
+SparseIsDense = (script : Plan) (due : Tick → Lane → Bool) (tick : Tick) → length script.lanes ≤ 64 → tick ≤ 4096
+    → ((k : Tick) → k < tick → LeavesQuiet script (due k) k) → sparse_at script due tick ≡ lanes_at script tick

@@ -1,6 +1,7 @@
 //! What a tick's turns posted is delivered.
 ghost use Rattle.std.specs.Prelude.{◌≡◌, ◌+◌, ◌^◌, ◌<◌, ◌≤◌, map, length, OnOk};
 ghost use Rattle.std.specs.List.{AllByRecursion};
+ghost use Rattle.loop_script.specs.Bounds.{most_ticks};
 ghost use Rattle.lane_turn.specs.Deliver.{received_all};
 ghost use Rattle.tick_stepper.specs.Share.{stepped_one, IsReadyOne};
 ghost use Rattle.lane_turn.specs.Limits.{most_letters};
@@ -17,7 +18,7 @@ pub(crate) fn deliver_all(
     lanes: &mut [Numbered],
     letters: &[Letter],
 ) -> Result<(), LaneFault>
-    requires tick { tick < 4096 }
+    requires tick { tick < most_ticks }
     requires ready { AllByRecursion (IsReadyOne script.now (tick + 1)) lanes.old }
     requires few { length letters.now ≤ most_letters }
     ensures { OnOk result (lanes.new ≡ map (stepped_one (received_all script.now tick letters.now)) lanes.old) }

@@ -41,7 +41,7 @@ impl From<AllocError> for OutOfMemory {
     }
 }
 
-/// A lane that was not spent is refused a turn or a delivery for want of memory alone.
+/// A lane that was not spent is refused a turn or a delivery only where memory runs out.
 impl From<LaneFault> for OutOfMemory {
     fn from(_: LaneFault) -> Self {
         OutOfMemory

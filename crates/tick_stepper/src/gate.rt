@@ -1,8 +1,9 @@
 //! By whom each turn is taken.
 ghost use Rattle.std.specs.Prelude.{◌≡◌, ◌≢◌, ℕ, ◌+◌, ◌*◌, ◌^◌, ◌<◌, ◌≤◌, ◌++◌, ◌↔◌, [], false, length, IsTrue, IsOk, OnOk, Err};
+ghost use Rattle.loop_script.specs.Bounds.{tick_end};
 ghost use Rattle.lane_turn.specs.Turn.{turned, out_of};
 ghost use Rattle.lane_turn.specs.Sound.{IsReady};
-ghost use Rattle.lane_turn.specs.Limits.{half_count, most_steps};
+ghost use Rattle.lane_turn.specs.Limits.{half_count, most_steps, turn_growth};
 
 use lane_turn::{LaneFault, LaneState, Status};
 use loop_script::Script;
@@ -22,12 +23,12 @@ pub trait Gate: Sync {
         post: &mut P,
     ) -> Result<(), LaneFault>
         requires ready { state.old.spent ≡ false → IsReady script.now tick half_count state.old.lane }
-        requires tick { tick < 2 ^ 31 }
+        requires tick { tick < tick_end }
         requires number { lane ≡ state.old.lane.number }
         ensures turned { OnOk result (state.new.lane ≡ turned script.now tick state.old.lane) }
         ensures letters { OnOk result (P.letters post.new ≡ P.letters post.old ++ out_of script.now tick state.old.lane) }
         ensures home { P.home post.new ≡ P.home post.old }
-        ensures ready { (m : ℕ) → IsReady script.now tick m state.old.lane → OnOk result (IsReady script.now (tick + 1) (m + 20001) state.new.lane) }
+        ensures ready { (m : ℕ) → IsReady script.now tick m state.old.lane → OnOk result (IsReady script.now (tick + 1) (m + turn_growth) state.new.lane) }
         ensures few { OnOk result (length (out_of script.now tick state.old.lane) ≤ most_steps * (tick + 1)) }
         ensures lasts { OnOk result (state.new.spent ≡ false) }
         ensures spent { (result ≡ Err LaneFault.Spent) ↔ IsTrue state.old.spent }

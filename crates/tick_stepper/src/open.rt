@@ -1,6 +1,7 @@
 //! The lanes of a script at first.
 ghost use Rattle.std.specs.Prelude.{◌≡◌, ◌≤◌, Some, map, length, IfOk};
 ghost use Rattle.std.specs.List.{AllByRecursion};
+ghost use Rattle.loop_script.specs.Bounds.{most_lanes};
 ghost use Rattle.lane_turn.specs.Tick.{opened};
 ghost use Rattle.tick_stepper.specs.Share.{numbered};
 
@@ -15,7 +16,7 @@ use std::alloc::Global;
 pub(crate) fn open_lanes(alloc: Global, script: &Script) -> Result<Vec<Resting>, OutOfMemory>
     ensures lanes { IfOk result (λ ones. map (λ one. one.lane) ones.items ≡ numbered (opened script.now)) }
     ensures due { IfOk result (λ ones. AllByRecursion (λ one. one.next ≡ Some 0) ones.items) }
-    ensures few { length script.now.lanes ≤ 64 }
+    ensures few { length script.now.lanes ≤ most_lanes }
 {
     let mut lanes = Vec::new(alloc);
     for number in 0..script.lanes() {

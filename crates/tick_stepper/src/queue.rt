@@ -1,6 +1,7 @@
 //! Lanes are taken from a queue.
 ghost use Rattle.std.specs.Prelude.{◌≡◌, ◌+◌, ◌<◌, ◌≤◌, ◌++◌, [], ◌∷◌, map, length, vec_len, OnOk, IfOk, IsPermutation};
 ghost use Rattle.std.specs.List.{All, AllByRecursion, flat_map};
+ghost use Rattle.loop_script.specs.Bounds.{most_ticks};
 ghost use Rattle.post_office.specs.Merge.{concat};
 ghost use Rattle.post_office.specs.Passes.{takes_in, closes};
 ghost use Rattle.tick_stepper.specs.Share.{turned_one, out_of_one, IsReadyOne, IsRound};
@@ -68,7 +69,7 @@ fn run_hired<R: Threads + Wait + Sync, G: Gate>(
     office: &LetterQueue,
     all: Vec<Hired>,
 ) -> Result<Vec<Result<Haul, OutOfMemory>>, AllocError>
-    requires tick { tick < 4096 }
+    requires tick { tick < most_ticks }
     requires hired { All (MayWork script.now tick list.now office.now) all.items }
     ensures hauls { IfOk result (λ hauls. All (λ haul. IfOk haul (IsHaul script.now tick list.now office.now)) hauls.items) }
     ensures all { IfOk result (λ hauls. vec_len hauls ≡ vec_len all) }
@@ -77,7 +78,7 @@ fn run_hired<R: Threads + Wait + Sync, G: Gate>(
         rt,
         all,
         &|hired: Hired| -> Result<Haul, OutOfMemory>
-            requires { (tick < 4096) × MayWork script.now tick list.now office.now hired }
+            requires { (tick < most_ticks) × MayWork script.now tick list.now office.now hired }
             ensures { IfOk result (IsHaul script.entry.now tick list.entry.now office.entry.now) }
         { work_through(rt, alloc, gate, script, tick, list, office, hired) },
     )
@@ -134,7 +135,7 @@ fn finish<R: Wait, G: Gate>(
     mut pass: OfficePass,
     mut lanes: Vec<Numbered>,
 ) -> Result<(Vec<Numbered>, OfficePass), OutOfMemory>
-    requires tick { tick < 4096 }
+    requires tick { tick < most_ticks }
     requires ready { AllByRecursion (IsReadyOne script.now tick) list.old.put }
     requires list { (list.old.taken ≡ []) × (list.old.out ≡ 0) }
     requires pass { pass ≡ record { home = office.now; posted = [] } }
@@ -174,7 +175,7 @@ pub(crate) fn turn_by_queue<R: Threads + Wait + Sync, G: Gate>(
     workers: u32,
     lanes: Vec<Numbered>,
 ) -> Result<(Vec<Numbered>, Vec<Letter>), OutOfMemory>
-    requires tick { tick < 4096 }
+    requires tick { tick < most_ticks }
     requires lanes { IsRound script.now tick lanes.items }
     ensures lanes { IfOk result (λ r. r.0.items ≡ map (turned_one script.now tick) lanes.items) }
     ensures letters { IfOk result (λ r. r.1.items ≡ flat_map (out_of_one script.now tick) lanes.items) }

@@ -2,6 +2,7 @@
 ghost use Rattle.std.specs.Prelude.{◌≡◌, ◌+◌, ◌<◌, ◌++◌, not, IfOk, IsPermutation};
 ghost use Rattle.std.specs.List.{All, filter, list_any};
 ghost use Rattle.std.specs.List.Sorted.{IsNonDecreasingBy};
+ghost use Rattle.loop_script.specs.Bounds.{most_ticks};
 ghost use Rattle.tick_stepper.specs.declared.rest.Resting.{Resting};
 ghost use Rattle.tick_stepper.specs.Share.{IsReadyOne};
 ghost use Rattle.tick_stepper.specs.Rest.{is_due, woken, all_woken, HasPassed, Rests, IsSettled};
@@ -84,7 +85,7 @@ pub(crate) fn wake_all(
 
 /// A lane after a tick, with the tick of its next turn.
 fn rest(script: &Script, tick: u32, lane: Numbered) -> Resting
-    requires tick { tick < 4096 }
+    requires tick { tick < most_ticks }
     requires ready { IsReadyOne script.now (tick + 1) lane }
     ensures same { result.lane ≡ lane }
     ensures rests { Rests script.now (tick + 1) result }
@@ -107,7 +108,7 @@ pub(crate) fn settle(
     tick: u32,
     lanes: Vec<Numbered>,
 ) -> Result<Vec<Resting>, AllocError>
-    requires tick { tick < 4096 }
+    requires tick { tick < most_ticks }
     requires ready { All (IsReadyOne script.now (tick + 1)) lanes.items }
     ensures { IfOk result (λ ones. IsSettled script.now tick lanes.items ones.items) }
 {

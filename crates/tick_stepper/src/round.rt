@@ -1,6 +1,7 @@
 //! One tick of all lanes.
 ghost use Rattle.std.specs.Prelude.{◌≡◌, ℕ, ◌+◌, ◌<◌, ◌≤◌, ◌++◌, [], None, map, length, IfOk, IsPermutation, vec_len, slice_index_or};
 ghost use Rattle.std.specs.List.{All, AllByRecursion, flat_map};
+ghost use Rattle.loop_script.specs.Bounds.{most_lanes, most_ticks};
 ghost use Rattle.lane_turn.specs.Turn.{turned};
 ghost use Rattle.lane_turn.specs.Tick.{posted_at, lanes_at};
 ghost use Rattle.tick_stepper.specs.Crew.{refusal_of};
@@ -31,7 +32,7 @@ fn turn_shares<R: Threads + Sync, G: Gate>(
     tick: u32,
     shares: Vec<Share>,
 ) -> Result<Vec<Result<Share, LaneFault>>, AllocError>
-    requires tick { tick < 4096 }
+    requires tick { tick < most_ticks }
     requires fresh { All (IsFresh script.now tick) shares.items }
     ensures all { IfOk result (λ hauls. vec_len hauls ≡ vec_len shares) }
     ensures each { IfOk result (λ hauls. (i : ℕ) (d : _) (e : _) → i < vec_len shares → IfOk (slice_index_or hauls.items i d) (IsTurned script.now tick (slice_index_or shares.items i e))) }
@@ -40,7 +41,7 @@ fn turn_shares<R: Threads + Sync, G: Gate>(
         rt,
         shares,
         &|share: Share| -> Result<Share, LaneFault>
-            requires { (tick < 4096) × IsFresh script.now tick share }
+            requires { (tick < most_ticks) × IsFresh script.now tick share }
             ensures { IfOk result (IsTurned script.entry.now tick share) }
         { turn_share(gate, script, tick, share) },
     )
@@ -57,7 +58,7 @@ fn turn_by_deal<R: Threads + Sync, G: Gate>(
     crew: &Crew,
     lanes: Vec<Numbered>,
 ) -> Result<(Vec<Numbered>, Vec<Letter>), OutOfMemory>
-    requires tick { tick < 4096 }
+    requires tick { tick < most_ticks }
     requires crew { refusal_of script.now crew.now.workers crew.now.sharing ≡ None }
     requires lanes { IsRound script.now tick lanes.items }
     ensures lanes { IfOk result (λ r. r.0.items ≡ map (turned_one script.now tick) lanes.items) }
@@ -82,7 +83,7 @@ fn turn_all<R: Threads + Wait + Sync, G: Gate>(
     crew: &Crew,
     lanes: Vec<Numbered>,
 ) -> Result<(Vec<Numbered>, Vec<Letter>), OutOfMemory>
-    requires tick { tick < 4096 }
+    requires tick { tick < most_ticks }
     requires crew { refusal_of script.now crew.now.workers crew.now.sharing ≡ None }
     requires lanes { IsRound script.now tick lanes.items }
     ensures lanes { IfOk result (λ r. r.0.items ≡ map (turned_one script.now tick) lanes.items) }
@@ -105,11 +106,11 @@ fn deliver_to_all(
     resting: Vec<Resting>,
     letters: &[Letter],
 ) -> Result<Vec<Resting>, OutOfMemory>
-    requires tick { tick < 4096 }
+    requires tick { tick < most_ticks }
     requires passed { All (HasPassed (tick + 1)) resting.items }
     requires lanes { IsPermutation (numbered (map (turned script.now tick) (lanes_at script.now tick))) (done.items ++ all_woken (tick + 1) resting.items) }
     requires letters { letters.now ≡ posted_at script.now tick (lanes_at script.now tick) }
-    requires few { length script.now.lanes ≤ 64 }
+    requires few { length script.now.lanes ≤ most_lanes }
     ensures { IfOk result (λ ones. AreAt script.now (tick + 1) ones.items) }
 {
     let lanes = wake_all(tick + 1, done, resting)?;
@@ -126,11 +127,11 @@ fn put_back(
     done: Vec<Numbered>,
     resting: Vec<Resting>,
 ) -> Result<Vec<Resting>, OutOfMemory>
-    requires tick { tick < 4096 }
+    requires tick { tick < most_ticks }
     requires rest { AllByRecursion (Rests script.now (tick + 1)) resting.items }
     requires lanes { IsPermutation (numbered (map (turned script.now tick) (lanes_at script.now tick))) (done.items ++ all_woken (tick + 1) resting.items) }
     requires none { posted_at script.now tick (lanes_at script.now tick) ≡ [] }
-    requires few { length script.now.lanes ≤ 64 }
+    requires few { length script.now.lanes ≤ most_lanes }
     ensures { IfOk result (λ ones. AreAt script.now (tick + 1) ones.items) }
 {
     let mut resting = resting;
@@ -150,8 +151,8 @@ pub(crate) fn run_tick<R: Threads + Wait + Sync, G: Gate>(
     crew: &Crew,
     lanes: Vec<Resting>,
 ) -> Result<Vec<Resting>, OutOfMemory>
-    requires few { length script.now.lanes ≤ 64 }
-    requires tick { tick < 4096 }
+    requires few { length script.now.lanes ≤ most_lanes }
+    requires tick { tick < most_ticks }
     requires left { tick < script.now.ticks }
     requires crew { refusal_of script.now crew.now.workers crew.now.sharing ≡ None }
     requires lanes { AreAt script.now tick lanes.items }

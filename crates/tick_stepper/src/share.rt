@@ -2,6 +2,7 @@
 ghost use Rattle.std.specs.Prelude.{◌≡◌, ◌<◌, ◌++◌, map, OnOk, IfOk, IsPermutation};
 ghost use Rattle.std.specs.List.{AllByRecursion, flat_map};
 ghost use Rattle.std.specs.List.Sorted.{IsNonDecreasingBy};
+ghost use Rattle.loop_script.specs.Bounds.{most_ticks};
 ghost use Rattle.tick_stepper.specs.Share.{turned_one, out_of_one, IsReadyOne, IsFresh, IsTurned};
 ghost use Rattle.tick_stepper.specs.declared.share.Numbered.{Numbered};
 
@@ -43,7 +44,7 @@ fn take_turns<G: Gate>(
     lanes: &mut [Numbered],
     tray: &mut Tray,
 ) -> Result<(), LaneFault>
-    requires tick { tick < 4096 }
+    requires tick { tick < most_ticks }
     requires ready { AllByRecursion (IsReadyOne script.now tick) lanes.old }
     ensures turned { OnOk result (lanes.new ≡ map (turned_one script.now tick) lanes.old) }
     ensures letters { OnOk result (tray.new ≡ tray.old ++ flat_map (out_of_one script.now tick) lanes.old) }
@@ -61,7 +62,7 @@ pub(crate) fn turn_share<G: Gate>(
     tick: u32,
     share: Share,
 ) -> Result<Share, LaneFault>
-    requires tick { tick < 4096 }
+    requires tick { tick < most_ticks }
     requires fresh { IsFresh script.now tick share }
     ensures { IfOk result (IsTurned script.now tick share) }
 {

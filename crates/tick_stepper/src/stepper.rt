@@ -33,6 +33,7 @@ impl Model for Stepper {
     ghost use Rattle.std.specs.Prelude.{◌≡◌, ◌≤◌, false, None, length, map};
     ghost use Rattle.std.specs.Coded.{codes};
     ghost use Rattle.loop_script.specs.contracts.tree.TaskTree as task_tree;
+    ghost use Rattle.loop_script.specs.Bounds.{most_lanes};
     ghost use Rattle.tick_stepper.specs.Crew.{refusal_of};
     ghost use Rattle.tick_stepper.specs.Rest.{all_at, AreAt};
     ghost use Rattle.tick_stepper.specs.Stepper.{Steps};
@@ -43,7 +44,7 @@ impl Model for Stepper {
 
     ghost view = { λ s. record { script = s.script; lanes = all_at s.tick s.lanes.items; tick = s.tick; spent = s.spent } };
 
-    ghost invariant = { λ s. (refusal_of s.script s.crew.workers s.crew.sharing ≡ None) × (s.tick ≤ s.script.ticks) × (length s.script.lanes ≤ 64) × (s.spent ≡ false → AreAt s.script s.tick s.lanes.items) };
+    ghost invariant = { λ s. (refusal_of s.script s.crew.workers s.crew.sharing ≡ None) × (s.tick ≤ s.script.ticks) × (length s.script.lanes ≤ most_lanes) × (s.spent ≡ false → AreAt s.script s.tick s.lanes.items) };
 }
 
 impl Stepper {

@@ -1,5 +1,6 @@
 //! What a worker does where lanes are taken from a queue.
 ghost use Rattle.std.specs.Prelude.{◌≡◌, ◌<◌, ◌++◌, OnOk, IfOk};
+ghost use Rattle.loop_script.specs.Bounds.{most_ticks};
 ghost use Rattle.tick_stepper.specs.Share.{turned_one, out_of_one, IsReadyOne};
 ghost use Rattle.tick_stepper.specs.Queue.{MayWork, IsHaul};
 
@@ -39,7 +40,7 @@ pub(crate) fn turn_with<R: Wait, G: Gate>(
     pass: OfficePass,
     lane: &mut Numbered,
 ) -> Result<OfficePass, LaneFault>
-    requires tick { tick < 4096 }
+    requires tick { tick < most_ticks }
     requires ready { IsReadyOne script.now tick lane.old }
     requires pass { pass.home ≡ office.now }
     ensures lane { OnOk result (lane.new ≡ turned_one script.now tick lane.old) }
@@ -64,7 +65,7 @@ pub(crate) fn work_through<R: Wait, G: Gate>(
     office: &LetterQueue,
     hired: Hired,
 ) -> Result<Haul, OutOfMemory>
-    requires tick { tick < 4096 }
+    requires tick { tick < most_ticks }
     requires hired { MayWork script.now tick list.now office.now hired }
     ensures { IfOk result (IsHaul script.now tick list.now office.now) }
 {

@@ -1,14 +1,14 @@
 use Rattle.std.proofs.Common.{rules, ◌≡◌, [], ◌+◌, ◌++◌, ◌∙◌, take}
 use Rattle.mainctx.specs.Text.{lane_text}
-use Rattle.mainctx.proofs.Fronts.{front_heading, front_line, line_more, passes_then}
+use Rattle.mainctx.proofs.Prefixes.{prefix_heading, prefix_line, line_more, passes_then}
 use Rattle.mainctx.proofs.Alike.{alike_then}
 use Rattle.mainctx.proofs.ended.add_part.Goals as goal
 
-pub returns-in_err-add-clause-front : goal.returns-in_err-add-clause-front
-returns-in_err-add-clause-front g c =
+pub returns-in_err-add-clause-prefix : goal.returns-in_err-add-clause-prefix
+returns-in_err-add-clause-prefix g c =
     let heading : c.bytes.result.now ≡ lane_text c.args.lane [] = search rules in
-    let front = front_heading (g.W.Out.taken c.args.out.now) (g.W.Out.taken c.add.new.out) c.args.buffer.now c.bytes.result.now c.args.lane c.args.lines.now heading c.in_err-add.ensures.front in
-    search (rules, front)
+    let prefix = prefix_heading (g.W.Out.taken c.args.out.now) (g.W.Out.taken c.add.new.out) c.args.buffer.now c.bytes.result.now c.args.lane c.args.lines.now heading c.in_err-add.ensures.prefix in
+    search (rules, prefix)
 
 pub loop-line-preserved : goal.loop-line-preserved
 loop-line-preserved g c =
@@ -21,9 +21,9 @@ loop-line-preserved g c =
       alike = alike_then (g.W.Out.taken c.args.out.now) (g.W.Out.taken c.loop-line.out) (g.W.Out.taken c.add-in-loop-line.new.out) (g.W.Out.contents c.args.out.now) (g.W.Out.contents c.loop-line.out) (g.W.Out.contents c.add-in-loop-line.new.out) c.loop-line.invariant.alike c.add-in-loop-line.ensures.known;
     }
 
-pub returns-in_err-add-2-clause-front : goal.returns-in_err-add-2-clause-front
-returns-in_err-add-2-clause-front g c =
+pub returns-in_err-add-2-clause-prefix : goal.returns-in_err-add-2-clause-prefix
+returns-in_err-add-2-clause-prefix g c =
     let i = c.loop-line.line-index in
     let more : lane_text c.args.lane (take (i + 1) c.args.lines.now) ≡ lane_text c.args.lane (take i c.args.lines.now) ++ c.bytes-in-loop-line.result.now = line_more c.args.lane i c.args.lines.now _ c.bytes-in-loop-line.result.now c.loop-line-test.true (c.bytes-in-loop-line.ensures.value ∙ c.print.ensures) in
-    let front = front_line (g.W.Out.taken c.args.out.now) (g.W.Out.taken c.loop-line.out) (g.W.Out.taken c.add-in-loop-line.new.out) c.args.buffer.now c.loop-line.buffer c.bytes-in-loop-line.result.now c.args.lane i c.args.lines.now c.loop-line.invariant.passes more c.in_err-add-2.ensures.front in
-    search (rules, front)
+    let prefix = prefix_line (g.W.Out.taken c.args.out.now) (g.W.Out.taken c.loop-line.out) (g.W.Out.taken c.add-in-loop-line.new.out) c.args.buffer.now c.loop-line.buffer c.bytes-in-loop-line.result.now c.args.lane i c.args.lines.now c.loop-line.invariant.passes more c.in_err-add-2.ensures.prefix in
+    search (rules, prefix)

@@ -1,5 +1,5 @@
 use Rattle.std.proofs.Common.{◌≤◌, arith, subst, sym}
-use Rattle.mainctx.proofs.Statuses.{status_above, status_within, leaves_nothing, leaves_front}
+use Rattle.mainctx.proofs.Statuses.{status_above, status_within, leaves_nothing, leaves_prefix}
 use Rattle.mainctx.proofs.status.serve.Goals as goal
 
 pub returns-in-Err-clause-text : goal.returns-in-Err-clause-text
@@ -9,9 +9,9 @@ pub returns-in-Err-clause-nothing : goal.returns-in-Err-clause-nothing
 returns-in-Err-clause-nothing g c low high =
     leaves_nothing c.args.args.now (g.R.Read.remaining c.args.input.now) c.in-Err.refusal (g.W.Out.taken c.args.out.now) (g.W.Out.taken c.attempt.new.out) c.in-Err.ensures.refusal (subst (λ n. n ≤ 3) c.refuse.ensures high)
 
-pub returns-in-Err-clause-front : goal.returns-in-Err-clause-front
-returns-in-Err-clause-front g c four =
-    leaves_front c.args.args.now (g.R.Read.remaining c.args.input.now) c.in-Err.refusal (g.W.Out.taken c.args.out.now) (g.W.Out.taken c.attempt.new.out) c.in-Err.ensures.refusal
+pub returns-in-Err-clause-prefix : goal.returns-in-Err-clause-prefix
+returns-in-Err-clause-prefix g c four =
+    leaves_prefix c.args.args.now (g.R.Read.remaining c.args.input.now) c.in-Err.refusal (g.W.Out.taken c.args.out.now) (g.W.Out.taken c.attempt.new.out) c.in-Err.ensures.refusal
 
 pub returns-in-Err-clause-status : goal.returns-in-Err-clause-status
 returns-in-Err-clause-status g c = subst (λ n. n ≤ 4) (sym c.refuse.ensures) (status_within c.in-Err.refusal)

@@ -1,6 +1,6 @@
 use Rattle.std.proofs.Common.{take, arith}
 use Rattle.std.proofs.lemmas.Grind.{common_steps}
-use Rattle.mainctx.proofs.Fronts.{left_more}
+use Rattle.mainctx.proofs.Prefixes.{left_more}
 use Rattle.mainctx.proofs.Alike.{alike_more}
 use Rattle.mainctx.proofs.writer.write_all.Goals as goal
 

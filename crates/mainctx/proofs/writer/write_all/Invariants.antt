@@ -1,6 +1,6 @@
 use Rattle.std.proofs.Common.{◌≡◌, length}
 use Rattle.mainctx.specs.Writing.{GrowAlike}
-use Rattle.mainctx.proofs.Fronts.{Left}
+use Rattle.mainctx.proofs.Prefixes.{Left}
 use Rattle.mainctx.proofs.writer.write_all.Given as goal
 
 abbrev pub invariant-rest : goal.invariant-rest

@@ -2,7 +2,7 @@ use Rattle.std.proofs.Common.{rules, ◌≡◌, ◌+◌, ◌++◌, drop, take, l
 use Rattle.std.proofs.lemmas.Fmt.{length-decimal-le}
 use Rattle.std.specs.Fmt.{decimal}
 use Rattle.mainctx.specs.LastDispatch.{head_text, tail_text}
-use Rattle.mainctx.proofs.Endings.{end_kept, front_kept, line_is}
+use Rattle.mainctx.proofs.Endings.{end_kept, prefix_kept, line_is}
 use Rattle.mainctx.proofs.last_dispatch.LastDispatch.write.Goals as goal
 
 pub write_digits-number-requires : goal.write_digits-number-requires
@@ -48,7 +48,7 @@ returns-else-number-self-clause-holds c =
     let start : now.number + length (decimal c.args.source) ≡ now.tail = rw at at n.ensures.start in
     let long : length n.new.buf ≡ 256 = search rules in
     record {
-      head = front_kept now.bytes n.new.buf (head_text now.tick now.context) now.start now.number before c.requires.head c.requires.start (omega (arith, c.requires.within));
+      head = prefix_kept now.bytes n.new.buf (head_text now.tick now.context) now.start now.number before c.requires.head c.requires.start (omega (arith, c.requires.within));
       start = c.requires.start;
       tail = end_kept now.bytes n.new.buf (decimal c.args.source) now.number now.tail written start ∙ c.requires.tail;
       room = c.requires.room;
@@ -65,7 +65,7 @@ returns-else-number-self-clause-line c =
     let before : take now.number n.new.buf ≡ take now.number now.bytes = rw at at n.ensures.before in
     let start : now.number + length (decimal c.args.source) ≡ now.tail = rw at at n.ensures.start in
     let long : length n.new.buf ≡ 256 = search rules in
-    let kept = front_kept now.bytes n.new.buf (head_text now.tick now.context) now.start now.number before c.requires.head c.requires.start (omega (arith, c.requires.within)) in
+    let kept = prefix_kept now.bytes n.new.buf (head_text now.tick now.context) now.start now.number before c.requires.head c.requires.start (omega (arith, c.requires.within)) in
     let p : now.priority ≡ c.args.priority = search rules in
     let tail : tail_text now.priority now.depth ≡ tail_text c.args.priority c.args.depth = rw (p, c.if-self-depth.false) refl in
     let head : head_text now.tick now.context ≡ head_text c.args.tick c.args.context = rw (c.if-self-tick.false, c.if-self-context.false) refl in
