@@ -135,6 +135,7 @@ impl Lane {
     }
 
     /// The row of a context's source.
+    #[inline]
     pub(crate) fn row(&self, context: u32, id: u64) -> Option<Row>
         ensures { result ≡ row_of context id (lane_of self.now) }
     {

@@ -153,6 +153,7 @@ impl Lane {
     }
 
     /// Begins the dispatch of a row that is taken, at a depth.
+    #[inline]
     fn dispatch(&mut self, tick: u32, context: u32, row: Row, depth: u64) -> Result<(), AllocError>
         requires count { row.count ≤ most_count }
         requires depth { depth ≤ most_count }

@@ -39,7 +39,7 @@ fn joined(mut fork: Box<Fork>, sooner: Seats, later: Seats) -> Box<Fork>
     ensures later { result.value.later ≡ later }
 {
     let height = sooner.height().max(later.height()) + 1;
-    let least = least_over(&sooner, fork.seat, &later);
+    let least = least_over(&sooner, &fork.seat, &later);
     *fork = Fork {
         sooner,
         seat: fork.seat,
@@ -60,7 +60,7 @@ pub(crate) fn balance(root: &mut Option<Box<Fork>>)
         let (low, high) = (fork.sooner.height(), fork.later.height());
         if low.abs_diff(high) <= 1 {
             fork.height = low.max(high) + 1;
-            fork.least = least_over(&fork.sooner, fork.seat, &fork.later);
+            fork.least = least_over(&fork.sooner, &fork.seat, &fork.later);
             return;
         }
     }

@@ -69,6 +69,7 @@ impl Rows {
     }
 
     /// The row of an id; None where there is none, and none comes to it later.
+    #[inline]
     pub fn row(&self, id: u64) -> Option<Row>
         ensures { result ≡ row_of id self.now.rows }
     {
@@ -76,6 +77,7 @@ impl Rows {
     }
 
     /// The row of an id, lent.
+    #[inline]
     pub fn found(&self, id: u64) -> Option<&Row>
         ensures { option_copied result ≡ row_of id self.now.rows }
     {

@@ -156,22 +156,22 @@ impl Seats {
 
     /// Puts a seat into a room.
     #[tactic(auto, using(crate::proofs::Low::low_even))]
-    pub fn insert(&mut self, room: Room, seat: Seat)
+    pub fn insert(&mut self, room: Room, seat: &Seat)
         requires rises { Rises is_ahead self.old.0 }
         requires few { length self.old.0 < count_end }
         requires low { IsLow self.old }
-        ensures seats { self.new.0 ≡ inserted is_ahead seat self.old.0 }
+        ensures seats { self.new.0 ≡ inserted is_ahead seat.now self.old.0 }
         ensures low { IsLow self.new }
         ensures height { IsLowered self.new.1 self.old.1 }
     {
         match &mut self.root {
             None => {
-                self.root = Some(room.fill(seat));
+                self.root = Some(room.fill(*seat));
                 return;
             }
             Some(fork) => {
                 let fork = &mut **fork;
-                if is_ahead(&seat, &fork.seat) {
+                if is_ahead(seat, &fork.seat) {
                     fork.sooner.insert(room, seat);
                 } else {
                     fork.later.insert(room, seat);
@@ -212,12 +212,12 @@ impl Seats {
 
     /// Takes a seat out, and hands its room out; none where it is not there.
     #[tactic(auto, using(crate::proofs::Low::low_even))]
-    fn take(&mut self, seat: Seat) -> Option<Room>
+    fn take(&mut self, seat: &Seat) -> Option<Room>
         requires rises { Rises is_ahead self.old.0 }
         requires few { length self.old.0 ≤ count_end }
         requires low { IsLow self.old }
-        ensures there { is_some result ≡ list_any (λ u. is_eq (seat_cmp seat u)) self.old.0 }
-        ensures seats { self.new.0 ≡ without seat self.old.0 }
+        ensures there { is_some result ≡ list_any (λ u. is_eq (seat_cmp seat.now u)) self.old.0 }
+        ensures seats { self.new.0 ≡ without seat.now self.old.0 }
         ensures low { IsLow self.new }
         ensures height { IsLowered self.old.1 self.new.1 }
     {
@@ -237,23 +237,23 @@ impl Seats {
     }
 
     /// Gives a seat up, and its room.
-    pub fn remove(&mut self, seat: Seat)
+    pub fn remove(&mut self, seat: &Seat)
         requires rises { Rises is_ahead self.old.0 }
         requires few { length self.old.0 ≤ count_end }
         requires low { IsLow self.old }
-        ensures seats { self.new.0 ≡ without seat self.old.0 }
+        ensures seats { self.new.0 ≡ without seat.now self.old.0 }
         ensures low { IsLow self.new }
     {
         drop(self.take(seat));
     }
 
     /// Puts another seat into the place of one.
-    pub fn change(&mut self, before: Seat, after: Seat)
+    pub fn change(&mut self, before: &Seat, after: &Seat)
         requires rises { Rises is_ahead self.old.0 }
         requires few { length self.old.0 ≤ count_end }
         requires low { IsLow self.old }
-        requires there { list_any (λ u. is_eq (seat_cmp before u)) self.old.0 ≡ true }
-        ensures seats { self.new.0 ≡ inserted is_ahead after (without before self.old.0) }
+        requires there { list_any (λ u. is_eq (seat_cmp before.now u)) self.old.0 ≡ true }
+        ensures seats { self.new.0 ≡ inserted is_ahead after.now (without before.now self.old.0) }
         ensures low { IsLow self.new }
     {
         if let Some(room) = self.take(before) {
@@ -262,9 +262,9 @@ impl Seats {
     }
 
     /// Puts another seat where one stands.
-    fn set(&mut self, before: Seat, after: Seat)
+    fn set(&mut self, before: &Seat, after: &Seat)
         requires { Rises is_ahead self.old.0 }
-        ensures seats { self.new.0 ≡ swapped before after self.old.0 }
+        ensures seats { self.new.0 ≡ swapped before.now after.now self.old.0 }
         ensures height { self.new.1 ≡ self.old.1 }
     {
         match &mut self.root {
@@ -274,24 +274,24 @@ impl Seats {
                 match before.cmp(&fork.seat) {
                     Ordering::Less => fork.sooner.set(before, after),
                     Ordering::Greater => fork.later.set(before, after),
-                    Ordering::Equal => fork.seat = after,
+                    Ordering::Equal => fork.seat = *after,
                 }
-                fork.least = least_over(&fork.sooner, fork.seat, &fork.later);
+                fork.least = least_over(&fork.sooner, &fork.seat, &fork.later);
             }
         }
     }
 
     /// Puts another seat into the place of one, where it is another.
-    pub fn replace(&mut self, before: Seat, after: Seat)
+    pub fn replace(&mut self, before: &Seat, after: &Seat)
         requires rises { Rises is_ahead self.old.0 }
         requires few { length self.old.0 ≤ count_end }
         requires low { IsLow self.old }
-        requires there { list_any (λ u. is_eq (seat_cmp before u)) self.old.0 ≡ true }
-        ensures seats { self.new.0 ≡ replaced before after self.old.0 }
+        requires there { list_any (λ u. is_eq (seat_cmp before.now u)) self.old.0 ≡ true }
+        ensures seats { self.new.0 ≡ replaced before.now after.now self.old.0 }
         ensures low { IsLow self.new }
     {
-        if is_other(&before, &after) {
-            if stays(&before, &after) {
+        if is_other(before, after) {
+            if stays(before, after) {
                 self.set(before, after);
             } else {
                 self.change(before, after);
@@ -399,8 +399,8 @@ fn lesser(a: u64, b: u64) -> u64
 }
 
 /// The least times of a seat and of those on its sides.
-pub(crate) fn least_over(sooner: &Seats, seat: Seat, later: &Seats) -> Least
-    ensures { result ≡ least_of (sooner.now.0 ++ seat ∷ later.now.0) }
+pub(crate) fn least_over(sooner: &Seats, seat: &Seat, later: &Seats) -> Least
+    ensures { result ≡ least_of (sooner.now.0 ++ seat.now ∷ later.now.0) }
 {
     let (before, behind) = (sooner.least(), later.least());
     Least {

@@ -85,6 +85,7 @@ impl Table {
     }
 
     /// The row of an id, lent.
+    #[inline]
     pub fn found(&self, id: u64) -> Option<&Row>
         ensures { option_copied result ≡ row_of id self.now }
     {
@@ -95,10 +96,14 @@ impl Table {
     }
 
     /// The row of an id.
+    #[inline]
     pub fn row(&self, id: u64) -> Option<Row>
         ensures { result ≡ row_of id self.now }
     {
-        self.found(id).copied()
+        match self.found(id) {
+            None => None,
+            Some(row) => Some(*row),
+        }
     }
 
     /// Whether a row may be one of a descriptor; false only where none is.
@@ -140,7 +145,7 @@ impl Table {
                 self.guesses.note(&self.slots, row.id, key);
                 let may_ask = may_ask_with(self.may_ask, &row);
                 self.may_ask = may_ask;
-                self.seats.insert(room, row.seat());
+                self.seats.insert(room, &row.seat());
                 Ok(())
             }
             Err(_) => {
@@ -160,7 +165,7 @@ impl Table {
                 let may_ask = may_ask_with(self.may_ask, &row);
                 let seat = slot.seat();
                 *slot = row;
-                self.seats.replace(seat, row.seat());
+                self.seats.replace(&seat, &row.seat());
                 self.may_ask = may_ask;
             }
         }
@@ -192,7 +197,7 @@ impl Table {
                 let before = slot.seat();
                 slot.ready = ready;
                 let after = slot.seat();
-                self.seats.replace(before, after);
+                self.seats.replace(&before, &after);
                 return true;
             }
         }
@@ -206,7 +211,7 @@ impl Table {
     {
         if let Some(key) = self.keys.remove(&id) {
             if let Some(row) = self.slots.try_remove(key) {
-                self.seats.remove(row.seat());
+                self.seats.remove(&row.seat());
             }
         }
     }

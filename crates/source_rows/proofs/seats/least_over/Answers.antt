@@ -6,6 +6,6 @@ use Rattle.source_rows.proofs.seats.least_over.Goals as goal
 
 pub returns : goal.returns
 returns c =
-    let wake : c.lesser-2.result ≡ lesser (least_by (λ s. s.wake) c.args.sooner.now.0) (lesser c.args.seat.wake (least_by (λ s. s.wake) c.args.later.now.0)) = search rules in
-    let due : c.lesser-4.result ≡ lesser (least_by (λ s. s.due) c.args.sooner.now.0) (lesser c.args.seat.due (least_by (λ s. s.due) c.args.later.now.0)) = search rules in
-    ap₂ (λ (x y : ℕ). let l : Least = record { wake = x; due = y } in l) (wake ∙ sym (least_join (λ s. s.wake) c.args.sooner.now.0 (c.args.seat ∷ c.args.later.now.0))) (due ∙ sym (least_join (λ s. s.due) c.args.sooner.now.0 (c.args.seat ∷ c.args.later.now.0)))
+    let wake : c.lesser-2.result ≡ lesser (least_by (λ s. s.wake) c.args.sooner.now.0) (lesser c.args.seat.now.wake (least_by (λ s. s.wake) c.args.later.now.0)) = search rules in
+    let due : c.lesser-4.result ≡ lesser (least_by (λ s. s.due) c.args.sooner.now.0) (lesser c.args.seat.now.due (least_by (λ s. s.due) c.args.later.now.0)) = search rules in
+    ap₂ (λ (x y : ℕ). let l : Least = record { wake = x; due = y } in l) (wake ∙ sym (least_join (λ s. s.wake) c.args.sooner.now.0 (c.args.seat.now ∷ c.args.later.now.0))) (due ∙ sym (least_join (λ s. s.due) c.args.sooner.now.0 (c.args.seat.now ∷ c.args.later.now.0)))

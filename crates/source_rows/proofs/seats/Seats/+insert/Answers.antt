@@ -34,11 +34,11 @@ balance-requires t c =
     elim c.if-is_ahead.branch [
       | then-is_ahead w ↦
           let a = w.insert.ensures in
-          let more = length_inserted is_ahead c.args.seat c.deref_mut-fork.result.now.sooner.0 in
+          let more = length_inserted is_ahead c.args.seat.now c.deref_mut-fork.result.now.sooner.0 in
           rw w.self-inside-is (grind arith, a.low, even.3, grind (arith, more, a.seats, f.parts, c.requires.few))
       | else-is_ahead w ↦
           let a = w.insert-else-is_ahead.ensures in
-          let more = length_inserted is_ahead c.args.seat c.deref_mut-fork.result.now.later.0 in
+          let more = length_inserted is_ahead c.args.seat.now c.deref_mut-fork.result.now.later.0 in
           rw w.self-inside-is (grind arith, even.2, a.low, grind (arith, more, a.seats, f.parts, c.requires.few))
     ]
 
@@ -51,13 +51,13 @@ returns-clause-seats t c =
     let r = c.deref_mut-fork.result.now.later.0 in
     elim c.if-is_ahead.branch [
       | then-is_ahead w ↦
-          let low : is_ahead c.args.seat k ≡ true = search rules in
+          let low : is_ahead c.args.seat.now k ≡ true = search rules in
           let s = rw w.self-inside-is at c.balance.ensures in
-          let is : w.insert.new.self.0 ≡ inserted is_ahead c.args.seat l = search rules in
-          s.1 ∙ (ap (λ (x : List Seat). x ++ k ∷ r) is ∙ sym (ap (inserted is_ahead c.args.seat) f.is ∙ inserted_left is_ahead c.args.seat l k r low))
+          let is : w.insert.new.self.0 ≡ inserted is_ahead c.args.seat.now l = search rules in
+          s.1 ∙ (ap (λ (x : List Seat). x ++ k ∷ r) is ∙ sym (ap (inserted is_ahead c.args.seat.now) f.is ∙ inserted_left is_ahead c.args.seat.now l k r low))
       | else-is_ahead w ↦
-          let high : is_ahead c.args.seat k ≡ false = search rules in
+          let high : is_ahead c.args.seat.now k ≡ false = search rules in
           let s = rw w.self-inside-is at c.balance.ensures in
-          let is : w.insert-else-is_ahead.new.self.0 ≡ inserted is_ahead c.args.seat r = search rules in
-          s.1 ∙ (ap (λ (x : List Seat). l ++ k ∷ x) is ∙ sym (ap (inserted is_ahead c.args.seat) f.is ∙ inserted_right is_ahead sooner_order c.args.seat l k r f.rises high))
+          let is : w.insert-else-is_ahead.new.self.0 ≡ inserted is_ahead c.args.seat.now r = search rules in
+          s.1 ∙ (ap (λ (x : List Seat). l ++ k ∷ x) is ∙ sym (ap (inserted is_ahead c.args.seat.now) f.is ∙ inserted_right is_ahead sooner_order c.args.seat.now l k r f.rises high))
     ]

@@ -32,8 +32,8 @@ returns-clause-seats t c =
       | in-Some w ↦
           let same : w.deref_mut-fork.result.now ≡ w.in-Some.fork.value = search rules in
           let f = at_Fork c.self.view_is c.requires w.in-Some.is same in
-          let a = c.args.before in
-          let b = c.args.after in
+          let a = c.args.before.now in
+          let b = c.args.after.now in
           let l = w.deref_mut-fork.result.now.sooner.0 in
           let k = w.deref_mut-fork.result.now.seat in
           let r = w.deref_mut-fork.result.now.later.0 in
@@ -59,8 +59,8 @@ invariant_of-self t c =
       | in-Some w ↦
           let same : w.deref_mut-fork.result.now ≡ w.in-Some.fork.value = search rules in
           let even = even_at c.self.invariant w.in-Some.is same in
-          let a = c.args.before in
-          let b = c.args.after in
+          let a = c.args.before.now in
+          let b = c.args.after.now in
           let l = w.deref_mut-fork.result.now.sooner in
           let r = w.deref_mut-fork.result.now.later in
           elim w.match-cmp.branch [

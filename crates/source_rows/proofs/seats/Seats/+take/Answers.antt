@@ -36,11 +36,11 @@ balance-requires t c =
     elim c.match-cmp.branch [
       | in-Less w ↦
           let a = w.take.ensures in
-          let less = length_filter (λ u. not (is_eq (seat_cmp c.args.seat u))) c.deref_mut-fork.result.now.sooner.0 in
+          let less = length_filter (λ u. not (is_eq (seat_cmp c.args.seat.now u))) c.deref_mut-fork.result.now.sooner.0 in
           rw w.self-inside-is (grind arith, a.low, even.3, grind (arith, less, a.seats, f.parts, c.requires.few))
       | in-Greater w ↦
           let a = w.take-in-Greater.ensures in
-          let less = length_filter (λ u. not (is_eq (seat_cmp c.args.seat u))) c.deref_mut-fork.result.now.later.0 in
+          let less = length_filter (λ u. not (is_eq (seat_cmp c.args.seat.now u))) c.deref_mut-fork.result.now.later.0 in
           rw w.self-inside-is (grind arith, even.2, a.low, grind (arith, less, a.seats, f.parts, c.requires.few))
     ]
 
@@ -48,7 +48,7 @@ pub returns-clause-there : goal.returns-clause-there
 returns-clause-there t c =
     let same : c.deref_mut-fork.result.now ≡ c.in-Some.fork.value = search rules in
     let f = at_Fork c.self.view_is c.requires.rises c.in-Some.is same in
-    let x = c.args.seat in
+    let x = c.args.seat.now in
     let l = c.deref_mut-fork.result.now.sooner.0 in
     let k = c.deref_mut-fork.result.now.seat in
     let r = c.deref_mut-fork.result.now.later.0 in
@@ -67,7 +67,7 @@ pub returns-clause-seats : goal.returns-clause-seats
 returns-clause-seats t c =
     let same : c.deref_mut-fork.result.now ≡ c.in-Some.fork.value = search rules in
     let f = at_Fork c.self.view_is c.requires.rises c.in-Some.is same in
-    let x = c.args.seat in
+    let x = c.args.seat.now in
     let l = c.deref_mut-fork.result.now.sooner.0 in
     let k = c.deref_mut-fork.result.now.seat in
     let r = c.deref_mut-fork.result.now.later.0 in
@@ -88,7 +88,7 @@ pub returns-in-Equal-clause-seats : goal.returns-in-Equal-clause-seats
 returns-in-Equal-clause-seats t c =
     let same : c.deref_mut-fork.result.now ≡ c.in-Some.fork.value = search rules in
     let f = at_Fork c.self.view_is c.requires.rises c.in-Some.is same in
-    let x = c.args.seat in
+    let x = c.args.seat.now in
     let l = c.deref_mut-fork.result.now.sooner.0 in
     let k = c.deref_mut-fork.result.now.seat in
     let r = c.deref_mut-fork.result.now.later.0 in

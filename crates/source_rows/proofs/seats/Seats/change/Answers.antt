@@ -9,7 +9,7 @@ insert-requires-clause-rises c = rw c.take.ensures.seats (rises_filter is_ahead 
 
 pub insert-requires-clause-few : goal.insert-requires-clause-few
 insert-requires-clause-few c =
-    let less = length_without c.args.before c.args.self.now.0 c.requires.there in
+    let less = length_without c.args.before.now c.args.self.now.0 c.requires.there in
     let is = c.take.ensures.seats in
     rw is (omega (arith, less, c.requires.few))
 
