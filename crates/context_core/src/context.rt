@@ -15,7 +15,7 @@ ghost use Rattle.context_core.specs.Phases.{ms_until, least_ready, wait_of, inte
 
 use crate::interest::{Interest, Prepared, Shown};
 use crate::ready::{
-    interest, is_beyond, is_callable, is_free, level_at, ms_until, one_each, sooner,
+    interest, is_beyond, is_callable, is_free, level_at, ms_until, one_each, own_ready, sooner,
 };
 use cancel_view::View;
 use source_rows::{Levels, Row, Rows};
@@ -237,8 +237,11 @@ fn visit(
     ensures ready { IfOk result (λ ready. ready
         ≡ (is_free busy.now row.now && (is_callable (own_ready (shown polled.now) (in_view view.now) now) busy.now row.now || contains nat_cmp lent.old row.now.id))) }
 {
-    if !is_callable(row, polled, now, busy, view) {
-        return Ok(is_free(row, busy) && lent.contains(&row.id));
+    if !is_free(row, busy) {
+        return Ok(false);
+    }
+    if !own_ready(row, polled, now, view) {
+        return Ok(lent.contains(&row.id));
     }
     if row.parent.is_some() {
         lend(lent, &row.lineage)?;

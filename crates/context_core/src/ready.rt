@@ -71,7 +71,8 @@ fn level_in(polled: &[Shown], fd: u32) -> u8
 }
 
 /// Whether a source is ready by itself.
-fn own_ready(row: &Row, polled: &[Shown], now: u64, view: &View) -> bool
+#[inline]
+pub(crate) fn own_ready(row: &Row, polled: &[Shown], now: u64, view: &View) -> bool
     requires { now ≤ latest }
     ensures { result ≡ own_ready (shown polled.now) (in_view view.now) now row.now }
 {
@@ -107,6 +108,7 @@ fn has_listed(lineage: &[u64], busy: &[u64]) -> bool
 }
 
 /// Whether a call of a source, or of one above it, is in progress.
+#[inline]
 fn is_blocked(row: &Row, busy: &[u64]) -> bool
     ensures { result ≡ is_blocked busy.now row.now }
 {
@@ -117,6 +119,7 @@ fn is_blocked(row: &Row, busy: &[u64]) -> bool
 }
 
 /// Whether no call of a source, or of one above it, is in progress.
+#[inline]
 pub(crate) fn is_free(row: &Row, busy: &[u64]) -> bool
     ensures { result ≡ is_free busy.now row.now }
 {
@@ -124,6 +127,7 @@ pub(crate) fn is_free(row: &Row, busy: &[u64]) -> bool
 }
 
 /// Whether a source is free, and ready by itself.
+#[inline]
 pub(crate) fn is_callable(row: &Row, polled: &[Shown], now: u64, busy: &[u64], view: &View) -> bool
     requires { now ≤ latest }
     ensures { result ≡ is_callable (own_ready (shown polled.now) (in_view view.now) now) busy.now row.now }

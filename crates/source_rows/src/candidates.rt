@@ -89,6 +89,7 @@ impl<'a> Iterator for Candidates<'a> {
 
     ghost remaining = { λ s. at_most (length s) };
 
+    #[inline]
     fn next(&mut self) -> Option<&'a Row> {
         let row = advance(&mut self.ids, self.table, self.order, self.last, self.now)?;
         self.last = Some(row);
