@@ -100,6 +100,7 @@ impl Table {
     pub fn row(&self, id: u64) -> Option<Row>
         ensures { result ≡ row_of id self.now }
     {
+        // `copied` would copy the row three times
         match self.found(id) {
             None => None,
             Some(row) => Some(*row),
