@@ -57,7 +57,7 @@ less_by Equal h = cc
 less_by Greater h = cc
 
 -- times that the order doesn't tell apart are one
-same_key : (a b : Key) → key_cmp a b ≡ Equal → a ≡ b
+pub same_key : (a b : Key) → key_cmp a b ≡ Equal → a ≡ b
 same_key a b h =
     let t = then_equal (int_cmp a.0 b.0) (slice_cmp nat_cmp a.1 b.1) h in
     ap₂ (λ (x : ℤ) (y : List ℕ). let c : Key = (x, y) in c) (same_int a.0 b.0 t.0) (exact_bytes a.1 b.1 t.1)
@@ -138,7 +138,7 @@ apart_ids a b h = apart_by a b (seat_cmp a b) refl (λ e. h (ap (λ (t : Seat). 
 
 -- ---- one time taken out, where the times are split at one of them
 
-filter_join : (p : Seat → Bool) (l r : List Seat) → filter p (l ++ r) ≡ filter p l ++ filter p r
+pub filter_join : (p : Seat → Bool) (l r : List Seat) → filter p (l ++ r) ≡ filter p l ++ filter p r
 filter_join p [] r = refl
 filter_join p (x ∷ l) r = by_test (filter_join p l r) (p x)
   where
@@ -246,7 +246,7 @@ awake_join_none after now [] r h = refl
 awake_join_none after now (s ∷ l) r h = awake_none_by s (first_awake after now l) (first_awake after now (l ++ r)) (first_awake after now r) (awake_join_none after now l r) (is_passed after s.key) (nat_lt now s.wake) h
 
 -- a key that does not stand behind one that is passed is passed
-key_by : (o p : Ordering) → is_lt (ordering_then o p) ≡ true → (o ≡ Less) ⊎ (o ≡ Equal)
+pub key_by : (o p : Ordering) → is_lt (ordering_then o p) ≡ true → (o ≡ Less) ⊎ (o ≡ Equal)
 key_by Less p h = inl refl
 key_by Equal p h = inr refl
 key_by Greater p h = cc
@@ -254,7 +254,7 @@ key_by Greater p h = cc
 lt_of : (o : Ordering) → o ≡ Less → is_lt o ≡ true
 lt_of o e = ap is_lt e
 
-key_order : IsStrictWeakOrder (λ (a b : Key). is_lt (key_cmp a b))
+pub key_order : IsStrictWeakOrder (λ (a b : Key). is_lt (key_cmp a b))
 key_order = ranks_by key_total (λ (k : Key). k)
 
 not_true : (b : Bool) → not b ≡ true → b ≡ false
@@ -266,7 +266,7 @@ behind_by a x k h o false e = refl
 behind_by a x k h (inl o) true e = let no = sym h ∙ trans (λ (a b : Key). is_lt (key_cmp a b)) key_order a x k e (lt_of (key_cmp x k) o) in cc
 behind_by a x k h (inr o) true e = let no = sym h ∙ (ap (λ (y : Key). is_lt (key_cmp a y)) (sym (same_key x k o)) ∙ e) in cc
 
-passed_by : (after : Option Key) (x k : Seat) → is_ahead x k ≡ true → is_passed after k.key ≡ true → is_passed after x.key ≡ true
+pub passed_by : (after : Option Key) (x k : Seat) → is_ahead x k ≡ true → is_passed after k.key ≡ true → is_passed after x.key ≡ true
 passed_by None x k h p = p
 passed_by (Some a) x k h p = behind_by a x.key k.key (not_true (is_lt (key_cmp a k.key)) p) (key_by (key_cmp x.key k.key) _ h) (is_lt (key_cmp a x.key)) refl
 

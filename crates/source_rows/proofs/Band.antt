@@ -4,30 +4,25 @@ use Rattle.std.proofs.lemmas.Bool.Decides.{nat_tests}
 use Rattle.std.specs.Prelude.{slice_index}
 use Rattle.std.specs.List.{AllByRecursion, list_any}
 use Rattle.std.specs.Option.{IsSome}
-use Rattle.std.specs.Map.{values_of}
 use Rattle.std.specs.declared.cmp.Ordering.{Ordering}
 use Rattle.std.specs.declared.cmp.Ordering.TheVariants.{Less, Equal, Greater}
-use Rattle.std.specs.declared.ops.Bound.TheVariants.{Included}
-use Rattle.std.specs.Ordering.{is_lt, is_le, is_gt, ordering_then, int_cmp, nat_cmp}
+use Rattle.std.specs.Ordering.{is_lt, is_le, is_gt, ordering_then, ordering_reverse, int_cmp, nat_cmp}
 use Rattle.std.specs.Cmp.{int_cmp_total, nat_cmp_total}
 use Rattle.std.proofs.lemmas.Map.Lookups.{exact_signed}
 use Rattle.std.specs.Cmp.Lexicographic.{slice_cmp}
-use Rattle.std.specs.BTreeMap.Range.{range_contains, entries_between}
 use Rattle.std.proofs.lemmas.Cmp.{tied_itself}
 use Rattle.source_rows.specs.declared.row.Row.{Row}
 use Rattle.source_rows.specs.Rows.{Key, key_cmp, key_of, row_of, has_id, is_under, in_order, placed, stands_before, changed, moved}
 use Rattle.source_rows.specs.Row.{no_number}
-use Rattle.source_rows.specs.Kept.{entry_of}
 use Rattle.source_rows.specs.Tree.{IdsRise}
 use Rattle.source_rows.proofs.Kin.{Shares, IsPath, Kin}
 use Rattle.source_rows.specs.InOrder.{rows_of}
 use Rattle.source_rows.specs.Moves.{with_each, moved_row}
-use Rattle.source_rows.specs.Band.{first_key, last_key}
+use Rattle.source_rows.specs.Band.{first_key, last_key, stands_between}
 use Rattle.source_rows.proofs.Compared.{same_self, are_same, are_not, or_true, nat_equal}
-use Rattle.source_rows.proofs.Lists.{all_of, all_both, all_true, all_passed, all_filter, filter_mapped, each_with_each}
-use Rattle.source_rows.proofs.Order.{all_in_order, in_order-filter}
+use Rattle.source_rows.proofs.Lists.{all_of, all_both, all_true, all_passed, all_filter, each_with_each}
+use Rattle.source_rows.proofs.Order.{key_total, all_in_order, in_order-filter}
 use Rattle.source_rows.proofs.Forest.{all_found}
-use Rattle.source_rows.proofs.Kept.{values_of-entries}
 use Rattle.source_rows.proofs.Listed.{same_rows}
 use Rattle.source_rows.proofs.Moved.{is_moved}
 
@@ -88,8 +83,19 @@ outside_by Equal Less s t h = cc
 outside_by Equal Greater s t h = cc
 outside_by Equal Equal s t h = (refl, refl)
 
-abbrev pub contains : Row → Key → Bool
-contains x k = range_contains key_cmp (Included (first_key x)) (Included (last_key x)) k
+abbrev contains : Row → Key → Bool
+contains x k = is_le (key_cmp (first_key x) k) && not (is_lt (key_cmp (last_key x) k))
+
+not_back_by : (o : Ordering) → not (is_lt (ordering_reverse o)) ≡ is_le o
+not_back_by Less = refl
+not_back_by Equal = refl
+not_back_by Greater = refl
+
+-- a row stands between the keys of a tree
+is_contained : (x r : Row) → stands_between (first_key x) (last_key x) r ≡ contains x (key_of r)
+is_contained x r =
+    ap (λ (o : Ordering). not (is_lt o) && not (is_lt (key_cmp (last_key x) (key_of r)))) (key_total.antisymm (key_of r) (first_key x))
+    ∙ ap (λ (b : Bool). b && not (is_lt (key_cmp (last_key x) (key_of r)))) (not_back_by (key_cmp (first_key x) (key_of r)))
 
 inside : (x r : Row) → IsPath r.path → Shares x r → contains x (key_of r) ≡ true
 inside x r p s =
@@ -112,21 +118,26 @@ contains_by x r n k false true e f = let never = sym (inside x r k.path (k.share
 
 -- ---- the rows that stand there
 
-between : (x : Row) (n : ℕ) (rows : List Row) → AllByRecursion (Kin x n) rows → entries_between key_cmp (Included (first_key x)) (Included (last_key x)) (map entry_of rows) ≡ map entry_of (filter (is_under x.id) rows)
+filter_same : (f g : Row → Bool) (rows : List Row) → AllByRecursion (λ r. f r ≡ g r) rows → filter f rows ≡ filter g rows
+filter_same f g [] h = refl
+filter_same f g (r ∷ rows) h =
+    ap (λ (b : Bool). cond b (r ∷ filter f rows) (filter f rows)) h.0 ∙ ap (λ (xs : List Row). cond (g r) (r ∷ xs) xs) (filter_same f g rows h.1)
+
+between : (x : Row) (n : ℕ) (rows : List Row) → AllByRecursion (Kin x n) rows → filter (stands_between (first_key x) (last_key x)) rows ≡ filter (is_under x.id) rows
 between x n rows h =
-    filter_mapped (λ e. contains x e.0) (is_under x.id) entry_of rows
-    (all_of (Kin x n) (λ r. contains x (key_of r) ≡ is_under x.id r) (λ r k. contains_by x r n k (contains x (key_of r)) (is_under x.id r) refl refl) rows h)
+    filter_same (stands_between (first_key x) (last_key x)) (is_under x.id) rows
+    (all_of (Kin x n) (λ r. stands_between (first_key x) (last_key x) r ≡ is_under x.id r) (λ r k. is_contained x r ∙ contains_by x r n k (contains x (key_of r)) (is_under x.id r) refl refl) rows h)
 
 among : (P : Row → Type 0) (p : Row → Bool) (rows : List Row) → AllByRecursion P rows → AllByRecursion P (filter p (in_order rows))
 among P p rows h = all_filter P p (in_order rows) (all_in_order P rows h)
 
 -- the rows between the two keys are the tree
 pub picked : (x : Row) (n : ℕ) (rows : List Row) → IdsRise rows → AllByRecursion (Kin x n) rows
-    → rows_of rows (values_of (entries_between key_cmp (Included (first_key x)) (Included (last_key x)) (map entry_of (in_order rows)))) ≡ filter (is_under x.id) (in_order rows)
+    → rows_of rows (map (λ r. r.id) (filter (stands_between (first_key x) (last_key x)) (in_order rows))) ≡ filter (is_under x.id) (in_order rows)
 picked x n rows r k =
     let tree : List Row = filter (is_under x.id) (in_order rows) in
-    ap (λ (es : List (Key × ℕ)). rows_of rows (values_of es)) (between x n (in_order rows) (all_in_order (Kin x n) rows k))
-    ∙ (ap (rows_of rows) (values_of-entries tree) ∙ same_rows rows tree (among (λ q. row_of q.id rows ≡ Some q) (is_under x.id) rows (all_found rows r)))
+    ap (λ (qs : List Row). rows_of rows (map (λ r. r.id) qs)) (between x n (in_order rows) (all_in_order (Kin x n) rows k))
+    ∙ same_rows rows tree (among (λ q. row_of q.id rows ≡ Some q) (is_under x.id) rows (all_found rows r))
 
 -- the tree, row by row
 moved_each : (id : ℕ) (z : ℤ) (n : ℕ) (rows : List Row) → AllByRecursion (λ r. is_under id r ≡ true) rows → map (moved_row id z n) rows ≡ map (moved id z n) rows

@@ -1,12 +1,12 @@
 -- A row gone with all that are under it.
-use Rattle.std.proofs.Common.{◌≡◌, ℕ, ◌<◌, ◌≤◌, true, false, not, Some, None, List, map, filter, ap, sym, ◌∙◌, subst}
+use Rattle.std.proofs.Common.{◌≡◌, ℕ, ◌<◌, ◌≤◌, true, false, not, Some, None, List, filter, ap, ◌∙◌, subst}
 use Rattle.std.specs.List.{AllByRecursion}
 use Rattle.std.specs.Ordering.{is_lt, is_gt}
 use Rattle.source_rows.specs.declared.row.Row.{Row}
-use Rattle.source_rows.specs.Rows.{Key, key_cmp, key_of, row_of, is_under, stands_before, in_order}
+use Rattle.source_rows.specs.Rows.{key_cmp, key_of, row_of, is_under, stands_before}
 use Rattle.source_rows.specs.Tree.{IsForest}
 use Rattle.source_rows.specs.Order.{Apart}
-use Rattle.source_rows.specs.Kept.{entry_of, IsBelow, IsSound, IsKept}
+use Rattle.source_rows.specs.Kept.{IsBelow, IsSound}
 use Rattle.source_rows.specs.Removal.{StandNear}
 use Rattle.source_rows.proofs.Lists.{all_of, all_filter, pairs_filter}
 use Rattle.source_rows.proofs.Order.{key_total}
@@ -56,6 +56,3 @@ sound_filter id rows i n l s =
       numbers = s.numbers;
       forest = forest_filter id rows s.forest;
     }
-
-pub kept_filter : (id : ℕ) (rows new : List Row) (es : List (Key × ℕ)) (i n l : ℕ) → IsSound rows i n l → new ≡ filter (λ r. not (is_under id r)) rows → es ≡ map entry_of (in_order new) → IsKept new es i n l
-kept_filter id rows new es i n l s e o = record { sound = subst (λ (xs : List Row). IsSound xs i n l) (sym e) (sound_filter id rows i n l s); ordered = o }

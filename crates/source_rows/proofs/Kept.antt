@@ -1,24 +1,21 @@
-use Rattle.std.proofs.Common.{◌≡◌, ℕ, ◌<◌, ◌≤◌, ◌+◌, ◌^◌, ◌==◌, Bool, true, false, not, zero, suc, cond, Option, Some, None, List, [], ◌∷◌, ◌++◌, inl, inr, map, filter, refl, ap, sym, ◌∙◌, arith, subst}
+use Rattle.std.proofs.Common.{◌≡◌, ℕ, ◌<◌, ◌≤◌, ◌+◌, ◌^◌, ◌==◌, Bool, true, false, zero, suc, cond, Option, Some, None, List, [], ◌∷◌, ◌++◌, inl, inr, map, refl, ap, sym, ◌∙◌, arith, subst}
 use Rattle.std.specs.List.{AllByRecursion, list_any}
 use Rattle.std.specs.declared.cmp.Ordering.{Ordering}
 use Rattle.std.specs.declared.cmp.Ordering.TheVariants.{Less, Equal, Greater}
-use Rattle.std.specs.Ordering.{is_lt, is_eq, match_ordering, ordering_then, ordering_reverse, int_cmp, nat_cmp}
+use Rattle.std.specs.Ordering.{is_lt, is_eq, ordering_then, ordering_reverse, int_cmp, nat_cmp}
 use Rattle.std.specs.Cmp.Lexicographic.{slice_cmp}
-use Rattle.std.specs.BTreeMap.{insert_entry}
-use Rattle.std.specs.Map.{values_of}
 use Rattle.std.specs.Prelude.{slice_index}
-use Rattle.std.specs.Option.{IsSome}
 use Rattle.loop_script.specs.declared.SourceSpec.{SourceSpec}
 use Rattle.source_rows.specs.declared.row.Row.{Row}
-use Rattle.source_rows.specs.Rows.{Key, key_cmp, key_of, stands_before, placed, in_order, row_of, has_id, changed}
+use Rattle.source_rows.specs.Rows.{Key, key_cmp, key_of, stands_before, row_of, has_id, changed}
 use Rattle.source_rows.specs.Row.{no_number, path_under, child_row}
 use Rattle.source_rows.specs.Order.{Apart}
 use Rattle.source_rows.specs.New.{IsNew}
-use Rattle.source_rows.specs.Kept.{entry_of, IsBelow, IsSound, IsKept}
+use Rattle.source_rows.specs.Kept.{IsBelow, IsSound}
 use Rattle.source_rows.specs.Tree.{IdsRise, HasPlace}
 use Rattle.source_rows.proofs.Compared.{same_self, are_same, not_same, apart_above, or_true, or_parts, keeps, nat_equal}
 use Rattle.source_rows.proofs.Lists.{all_of, all_push, all_map, pairs_push, pairs_map}
-use Rattle.source_rows.proofs.Order.{key_total, flip, all_in_order, in_order-push}
+use Rattle.source_rows.proofs.Order.{key_total, flip}
 use Rattle.source_rows.proofs.Edits.{Stays, rise_map, forest_push, forest_map, numbers_more}
 
 -- ---- paths with different numbers
@@ -53,7 +50,7 @@ apart_paths r q n h k = apart_by r q (key_cmp (key_of r) (key_of q)) refl
 pub all_apart : (r : Row) (n : ℕ) (rows : List Row) → n < no_number → list_any (λ i. i == n) r.path ≡ true → AllByRecursion (λ q. IsBelow n q.path) rows → AllByRecursion (Apart r) rows
 all_apart r n rows f h k = all_of (λ q. IsBelow n q.path) (Apart r) (λ q b. apart_paths r q n h (b n (omega arith) f)) rows k
 
--- ---- the map's entries are the rows in order
+-- ---- rows that stand apart
 
 pub equal_not : (r q : Row) → key_cmp (key_of r) (key_of q) ≡ Equal → Apart r q → ⊥
 equal_not r q e (inl h) = let never = sym h ∙ ap is_lt e in cc
@@ -67,24 +64,7 @@ not_equal_by r q Greater e h = refl
 pub not_equal : (r q : Row) → Apart r q → is_eq (key_cmp (key_of r) (key_of q)) ≡ false
 not_equal r q h = not_equal_by r q (key_cmp (key_of r) (key_of q)) refl h
 
-insert_by : (r q : Row) (qs : List Row) (o : Ordering) → key_cmp (key_of r) (key_of q) ≡ o → Apart r q → insert_entry key_cmp (map entry_of qs) (key_of r) r.id ≡ map entry_of (placed r qs)
-    → match_ordering o ((key_of r, r.id) ∷ entry_of q ∷ map entry_of qs) ((key_of q, r.id) ∷ map entry_of qs) (entry_of q ∷ insert_entry key_cmp (map entry_of qs) (key_of r) r.id) ≡ map entry_of (cond (is_lt o) (r ∷ q ∷ qs) (q ∷ placed r qs))
-insert_by r q qs Less e h ih = refl
-insert_by r q qs Equal e h ih = absurd (equal_not r q e h)
-insert_by r q qs Greater e h ih = ap (λ (es : List (Key × ℕ)). entry_of q ∷ es) ih
-
-pub entries-placed : (r : Row) (qs : List Row) → AllByRecursion (Apart r) qs → insert_entry key_cmp (map entry_of qs) (key_of r) r.id ≡ map entry_of (placed r qs)
-entries-placed r [] h = refl
-entries-placed r (q ∷ qs) h = insert_by r q qs (key_cmp (key_of r) (key_of q)) refl h.0 (entries-placed r qs h.1)
-
 -- ---- a new row
-
-pub taken_back : (rows : List Row) (r : Row) → AllByRecursion (λ q. q.id < r.id) rows → filter (λ q. not (has_id r.id q)) (rows ++ r ∷ []) ≡ rows
-taken_back [] r h = rw (same_self r.id) refl
-taken_back (q ∷ rows) r h =
-    let less = h.0 in
-    let apart : (q.id == r.id) ≡ false = apart_above q.id r.id less in
-    rw apart (ap (λ (xs : List Row). q ∷ xs) (taken_back rows r h.1))
 
 pub sound-push : (rows : List Row) (i n : ℕ) (r : Row) (levels : ℕ) → n < 2 ^ 63 → IsSound rows i n levels → IsNew r n → r.id ≡ i → r.level ≤ levels → r.order ≡ n → HasPlace rows r.parent r → IsSound (rows ++ r ∷ []) (i + 1) (n + 1) levels
 sound-push rows i n r levels f s new is h order place =
@@ -102,11 +82,6 @@ sound-push rows i n r levels f s new is h order place =
       numbers = omega (arith, f);
       forest = forest_push rows n r s.forest ids s.numbered order f (omega (arith, h, few)) place;
     }
-
-pub entries-push : (rows : List Row) (i n : ℕ) (r : Row) (levels : ℕ) → n < no_number → IsSound rows i n levels → IsNew r n → insert_entry key_cmp (map entry_of (in_order rows)) (key_of r) r.id ≡ map entry_of (in_order (rows ++ r ∷ []))
-entries-push rows i n r levels f s new =
-    let far = all_apart r n rows f new.has s.below in
-    entries-placed r (in_order rows) (all_in_order (Apart r) rows far) ∙ ap (map entry_of) (sym (in_order-push rows r far))
 
 -- ---- a child's path
 
@@ -143,54 +118,27 @@ child_new parent spec now id n f h = record {
   below = λ k a b. path_below parent.level parent.path n k (omega arith) b (h k (omega arith) b);
 }
 
-some_by : (r : Row) (b : Bool) (o : Option Row) → IsSome o → IsSome (cond b (Some r) o)
-some_by r true o h = refl
-some_by r false o h = h
-
-pub has_last : (rows : List Row) (r : Row) → IsSome (row_of r.id (rows ++ r ∷ []))
-has_last [] r = rw (same_self r.id) refl
-has_last (q ∷ rows) r = some_by q (q.id == r.id) (row_of r.id (rows ++ r ∷ [])) (has_last rows r)
-
 -- ---- a change that leaves a row in its place
 
 same_before : (g : Row → Row) → Stays g → (r q : Row) → stands_before (g r) (g q) ≡ stands_before r q
 same_before g h r q = ap (λ (k : Key). is_lt (key_cmp k (key_of (g q)))) (h.key r) ∙ ap (λ (k : Key). is_lt (key_cmp (key_of r) k)) (h.key q)
 
-placed_map_by : (g : Row → Row) (r q : Row) (qs : List Row) (b : Bool) → placed (g r) (map g qs) ≡ map g (placed r qs) → cond b (g r ∷ g q ∷ map g qs) (g q ∷ placed (g r) (map g qs)) ≡ map g (cond b (r ∷ q ∷ qs) (q ∷ placed r qs))
-placed_map_by g r q qs true ih = refl
-placed_map_by g r q qs false ih = ap (λ (xs : List Row). g q ∷ xs) ih
-
-placed_map : (g : Row → Row) → Stays g → (r : Row) (qs : List Row) → placed (g r) (map g qs) ≡ map g (placed r qs)
-placed_map g h r [] = refl
-placed_map g h r (q ∷ qs) = ap (λ (b : Bool). cond b (g r ∷ g q ∷ map g qs) (g q ∷ placed (g r) (map g qs))) (same_before g h r q) ∙ placed_map_by g r q qs (stands_before r q) (placed_map g h r qs)
-
-in_order_map : (g : Row → Row) → Stays g → (rows : List Row) → in_order (map g rows) ≡ map g (in_order rows)
-in_order_map g h [] = refl
-in_order_map g h (r ∷ rows) = ap (placed (g r)) (in_order_map g h rows) ∙ placed_map g h r (in_order rows)
-
-same_entries : (g : Row → Row) → Stays g → (rows : List Row) → map entry_of (map g rows) ≡ map entry_of rows
-same_entries g h [] = refl
-same_entries g h (r ∷ rows) = let k = h.key r in let i = h.id r in let t = same_entries g h rows in cc
-
 apart_map : (g : Row → Row) → Stays g → (r q : Row) → Apart r q → Apart (g r) (g q)
 apart_map g h r q (inl e) = inl (same_before g h r q ∙ e)
 apart_map g h r q (inr e) = inr (same_before g h q r ∙ e)
 
-pub kept_map : (g : Row → Row) → Stays g → (rows : List Row) (es : List (Key × ℕ)) (i n l : ℕ) → IsKept rows es i n l → IsKept (map g rows) es i n l
-kept_map g h rows es i n l k = record {
-  sound = record {
-    below = all_map (λ r. IsBelow n r.path) (λ r. IsBelow n r.path) g (λ r b. subst (λ (key : Key). IsBelow n key.1) (sym (h.key r)) b) rows k.sound.below;
-    fresh = all_map (λ r. r.id < i) (λ r. r.id < i) g (λ r less. let j = h.id r in omega arith) rows k.sound.fresh;
-    rising = rise_map g h.id rows k.sound.rising;
-    apart = pairs_map Apart Apart g (apart_map g h) rows k.sound.apart;
-    within = all_map (λ r. r.level ≤ l) (λ r. r.level ≤ l) g (λ r less. let j = h.level r in omega arith) rows k.sound.within;
-    numbered = all_map (λ r. r.order < n) (λ r. r.order < n) g (λ r less. let j = h.order r in omega arith) rows k.sound.numbered;
-    numbers = k.sound.numbers;
-    forest = forest_map g h rows k.sound.forest;
-    some = k.sound.some;
-    few = k.sound.few;
-  };
-  ordered = k.ordered ∙ sym (ap (map entry_of) (in_order_map g h rows) ∙ same_entries g h (in_order rows));
+pub sound_map : (g : Row → Row) → Stays g → (rows : List Row) (i n l : ℕ) → IsSound rows i n l → IsSound (map g rows) i n l
+sound_map g h rows i n l k = record {
+  below = all_map (λ r. IsBelow n r.path) (λ r. IsBelow n r.path) g (λ r b. subst (λ (key : Key). IsBelow n key.1) (sym (h.key r)) b) rows k.below;
+  fresh = all_map (λ r. r.id < i) (λ r. r.id < i) g (λ r less. let j = h.id r in omega arith) rows k.fresh;
+  rising = rise_map g h.id rows k.rising;
+  apart = pairs_map Apart Apart g (apart_map g h) rows k.apart;
+  within = all_map (λ r. r.level ≤ l) (λ r. r.level ≤ l) g (λ r less. let j = h.level r in omega arith) rows k.within;
+  numbered = all_map (λ r. r.order < n) (λ r. r.order < n) g (λ r less. let j = h.order r in omega arith) rows k.numbered;
+  numbers = k.numbers;
+  forest = forest_map g h rows k.forest;
+  some = k.some;
+  few = k.few;
 }
 
 -- ---- one row changed
@@ -252,10 +200,3 @@ pub put_one : (id : ℕ) (x : Row) (f : Row → Row) → Stays f → (rows new :
 put_one id x f h rows new r k e =
     let same : (f x).id ≡ id = h.id x ∙ found_id id x rows k in
     e ∙ (ap (λ (i : ℕ). changed i (λ _. f x) rows) same ∙ one_changed id x f rows r k)
-
-pub values_of-entries : (rows : List Row) → values_of (map entry_of rows) ≡ map (λ (r : Row). r.id) rows
-values_of-entries [] = refl
-values_of-entries (r ∷ rows) = ap (λ (xs : List ℕ). r.id ∷ xs) (values_of-entries rows)
-
-pub ids_in_order : (rows : List Row) (es : List (Key × ℕ)) → es ≡ map entry_of (in_order rows) → values_of es ≡ map (λ (r : Row). r.id) (in_order rows)
-ids_in_order rows es e = ap values_of e ∙ values_of-entries (in_order rows)

@@ -33,3 +33,8 @@ pub mod NextDue
 pub mod Steps
 pub mod AwakeRows
 pub mod Walked
+pub mod PutIn
+pub mod Walking
+pub mod LastTo
+pub mod Found
+pub mod Parted

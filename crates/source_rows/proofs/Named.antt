@@ -1,5 +1,5 @@
 -- The rows of ids, and rows put in others' places.
-use Rattle.std.proofs.Common.{◌≡◌, ℕ, ◌<◌, ◌+◌, ◌==◌, Bool, true, false, cond, Option, Some, None, List, [], ◌∷◌, ◌++◌, map, drop, length, get_or, refl, ap, ◌∙◌, subst}
+use Rattle.std.proofs.Common.{◌≡◌, ℕ, ◌<◌, ◌+◌, ◌==◌, Bool, true, false, cond, Option, Some, None, List, [], ◌∷◌, ◌++◌, drop, length, get_or, refl, ap, ◌∙◌, subst}
 use Rattle.std.proofs.lemmas.List.{drop_more}
 use Rattle.std.specs.List.{AllByRecursion, cons_option}
 use Rattle.std.specs.Option.{IsSome}
@@ -12,13 +12,13 @@ use Rattle.source_rows.proofs.Lists.{all_of, cons_join}
 use Rattle.source_rows.proofs.Placing.{no_row}
 
 -- one more id
-pub named_push : {A : Type 0} (f : A → ℕ) (table : List Row) (xs : List A) (x : A) → rows_of table (map f (xs ++ x ∷ [])) ≡ rows_of table (map f xs) ++ cons_option (row_of (f x) table) []
-named_push f table [] x = refl
-named_push f table (y ∷ xs) x = ap (cons_option (row_of (f y) table)) (named_push f table xs x) ∙ cons_join (row_of (f y) table) (rows_of table (map f xs)) (cons_option (row_of (f x) table) [])
+pub named_push : (table : List Row) (ids : List ℕ) (id : ℕ) → rows_of table (ids ++ id ∷ []) ≡ rows_of table ids ++ cons_option (row_of id table) []
+named_push table [] id = refl
+named_push table (n ∷ ids) id = ap (cons_option (row_of n table)) (named_push table ids id) ∙ cons_join (row_of n table) (rows_of table ids) (cons_option (row_of id table) [])
 
-pub named_none : {A : Type 0} (f : A → ℕ) (table : List Row) (xs : List A) (x : A) → row_of (f x) table ≡ None → rows_of table (map f (xs ++ x ∷ [])) ≡ rows_of table (map f xs)
-named_none f table [] x h = ap (λ (o : Option Row). cons_option o []) h
-named_none f table (y ∷ xs) x h = ap (cons_option (row_of (f y) table)) (named_none f table xs x h)
+pub named_none : (table : List Row) (ids : List ℕ) (id : ℕ) → row_of id table ≡ None → rows_of table (ids ++ id ∷ []) ≡ rows_of table ids
+named_none table [] id h = ap (λ (o : Option Row). cons_option o []) h
+named_none table (n ∷ ids) id h = ap (cons_option (row_of n table)) (named_none table ids id h)
 
 -- ---- rows put in others' places
 

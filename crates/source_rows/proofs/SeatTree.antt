@@ -17,7 +17,7 @@ pub record AtFork (d l : List Seat) (k : Seat) (r : List Seat) : Type 0 where
   pub later : Rises is_ahead r
   pub parts : length d ≡ length l + length r + 1
 
-sides_shorter : (l : List Seat) (k : Seat) (r : List Seat) → length (l ++ k ∷ r) ≡ length l + length r + 1
+pub sides_shorter : (l : List Seat) (k : Seat) (r : List Seat) → length (l ++ k ∷ r) ≡ length l + length r + 1
 sides_shorter l k r = omega (arith, length-append l (k ∷ r))
 
 -- what a root shows

@@ -1,17 +1,17 @@
 -- What holds of the rows of a context holds after each edit of them.
-use Rattle.std.proofs.Common.{◌≡◌, ℕ, ℤ, ◌<◌, ◌≤◌, ◌+◌, ◌^◌, ◌==◌, ◌||◌, Bool, true, false, cond, Option, Some, None, map, refl, ap, ◌∙◌, arith, subst}
+use Rattle.std.proofs.Common.{◌≡◌, ℕ, ℤ, ◌<◌, ◌≤◌, ◌+◌, ◌^◌, ◌==◌, ◌||◌, Bool, true, false, cond, Option, Some, None, refl, ap, ◌∙◌, arith, subst}
 use Rattle.loop_script.specs.declared.SourceSpec.{SourceSpec}
 use Rattle.source_rows.specs.declared.row.Row.{Row}
 use Rattle.source_rows.specs.declared.fault.RowsFault.{RowsFault}
 use Rattle.source_rows.specs.Row.{no_number, root_row, child_row}
-use Rattle.source_rows.specs.Rows.{RowSet, no_rows, row_of, in_order, attached, child_added, child_fault, priority_fault, destroyed, reprioritised, changed, ready_set, counted}
+use Rattle.source_rows.specs.Rows.{RowSet, no_rows, row_of, attached, child_added, child_fault, priority_fault, destroyed, reprioritised, changed, ready_set, counted}
 use Rattle.source_rows.specs.New.{IsNew}
-use Rattle.source_rows.specs.Kept.{entry_of, IsBelow, IsSound}
+use Rattle.source_rows.specs.Kept.{IsBelow, IsSound}
 use Rattle.source_rows.specs.Edits.{IsSoundSet}
 use Rattle.source_rows.proofs.Compared.{same_self, are_same, not_same, are_not}
 use Rattle.source_rows.proofs.Edits.{Stays}
 use Rattle.source_rows.proofs.Forest.{found}
-use Rattle.source_rows.proofs.Kept.{sound-push, child_new, found_id, kept_map, at_id, stays_at}
+use Rattle.source_rows.proofs.Kept.{sound-push, child_new, found_id, sound_map, at_id, stays_at}
 use Rattle.source_rows.proofs.Gone.{sound_filter}
 use Rattle.source_rows.proofs.Kin.{kins}
 use Rattle.source_rows.proofs.Moved.{sound_moved}
@@ -70,7 +70,7 @@ sound_reprioritised id priority s f k h = sound_given id priority s f h (row_of 
 
 sound_changed : (id : ℕ) (g : Row → Row) → Stays g → (s : RowSet) → IsSoundSet s → IsSound (changed id g s.rows) s.next_id s.next_order s.levels
 sound_changed id g stays s h =
-    (kept_map (at_id id g) (stays_at id g stays) s.rows (map entry_of (in_order s.rows)) s.next_id s.next_order s.levels (record { sound = h; ordered = refl })).sound
+    sound_map (at_id id g) (stays_at id g stays) s.rows s.next_id s.next_order s.levels h
 
 pub sound_ready_set : (id : ℕ) (ready : ℤ) (s : RowSet) → IsSoundSet s → IsSoundSet (ready_set id ready s)
 sound_ready_set id ready s h = sound_changed id (λ r. record r { ready = ready }) (record { key = λ r. refl; id = λ r. refl; level = λ r. refl; order = λ r. refl; parent = λ r. refl; lineage = λ r. refl }) s h

@@ -1,21 +1,22 @@
 -- A walk through a part of the order: what the next row of it tells, and where the walk enters the order again.
 use Rattle.std.proofs.Common.{◌≡◌, ◌⊎◌, ℕ, ◌==◌, ◌&&◌, ◌||◌, Bool, true, false, not, cond, Option, Some, None, List, [], ◌∷◌, inl, inr, map, filter, option_map, refl, ap, sym, ◌∙◌, subst}
 use Rattle.std.specs.List.{AllByRecursion, find}
-use Rattle.std.specs.Map.{values_of}
 use Rattle.source_rows.specs.declared.row.Row.{Row}
-use Rattle.source_rows.specs.InOrder.{AllFound, rows_of}
-use Rattle.source_rows.specs.Kept.{entry_of}
-use Rattle.source_rows.specs.Rows.{Key, key_of, row_of, in_order}
+use Rattle.source_rows.specs.InOrder.{AllFound, ids_of, rows_of}
+use Rattle.source_rows.specs.declared.seats.Seat.{Seat}
+use Rattle.source_rows.specs.Rows.{key_of, row_of, in_order}
 use Rattle.source_rows.specs.Tree.{parent_of}
 use Rattle.source_rows.specs.Candidates.{is_awake, may_call}
-use Rattle.source_rows.specs.Seats.{is_passed}
-use Rattle.source_rows.specs.Steps.{follows, comes, wakes, left_of, nearer, parent_at, is_parent, is_above_last, behind, ready_in, HasLeft, IsStep}
+use Rattle.source_rows.specs.Seats.{is_passed, seat_of}
+use Rattle.source_rows.specs.Walk.{rows_behind}
+use Rattle.source_rows.specs.Steps.{follows, comes, wakes, left_of, nearer, parent_at, is_parent, is_above_last, ready_in, HasLeft, IsStep}
 use Rattle.source_rows.proofs.Compared.{same_self, are_same, and_both, or_parts}
-use Rattle.source_rows.proofs.Lists.{all_true, all_filter, filter_mapped}
+use Rattle.source_rows.proofs.Lists.{all_true, all_filter}
 use Rattle.source_rows.proofs.Order.{all_in_order}
 use Rattle.source_rows.proofs.Forest.{members, found, all_found}
-use Rattle.source_rows.proofs.Kept.{found_id, values_of-entries}
+use Rattle.source_rows.proofs.Kept.{found_id}
 use Rattle.source_rows.proofs.Listed.{same_rows, each_there}
+use Rattle.source_rows.proofs.Found.{seat_ids}
 use Rattle.source_rows.proofs.Steps.{awake_calls, parent_comes, find_passes, next_step, left_more, stepped}
 
 -- ---- the first of what is left
@@ -28,10 +29,10 @@ first_left : (f : Row → Bool) (r : Row) (rest xs : List Row) → filter f xs �
 first_left f r rest [] e = cc
 first_left f r rest (q ∷ xs) e = first_by q r rest (filter f xs) (filter f xs) (find f xs) (first_left f r rest xs) (f q) e
 
-pub ready_more : (rows : List Row) (now : ℕ) (r : Row) (e : Key × ℕ) (es : List (Key × ℕ)) → row_of e.1 rows ≡ Some r → may_call now rows r ≡ true → ready_in now rows (e ∷ es) ≡ r ∷ ready_in now rows es
+pub ready_more : (rows : List Row) (now : ℕ) (r : Row) (e : Seat) (es : List Seat) → row_of e.id rows ≡ Some r → may_call now rows r ≡ true → ready_in now rows (e ∷ es) ≡ r ∷ ready_in now rows es
 ready_more rows now r e es is may = rw (is, may) refl
 
-pub ready_same : (rows : List Row) (now : ℕ) (r : Row) (e : Key × ℕ) (es : List (Key × ℕ)) → row_of e.1 rows ≡ Some r → may_call now rows r ≡ false → ready_in now rows (e ∷ es) ≡ ready_in now rows es
+pub ready_same : (rows : List Row) (now : ℕ) (r : Row) (e : Seat) (es : List Seat) → row_of e.id rows ≡ Some r → may_call now rows r ≡ false → ready_in now rows (e ∷ es) ≡ ready_in now rows es
 ready_same rows now r e es is may = rw (is, may) refl
 
 -- ---- whether the next row may be ready
@@ -74,7 +75,7 @@ above_last rows (Some l) r e = by_parent l.parent e
     by_parent (Some id) k = subst (λ (n : ℕ). (id == n) ≡ true) (sym (found_id id r rows k)) (same_self id)
 
 -- the first of a part that has all that is left may not, where it is neither
-pub may_not : (rows : List Row) (now : ℕ) (last : Option Row) → IsStep rows now last → (r : Row) (e : Key × ℕ) (es : List (Key × ℕ)) → HasLeft rows now last (e ∷ es) → row_of e.1 rows ≡ Some r
+pub may_not : (rows : List Row) (now : ℕ) (last : Option Row) → IsStep rows now last → (r : Row) (e : Seat) (es : List Seat) → HasLeft rows now last (e ∷ es) → row_of e.id rows ≡ Some r
     → (is_awake now r || is_above_last last r) ≡ false → may_call now rows r ≡ false
 may_not rows now last h r e es left is a = by_may (may_call now rows r) refl
   where
@@ -89,7 +90,7 @@ may_not rows now last h r e es left is a = by_may (may_call now rows r) refl
         ]
 
 -- such a row is passed over
-pub dropped : (rows : List Row) (now : ℕ) (last : Option Row) → IsStep rows now last → (r : Row) (e : Key × ℕ) (all es : List (Key × ℕ)) → HasLeft rows now last all → all ≡ e ∷ es → row_of e.1 rows ≡ Some r
+pub dropped : (rows : List Row) (now : ℕ) (last : Option Row) → IsStep rows now last → (r : Row) (e : Seat) (all es : List Seat) → HasLeft rows now last all → all ≡ e ∷ es → row_of e.id rows ≡ Some r
     → (is_awake now r || is_above_last last r) ≡ false → HasLeft rows now last es × (ready_in now rows all ≡ ready_in now rows es)
 dropped rows now last h r e all es left k is a =
     let mine : HasLeft rows now last (e ∷ es) = subst (HasLeft rows now last) k left in
@@ -102,7 +103,7 @@ own_row rows id r is = ap (λ (n : ℕ). row_of n rows) (found_id id r rows is) 
 -- ---- after a row
 
 -- what is left of the part behind the row that came is what is left behind the row
-pub advanced : (rows : List Row) (now : ℕ) (last : Option Row) → IsStep rows now last → (r : Row) (es fs : List (Key × ℕ)) → HasLeft rows now last es → ready_in now rows es ≡ r ∷ ready_in now rows fs → AllFound rows (values_of fs)
+pub advanced : (rows : List Row) (now : ℕ) (last : Option Row) → IsStep rows now last → (r : Row) (es fs : List Seat) → HasLeft rows now last es → ready_in now rows es ≡ r ∷ ready_in now rows fs → AllFound rows (ids_of fs)
     → HasLeft rows now (Some r) fs × IsStep rows now (Some r)
 advanced rows now last h r es fs left more there =
     let first = first_left (comes now rows last) r (ready_in now rows fs) (in_order rows) (sym left.ready ∙ more) in
@@ -122,15 +123,21 @@ filter_twice f g (x ∷ xs) = by_test (f x) (filter_twice f g xs)
     by_test true ih = ap (λ (ys : List Row). cond (g x) (x ∷ ys) ys) ih
     by_test false ih = ih
 
-pub entered : (rows : List Row) (now : ℕ) (last : Option Row) (order : List (Key × ℕ)) → IsStep rows now last → order ≡ map entry_of (in_order rows) → HasLeft rows now last (behind last order)
-entered rows now last order h e =
+pub entered : (rows : List Row) (now : ℕ) (last : Option Row) → IsStep rows now last → HasLeft rows now last (map seat_of (rows_behind (option_map key_of last) rows))
+entered rows now last h =
     let rest : List Row = filter (follows last) (in_order rows) in
-    let are : behind last order ≡ map entry_of rest =
-    ap (behind last) e ∙ filter_mapped (λ x. not (is_passed (option_map key_of last) x.0)) (follows last) entry_of (in_order rows) (all_true (λ r. follows last r ≡ follows last r) (λ r. refl) (in_order rows)) in
-    let ids : values_of (behind last order) ≡ map (λ (r : Row). r.id) rest = ap values_of are ∙ values_of-entries rest in
+    let ids : ids_of (map seat_of rest) ≡ map (λ (r : Row). r.id) rest = seat_ids rest in
     let each : AllByRecursion (λ r. row_of r.id rows ≡ Some r) rest =
     all_filter (λ r. row_of r.id rows ≡ Some r) (follows last) (in_order rows) (all_in_order (λ r. row_of r.id rows ≡ Some r) rows (all_found rows h.forest.rising)) in
     record {
       found = subst (AllFound rows) (sym ids) (each_there rows rest each);
       ready = ap (λ (l : List ℕ). filter (may_call now rows) (rows_of rows l)) ids ∙ (ap (filter (may_call now rows)) (same_rows rows rest each) ∙ filter_twice (follows last) (may_call now rows) (in_order rows));
     }
+
+all_rows : (rows : List Row) → filter (λ r. not (is_passed None (key_of r))) rows ≡ rows
+all_rows [] = refl
+all_rows (r ∷ rows) = ap (λ (xs : List Row). r ∷ xs) (all_rows rows)
+
+-- the ids of all seats
+pub all_seats : (rows : List Row) → ids_of (map seat_of (rows_behind None rows)) ≡ map (λ (r : Row). r.id) (in_order rows)
+all_seats rows = seat_ids (rows_behind None rows) ∙ ap (map (λ (r : Row). r.id)) (all_rows (in_order rows))

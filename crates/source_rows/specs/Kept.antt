@@ -1,23 +1,18 @@
 -- What the rows of a context keep of themselves.
-use Rattle.std.specs.Prelude.{◌≡◌, ℕ, ◌<◌, ◌≤◌, ◌==◌, false, List, map}
+use Rattle.std.specs.Prelude.{◌≡◌, ℕ, ◌<◌, ◌≤◌, ◌==◌, false, List}
 use Rattle.std.specs.List.{AllByRecursion, list_any}
 use Rattle.loop_script.specs.Bounds.{count_end}
 use Rattle.source_rows.specs.declared.row.Row.{Row}
 use Rattle.source_rows.specs.declared.rows.Rows.TheInside.{Inside}
-use Rattle.source_rows.specs.Rows.{RowSet, Key, key_of, in_order, level_count}
+use Rattle.source_rows.specs.Rows.{RowSet, level_count}
 use Rattle.source_rows.specs.Row.{no_number}
 use Rattle.source_rows.specs.Order.{Apart}
 use Rattle.source_rows.specs.Tree.{IdsRise, IsForest}
 use Rattle.source_rows.specs.Lists.{Pairs}
-use Rattle.loop_script.specs.Units.{SourceId}
 
 -- the set of rows of the fields
 abbrev pub set_of : Inside → RowSet
 set_of a = record { rows = a.table; next_id = a.next_id; next_order = a.next_order; levels = level_count a.levels }
-
--- what the order has of a row
-abbrev pub entry_of : Row → Key × SourceId
-entry_of r = (key_of r, r.id)
 
 -- any two rows stand apart
 abbrev pub AllApart : List Row → Type 0
@@ -39,8 +34,3 @@ pub record IsSound (rows : List Row) (next_id next_order levels : ℕ) : Type 0 
   pub numbered : AllByRecursion (λ r. r.order < next_order) rows
   pub numbers : next_order ≤ count_end
   pub forest : IsForest rows
-
--- and the order has each of them
-pub record IsKept (rows : List Row) (entries : List (Key × SourceId)) (next_id next_order levels : ℕ) : Type 0 where
-  pub sound : IsSound rows next_id next_order levels
-  pub ordered : entries ≡ map entry_of (in_order rows)

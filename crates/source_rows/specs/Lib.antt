@@ -20,3 +20,5 @@ pub mod Candidates
 pub mod Seats
 pub mod SeatTree
 pub mod Steps
+pub mod Walk
+pub mod LastTo

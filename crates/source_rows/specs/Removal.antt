@@ -1,16 +1,15 @@
--- Rows that are indexed by their keys, and those that stand under one of them.
-use Rattle.std.specs.Prelude.{◌≡◌, true, false, List, map}
+-- The rows that stand under one of them.
+use Rattle.std.specs.Prelude.{◌≡◌, true, false, List}
 use Rattle.std.specs.List.{AllByRecursion}
 use Rattle.std.specs.Ordering.{is_lt, is_gt}
 use Rattle.source_rows.specs.declared.row.Row.{Row}
-use Rattle.source_rows.specs.Rows.{Key, key_cmp, key_of, in_order, is_under}
+use Rattle.source_rows.specs.Rows.{Key, key_cmp, key_of, is_under}
 use Rattle.source_rows.specs.Tree.{IdsRise}
-use Rattle.source_rows.specs.Kept.{entry_of, AllApart}
+use Rattle.source_rows.specs.Kept.{AllApart}
 use Rattle.loop_script.specs.Units.{SourceId}
 
--- each row is found by its key
-pub record IsIndexed (rows : List Row) (entries : List (Key × SourceId)) : Type 0 where
-  pub ordered : entries ≡ map entry_of (in_order rows)
+-- rows of rising ids that stand apart
+pub record AreDistinct (rows : List Row) : Type 0 where
   pub rising : IdsRise rows
   pub apart : AllApart rows
 

@@ -1,14 +1,14 @@
 -- One step through the rows that may be ready at a time.
-use Rattle.std.specs.Prelude.{◌≡◌, ◌==◌, ◌&&◌, ◌∷◌, [], Bool, true, false, not, Option, Some, None, List, filter, map, IfSome, if◌then◌else◌}
-use Rattle.std.specs.Map.{values_of}
+use Rattle.std.specs.Prelude.{◌≡◌, ◌==◌, ◌&&◌, ◌∷◌, [], Bool, true, false, not, Option, Some, None, List, filter, IfSome, if◌then◌else◌}
 use Rattle.std.specs.Option.{option_map}
 use Rattle.source_rows.specs.declared.row.Row.{Row}
+use Rattle.source_rows.specs.declared.seats.Seat.{Seat}
 use Rattle.source_rows.specs.declared.candidates.Near.{Near}
 use Rattle.source_rows.specs.declared.candidates.Near.TheVariants.{Came, Sleep, Ended}
-use Rattle.source_rows.specs.InOrder.{AllFound, rows_of}
-use Rattle.source_rows.specs.Rows.{Key, key_of, row_of, in_order, stands_before}
+use Rattle.source_rows.specs.InOrder.{AllFound, ids_of, rows_of}
+use Rattle.source_rows.specs.Rows.{key_of, row_of, in_order, stands_before}
 use Rattle.source_rows.specs.Tree.{IsForest, parent_of}
-use Rattle.source_rows.specs.Kept.{AllApart, entry_of}
+use Rattle.source_rows.specs.Kept.{AllApart}
 use Rattle.source_rows.specs.Seats.{is_passed}
 use Rattle.source_rows.specs.Candidates.{is_awake, may_call}
 use Rattle.loop_script.specs.Units.{Microseconds, SourceId}
@@ -58,27 +58,22 @@ abbrev pub is_above_last : Option Row → Row → Bool
 is_above_last None r = false
 is_above_last (Some l) r = is_parent l.parent r
 
--- the entries of an order that stand behind the last row
-abbrev pub behind : Option Row → List (Key × SourceId) → List (Key × SourceId)
-behind last entries = filter (λ e. not (is_passed (option_map key_of last) e.0)) entries
-
--- the rows that may be ready of those that a part of the order names
-abbrev pub ready_in : Microseconds → List Row → List (Key × SourceId) → List Row
-ready_in now rows entries = filter (may_call now rows) (rows_of rows (values_of entries))
+-- the rows that may be ready of those whose seats a part of the order has
+abbrev pub ready_in : Microseconds → List Row → List Seat → List Row
+ready_in now rows seats = filter (may_call now rows) (rows_of rows (ids_of seats))
 
 -- a part of the order has all that is left behind the last row
-pub record HasLeft (rows : List Row) (now : Microseconds) (last : Option Row) (entries : List (Key × SourceId)) : Type 0 where
-  pub found : AllFound rows (values_of entries)
-  pub ready : ready_in now rows entries ≡ left_of now rows last
+pub record HasLeft (rows : List Row) (now : Microseconds) (last : Option Row) (seats : List Seat) : Type 0 where
+  pub found : AllFound rows (ids_of seats)
+  pub ready : ready_in now rows seats ≡ left_of now rows last
 
 -- what a look at the next rows of a part of the order tells, and the part that it leaves
-abbrev pub Looks : Microseconds → List Row → List (Key × SourceId) → List (Key × SourceId) → Near → Type 0
+abbrev pub Looks : Microseconds → List Row → List Seat → List Seat → Near → Type 0
 Looks now rows before after (Came r) = ready_in now rows before ≡ r.now ∷ ready_in now rows after
 Looks now rows before after Sleep = ready_in now rows before ≡ ready_in now rows after
 Looks now rows before after Ended = (ready_in now rows before ≡ []) × (ready_in now rows after ≡ [])
 
 -- the walk stands behind a row that may be ready, with a part of the order that has all that is left
-pub record IsWalk (rows : List Row) (order : List (Key × SourceId)) (now : Microseconds) (last : Option Row) (entries : List (Key × SourceId)) : Type 0 where
+pub record IsWalk (rows : List Row) (now : Microseconds) (last : Option Row) (seats : List Seat) : Type 0 where
   pub step : IsStep rows now last
-  pub ordered : order ≡ map entry_of (in_order rows)
-  pub left : HasLeft rows now last entries
+  pub left : HasLeft rows now last seats

@@ -3,26 +3,23 @@
 //! Rows are taken one after another from the order, and looked at. After some that sleep the next one that is awake is
 //! searched for in the tree of seats, and the order is entered again behind it: so a context whose rows are all awake costs
 //! a walk, and one in which few are costs a search for each of them.
-ghost use Rattle.std.specs.Prelude.{◌≡◌, ◌∷◌, [], map, Some, None, IfSome, IfNone, length};
+ghost use Rattle.std.specs.Prelude.{◌≡◌, ◌∷◌, [], Some, None, IfSome, IfNone, length};
 ghost use Rattle.std.specs.Iterator.{at_most};
 ghost use Rattle.std.specs.List.{find};
-ghost use Rattle.std.specs.Map.{values_of};
 ghost use Rattle.std.specs.Map.Iter.{TakesFirst};
 ghost use Rattle.std.specs.Option.{option_copied, option_map};
-ghost use Rattle.source_rows.specs.InOrder.{AllFound};
+ghost use Rattle.source_rows.specs.InOrder.{AllFound, ids_of};
 ghost use Rattle.source_rows.specs.Rows.{in_order, key_of};
-ghost use Rattle.source_rows.specs.Kept.{AllApart, entry_of};
+ghost use Rattle.source_rows.specs.Kept.{AllApart};
 ghost use Rattle.source_rows.specs.Tree.{IsForest, parent_of};
 ghost use Rattle.source_rows.specs.Candidates.{is_awake};
-ghost use Rattle.source_rows.specs.Steps.{IsStep, IsWalk, HasLeft, Looks, left_of, comes, wakes, nearer, parent_at, is_above_last, behind};
+ghost use Rattle.source_rows.specs.Steps.{IsStep, IsWalk, HasLeft, Looks, left_of, comes, wakes, nearer, parent_at, is_above_last};
 
 use crate::row::Row;
 use crate::table::Table;
-use std::collections::BTreeMap;
-use std::collections::btree_map::Range;
+use crate::walk::Walk;
 use std::iter::Iterator;
 use std::marker::Model;
-use std::ops::Bound;
 
 /// After how many rows that sleep the next one that is awake is searched for.
 const NEAR: u32 = 4;
@@ -31,9 +28,8 @@ const NEAR: u32 = 4;
 #[derive(Drop)]
 pub struct Candidates<'a> {
     table: &'a Table,
-    order: &'a BTreeMap<(i32, [u64; 4]), u64>,
     /// What of the order is left.
-    ids: Range<'a, (i32, [u64; 4]), u64>,
+    seats: Walk<'a>,
     now: u64,
     last: Option<&'a Row>,
 }
@@ -58,24 +54,18 @@ impl<'a> Model for Candidates<'a> {
 
     ghost view = { λ a. left_of a.now a.table.now (option_copied a.last) };
 
-    ghost invariant = { λ a. IsWalk a.table.now a.order.now.entries a.now (option_copied a.last) a.ids };
+    ghost invariant = { λ a. IsWalk a.table.now a.now (option_copied a.last) a.seats };
 }
 
 impl<'a> Candidates<'a> {
     /// All that may be ready at a time.
-    pub(crate) fn new(
-        table: &'a Table,
-        order: &'a BTreeMap<(i32, [u64; 4]), u64>,
-        now: u64,
-    ) -> Candidates<'a>
-        requires step { IsStep table.now now None }
-        requires ordered { order.now.entries ≡ map entry_of (in_order table.now) }
+    pub(crate) fn new(table: &'a Table, now: u64) -> Candidates<'a>
+        requires { IsStep table.now now None }
         ensures { result ≡ left_of now table.now None }
     {
         Candidates {
             table,
-            order,
-            ids: behind(order, None),
+            seats: table.walk(None),
             now,
             last: None,
         }
@@ -91,22 +81,9 @@ impl<'a> Iterator for Candidates<'a> {
 
     #[inline]
     fn next(&mut self) -> Option<&'a Row> {
-        let row = advance(&mut self.ids, self.table, self.order, self.last, self.now)?;
+        let row = advance(&mut self.seats, self.table, self.last, self.now)?;
         self.last = Some(row);
         Some(row)
-    }
-}
-
-/// The part of an order that stands behind the last row.
-fn behind<'a>(
-    order: &'a BTreeMap<(i32, [u64; 4]), u64>,
-    last: Option<&Row>,
-) -> Range<'a, (i32, [u64; 4]), u64>
-    ensures { result ≡ behind (option_copied last.entry) order.now.entries }
-{
-    match last {
-        None => order.range(..),
-        Some(row) => order.range((Bound::Excluded(row.key()), Bound::Unbounded)),
     }
 }
 
@@ -124,24 +101,19 @@ fn is_above_last(last: Option<&Row>, row: &Row) -> bool
 }
 
 /// Looks at the next few rows of a part of the order.
-fn look<'a>(
-    ids: &mut Range<'a, (i32, [u64; 4]), u64>,
-    table: &'a Table,
-    last: Option<&'a Row>,
-    now: u64,
-) -> Near<'a>
+fn look<'a>(seats: &mut Walk<'a>, table: &'a Table, last: Option<&'a Row>, now: u64) -> Near<'a>
     requires step { IsStep table.now now (option_copied last) }
-    requires left { HasLeft table.now now (option_copied last) ids.old }
-    ensures tells { Looks now table.now ids.old ids.new result }
-    ensures found { AllFound table.now (values_of ids.new) }
+    requires left { HasLeft table.now now (option_copied last) seats.old }
+    ensures tells { Looks now table.now seats.old seats.new result }
+    ensures found { AllFound table.now (ids_of seats.new) }
 {
     let mut tries = NEAR;
     'near: while 0 < tries {
         tries -= 1;
-        let Some((_, id)) = ids.next() else {
+        let Some(seat) = seats.next() else {
             return Near::Ended;
         };
-        if let Some(row) = table.found(*id) {
+        if let Some(row) = table.found(seat.id) {
             if row.is_awake(now) || is_above_last(last, row) {
                 return Near::Came(row);
             }
@@ -208,24 +180,23 @@ fn next_row<'a>(table: &'a Table, last: Option<&'a Row>, now: u64) -> Option<&'a
 
 /// The next row that may be ready, with the part of the order that stands behind it.
 fn advance<'a>(
-    ids: &mut Range<'a, (i32, [u64; 4]), u64>,
+    seats: &mut Walk<'a>,
     table: &'a Table,
-    order: &'a BTreeMap<(i32, [u64; 4]), u64>,
     last: Option<&'a Row>,
     now: u64,
 ) -> Option<&'a Row>
-    requires { IsWalk table.now order.now.entries now (option_copied last) ids.old }
+    requires { IsWalk table.now now (option_copied last) seats.old }
     ensures some { IfSome result (λ row. left_of now table.now (option_copied last.entry) ≡ row.now ∷ left_of now table.now (Some row.now)) }
-    ensures walks { IfSome result (λ row. IsWalk table.now order.now.entries now (Some row.now) ids.new) }
+    ensures walks { IfSome result (λ row. IsWalk table.now now (Some row.now) seats.new) }
     ensures none { IfNone result (left_of now table.now (option_copied last.entry) ≡ []) }
-    ensures stays { IfNone result (IsWalk table.now order.now.entries now (option_copied last.entry) ids.new) }
+    ensures stays { IfNone result (IsWalk table.now now (option_copied last.entry) seats.new) }
 {
-    match look(ids, table, last, now) {
+    match look(seats, table, last, now) {
         Near::Came(row) => Some(row),
         Near::Ended => None,
         Near::Sleep => {
             let row = next_row(table, last, now)?;
-            *ids = behind(order, Some(row));
+            *seats = table.walk(Some(row.key()));
             Some(row)
         }
     }

@@ -6,7 +6,7 @@ use std::alloc::{AllocError, Global};
 /// The slot that the row of an id is likely to stand in. A guess may be wrong: who takes one looks what row is there.
 #[derive(Drop)]
 pub(crate) struct Guesses {
-    slots: Vec<usize>,
+    slots: Vec<u32>,
 }
 
 impl Guesses {
@@ -25,21 +25,22 @@ impl Guesses {
     /// The slot that an id's row is likely to stand in.
     pub fn slot(&self, id: u64) -> Option<usize> {
         let place = self.place(id)?;
-        self.slots.get(place).copied()
+        let slot = self.slots.get(place)?;
+        Some(*slot as usize)
     }
 
     /// Whether the guess at a place is right for a row.
     fn is_right(&self, rows: &Slab<Row>, place: usize) -> bool {
         match self.slots.get(place) {
             None => false,
-            Some(slot) => match rows.get(*slot) {
+            Some(slot) => match rows.get(*slot as usize) {
                 None => false,
                 Some(row) => self.place(row.id) == Some(place),
             },
         }
     }
 
-    /// Notes the slot of an id, where no right guess stands in its place.
+    /// Notes the slot of an id, where no right guess stands in its place. A slot of a number that no guess holds has none.
     pub fn note(&mut self, rows: &Slab<Row>, id: u64, slot: usize) {
         let Some(place) = self.place(id) else {
             return;
@@ -47,6 +48,9 @@ impl Guesses {
         if self.is_right(rows, place) {
             return;
         }
+        let Ok(slot) = u32::try_from(slot) else {
+            return;
+        };
         if let Some(guess) = self.slots.get_mut(place) {
             *guess = slot;
         }

@@ -15,16 +15,18 @@ mod moves;
 mod removal;
 mod row;
 mod rows;
+mod search;
 mod seats;
 mod table;
+mod walk;
 
 pub use candidates::Candidates;
 pub use fault::RowsFault;
-pub use in_order::InOrder;
+pub use in_order::{InOrder, Ordered};
 pub use laws::{
     edits_keep_trees, levels_go_by_parents, order_changes_little, order_is_post_order,
     paths_stand_together, worked_orders,
 };
 pub use levels::Levels;
 pub use row::Row;
-pub use rows::{Ordered, Rows};
+pub use rows::Rows;

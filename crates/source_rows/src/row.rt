@@ -22,20 +22,20 @@ pub struct Row {
     pub kind: Kind,
     /// A smaller number is more urgent. A child has its parent's.
     pub priority: i32,
+    /// Whether it may be dispatched while a call of it is in progress.
+    pub recurse: bool,
+    /// 1 for a root, and one more for each step down.
+    pub level: u8,
     /// Where it stands among rows of one priority, or among the children of one parent.
     pub order: u64,
     /// The id of the row that it is a child of.
     pub parent: Option<u64>,
-    /// Whether it may be dispatched while a call of it is in progress.
-    pub recurse: bool,
     /// When it is ready, in microseconds; -1 is never.
     pub ready: i64,
     /// The procedure that it calls; without one its call does nothing.
     pub call: Option<u32>,
     /// How often it was dispatched.
     pub count: u64,
-    /// 1 for a root, and one more for each step down.
-    pub level: u8,
     /// The ids from the root down to the row, filled up with its own.
     pub lineage: [u64; 4],
     /// The order numbers from the root down to the row, filled up with the greatest number.

@@ -14,26 +14,20 @@ ghost use Rattle.source_rows.specs.Rows.{no_rows, level_count, added, attached, 
 
 use crate::candidates::Candidates;
 use crate::fault::RowsFault;
-use crate::in_order::InOrder;
+use crate::in_order::{InOrder, Ordered};
 use crate::levels::Levels;
-use crate::moves::{move_rows, moved_rows, rows_between};
+use crate::moves::{moved_rows, put_rows, rows_between};
 use crate::removal::remove_under;
 use crate::row::{Row, make_child, make_root};
 use crate::table::Table;
 use loop_script::SourceSpec;
 use std::alloc::{AllocError, Global};
-use std::collections::BTreeMap;
-use std::collections::btree_map::Values;
 use std::marker::Model;
-
-/// The ids of rows in the order in which an iteration dispatches them.
-pub type Ordered<'a> = Values<'a, (i32, [u64; 4]), u64>;
 
 /// The sources of one context. Ids and order numbers are given from 1 and from 0, and never again.
 #[derive(Drop)]
 pub struct Rows {
     table: Table,
-    order: BTreeMap<(i32, [u64; 4]), u64>,
     next_id: u64,
     next_order: u64,
     levels: Levels,
@@ -45,12 +39,12 @@ impl Model for Rows {
 
     ghost Value = { RowSet };
 
-    ghost use Rattle.source_rows.specs.Kept.{set_of, IsKept};
+    ghost use Rattle.source_rows.specs.Kept.{set_of, IsSound};
     ghost use Rattle.source_rows.specs.Rows.{level_count};
 
     ghost view = { set_of };
 
-    ghost invariant = { λ a. IsKept a.table a.order.entries a.next_id a.next_order (level_count a.levels) };
+    ghost invariant = { λ a. IsSound a.table a.next_id a.next_order (level_count a.levels) };
 }
 
 impl Rows {
@@ -60,7 +54,6 @@ impl Rows {
     {
         Rows {
             table: Table::new(alloc),
-            order: BTreeMap::new(alloc),
             next_id: 1,
             next_order: 0,
             levels,
@@ -84,7 +77,7 @@ impl Rows {
         self.table.found(id)
     }
 
-    /// Puts a row behind the others, and into the order.
+    /// Puts a row behind the others.
     fn add(&mut self, row: Row) -> Result<(), RowsFault>
         requires new { IsNew row self.old.next_order }
         requires order { row.order ≡ self.old.next_order }
@@ -97,21 +90,12 @@ impl Rows {
         ensures err { OnErr result (self.new ≡ self.old) }
         ensures fault { IfErr result (λ e. e ≡ RowsFault.OutOfMemory) }
     {
-        let id = row.id;
         if self.table.push(row).is_err() {
             return Err(RowsFault::OutOfMemory);
         }
-        match self.order.insert(row.key(), id) {
-            Ok(_) => {
-                self.next_id += 1;
-                self.next_order += 1;
-                Ok(())
-            }
-            Err(_) => {
-                self.table.remove(id);
-                Err(RowsFault::OutOfMemory)
-            }
-        }
+        self.next_id += 1;
+        self.next_order += 1;
+        Ok(())
     }
 
     /// Attaches a source (GLib reference, `g_source_attach`), and answers its id. A timeout's ready time counts from
@@ -207,11 +191,10 @@ impl Rows {
         ensures err { OnErr result (self.new ≡ self.old) }
     {
         let (first, last) = root.tree_keys();
-        let found = rows_between(self.alloc, &self.table, &self.order, first, last)?;
+        let found = rows_between(self.alloc, &self.table, first, last)?;
         let tree = found.as_slice();
         let made = moved_rows(self.alloc, tree, root.id, priority, self.next_order)?;
-        let moved = made.as_slice();
-        move_rows(&mut self.table, &mut self.order, tree, moved)?;
+        put_rows(&mut self.table, made.as_slice());
         self.next_order += 1;
         Ok(())
     }
@@ -241,7 +224,7 @@ impl Rows {
         match self.table.row(id) {
             None => false,
             Some(found) => {
-                remove_under(&mut self.table, &mut self.order, found.key(), id);
+                remove_under(&mut self.table, found.key(), id);
                 true
             }
         }
@@ -266,7 +249,7 @@ impl Rows {
         ensures ids { AllByRecursion (λ r. r.id < self.now.next_id) self.now.rows }
         ensures runs { ShowsInOrder (λ (r : Bor Row). r.now) }
     {
-        InOrder::new(self.order.values(), &self.table)
+        InOrder::new(self.table.walk(None), &self.table)
     }
 
     /// The rows that may be ready at a time, as far as kinds and ready times tell, and those above them, in the order in
@@ -277,13 +260,13 @@ impl Rows {
         ensures one_tree { IsOneTree self.now.rows }
         ensures runs { ShowsInOrder (λ (r : Bor Row). r.now) }
     {
-        Candidates::new(&self.table, &self.order, now)
+        Candidates::new(&self.table, now)
     }
 
     /// The ids in the order in which an iteration dispatches their rows.
     pub fn ordered(&self) -> Ordered<'_>
         ensures { result ≡ map (λ r. r.id) (in_order self.now.rows) }
     {
-        self.order.values()
+        Ordered::new(self.table.walk(None))
     }
 }

@@ -2,7 +2,7 @@
 //!
 //! A node has the least times of the seats from there on: so the next row that may be ready and the next ready time are found
 //! without a look at the others.
-ghost use Rattle.std.specs.Prelude.{◌≡◌, ◌≤◌, ◌<◌, length, [], ◌∷◌, ◌++◌, true, Some, is_some, IfSome, IfNone};
+ghost use Rattle.std.specs.Prelude.{◌≡◌, ◌≤◌, ◌<◌, length, nat_lt, [], ◌∷◌, ◌++◌, true, Some, is_some, IfSome, IfNone};
 ghost use Rattle.loop_script.specs.Bounds.{count_end};
 ghost use Rattle.std.specs.List.{list_any};
 ghost use Rattle.std.specs.Ordering.{is_eq};
@@ -54,8 +54,8 @@ pub(crate) struct Fork {
 /// The least times of some seats, `NEVER` where there are none.
 #[derive(Clone, Copy)]
 pub(crate) struct Least {
-    wake: u64,
-    due: u64,
+    pub(crate) wake: u64,
+    pub(crate) due: u64,
 }
 
 /// Room for one seat.
@@ -81,6 +81,16 @@ impl Model for Seats {
     ghost use Rattle.std.proofs.Common.{arith, length-append};
 
     ghost size_decreases = { λ a h. Prim.grind (arith, length-append) };
+}
+
+impl Seat {
+    /// Where the row stands.
+    #[inline]
+    pub(crate) fn place(&self) -> (i32, [u64; 4])
+        ensures { result ≡ self.now.key }
+    {
+        self.key
+    }
 }
 
 impl Room {
@@ -154,31 +164,38 @@ impl Seats {
         }
     }
 
-    /// Puts a seat into a room.
+    /// Puts a seat into a room, and answers whether the tree is higher for it.
     #[tactic(auto, using(crate::proofs::Low::low_even))]
-    pub fn insert(&mut self, room: Room, seat: &Seat)
+    pub fn insert(&mut self, room: Room, seat: &Seat) -> bool
         requires rises { Rises is_ahead self.old.0 }
         requires few { length self.old.0 < count_end }
         requires low { IsLow self.old }
         ensures seats { self.new.0 ≡ inserted is_ahead seat.now self.old.0 }
         ensures low { IsLow self.new }
         ensures height { IsLowered self.new.1 self.old.1 }
+        ensures higher { result ≡ nat_lt self.old.1 self.new.1 }
     {
-        match &mut self.root {
+        let height = match &mut self.root {
             None => {
                 self.root = Some(room.fill(*seat));
-                return;
+                return true;
             }
             Some(fork) => {
                 let fork = &mut **fork;
-                if is_ahead(seat, &fork.seat) {
-                    fork.sooner.insert(room, seat);
+                let higher = if is_ahead(seat, &fork.seat) {
+                    fork.sooner.insert(room, seat)
                 } else {
-                    fork.later.insert(room, seat);
+                    fork.later.insert(room, seat)
+                };
+                if !higher {
+                    fork.least = least_with(&fork.least, seat);
+                    return false;
                 }
+                fork.height
             }
-        }
+        };
         balance(&mut self.root);
+        height < self.height()
     }
 
     /// Takes the first seat out, in its room.
@@ -257,7 +274,7 @@ impl Seats {
         ensures low { IsLow self.new }
     {
         if let Some(room) = self.take(before) {
-            self.insert(room, after);
+            let _ = self.insert(room, after);
         }
     }
 
@@ -311,54 +328,6 @@ impl Seats {
             Some(fork) => fork.least,
         }
     }
-
-    /// The id of the first seat behind a key that wakes by a time.
-    pub fn first_awake(&self, after: Option<(i32, [u64; 4])>, now: u64) -> Option<u64>
-        requires { Rises is_ahead self.now.0 }
-        ensures { result ≡ first_awake after now self.now.0 }
-    {
-        match &self.root {
-            None => None,
-            Some(fork) => {
-                let fork = &**fork;
-                if now < fork.least.wake {
-                    return None;
-                }
-                if is_passed(after, fork.seat.key) {
-                    return fork.later.first_awake(after, now);
-                }
-                match fork.sooner.first_awake(after, now) {
-                    None => {
-                        if fork.seat.wake <= now {
-                            Some(fork.seat.id)
-                        } else {
-                            fork.later.first_awake(after, now)
-                        }
-                    }
-                    first => first,
-                }
-            }
-        }
-    }
-
-    /// When the next of the seats is due, after a time.
-    pub fn next_due(&self, now: u64) -> u64
-        ensures { result ≡ next_due now self.now.0 }
-    {
-        match &self.root {
-            None => NEVER,
-            Some(fork) => {
-                let fork = &**fork;
-                if now < fork.least.due {
-                    return fork.least.due;
-                }
-                lesser(
-                    fork.sooner.next_due(now),
-                    lesser(due_after(now, &fork.seat), fork.later.next_due(now)),
-                )
-            }
-        }
-    }
 }
 
 /// Whether a seat stands before another.
@@ -392,10 +361,20 @@ fn stays(a: &Seat, b: &Seat) -> bool
 }
 
 /// The lesser of two times.
-fn lesser(a: u64, b: u64) -> u64
+pub(crate) fn lesser(a: u64, b: u64) -> u64
     ensures { result ≡ lesser a b }
 {
     if a < b { a } else { b }
+}
+
+/// The least times of some seats and of one more.
+fn least_with(least: &Least, seat: &Seat) -> Least
+    ensures { result ≡ record { wake = lesser seat.now.wake least.now.wake; due = lesser seat.now.due least.now.due } }
+{
+    Least {
+        wake: lesser(seat.wake, least.wake),
+        due: lesser(seat.due, least.due),
+    }
 }
 
 /// The least times of a seat and of those on its sides.
@@ -406,26 +385,5 @@ pub(crate) fn least_over(sooner: &Seats, seat: &Seat, later: &Seats) -> Least
     Least {
         wake: lesser(before.wake, lesser(seat.wake, behind.wake)),
         due: lesser(before.due, lesser(seat.due, behind.due)),
-    }
-}
-
-/// When a seat is due where that is after a time, else never.
-fn due_after(now: u64, seat: &Seat) -> u64
-    ensures { result ≡ due_after now seat.now }
-{
-    let due = seat.due;
-    if now < due { due } else { NEVER }
-}
-
-/// Whether a key does not stand behind another.
-fn is_passed(after: Option<(i32, [u64; 4])>, key: (i32, [u64; 4])) -> bool
-    ensures { result ≡ is_passed after key }
-{
-    match after {
-        None => false,
-        Some(last) => match last.cmp(&key) {
-            Ordering::Less => false,
-            _ => true,
-        },
     }
 }

@@ -1,18 +1,23 @@
 //! Rows by their ids.
-ghost use Rattle.std.specs.Prelude.{◌≡◌, ◌<◌, ◌≤◌, ◌+◌, ◌++◌, ◌∷◌, [], OnOk, OnErr, IfSome, is_some, IsSome, option_map, filter, not, ◌||◌};
+ghost use Rattle.std.specs.Prelude.{◌≡◌, ◌<◌, ◌≤◌, ◌+◌, ◌++◌, ◌∷◌, [], true, OnOk, OnErr, IfOk, IfSome, IfNone, is_some, IsSome, option_map, map, filter, not, ◌||◌};
 ghost use Rattle.std.specs.List.{AllByRecursion};
 ghost use Rattle.std.specs.Map.{lookup};
 ghost use Rattle.std.specs.Option.{option_copied};
-ghost use Rattle.std.specs.Ordering.{nat_cmp};
+ghost use Rattle.std.specs.Ordering.{is_gt, nat_cmp};
 ghost use Rattle.std.specs.BTreeMap.{is_at};
 ghost use Rattle.loop_script.specs.Bounds.{count_end, latest};
-ghost use Rattle.source_rows.specs.Rows.{row_of, has_id, changed, next_ready};
-ghost use Rattle.source_rows.specs.Seats.{first_awake, in_seats};
+ghost use Rattle.source_rows.specs.Band.{stands_between};
+ghost use Rattle.source_rows.specs.Kept.{AllApart};
+ghost use Rattle.source_rows.specs.LastTo.{IsLastRow};
+ghost use Rattle.source_rows.specs.Rows.{key_cmp, key_of, row_of, has_id, in_order, changed, next_ready};
+ghost use Rattle.source_rows.specs.Seats.{first_awake, in_seats, seat_of};
 ghost use Rattle.source_rows.specs.Slots.{AllNamed, MayAsk, asks};
+ghost use Rattle.source_rows.specs.Walk.{rows_behind};
 
 use crate::guesses::Guesses;
 use crate::row::Row;
 use crate::seats::{NEVER, Room, Seats};
+use crate::walk::Walk;
 use slab::Slab;
 use std::alloc::{AllocError, Global};
 use std::collections::BTreeMap;
@@ -130,6 +135,37 @@ impl Table {
         self.seats.first_awake(after, now)
     }
 
+    /// The seats of the rows that stand behind a key, or of all, in order.
+    pub fn walk(&self, after: Option<(i32, [u64; 4])>) -> Walk<'_>
+        requires { AllApart self.now }
+        ensures { result ≡ map seat_of (rows_behind after self.now) }
+    {
+        Walk::new(&self.seats, after)
+    }
+
+    /// The last row that does not stand behind a key.
+    pub fn last_to(&self, key: (i32, [u64; 4])) -> Option<&Row>
+        ensures some { IfSome result (λ r. IsLastRow key self.now r.now) }
+        ensures none { IfNone result (AllByRecursion (λ r. is_gt (key_cmp (key_of r) key) ≡ true) self.now) }
+    {
+        let seat = self.seats.last_to(key)?;
+        self.found(seat.id)
+    }
+
+    /// The ids of the rows that stand between two keys, or at them, in order.
+    pub fn ids_between(
+        &self,
+        first: (i32, [u64; 4]),
+        last: (i32, [u64; 4]),
+    ) -> Result<Vec<u64>, AllocError>
+        requires { AllApart self.now }
+        ensures { IfOk result (λ ids. ids.items ≡ map (λ r. r.id) (filter (stands_between first last) (in_order self.now))) }
+    {
+        let mut ids = Vec::new(self.alloc);
+        self.seats.add_between(first, last, &mut ids)?;
+        Ok(ids)
+    }
+
     /// Puts a row behind the others.
     pub fn push(&mut self, row: Row) -> Result<(), AllocError>
         requires last { AllByRecursion (λ r. r.id < row.id) self.old }
@@ -146,7 +182,7 @@ impl Table {
                 self.guesses.note(&self.slots, row.id, key);
                 let may_ask = may_ask_with(self.may_ask, &row);
                 self.may_ask = may_ask;
-                self.seats.insert(room, &row.seat());
+                let _ = self.seats.insert(room, &row.seat());
                 Ok(())
             }
             Err(_) => {

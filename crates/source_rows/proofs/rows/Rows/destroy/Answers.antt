@@ -1,22 +1,27 @@
 use Rattle.std.proofs.Common.{◌≡◌, ap, sym, ◌∙◌, Some, None, List, subst}
 use Rattle.source_rows.specs.declared.row.Row.{Row}
 use Rattle.source_rows.specs.Rows.{RowSet, row_of, destroyed, level_count}
-use Rattle.source_rows.proofs.Gone.{near, kept_filter, none_gone}
+use Rattle.source_rows.specs.Kept.{IsSound}
+use Rattle.source_rows.proofs.Gone.{near, sound_filter, none_gone}
 use Rattle.source_rows.proofs.rows.Rows.destroy.Goals as goal
+
+pub remove_under-requires-clause-distinct : goal.remove_under-requires-clause-distinct
+remove_under-requires-clause-distinct c = record { rising = c.self.invariant.rising; apart = c.self.invariant.apart }
 
 pub remove_under-requires-clause-near : goal.remove_under-requires-clause-near
 remove_under-requires-clause-near c =
     let is : row_of c.args.id c.self.inside.table ≡ Some c.in-Some.found = sym c.row.ensures ∙ c.in-Some.is in
-    rw c.key.ensures (near c.self.inside.table c.args.id c.in-Some.found c.self.invariant.sound.forest is)
+    rw c.key.ensures (near c.self.inside.table c.args.id c.in-Some.found c.self.invariant.forest is)
 
 pub invariant_of-self : goal.invariant_of-self
 invariant_of-self c =
-    let rows = c.remove_under.ensures.table in
-    kept_filter c.args.id c.self.inside.table c.remove_under.new.table c.remove_under.new.order.entries c.self.inside.next_id c.self.inside.next_order (level_count c.self.inside.levels) c.self.invariant.sound rows c.remove_under.ensures.order
+    let inside = c.self.inside in
+    subst (λ (rows : List Row). IsSound rows inside.next_id inside.next_order (level_count inside.levels)) (sym c.remove_under.ensures)
+    (sound_filter c.args.id inside.table inside.next_id inside.next_order (level_count inside.levels) c.self.invariant)
 
 pub returns-in-None-clause-rows : goal.returns-in-None-clause-rows
 returns-in-None-clause-rows c =
     let none : row_of c.args.id c.self.inside.table ≡ None = sym c.row.ensures ∙ c.in-None.is in
     subst (λ (s : RowSet). s ≡ destroyed c.args.id s) c.self.view_is
     (ap (λ (rows : List Row). record { rows = rows; next_id = c.self.inside.next_id; next_order = c.self.inside.next_order; levels = level_count c.self.inside.levels })
-    (sym (none_gone c.args.id c.self.inside.table c.self.invariant.sound.forest none)))
+    (sym (none_gone c.args.id c.self.inside.table c.self.invariant.forest none)))

@@ -2,7 +2,7 @@ use Rattle.std.proofs.Common.{◌+◌, ap, ◌∙◌, refl, List}
 use Rattle.source_rows.specs.declared.row.Row.{Row}
 use Rattle.source_rows.specs.Rows.{counted, level_count}
 use Rattle.source_rows.proofs.Edits.{Stays}
-use Rattle.source_rows.proofs.Kept.{stays_at, at_id, kept_map}
+use Rattle.source_rows.proofs.Kept.{stays_at, at_id, sound_map}
 use Rattle.source_rows.proofs.rows.Rows.dispatched.Goals as goal
 
 stays : Stays (λ r. record r { count = r.count + 1 })
@@ -10,8 +10,8 @@ stays = record { key = λ r. refl; id = λ r. refl; level = λ r. refl; order = 
 
 pub invariant_of-self : goal.invariant_of-self
 invariant_of-self c =
-    rw c.count_one.ensures.rows (kept_map (at_id c.args.id (λ r. record r { count = r.count + 1 })) (stays_at c.args.id (λ r. record r { count = r.count + 1 }) stays)
-    c.self.inside.table c.self.inside.order.entries c.self.inside.next_id c.self.inside.next_order (level_count c.self.inside.levels) c.self.invariant)
+    rw c.count_one.ensures.rows (sound_map (at_id c.args.id (λ r. record r { count = r.count + 1 })) (stays_at c.args.id (λ r. record r { count = r.count + 1 }) stays)
+    c.self.inside.table c.self.inside.next_id c.self.inside.next_order (level_count c.self.inside.levels) c.self.invariant)
 
 pub returns-clause-rows : goal.returns-clause-rows
 returns-clause-rows c =

@@ -4,7 +4,7 @@ use mir.Val.{SFits}
 use Rattle.source_rows.specs.declared.row.Row.{Row}
 use Rattle.source_rows.specs.Rows.{changed, ready_set, level_count}
 use Rattle.source_rows.proofs.Edits.{Stays}
-use Rattle.source_rows.proofs.Kept.{stays_at, at_id, kept_map}
+use Rattle.source_rows.proofs.Kept.{stays_at, at_id, sound_map}
 use Rattle.source_rows.proofs.rows.Rows.set_ready.Goals as goal
 
 stays : (t : ℤ) → Stays (λ r. record r { ready = t })
@@ -17,8 +17,8 @@ done c =
 
 pub invariant_of-self : goal.invariant_of-self
 invariant_of-self c =
-    rw (done c) (kept_map (at_id c.args.id (λ r. record r { ready = c.args.ready })) (stays_at c.args.id (λ r. record r { ready = c.args.ready }) (stays c.args.ready))
-    c.self.inside.table c.self.inside.order.entries c.self.inside.next_id c.self.inside.next_order (level_count c.self.inside.levels) c.self.invariant)
+    rw (done c) (sound_map (at_id c.args.id (λ r. record r { ready = c.args.ready })) (stays_at c.args.id (λ r. record r { ready = c.args.ready }) (stays c.args.ready))
+    c.self.inside.table c.self.inside.next_id c.self.inside.next_order (level_count c.self.inside.levels) c.self.invariant)
 
 pub returns-clause-rows : goal.returns-clause-rows
 returns-clause-rows c =

@@ -1,15 +1,16 @@
-use Rattle.std.proofs.Common.{◌≡◌, ◌∙◌, ◌<◌, ◌^◌, List, ◌∷◌, ◌++◌, length, false, true, sym, ap, arith, rules}
+use Rattle.std.proofs.Common.{◌≡◌, ◌∙◌, ◌+◌, ◌<◌, ◌^◌, ℕ, List, length, false, true, sym, ap, subst, arith, rules}
 use Rattle.source_rows.specs.Inserted.{inserted}
 use Rattle.source_rows.specs.declared.seats.Seat.{Seat}
+use Rattle.source_rows.specs.declared.seats.Fork.{Fork}
 use Rattle.source_rows.specs.Seats.{is_ahead}
+use Rattle.source_rows.specs.SeatTree.{seats_of, seen_of}
 use Rattle.source_rows.proofs.SeatTree.{at_Fork, even_at, length_inserted}
-use Rattle.source_rows.proofs.Inserted.{inserted_left, inserted_right}
-use Rattle.source_rows.proofs.Ahead.{sooner_order}
+use Rattle.source_rows.proofs.PutIn.{PutIn, put_sooner, put_later, put_even, put_near}
 use Rattle.source_rows.proofs.seats.Seats.+insert.Goals as goal
 use Rattle.source_rows.proofs.seats.Seats.+insert.Goals.{then-is_ahead, else-is_ahead}
 
-pub insert-requires : goal.insert-requires
-insert-requires t c =
+pub insert-higher-requires : goal.insert-higher-requires
+insert-higher-requires t c =
     let same : c.deref_mut-fork.result.now ≡ c.in-Some.fork.value = search rules in
     let f = at_Fork c.self.view_is c.requires.rises c.in-Some.is same in
     let even = even_at c.self.invariant c.in-Some.is same in
@@ -17,8 +18,8 @@ insert-requires t c =
     let fewer : length c.deref_mut-fork.result.now.sooner.0 < length c.args.self.now.0 = omega (arith, f.parts) in
     search rules
 
-pub insert-requires-else-is_ahead : goal.insert-requires-else-is_ahead
-insert-requires-else-is_ahead t c =
+pub insert-higher-requires-else-is_ahead : goal.insert-higher-requires-else-is_ahead
+insert-higher-requires-else-is_ahead t c =
     let same : c.deref_mut-fork.result.now ≡ c.in-Some.fork.value = search rules in
     let f = at_Fork c.self.view_is c.requires.rises c.in-Some.is same in
     let even = even_at c.self.invariant c.in-Some.is same in
@@ -26,38 +27,75 @@ insert-requires-else-is_ahead t c =
     let fewer : length c.deref_mut-fork.result.now.later.0 < length c.args.self.now.0 = omega (arith, f.parts) in
     search rules
 
-pub balance-requires : goal.balance-requires
-balance-requires t c =
+new_one : (t : ℕ) (c : goal.After-self-then-not-higher-1 t) → PutIn c.deref_mut-fork.result.now c.if-is_ahead.fork c.args.seat.now c.if-is_ahead.higher
+new_one t c =
     let same : c.deref_mut-fork.result.now ≡ c.in-Some.fork.value = search rules in
     let f = at_Fork c.self.view_is c.requires.rises c.in-Some.is same in
     let even = even_at c.self.invariant c.in-Some.is same in
     elim c.if-is_ahead.branch [
       | then-is_ahead w ↦
-          let a = w.insert.ensures in
-          let more = length_inserted is_ahead c.args.seat.now c.deref_mut-fork.result.now.sooner.0 in
-          rw w.self-inside-is (grind arith, a.low, even.3, grind (arith, more, a.seats, f.parts, c.requires.few))
+          let low : is_ahead c.args.seat.now c.deref_mut-fork.result.now.seat ≡ true = search rules in
+          let a = w.insert-higher.ensures in
+          rw (w.fork-is, w.higher-is) (put_sooner c.deref_mut-fork.result.now c.args.seat.now _ w.insert-higher.result even low a.seats a.low a.height a.higher)
       | else-is_ahead w ↦
-          let a = w.insert-else-is_ahead.ensures in
-          let more = length_inserted is_ahead c.args.seat.now c.deref_mut-fork.result.now.later.0 in
-          rw w.self-inside-is (grind arith, even.2, a.low, grind (arith, more, a.seats, f.parts, c.requires.few))
+          let high : is_ahead c.args.seat.now c.deref_mut-fork.result.now.seat ≡ false = search rules in
+          let a = w.insert-higher-else-is_ahead.ensures in
+          rw (w.fork-is, w.higher-is) (put_later c.deref_mut-fork.result.now c.args.seat.now _ w.insert-higher-else-is_ahead.result even f.rises high a.seats a.low a.height a.higher)
     ]
+
+pub balance-requires : goal.balance-requires
+balance-requires t c =
+    let same : c.deref_mut-fork.result.now ≡ c.in-Some.fork.value = search rules in
+    let f = at_Fork c.self.view_is c.requires.rises c.in-Some.is same in
+    let even = even_at c.self.invariant c.in-Some.is same in
+    let few : length (seats_of c.deref_mut-fork.result.now) < 2 ^ 63 = subst (λ (xs : List Seat). length xs < 2 ^ 63) f.is c.requires.few in
+    elim c.if-is_ahead.branch [
+      | then-is_ahead w ↦
+          let low : is_ahead c.args.seat.now c.deref_mut-fork.result.now.seat ≡ true = search rules in
+          let a = w.insert-higher.ensures in
+          rw (w.fork-is) (put_near c.deref_mut-fork.result.now _ c.args.seat.now _ (put_sooner c.deref_mut-fork.result.now c.args.seat.now _ w.insert-higher.result even low a.seats a.low a.height a.higher) few)
+      | else-is_ahead w ↦
+          let high : is_ahead c.args.seat.now c.deref_mut-fork.result.now.seat ≡ false = search rules in
+          let a = w.insert-higher-else-is_ahead.ensures in
+          rw (w.fork-is) (put_near c.deref_mut-fork.result.now _ c.args.seat.now _ (put_later c.deref_mut-fork.result.now c.args.seat.now _ w.insert-higher-else-is_ahead.result even f.rises high a.seats a.low a.height a.higher) few)
+    ]
+
+pub invariant_of-self-then-not-higher : goal.invariant_of-self-then-not-higher
+invariant_of-self-then-not-higher t c =
+    let same : c.deref_mut-fork.result.now ≡ c.in-Some.fork.value = search rules in
+    let even = even_at c.self.invariant c.in-Some.is same in
+    let put = subst (PutIn c.deref_mut-fork.result.now c.if-is_ahead.fork c.args.seat.now) c.if-not-higher.true (new_one t c) in
+    rw c.least_with-fork.ensures (put_even c.deref_mut-fork.result.now c.if-is_ahead.fork c.args.seat.now even put)
+
+pub returns-then-not-higher-clause-seats : goal.returns-then-not-higher-clause-seats
+returns-then-not-higher-clause-seats t c =
+    let same : c.deref_mut-fork.result.now ≡ c.in-Some.fork.value = search rules in
+    let f = at_Fork c.self.view_is c.requires.rises c.in-Some.is same in
+    (new_one t c).seats ∙ sym (ap (inserted is_ahead c.args.seat.now) f.is)
+
+pub returns-then-not-higher-clause-low : goal.returns-then-not-higher-clause-low
+returns-then-not-higher-clause-low t c =
+    let same : c.deref_mut-fork.result.now ≡ c.in-Some.fork.value = search rules in
+    let f = at_Fork c.self.view_is c.requires.rises c.in-Some.is same in
+    let put = new_one t c in
+    let old : c.args.self.now.1 ≡ c.deref_mut-fork.result.now.height = ap (λ (v : List Seat × ℕ). v.1) (sym c.self.view_is ∙ ap seen_of c.in-Some.is) ∙ sym (ap (λ (g : Fork). g.height) same) in
+    let height : c.if-is_ahead.fork.height ≡ c.args.self.now.1 = put.height ∙ sym old in
+    let long : length (seats_of c.if-is_ahead.fork) ≡ length c.args.self.now.0 + 1 = ap length (put.seats ∙ sym (ap (inserted is_ahead c.args.seat.now) f.is)) ∙ length_inserted is_ahead c.args.seat.now c.args.self.now.0 in
+    let low = c.requires.low in
+    rw height (omega (arith, low.0, long), omega (arith, low.1, long))
 
 pub returns-clause-seats : goal.returns-clause-seats
 returns-clause-seats t c =
     let same : c.deref_mut-fork.result.now ≡ c.in-Some.fork.value = search rules in
     let f = at_Fork c.self.view_is c.requires.rises c.in-Some.is same in
-    let l = c.deref_mut-fork.result.now.sooner.0 in
-    let k = c.deref_mut-fork.result.now.seat in
-    let r = c.deref_mut-fork.result.now.later.0 in
-    elim c.if-is_ahead.branch [
+    let even = even_at c.self.invariant c.in-Some.is same in
+    c.balance.ensures.1 ∙ elim c.if-is_ahead.branch [
       | then-is_ahead w ↦
-          let low : is_ahead c.args.seat.now k ≡ true = search rules in
-          let s = rw w.self-inside-is at c.balance.ensures in
-          let is : w.insert.new.self.0 ≡ inserted is_ahead c.args.seat.now l = search rules in
-          s.1 ∙ (ap (λ (x : List Seat). x ++ k ∷ r) is ∙ sym (ap (inserted is_ahead c.args.seat.now) f.is ∙ inserted_left is_ahead c.args.seat.now l k r low))
+          let low : is_ahead c.args.seat.now c.deref_mut-fork.result.now.seat ≡ true = search rules in
+          let a = w.insert-higher.ensures in
+          ap seats_of w.fork-is ∙ ((put_sooner c.deref_mut-fork.result.now c.args.seat.now _ w.insert-higher.result even low a.seats a.low a.height a.higher).seats ∙ sym (ap (inserted is_ahead c.args.seat.now) f.is))
       | else-is_ahead w ↦
-          let high : is_ahead c.args.seat.now k ≡ false = search rules in
-          let s = rw w.self-inside-is at c.balance.ensures in
-          let is : w.insert-else-is_ahead.new.self.0 ≡ inserted is_ahead c.args.seat.now r = search rules in
-          s.1 ∙ (ap (λ (x : List Seat). l ++ k ∷ x) is ∙ sym (ap (inserted is_ahead c.args.seat.now) f.is ∙ inserted_right is_ahead sooner_order c.args.seat.now l k r f.rises high))
+          let high : is_ahead c.args.seat.now c.deref_mut-fork.result.now.seat ≡ false = search rules in
+          let a = w.insert-higher-else-is_ahead.ensures in
+          ap seats_of w.fork-is ∙ ((put_later c.deref_mut-fork.result.now c.args.seat.now _ w.insert-higher-else-is_ahead.result even f.rises high a.seats a.low a.height a.higher).seats ∙ sym (ap (inserted is_ahead c.args.seat.now) f.is))
     ]
