@@ -13,6 +13,7 @@ mod queue;
 mod rest;
 mod round;
 mod share;
+mod side_by_side;
 mod stepper;
 mod work;
 

@@ -10,12 +10,12 @@ ghost use Rattle.tick_stepper.specs.Queue.{filled, IsHired, MayWork, IsHaul, IsO
 use crate::fault::OutOfMemory;
 use crate::gate::Gate;
 use crate::share::{Numbered, in_order};
+use crate::side_by_side::map_side_by_side;
 use crate::work::{Haul, Hired, turn_with, work_through};
 use loop_script::Script;
 use post_office::{Letter, LetterQueue, Office, OfficePass, WorkList, WorkQueue, merge};
 use std::alloc::{AllocError, Global};
 use std::sync::Wait;
-use std::thread;
 use std::thread::Threads;
 
 /// A work list of these lanes.
@@ -74,7 +74,7 @@ fn run_hired<R: Threads + Wait + Sync, G: Gate>(
     ensures hauls { IfOk result (λ hauls. All (λ haul. IfOk haul (IsHaul script.now tick list.now office.now)) hauls.items) }
     ensures all { IfOk result (λ hauls. vec_len hauls ≡ vec_len all) }
 {
-    thread::map_vec(
+    map_side_by_side(
         rt,
         all,
         &|hired: Hired| -> Result<Haul, OutOfMemory>

@@ -16,12 +16,12 @@ use crate::gate::Gate;
 use crate::queue::turn_by_queue;
 use crate::rest::{Resting, by_number, part, settle, wake_all};
 use crate::share::{Numbered, Share, in_order, turn_share};
+use crate::side_by_side::map_side_by_side;
 use lane_turn::LaneFault;
 use loop_script::Script;
 use post_office::{Letter, merge};
 use std::alloc::{AllocError, Global};
 use std::sync::Wait;
-use std::thread;
 use std::thread::Threads;
 
 /// Each share is turned in a thread of its own, the caller's among them.
@@ -37,7 +37,7 @@ fn turn_shares<R: Threads + Sync, G: Gate>(
     ensures all { IfOk result (λ hauls. vec_len hauls ≡ vec_len shares) }
     ensures each { IfOk result (λ hauls. (i : ℕ) (d : _) (e : _) → i < vec_len shares → IfOk (slice_index_or hauls.items i d) (IsTurned script.now tick (slice_index_or shares.items i e))) }
 {
-    thread::map_vec(
+    map_side_by_side(
         rt,
         shares,
         &|share: Share| -> Result<Share, LaneFault>
