@@ -38,3 +38,4 @@ pub mod Walking
 pub mod LastTo
 pub mod Found
 pub mod Parted
+pub mod SetIn

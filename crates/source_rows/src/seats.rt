@@ -2,7 +2,7 @@
 //!
 //! A node has the least times of the seats from there on: so the next row that may be ready and the next ready time are found
 //! without a look at the others.
-ghost use Rattle.std.specs.Prelude.{◌≡◌, ◌≤◌, ◌<◌, length, nat_lt, [], ◌∷◌, ◌++◌, true, Some, is_some, IfSome, IfNone};
+ghost use Rattle.std.specs.Prelude.{◌≡◌, ◌≤◌, ◌<◌, length, nat_lt, [], ◌∷◌, ◌++◌, true, false, Some, is_some, IfSome, IfNone};
 ghost use Rattle.loop_script.specs.Bounds.{count_end};
 ghost use Rattle.std.specs.List.{list_any};
 ghost use Rattle.std.specs.Ordering.{is_eq};
@@ -132,6 +132,17 @@ impl Fork {
             },
             later: Seats::new(),
         }
+    }
+
+    /// Notes the least times anew, and answers whether they are others.
+    fn note_least(&mut self) -> bool
+        ensures fork { self.new ≡ record self.old { least = least_of (seats_of self.old) } }
+        ensures same { result ≡ false → self.old.least ≡ least_of (seats_of self.old) }
+    {
+        let least = least_over(&self.sooner, &self.seat, &self.later);
+        let is_other = least.wake != self.least.wake || least.due != self.least.due;
+        self.least = least;
+        is_other
     }
 
     /// Takes both sides away.
@@ -278,22 +289,26 @@ impl Seats {
         }
     }
 
-    /// Puts another seat where one stands.
-    fn set(&mut self, before: &Seat, after: &Seat)
+    /// Puts another seat where one stands, and answers whether the least times may be others.
+    fn set(&mut self, before: &Seat, after: &Seat) -> bool
         requires { Rises is_ahead self.old.0 }
         ensures seats { self.new.0 ≡ swapped before.now after.now self.old.0 }
         ensures height { self.new.1 ≡ self.old.1 }
+        ensures least { result ≡ false → least_of self.new.0 ≡ least_of self.old.0 }
     {
         match &mut self.root {
-            None => (),
+            None => false,
             Some(fork) => {
                 let fork = &mut **fork;
-                match before.cmp(&fork.seat) {
+                let may_differ = match before.cmp(&fork.seat) {
                     Ordering::Less => fork.sooner.set(before, after),
                     Ordering::Greater => fork.later.set(before, after),
-                    Ordering::Equal => fork.seat = *after,
-                }
-                fork.least = least_over(&fork.sooner, &fork.seat, &fork.later);
+                    Ordering::Equal => {
+                        fork.seat = *after;
+                        true
+                    }
+                };
+                may_differ && fork.note_least()
             }
         }
     }
@@ -309,7 +324,7 @@ impl Seats {
     {
         if is_other(before, after) {
             if stays(before, after) {
-                self.set(before, after);
+                let _ = self.set(before, after);
             } else {
                 self.change(before, after);
             }

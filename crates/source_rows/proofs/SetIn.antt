@@ -1,0 +1,88 @@
+-- A seat put where another stands, in a side of a tree or at its root.
+use Rattle.std.proofs.Common.{◌≡◌, ℕ, ◌+◌, max, Bool, true, false, List, ◌∷◌, ◌++◌, refl, ap, ap₂, sym, ◌∙◌, arith}
+use Rattle.source_rows.specs.Inserted.{Rises}
+use Rattle.source_rows.specs.declared.seats.Fork.{Fork}
+use Rattle.source_rows.specs.declared.seats.Least.{Least}
+use Rattle.source_rows.specs.declared.seats.Seat.{Seat}
+use Rattle.source_rows.specs.Seats.{is_ahead, least_of, lesser, swapped, IsLow}
+use Rattle.source_rows.specs.SeatTree.{seats_of, IsEvenFork}
+use Rattle.source_rows.proofs.Ahead.{swapped_left, swapped_right, swapped_here}
+use Rattle.source_rows.proofs.Low.{side_swapped}
+use Rattle.source_rows.proofs.Soonest.{least_join}
+
+-- what a fork is once a seat was put where another stands in it, and the least times may be others
+pub record SetIn (a b : Seat) (old new : Fork) (may : Bool) : Type 0 where
+  pub seats : seats_of new ≡ swapped a b (seats_of old)
+  pub height : new.height ≡ old.height
+  pub sooner : new.sooner.1 ≡ old.sooner.1
+  pub later : new.later.1 ≡ old.later.1
+  pub low_sooner : IsLow new.sooner
+  pub low_later : IsLow new.later
+  pub least : new.least ≡ old.least
+  pub same : may ≡ false → least_of (seats_of new) ≡ least_of (seats_of old)
+
+least_parts : (l r : List Seat) → least_of (l ++ r) ≡ record { wake = lesser (least_of l).wake (least_of r).wake; due = lesser (least_of l).due (least_of r).due }
+least_parts l r = ap₂ (λ (w d : ℕ). let m : Least = record { wake = w; due = d } in m) (least_join (λ s. s.wake) l r) (least_join (λ s. s.due) l r)
+
+least_left : (l m r : List Seat) → least_of l ≡ least_of m → least_of (l ++ r) ≡ least_of (m ++ r)
+least_left l m r e =
+    least_parts l r ∙ (ap (λ (x : Least). let y : Least = record { wake = lesser x.wake (least_of r).wake; due = lesser x.due (least_of r).due } in y) e ∙ sym (least_parts m r))
+
+least_right : (l m r : List Seat) → least_of m ≡ least_of r → least_of (l ++ m) ≡ least_of (l ++ r)
+least_right l m r e =
+    least_parts l m ∙ (ap (λ (x : Least). let y : Least = record { wake = lesser (least_of l).wake x.wake; due = lesser (least_of l).due x.due } in y) e ∙ sym (least_parts l r))
+
+least_behind : (k : Seat) (l m : List Seat) → least_of l ≡ least_of m → least_of (k ∷ l) ≡ least_of (k ∷ m)
+least_behind k l m e = ap (λ (x : Least). let y : Least = record { wake = lesser k.wake x.wake; due = lesser k.due x.due } in y) e
+
+pub set_sooner : (a b : Seat) (old : Fork) (side : List Seat × ℕ) (may : Bool) → IsEvenFork old → Rises is_ahead (seats_of old) → is_ahead a old.seat ≡ true → side.0 ≡ swapped a b old.sooner.0 → side.1 ≡ old.sooner.1
+    → (may ≡ false → least_of side.0 ≡ least_of old.sooner.0) → SetIn a b old (record old { sooner = side }) may
+set_sooner a b old side may even rises before is h least = record {
+  seats = ap (λ (x : List Seat). x ++ old.seat ∷ old.later.0) is ∙ sym (swapped_left a b old.sooner.0 old.seat old.later.0 rises before);
+  height = refl;
+  sooner = h;
+  later = refl;
+  low_sooner = side_swapped old.sooner side a b is h even.2;
+  low_later = even.3;
+  least = refl;
+  same = λ e. least_left side.0 old.sooner.0 (old.seat ∷ old.later.0) (least e);
+}
+
+pub set_later : (a b : Seat) (old : Fork) (side : List Seat × ℕ) (may : Bool) → IsEvenFork old → Rises is_ahead (seats_of old) → is_ahead old.seat a ≡ true → side.0 ≡ swapped a b old.later.0 → side.1 ≡ old.later.1
+    → (may ≡ false → least_of side.0 ≡ least_of old.later.0) → SetIn a b old (record old { later = side }) may
+set_later a b old side may even rises before is h least = record {
+  seats = ap (λ (x : List Seat). old.sooner.0 ++ old.seat ∷ x) is ∙ sym (swapped_right a b old.sooner.0 old.seat old.later.0 rises before);
+  height = refl;
+  sooner = refl;
+  later = h;
+  low_sooner = even.2;
+  low_later = side_swapped old.later side a b is h even.3;
+  least = refl;
+  same = λ e. least_right old.sooner.0 (old.seat ∷ side.0) (old.seat ∷ old.later.0) (least_behind old.seat side.0 old.later.0 (least e));
+}
+
+pub set_here : (a b : Seat) (old : Fork) → IsEvenFork old → Rises is_ahead (seats_of old) → a ≡ old.seat → SetIn a b old (record old { seat = b }) true
+set_here a b old even rises e = record {
+  seats = sym (swapped_here a b old.sooner.0 old.seat old.later.0 rises e);
+  height = refl;
+  sooner = refl;
+  later = refl;
+  low_sooner = even.2;
+  low_later = even.3;
+  least = refl;
+  same = λ never. cc;
+}
+
+-- the fork with its least times noted anew
+pub even_noted : (a b : Seat) (old new : Fork) (may : Bool) → IsEvenFork old → SetIn a b old new may → IsEvenFork (record new { least = least_of (seats_of new) })
+even_noted a b old new may even s =
+    let sooner = s.sooner in
+    let later = s.later in
+    let d = even.1 in
+    (s.height ∙ (even.0 ∙ ap₂ (λ (m n : ℕ). max m n + 1) (sym sooner) (sym later)), (omega (arith, sooner, later, d.0, d.1), omega (arith, sooner, later, d.0, d.1)), s.low_sooner, s.low_later, refl)
+
+-- the fork as it is, where they stay
+pub even_same : (a b : Seat) (old new : Fork) (may : Bool) → may ≡ false → IsEvenFork old → SetIn a b old new may → IsEvenFork new
+even_same a b old new may stays even s =
+    let noted = even_noted a b old new may even s in
+    (noted.0, noted.1, noted.2, noted.3, s.least ∙ (even.4 ∙ sym (s.same stays)))
