@@ -1,5 +1,5 @@
 -- What the flat list of frames says of the boxes.
-use Rattle.std.proofs.Common.{◌≡◌, ◌≢◌, ℕ, zero, suc, ◌+◌, ◌-◌, ◌<◌, ◌≤◌, Bool, true, false, cond, Option, Some, None, List, [], ◌∷◌, ◌++◌, length, drop, take, reverse, slice_set, refl, sym, ap, ◌∙◌, subst, arith, ◌==◌, inl, inr, count_by, append-nil, ltb-false, OnOk, IfOk, Vec, Global, Result, Ok, Err}
+use Rattle.std.proofs.Common.{◌≡◌, ◌≢◌, ℕ, zero, suc, ◌+◌, ◌-◌, ◌<◌, ◌≤◌, Bool, true, false, cond, Option, Some, None, List, [], ◌∷◌, ◌++◌, length, drop, reverse, slice_set, refl, sym, ap, ◌∙◌, subst, arith, ◌==◌, inl, inr, count_by, append-nil, ltb-false, OnOk, IfOk, Vec, Global, Result, Ok, Err}
 use Rattle.std.specs.Prelude.{slice_get, filter_map, nat_lt}
 use Rattle.std.proofs.lemmas.Bool.{lt-ltb}
 use Rattle.std.proofs.lemmas.Bool.Decides.{eqb_tells}
@@ -20,9 +20,9 @@ pub first_within : (xs : List Layer) (x : Layer) → xs ≢ [] → slice_get (xs
 first_within [] x h = absurd (h refl)
 first_within (y ∷ xs) x h = refl
 
-pub first_alone : (xs : List Layer) (x : Layer) → xs ≢ [] → take 1 (xs ++ x ∷ []) ≡ take 1 xs
-first_alone [] x h = absurd (h refl)
-first_alone (y ∷ xs) x h = refl
+pub rest_of_within : (xs : List Layer) (x : Layer) → xs ≢ [] → drop 1 (xs ++ x ∷ []) ≡ drop 1 xs ++ x ∷ []
+rest_of_within [] x h = absurd (h refl)
+rest_of_within (y ∷ xs) x h = refl
 
 abbrev list_of : Option ℕ → List ℕ
 list_of None = []

@@ -1,5 +1,5 @@
 -- What is counted of layers.
-use Rattle.std.proofs.Common.{◌≡◌, ℕ, ◌+◌, ◌≤◌, Bool, true, false, cond, Option, Some, None, List, [], ◌∷◌, ◌++◌, length, length-append, take, refl, sym, ap, ◌∙◌, arith, count_by, drop}
+use Rattle.std.proofs.Common.{◌≡◌, ℕ, ◌+◌, ◌≤◌, Bool, true, false, cond, Option, Some, None, List, [], ◌∷◌, length, refl, sym, ap, ◌∙◌, arith, count_by, drop}
 use Rattle.std.specs.Prelude.{slice_get}
 use Rattle.std.proofs.lemmas.List.Sums.{sum_by-cons}
 use Rattle.lane_turn.specs.declared.layer.Layer.{Layer}
@@ -52,12 +52,6 @@ less_of l ls t e =
 
 some_layer : (a b : Layer) → Some a ≡ Some b → b ≡ a
 some_layer a b e = cc
-
--- what is ended alone is the innermost
-pub first_of : (xs ls : List Layer) (l : Layer) → xs ++ l ∷ [] ≡ take 1 ls → Some l ≡ slice_get ls 0
-first_of xs [] l e = absurd (omega (arith, ap length e, length-append xs (l ∷ [])))
-first_of [] (y ∷ ls) l e = cc
-first_of (x ∷ xs) (y ∷ ls) l e = absurd (omega (arith, ap length e, length-append xs (l ∷ [])))
 
 -- the innermost is counted, and without it the rest is
 pub counts_first : (ls : List Layer) (l : Layer) → Some l ≡ slice_get ls 0 → Counts l (tally_of ls)

@@ -47,7 +47,7 @@ frame_of live height (layers.Loop number context) = LoopOf number context
 -- what is met on the way inwards, the innermost first
 abbrev pub layers_of : Nest → List Layer
 layers_of Nothing = []
-layers_of (Begun' layer p inner) = layers_of inner ++ layer ∷ []
+layers_of (Begun' p layer inner) = layers_of inner ++ layer ∷ []
 
 -- the same as frames: each stands at the height that is the number of those round it
 abbrev pub frames_of : List (Option Height) → List Layer → List Frame

@@ -6,7 +6,7 @@ ghost use Rattle.lane_turn.specs.Nest.{layers_of, frames_of, is_dispatch_layer, 
 ghost use Rattle.loop_script.specs.Bounds.{count_end};
 
 use crate::layer::{Layer, Top};
-use crate::nest::Nest;
+use crate::nest::{Nest, Shell};
 use crate::tally::Tally;
 use std::alloc::{AllocError, Global};
 use std::marker::Model;
@@ -18,7 +18,7 @@ pub struct Chain {
     nest: Nest,
     tally: Tally,
     /// The boxes of what has ended, for what is begun next.
-    spare: Vec<Box<Nest>>,
+    spare: Vec<Box<Shell>>,
 }
 
 impl Model for Chain {
@@ -121,16 +121,23 @@ impl Chain {
         self.nest.owns(context)
     }
 
-    /// A box with nothing in it: that of something that has ended, if there is one.
-    fn spare_box(&mut self) -> Result<Box<Nest>, AllocError>
+    /// A layer with nothing begun in it, in the box of something that has ended, if there is one.
+    fn boxed(&mut self, layer: Layer) -> Result<Box<Shell>, AllocError>
         ensures same { self.new ≡ self.old }
-        ensures nothing { IfOk result (λ inner. layers_of inner.value ≡ []) }
+        ensures shell { IfOk result (λ s. (s.value.layer ≡ layer) × (layers_of s.value.inner ≡ [])) }
     {
         match self.spare.pop() {
-            None => Ok(Box::new(self.alloc, Nest::Nothing)?),
-            Some(mut inner) => {
-                *inner = Nest::Nothing;
-                Ok(inner)
+            None => Ok(Box::new(
+                self.alloc,
+                Shell {
+                    layer,
+                    inner: Nest::Nothing,
+                },
+            )?),
+            Some(mut shell) => {
+                shell.layer = layer;
+                shell.inner = Nest::Nothing;
+                Ok(shell)
             }
         }
     }
@@ -140,9 +147,8 @@ impl Chain {
         ensures { OnOk result (self.new ≡ layer ∷ self.old) }
     {
         let tally = self.tally.with(&layer)?;
-        let inner = self.spare_box()?;
-        let mut begun = Nest::Begun(layer, inner);
-        self.nest.put(&mut begun);
+        let begun = self.boxed(layer)?;
+        self.nest.put(begun);
         self.tally = tally;
         Ok(())
     }
@@ -151,12 +157,15 @@ impl Chain {
     pub(crate) fn end(&mut self)
         ensures { self.new ≡ drop 1 self.old }
     {
-        let mut ended = Nest::Nothing;
-        self.nest.end(&mut ended);
-        if let Nest::Begun(layer, inner) = ended {
-            self.tally = self.tally.without(&layer);
+        if let Some(mut shell) = self.nest.end() {
+            self.tally = self.tally.without(&shell.layer);
+            // what an iteration selected is let go
+            shell.layer = Layer::Loop {
+                number: 0,
+                context: 0,
+            };
             // a box that is not kept is let go
-            let _ = self.spare.push(inner);
+            let _ = self.spare.push(shell);
         }
     }
 

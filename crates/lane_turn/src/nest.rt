@@ -1,5 +1,5 @@
 //! What is in progress in boxes: each call, iteration and loop holds what was begun in it.
-ghost use Rattle.std.specs.Prelude.{◌≡◌, ◌+◌, ◌<◌, ◌^◌, ◌==◌, ◌++◌, [], length, IsTrue, ◌↔◌, drop, take, OnOk, slice_get, option_map, reverse};
+ghost use Rattle.std.specs.Prelude.{◌≡◌, ◌+◌, ◌<◌, ◌^◌, ◌==◌, ◌++◌, ◌∷◌, [], length, IsTrue, ◌↔◌, drop, OnOk, slice_get, option_map, reverse};
 ghost use Rattle.std.specs.List.{list_any};
 ghost use Rattle.lane_turn.specs.Quiet.{has_rest};
 ghost use Rattle.lane_turn.specs.Nest.{layers_of, frames_from, busy_layers, owns_layer, advanced_layers, taken_layers, top_of_layers, HasRoomLayers};
@@ -10,10 +10,19 @@ use std::alloc::AllocError;
 use std::mem;
 
 /// What is in progress, from the outermost inwards.
+#[cycle(nest)]
 #[derive(Drop)]
 pub enum Nest {
     Nothing,
-    Begun(Layer, Box<Nest>),
+    Begun(Box<Shell>),
+}
+
+/// One of the things in progress, round what was begun in it.
+#[cycle(nest)]
+#[derive(Drop)]
+pub struct Shell {
+    pub layer: Layer,
+    pub inner: Nest,
 }
 
 impl Nest {
@@ -34,11 +43,12 @@ impl Nest {
     {
         match self {
             Nest::Nothing => None,
-            Nest::Begun(layer, inner) => {
-                if inner.is_nothing() {
-                    Some(layer)
+            Nest::Begun(shell) => {
+                let shell = &**shell;
+                if shell.inner.is_nothing() {
+                    Some(&shell.layer)
                 } else {
-                    inner.innermost()
+                    shell.inner.innermost()
                 }
             }
         }
@@ -51,13 +61,14 @@ impl Nest {
     {
         match self {
             Nest::Nothing => Ok(()),
-            Nest::Begun(layer, inner) => {
-                match layer.blocks(context) {
+            Nest::Begun(shell) => {
+                let shell = &**shell;
+                match shell.layer.blocks(context) {
                     Some(id) => {
                         ids.push(id)?;
-                        inner.add_busy(context, ids)
+                        shell.inner.add_busy(context, ids)
                     }
-                    None => inner.add_busy(context, ids),
+                    None => shell.inner.add_busy(context, ids),
                 }
             }
         }
@@ -70,7 +81,10 @@ impl Nest {
     {
         match self {
             Nest::Nothing => false,
-            Nest::Begun(layer, inner) => layer.owns(context) || inner.owns(context),
+            Nest::Begun(shell) => {
+                let shell = &**shell;
+                shell.layer.owns(context) || shell.inner.owns(context)
+            }
         }
     }
 
@@ -81,10 +95,13 @@ impl Nest {
     {
         match self {
             Nest::Nothing => false,
-            Nest::Begun(layer, inner) => match layer.blocks(context) {
-                Some(blocked) => blocked == id || inner.blocks(context, id),
-                None => inner.blocks(context, id),
-            },
+            Nest::Begun(shell) => {
+                let shell = &**shell;
+                match shell.layer.blocks(context) {
+                    Some(blocked) => blocked == id || shell.inner.blocks(context, id),
+                    None => shell.inner.blocks(context, id),
+                }
+            }
         }
     }
 
@@ -96,41 +113,49 @@ impl Nest {
     {
         match self {
             Nest::Nothing => false,
-            Nest::Begun(layer, inner) => layer.has_rest(live, height, context)
-                || inner.has_rest(live, height + 1, context),
+            Nest::Begun(shell) => {
+                let shell = &**shell;
+                shell.layer.has_rest(live, height, context)
+                    || shell.inner.has_rest(live, height + 1, context)
+            }
         }
     }
 
     /// Puts what was begun elsewhere into what is innermost.
-    pub(crate) fn put(&mut self, begun: &mut Nest)
-        ensures { layers_of self.new ≡ layers_of begun.old ++ layers_of self.old }
+    pub(crate) fn put(&mut self, begun: Box<Shell>)
+        ensures { layers_of self.new ≡ layers_of begun.value.inner ++ begun.value.layer ∷ layers_of self.old }
     {
         match self {
-            Nest::Nothing => mem::swap(self, begun),
-            Nest::Begun(_, inner) => inner.put(begun),
+            Nest::Nothing => *self = Nest::Begun(begun),
+            Nest::Begun(shell) => {
+                let shell = &mut **shell;
+                shell.inner.put(begun);
+            }
         }
     }
 
-    /// Ends what is innermost, and hands it out with its box.
-    #[tactic(auto, using(crate::proofs::Layers::first_alone))]
-    pub(crate) fn end(&mut self, ended: &mut Nest)
-        requires { layers_of ended.old ≡ [] }
+    /// Ends what is innermost, and hands it out.
+    #[tactic(auto, using(crate::proofs::Layers::first_within, crate::proofs::Layers::rest_of_within))]
+    pub(crate) fn end(&mut self) -> Option<Box<Shell>>
         ensures left { layers_of self.new ≡ drop 1 (layers_of self.old) }
-        ensures ended { layers_of ended.new ≡ take 1 (layers_of self.old) }
+        ensures ended { option_map (λ s. s.value.layer) result ≡ slice_get (layers_of self.old) 0 }
     {
         match self {
-            Nest::Nothing => {}
-            Nest::Begun(_, inner) => {
-                if inner.is_nothing() {
-                    mem::swap(self, ended);
-                } else {
-                    inner.end(ended);
+            Nest::Nothing => None,
+            Nest::Begun(shell) => {
+                let shell = &mut **shell;
+                if !shell.inner.is_nothing() {
+                    return shell.inner.end();
+                }
+                match mem::replace(self, Nest::Nothing) {
+                    Nest::Nothing => None,
+                    Nest::Begun(ended) => Some(ended),
                 }
             }
         }
     }
 
-    /// What is innermost takes next, which is counted as taken.
+    /// What is innermost takes next, which is counted as taken. A result would be copied on the way back from each layer.
     #[tactic(auto, using(crate::proofs::Layers::first_within))]
     pub(crate) fn take(&mut self, live: &[Option<usize>], height: usize, top: &mut Top)
         ensures top { top.new ≡ top_of_layers live.now height (layers_of self.old) }
@@ -138,12 +163,13 @@ impl Nest {
     {
         match self {
             Nest::Nothing => *top = Top::Nothing,
-            Nest::Begun(layer, inner) => {
-                if inner.is_nothing() {
-                    *top = layer.next(live, height);
-                    layer.take();
+            Nest::Begun(shell) => {
+                let shell = &mut **shell;
+                if shell.inner.is_nothing() {
+                    *top = shell.layer.next(live, height);
+                    shell.layer.take();
                 } else {
-                    inner.take(live, height, top);
+                    shell.inner.take(live, height, top);
                 }
             }
         }
@@ -156,11 +182,12 @@ impl Nest {
     {
         match self {
             Nest::Nothing => {}
-            Nest::Begun(layer, inner) => {
-                if inner.is_nothing() {
-                    layer.advance();
+            Nest::Begun(shell) => {
+                let shell = &mut **shell;
+                if shell.inner.is_nothing() {
+                    shell.layer.advance();
                 } else {
-                    inner.advance();
+                    shell.inner.advance();
                 }
             }
         }

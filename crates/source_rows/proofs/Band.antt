@@ -1,9 +1,8 @@
 -- The part of an order where a tree stands has the tree's rows and no others.
-use Rattle.std.proofs.Common.{◌≡◌, ℕ, ℤ, ◌<◌, ◌≤◌, ◌==◌, Bool, true, false, not, cond, ◌||◌, ◌&&◌, Option, Some, List, [], ◌∷◌, map, map-id, filter, refl, ap, sym, ◌∙◌, arith, subst}
+use Rattle.std.proofs.Common.{◌≡◌, ℕ, ℤ, ◌<◌, ◌≤◌, ◌==◌, Bool, true, false, not, cond, ◌||◌, ◌&&◌, Some, List, [], ◌∷◌, map, map-id, filter, refl, ap, sym, ◌∙◌, arith}
 use Rattle.std.proofs.lemmas.Bool.Decides.{nat_tests}
 use Rattle.std.specs.Prelude.{slice_index}
 use Rattle.std.specs.List.{AllByRecursion, list_any}
-use Rattle.std.specs.Option.{IsSome}
 use Rattle.std.specs.declared.cmp.Ordering.{Ordering}
 use Rattle.std.specs.declared.cmp.Ordering.TheVariants.{Less, Equal, Greater}
 use Rattle.std.specs.Ordering.{is_lt, is_le, is_gt, ordering_then, ordering_reverse, int_cmp, nat_cmp}
@@ -149,14 +148,6 @@ moved_tree id z n rows =
     moved_each id z n (filter (is_under id) (in_order rows)) (all_passed (λ r. is_under id r ≡ is_under id r) (λ r. is_under id r ≡ true) (is_under id) (λ r k e. e) (in_order rows) (all_true (λ r. is_under id r ≡ is_under id r) (λ r. refl) (in_order rows)))
 
 -- ---- the changed rows put into the table
-
-some_each : (g : Row → Row) → ((r : Row) → (g r).id ≡ r.id) → (rows qs : List Row) → AllByRecursion (λ q. row_of q.id rows ≡ Some q) qs → AllByRecursion (λ r. IsSome (row_of r.id rows)) (map g qs)
-some_each g h rows [] k = tt
-some_each g h rows (q ∷ qs) k =
-    (subst (λ (i : ℕ). IsSome (row_of i rows)) (sym (h q)) (subst (λ (o : Option Row). IsSome o) (sym k.0) refl), some_each g h rows qs k.1)
-
-pub tree_there : (p : Row → Bool) (g : Row → Row) → ((r : Row) → (g r).id ≡ r.id) → (rows : List Row) → IdsRise rows → AllByRecursion (λ r. IsSome (row_of r.id rows)) (map g (filter p (in_order rows)))
-tree_there p g h rows r = some_each g h rows (filter p (in_order rows)) (among (λ q. row_of q.id rows ≡ Some q) p rows (all_found rows r))
 
 abbrev last_of : List Row → Row → Row
 last_of [] q = q

@@ -1,58 +1,55 @@
--- The rows of ids, and rows put in others' places.
-use Rattle.std.proofs.Common.{◌≡◌, ℕ, ◌<◌, ◌+◌, ◌==◌, Bool, true, false, cond, Option, Some, None, List, [], ◌∷◌, ◌++◌, drop, length, get_or, refl, ap, ◌∙◌, subst}
+-- The rows of ids, as rows are put in others' places.
+use Rattle.std.proofs.Common.{◌≡◌, ◌≢◌, ℕ, ℤ, ◌<◌, ◌+◌, ◌==◌, Bool, true, false, cond, Option, Some, None, List, [], ◌∷◌, drop, length, map, get_or, refl, ap, sym, ◌∙◌, subst}
 use Rattle.std.proofs.lemmas.List.{drop_more}
 use Rattle.std.specs.List.{AllByRecursion, cons_option}
-use Rattle.std.specs.Option.{IsSome}
 use Rattle.source_rows.specs.declared.row.Row.{Row}
 use Rattle.source_rows.specs.Rows.{row_of, changed}
 use Rattle.source_rows.specs.InOrder.{rows_of}
-use Rattle.source_rows.specs.Moves.{with_each}
-use Rattle.source_rows.proofs.Compared.{are_same}
-use Rattle.source_rows.proofs.Lists.{all_of, cons_join}
-use Rattle.source_rows.proofs.Placing.{no_row}
+use Rattle.source_rows.specs.Moves.{with_each, moved_row, NoneTwice}
+use Rattle.source_rows.proofs.Compared.{are_same, not_same}
+use Rattle.source_rows.proofs.Kept.{found_id}
 
--- one more id
-pub named_push : (table : List Row) (ids : List ℕ) (id : ℕ) → rows_of table (ids ++ id ∷ []) ≡ rows_of table ids ++ cons_option (row_of id table) []
-named_push table [] id = refl
-named_push table (n ∷ ids) id = ap (cons_option (row_of n table)) (named_push table ids id) ∙ cons_join (row_of n table) (rows_of table ids) (cons_option (row_of id table) [])
+-- a row put in another's place is not that of another id
+other_by : (n : ℕ) (d q : Row) (s t : Option Row) → d.id ≢ n → s ≡ t → (b : Bool) → (q.id == d.id) ≡ b → cond ((cond b d q).id == n) (Some (cond b d q)) s ≡ cond (q.id == n) (Some q) t
+other_by n d q s t h ih true e =
+    let same : q.id ≡ d.id = are_same q.id d.id e in
+    let other : (d.id == n) ≡ false = not_same d.id n h in
+    let mine : (q.id == n) ≡ false = ap (λ (m : ℕ). m == n) same ∙ other in
+    rw (other, mine) ih
+other_by n d q s t h ih false e = ap (cond (q.id == n) (Some q)) ih
 
-pub named_none : (table : List Row) (ids : List ℕ) (id : ℕ) → row_of id table ≡ None → rows_of table (ids ++ id ∷ []) ≡ rows_of table ids
-named_none table [] id h = ap (λ (o : Option Row). cons_option o []) h
-named_none table (n ∷ ids) id h = ap (cons_option (row_of n table)) (named_none table ids id h)
+other : (n : ℕ) (d : Row) (rows : List Row) → d.id ≢ n → row_of n (changed d.id (λ _. d) rows) ≡ row_of n rows
+other n d [] h = refl
+other n d (q ∷ rows) h = other_by n d q (row_of n (changed d.id (λ _. d) rows)) (row_of n rows) h (other n d rows h) (q.id == d.id) refl
 
--- ---- rows put in others' places
+others : (d : Row) (rows : List Row) (ids : List ℕ) → AllByRecursion (λ n. d.id ≢ n) ids → rows_of (changed d.id (λ _. d) rows) ids ≡ rows_of rows ids
+others d rows [] h = refl
+others d rows (n ∷ ids) h = ap (cons_option (row_of n (changed d.id (λ _. d) rows))) (others d rows ids h.1) ∙ ap (λ (o : Option Row). cons_option o (rows_of rows ids)) (other n d rows h.0)
 
--- a row put in another's place leaves a row of each id
-there_by : (id : ℕ) (row q : Row) (s t : Option Row) (b : Bool) → (q.id == row.id) ≡ b → (IsSome s → IsSome t) → IsSome (cond (q.id == id) (Some q) s) → IsSome (cond ((cond b row q).id == id) (Some (cond b row q)) t)
-there_by id row q s t false e ih h = by_test (q.id == id) h
-  where
-    by_test : (v : Bool) → IsSome (cond v (Some q) s) → IsSome (cond v (Some q) t)
-    by_test true k = refl
-    by_test false k = ih k
-there_by id row q s t true e ih h =
-    let same : q.id ≡ row.id = are_same q.id row.id e in
-    subst (λ (n : ℕ). IsSome (cond (n == id) (Some row) t)) same (by_test (q.id == id) h)
-  where
-    by_test : (v : Bool) → IsSome (cond v (Some q) s) → IsSome (cond v (Some row) t)
-    by_test true k = refl
-    by_test false k = ih k
+-- what is left to be moved, once the first of it is
+pub record Moves (root : ℕ) (z : ℤ) (order : ℕ) (all rows now : List Row) (ids : List ℕ) : Type 0 where
+  pub apart : NoneTwice ids
+  pub same : with_each (map (moved_row root z order) (rows_of now ids)) now ≡ with_each (map (moved_row root z order) all) rows
 
-there : (id : ℕ) (row : Row) (rows : List Row) → IsSome (row_of id rows) → IsSome (row_of id (changed row.id (λ _. row) rows))
-there id row [] h = h
-there id row (q ∷ rows) h = there_by id row q (row_of id rows) (row_of id (changed row.id (λ _. row) rows)) (q.id == row.id) refl (there id row rows) h
-
-pub record Puts (rs rows : List Row) (i : ℕ) (d : Row) : Type 0 where
-  pub row : IsSome (row_of d.id rows)
-  pub there : AllByRecursion (λ r. IsSome (row_of r.id (changed d.id (λ _. d) rows))) (drop (i + 1) rs)
-  pub same : with_each (drop i rs) rows ≡ with_each (drop (i + 1) rs) (changed d.id (λ _. d) rows)
-
-pub puts : (rs rows : List Row) (i : ℕ) → i < length rs → AllByRecursion (λ r. IsSome (row_of r.id rows)) (drop i rs) → Puts rs rows i (get_or rs i no_row)
-puts rs rows i less h =
-    let e = drop_more rs i no_row less in
-    let k = subst (AllByRecursion (λ r. IsSome (row_of r.id rows))) e h in
-    let d = get_or rs i no_row in
+pub moves_one : (root : ℕ) (z : ℤ) (order : ℕ) (rows : List Row) (ids : List ℕ) (i : ℕ) (r : Row) → i < length ids → NoneTwice (drop i ids) → row_of (get_or ids i 0) rows ≡ Some r
+    → Moves root z order (rows_of rows (drop i ids)) rows (changed r.id (λ _. moved_row root z order r) rows) (drop (i + 1) ids)
+moves_one root z order rows ids i r less apart is =
+    let e = drop_more ids i 0 less in
+    let d : Row = moved_row root z order r in
+    let far = subst NoneTwice e apart in
+    let here : r.id ≡ get_or ids i 0 = found_id (get_or ids i 0) r rows is in
+    let rest = subst (λ (n : ℕ). AllByRecursion (λ m. n ≢ m) (drop (i + 1) ids)) (sym here) far.0 in
+    let all : rows_of rows (drop i ids) ≡ r ∷ rows_of rows (drop (i + 1) ids) = ap (rows_of rows) e ∙ ap (λ (o : Option Row). cons_option o (rows_of rows (drop (i + 1) ids))) is in
     record {
-      row = k.0;
-      there = all_of (λ r. IsSome (row_of r.id rows)) (λ r. IsSome (row_of r.id (changed d.id (λ _. d) rows))) (λ r. there r.id d rows) (drop (i + 1) rs) k.1;
-      same = ap (λ (xs : List Row). with_each xs rows) e;
+      apart = far.1;
+      same =
+          ap (λ (xs : List Row). with_each (map (moved_row root z order) xs) (changed r.id (λ _. d) rows)) (others d rows (drop (i + 1) ids) rest)
+          ∙ sym (ap (λ (xs : List Row). with_each (map (moved_row root z order) xs) rows) all);
     }
+
+pub moves_none : (root : ℕ) (z : ℤ) (order : ℕ) (rows : List Row) (ids : List ℕ) (i : ℕ) → i < length ids → NoneTwice (drop i ids) → row_of (get_or ids i 0) rows ≡ None
+    → Moves root z order (rows_of rows (drop i ids)) rows rows (drop (i + 1) ids)
+moves_none root z order rows ids i less apart is =
+    let e = drop_more ids i 0 less in
+    let all : rows_of rows (drop i ids) ≡ rows_of rows (drop (i + 1) ids) = ap (rows_of rows) e ∙ ap (λ (o : Option Row). cons_option o (rows_of rows (drop (i + 1) ids))) is in
+    record { apart = (subst NoneTwice e apart).1; same = sym (ap (λ (xs : List Row). with_each (map (moved_row root z order) xs) rows) all) }

@@ -3,12 +3,13 @@ use Rattle.std.proofs.Common.{◌≡◌, ◌≤◌, ◌<◌, ◌^◌, ◌+◌, �
 use Rattle.std.specs.List.{AllByRecursion, list_any}
 use Rattle.std.specs.Ordering.{is_eq}
 use Rattle.slab.specs.Slab.{Slab}
+use Rattle.loop_script.specs.Bounds.{count_end}
 use Rattle.source_rows.specs.declared.row.Row.{Row}
 use Rattle.source_rows.specs.Inserted.{inserted, Rises}
 use Rattle.source_rows.specs.Rows.{key_of, row_of, has_id, changed}
 use Rattle.source_rows.specs.Slots.{rows_at, IsTable}
 use Rattle.source_rows.specs.declared.seats.Seat.{Seat}
-use Rattle.source_rows.specs.Seats.{seat_cmp, is_ahead, is_other, stays, swapped, without, replaced, seat_of, in_seats, IsLow, IsSeated}
+use Rattle.source_rows.specs.Seats.{seat_cmp, is_ahead, is_other, stays, swapped, without, replaced, seat_of, in_seats, fewest, IsLow, IsSeated}
 use Rattle.source_rows.specs.Tree.{IdsRise}
 use Rattle.source_rows.proofs.SeatTree.{length_inserted, length_filter}
 use Rattle.source_rows.proofs.Filled.{few_before, rises_rows_at}
@@ -73,6 +74,19 @@ put_seated rows new row old ss us h rising f n e low =
           omega (arith, now, before, few);
       low = low;
     }
+
+-- a row that keeps its key has its seat changed where it stands
+pub set_seated : (rows new : List Row) (row old : Row) (ss us : List Seat × ℕ) → IsSeated rows ss → IdsRise rows → row_of row.id rows ≡ Some old → new ≡ changed row.id (λ _. row) rows → key_of row ≡ key_of old
+    → us.0 ≡ swapped (seat_of old) (seat_of row) ss.0 → us.1 ≡ ss.1 → IsSeated new us
+set_seated rows new row old ss us h rising f n k e height =
+    let are : us.0 ≡ in_seats new = e ∙ (ap (swapped (seat_of old) (seat_of row)) h.are ∙ (sym (in_seats-swapped row old rows k rising f) ∙ ap in_seats (sym n))) in
+    let now = ap (λ (l : List Seat). length l) are ∙ (length_in_seats new ∙ (ap (λ (l : List Row). length l) n ∙ length_changed row.id (λ _. row) rows)) in
+    let before = ap (λ (l : List Seat). length l) h.are ∙ length_in_seats rows in
+    let same : length us.0 ≡ length ss.0 = now ∙ sym before in
+    record { are = are; few = subst (λ (n : ℕ). n ≤ count_end) (sym same) h.few; low = low_of us ss same height h.low }
+  where
+    low_of : (us ss : List Seat × ℕ) → length us.0 ≡ length ss.0 → us.1 ≡ ss.1 → IsLow ss → IsLow us
+    low_of us ss same height low = (subst (λ (n : ℕ). n ≤ length us.0) (sym height) (subst (λ (n : ℕ). ss.1 ≤ n) (sym same) low.0), subst (λ (n : ℕ). fewest n ≤ length us.0) (sym height) (subst (λ (n : ℕ). fewest ss.1 ≤ n) (sym same) low.1))
 
 pub there_seated : (rows : List Row) (id : ℕ) (old : Row) (ss : List Seat × ℕ) → IsSeated rows ss → row_of id rows ≡ Some old → list_any (λ u. is_eq (seat_cmp (seat_of old) u)) ss.0 ≡ true
 there_seated rows id old ss h f = ap (list_any (λ u. is_eq (seat_cmp (seat_of old) u))) h.are ∙ seated id old rows f

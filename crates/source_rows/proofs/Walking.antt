@@ -126,11 +126,10 @@ nothing_behind [] ys e = e
 nothing_behind (x ∷ xs) ys e = cc
 
 -- a step of a walk: what was left is a seat and what is left then, which begins with what is known of the rest
-pub stepped : (after : Option Key) (all : List Seat) (s : Seat) (key : Key) (more path : List Seat) → KeysRise all → Begins (behind_key after all) (s ∷ more) → key ≡ s.key → Begins more path
-    → (behind_key after all ≡ s ∷ behind_key (Some key) all) × Begins (behind_key (Some key) all) path
-stepped after all s key more path h b e p =
-    let tail : behind_key (Some s.key) all ≡ more ++ b.rest = behind_first after all s (more ++ b.rest) h b.is in
-    let now : behind_key (Some key) all ≡ more ++ b.rest = ap (λ (k : Key). behind_key (Some k) all) e ∙ tail in (
+pub stepped : (after : Option Key) (all : List Seat) (s : Seat) (more path : List Seat) → KeysRise all → Begins (behind_key after all) (s ∷ more) → Begins more path
+    → (behind_key after all ≡ s ∷ behind_key (Some s.key) all) × Begins (behind_key (Some s.key) all) path
+stepped after all s more path h b p =
+    let now : behind_key (Some s.key) all ≡ more ++ b.rest = behind_first after all s (more ++ b.rest) h b.is in (
       b.is ∙ ap (λ (l : List Seat). s ∷ l) (sym now),
       subst (λ (l : List Seat). Begins l path) (sym now) (record { rest = p.rest ++ b.rest; is = ap (λ (l : List Seat). l ++ b.rest) p.is ∙ append_assoc path p.rest b.rest }),
     )

@@ -1,8 +1,13 @@
 -- Rows put in the places of others.
-use Rattle.std.specs.Prelude.{◌==◌, List, [], ◌∷◌, slice_set, if◌then◌else◌}
+use Rattle.std.specs.Prelude.{◌≢◌, ◌==◌, List, [], ◌∷◌, slice_set, if◌then◌else◌}
 use Rattle.source_rows.specs.declared.row.Row.{Row}
+use Rattle.source_rows.specs.Lists.{Pairs}
 use Rattle.source_rows.specs.Rows.{changed}
 use Rattle.loop_script.specs.Units.{SourceId, Priority, Order}
+
+-- no id stands twice
+abbrev pub NoneTwice : List SourceId → Type 0
+NoneTwice ids = Pairs (λ a b. a ≢ b) ids
 
 -- the table with each of the rows in the place of the one that has its id
 abbrev pub with_each : List Row → List Row → List Row

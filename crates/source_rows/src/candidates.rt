@@ -15,7 +15,7 @@ ghost use Rattle.source_rows.specs.Tree.{IsForest, parent_of};
 ghost use Rattle.source_rows.specs.Candidates.{is_awake};
 ghost use Rattle.source_rows.specs.Steps.{IsStep, IsWalk, HasLeft, Looks, left_of, comes, wakes, nearer, parent_at, is_above_last};
 
-use crate::row::Row;
+use crate::row::{Key, Row};
 use crate::table::Table;
 use crate::walk::Walk;
 use std::iter::Iterator;
@@ -123,7 +123,7 @@ fn look<'a>(seats: &mut Walk<'a>, table: &'a Table, last: Option<&'a Row>, now: 
 }
 
 /// Where the last row stands.
-fn last_key(last: Option<&Row>) -> Option<(i32, [u64; 4])>
+fn last_key(last: Option<&Row>) -> Option<Key>
     ensures { result ≡ option_map key_of (option_copied last.entry) }
 {
     match last {

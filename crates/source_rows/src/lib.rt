@@ -13,6 +13,7 @@ mod laws;
 mod levels;
 mod moves;
 mod removal;
+mod room;
 mod row;
 mod rows;
 mod search;

@@ -4,11 +4,11 @@ ghost use Rattle.std.specs.List.{AllByRecursion};
 ghost use Rattle.source_rows.specs.Rows.{row_of, is_under};
 ghost use Rattle.source_rows.specs.Removal.{StandNear, AreDistinct};
 
-use crate::row::Row;
+use crate::row::{Key, Row};
 use crate::table::Table;
 
 /// The last row up to a key, where it is under an id.
-fn last_under(table: &Table, key: (i32, [u64; 4]), id: u64) -> Option<Row>
+fn last_under(table: &Table, key: Key, id: u64) -> Option<Row>
     requires distinct { AreDistinct table.now }
     requires near { StandNear id key table.now }
     ensures some { IfSome result (λ r. row_of r.id table.now ≡ Some r) }
@@ -25,7 +25,7 @@ fn last_under(table: &Table, key: (i32, [u64; 4]), id: u64) -> Option<Row>
 }
 
 /// Takes a row away with all that are under it: these stand right before it, up to its key.
-pub(crate) fn remove_under(table: &mut Table, key: (i32, [u64; 4]), id: u64)
+pub(crate) fn remove_under(table: &mut Table, key: Key, id: u64)
     requires distinct { AreDistinct table.old }
     requires near { StandNear id key table.old }
     ensures { table.new ≡ filter (λ r. not (is_under id r)) table.old }

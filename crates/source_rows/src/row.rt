@@ -13,6 +13,9 @@ use crate::seats::{NEVER, Seat};
 use loop_script::{Kind, SourceSpec};
 use std::cmp::Ordering;
 
+/// Where a row stands: a priority, and in it a path.
+pub(crate) type Key = (i32, [u64; 4]);
+
 /// What is kept of a source.
 #[derive(Clone, Copy, Debug, PartialEq, Eq)]
 pub struct Row {
@@ -54,7 +57,7 @@ impl Row {
     }
 
     /// Where the row stands: by priority, and then by its path.
-    pub(crate) fn key(&self) -> (i32, [u64; 4])
+    pub(crate) fn key(&self) -> Key
         ensures { result ≡ key_of self.now }
     {
         let path = self.path;
@@ -91,7 +94,7 @@ impl Row {
     }
 
     /// The least and the greatest key of a row in the tree of a root.
-    pub(crate) fn tree_keys(&self) -> ((i32, [u64; 4]), (i32, [u64; 4]))
+    pub(crate) fn tree_keys(&self) -> (Key, Key)
         ensures { result ≡ (first_key self.now, last_key self.now) }
     {
         let front = self.path[0];

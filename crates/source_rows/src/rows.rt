@@ -16,7 +16,7 @@ use crate::candidates::Candidates;
 use crate::fault::RowsFault;
 use crate::in_order::{InOrder, Ordered};
 use crate::levels::Levels;
-use crate::moves::{moved_rows, put_rows, rows_between};
+use crate::moves::move_rows;
 use crate::removal::remove_under;
 use crate::row::{Row, make_child, make_root};
 use crate::table::Table;
@@ -191,10 +191,14 @@ impl Rows {
         ensures err { OnErr result (self.new ≡ self.old) }
     {
         let (first, last) = root.tree_keys();
-        let found = rows_between(self.alloc, &self.table, first, last)?;
-        let tree = found.as_slice();
-        let made = moved_rows(self.alloc, tree, root.id, priority, self.next_order)?;
-        put_rows(&mut self.table, made.as_slice());
+        let ids = self.table.ids_between(first, last)?;
+        move_rows(
+            &mut self.table,
+            ids.as_slice(),
+            root.id,
+            priority,
+            self.next_order,
+        );
         self.next_order += 1;
         Ok(())
     }

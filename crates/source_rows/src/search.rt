@@ -8,13 +8,14 @@ ghost use Rattle.source_rows.specs.Rows.{key_cmp};
 ghost use Rattle.source_rows.specs.Seats.{is_ahead, first_awake, next_due, due_after, is_passed};
 ghost use Rattle.source_rows.specs.LastTo.{stands_to, IsLastTo};
 
+use crate::row::Key;
 use crate::seats::{NEVER, Seat, Seats, lesser};
 use std::alloc::AllocError;
 use std::cmp::Ordering;
 
 impl Seats {
     /// The id of the first seat behind a key that wakes by a time.
-    pub fn first_awake(&self, after: Option<(i32, [u64; 4])>, now: u64) -> Option<u64>
+    pub fn first_awake(&self, after: Option<Key>, now: u64) -> Option<u64>
         requires { Rises is_ahead self.now.0 }
         ensures { result ≡ first_awake after now self.now.0 }
     {
@@ -62,16 +63,16 @@ impl Seats {
     }
 
     /// The last seat that does not stand behind a key.
-    pub fn last_to(&self, key: (i32, [u64; 4])) -> Option<&Seat>
+    pub fn last_to(&self, key: &Key) -> Option<&Seat>
         requires { Rises is_ahead self.now.0 }
-        ensures some { IfSome result (λ s. IsLastTo key self.now.0 s.now) }
-        ensures none { IfNone result (AllByRecursion (λ u. stands_to key u ≡ false) self.now.0) }
+        ensures some { IfSome result (λ s. IsLastTo key.now self.now.0 s.now) }
+        ensures none { IfNone result (AllByRecursion (λ u. stands_to key.now u ≡ false) self.now.0) }
     {
         match &self.root {
             None => None,
             Some(fork) => {
                 let fork = &**fork;
-                if is_before(key, fork.seat.place()) {
+                if is_before(key, &fork.seat.key) {
                     return fork.sooner.last_to(key);
                 }
                 match fork.later.last_to(key) {
@@ -83,20 +84,15 @@ impl Seats {
     }
 
     /// Adds the ids of the seats that stand between two keys, or at them, in order.
-    pub fn add_between(
-        &self,
-        first: (i32, [u64; 4]),
-        last: (i32, [u64; 4]),
-        ids: &mut Vec<u64>,
-    ) -> Result<(), AllocError>
+    pub fn add_between(&self, first: &Key, last: &Key, ids: &mut Vec<u64>) -> Result<(), AllocError>
         requires { Rises is_ahead self.now.0 }
-        ensures { OnOk result (ids.new.items ≡ ids.old.items ++ map (λ s. s.id) (filter (is_between first last) self.now.0)) }
+        ensures { OnOk result (ids.new.items ≡ ids.old.items ++ map (λ s. s.id) (filter (is_between first.now last.now) self.now.0)) }
     {
         match &self.root {
             None => Ok(()),
             Some(fork) => {
                 let fork = &**fork;
-                let key = fork.seat.place();
+                let key = &fork.seat.key;
                 if is_before(key, first) {
                     return fork.later.add_between(first, last, ids);
                 }
@@ -112,10 +108,10 @@ impl Seats {
 }
 
 /// Whether a key stands before another.
-pub(crate) fn is_before(a: (i32, [u64; 4]), b: (i32, [u64; 4])) -> bool
-    ensures { result ≡ is_lt (key_cmp a b) }
+pub(crate) fn is_before(a: &Key, b: &Key) -> bool
+    ensures { result ≡ is_lt (key_cmp a.now b.now) }
 {
-    match a.cmp(&b) {
+    match a.cmp(b) {
         Ordering::Less => true,
         _ => false,
     }
@@ -130,7 +126,7 @@ fn due_after(now: u64, seat: &Seat) -> u64
 }
 
 /// Whether a key does not stand behind another.
-pub(crate) fn is_passed(after: Option<(i32, [u64; 4])>, key: (i32, [u64; 4])) -> bool
+pub(crate) fn is_passed(after: Option<Key>, key: Key) -> bool
     ensures { result ≡ is_passed after key }
 {
     match after {

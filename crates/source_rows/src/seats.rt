@@ -9,10 +9,11 @@ ghost use Rattle.std.specs.Ordering.{is_eq};
 ghost use Rattle.source_rows.specs.Inserted.{inserted, Rises};
 ghost use Rattle.source_rows.specs.Seats.{seat_cmp, is_ahead, without, first_awake, next_due, due_after, least_of, lesser, is_passed, is_other, stays, swapped, replaced, IsLow};
 ghost use Rattle.source_rows.specs.Candidates.{never};
-ghost use Rattle.source_rows.specs.SeatTree.{seats_of, seen_of, IsEvenFork, IsEven, IsLowered};
+ghost use Rattle.source_rows.specs.SeatTree.{seats_of, IsEvenFork, IsLowered};
 
 use crate::balance::{balance, remove_root};
-use std::alloc::{AllocError, Global};
+use crate::room::Room;
+use crate::row::Key;
 use std::cmp::Ordering;
 use std::marker::Model;
 use std::mem;
@@ -20,7 +21,7 @@ use std::mem;
 /// Where a row stands in the order, and its times in microseconds: `NEVER` where it has no ready time.
 #[derive(Clone, Copy, PartialEq, Eq, PartialOrd, Ord)]
 pub(crate) struct Seat {
-    pub(crate) key: (i32, [u64; 4]),
+    pub(crate) key: Key,
     pub(crate) id: u64,
     /// From when on the row may be ready.
     pub(crate) wake: u64,
@@ -58,12 +59,6 @@ pub(crate) struct Least {
     pub(crate) due: u64,
 }
 
-/// Room for one seat.
-#[derive(Drop)]
-pub(crate) struct Room {
-    pub(crate) fork: Box<Fork>,
-}
-
 impl Model for Seats {
     ghost use Rattle.std.specs.Prelude.{ℕ, List, length};
     ghost use Rattle.source_rows.specs.declared.seats.Seat.{Seat};
@@ -83,41 +78,9 @@ impl Model for Seats {
     ghost size_decreases = { λ a h. Prim.grind (arith, length-append) };
 }
 
-impl Seat {
-    /// Where the row stands.
-    #[inline]
-    pub(crate) fn place(&self) -> (i32, [u64; 4])
-        ensures { result ≡ self.now.key }
-    {
-        self.key
-    }
-}
-
-impl Room {
-    pub fn new(alloc: Global) -> Result<Room, AllocError> {
-        let nobody = Seat {
-            key: (0, [0; 4]),
-            id: 0,
-            wake: NEVER,
-            due: NEVER,
-        };
-        let fork = Box::new(alloc, Fork::alone(nobody))?;
-        Ok(Room { fork })
-    }
-
-    /// A tree of a seat and nothing else.
-    fn fill(mut self, seat: Seat) -> Box<Fork>
-        ensures seats { seen_of (Some result) ≡ (seat ∷ [], 1) }
-        ensures even { IsEven (Some result) }
-    {
-        *self.fork = Fork::alone(seat);
-        self.fork
-    }
-}
-
 impl Fork {
     /// A seat and nothing else.
-    fn alone(seat: Seat) -> Fork
+    pub(crate) fn alone(seat: Seat) -> Fork
         ensures seats { seats_of result ≡ seat ∷ [] }
         ensures even { IsEvenFork result }
         ensures height { result.height ≡ 1 }
@@ -290,7 +253,7 @@ impl Seats {
     }
 
     /// Puts another seat where one stands, and answers whether the least times may be others.
-    fn set(&mut self, before: &Seat, after: &Seat) -> bool
+    pub fn set(&mut self, before: &Seat, after: &Seat) -> bool
         requires { Rises is_ahead self.old.0 }
         ensures seats { self.new.0 ≡ swapped before.now after.now self.old.0 }
         ensures height { self.new.1 ≡ self.old.1 }

@@ -15,8 +15,9 @@ ghost use Rattle.source_rows.specs.Slots.{AllNamed, MayAsk, asks};
 ghost use Rattle.source_rows.specs.Walk.{rows_behind};
 
 use crate::guesses::Guesses;
-use crate::row::Row;
-use crate::seats::{NEVER, Room, Seats};
+use crate::room::Room;
+use crate::row::{Key, Row};
+use crate::seats::{NEVER, Seats};
 use crate::walk::Walk;
 use slab::Slab;
 use std::alloc::{AllocError, Global};
@@ -129,14 +130,14 @@ impl Table {
     }
 
     /// The id of the first row behind a key that may be ready at `now`.
-    pub fn first_awake(&self, after: Option<(i32, [u64; 4])>, now: u64) -> Option<u64>
+    pub fn first_awake(&self, after: Option<Key>, now: u64) -> Option<u64>
         ensures { result ≡ first_awake after now (in_seats self.now) }
     {
         self.seats.first_awake(after, now)
     }
 
     /// The seats of the rows that stand behind a key, or of all, in order.
-    pub fn walk(&self, after: Option<(i32, [u64; 4])>) -> Walk<'_>
+    pub fn walk(&self, after: Option<Key>) -> Walk<'_>
         requires { AllApart self.now }
         ensures { result ≡ map seat_of (rows_behind after self.now) }
     {
@@ -144,25 +145,21 @@ impl Table {
     }
 
     /// The last row that does not stand behind a key.
-    pub fn last_to(&self, key: (i32, [u64; 4])) -> Option<&Row>
+    pub fn last_to(&self, key: Key) -> Option<&Row>
         ensures some { IfSome result (λ r. IsLastRow key self.now r.now) }
         ensures none { IfNone result (AllByRecursion (λ r. is_gt (key_cmp (key_of r) key) ≡ true) self.now) }
     {
-        let seat = self.seats.last_to(key)?;
+        let seat = self.seats.last_to(&key)?;
         self.found(seat.id)
     }
 
     /// The ids of the rows that stand between two keys, or at them, in order.
-    pub fn ids_between(
-        &self,
-        first: (i32, [u64; 4]),
-        last: (i32, [u64; 4]),
-    ) -> Result<Vec<u64>, AllocError>
+    pub fn ids_between(&self, first: Key, last: Key) -> Result<Vec<u64>, AllocError>
         requires { AllApart self.now }
         ensures { IfOk result (λ ids. ids.items ≡ map (λ r. r.id) (filter (stands_between first last) (in_order self.now))) }
     {
         let mut ids = Vec::new(self.alloc);
-        self.seats.add_between(first, last, &mut ids)?;
+        self.seats.add_between(&first, &last, &mut ids)?;
         Ok(ids)
     }
 
@@ -234,7 +231,7 @@ impl Table {
                 let before = slot.seat();
                 slot.ready = ready;
                 let after = slot.seat();
-                self.seats.replace(&before, &after);
+                let _ = self.seats.set(&before, &after);
                 return true;
             }
         }

@@ -4,8 +4,9 @@ ghost use Rattle.std.specs.Iterator.{at_most};
 ghost use Rattle.std.specs.Map.Iter.{TakesFirst};
 ghost use Rattle.source_rows.specs.Inserted.{Rises};
 ghost use Rattle.source_rows.specs.Seats.{is_ahead};
-ghost use Rattle.source_rows.specs.Walk.{Begins, KeysRise, behind_key};
+ghost use Rattle.source_rows.specs.Walk.{Begins, KeysRise, behind_key, after_of};
 
+use crate::row::Key;
 use crate::search::is_passed;
 use crate::seats::{Fork, Seat, Seats};
 use std::iter::Iterator;
@@ -27,13 +28,13 @@ impl<'a> Model for Path<'a> {
     ghost use Rattle.std.specs.Prelude.{List, ◌≡◌, ◌≤◌, drop, length, IsSome};
     ghost use Rattle.std.specs.List.{AllByRecursion};
     ghost use Rattle.source_rows.specs.declared.seats.Seat.{Seat};
-    ghost use Rattle.source_rows.specs.Walk.{over};
+    ghost use Rattle.source_rows.specs.Walk.{most_kept, over};
 
     ghost Value = { List Seat };
 
     ghost view = { λ p. over (drop p.top p.above) };
 
-    ghost invariant = { λ p. (length p.above ≡ 32) × (p.top ≤ 32) × AllByRecursion (λ f. IsSome f) (drop p.top p.above) };
+    ghost invariant = { λ p. (length p.above ≡ most_kept) × (p.top ≤ most_kept) × AllByRecursion (λ f. IsSome f) (drop p.top p.above) };
 }
 
 impl<'a> Path<'a> {
@@ -85,7 +86,7 @@ impl<'a> Path<'a> {
     }
 
     /// Goes to the first of some seats that stands behind a key.
-    fn seek(&mut self, seats: &'a Seats, after: Option<(i32, [u64; 4])>)
+    fn seek(&mut self, seats: &'a Seats, after: Option<Key>)
         requires { Rises is_ahead seats.now.0 }
         ensures begins { Begins (behind_key after seats.now.0 ++ self.old) self.new }
         ensures none { self.new ≡ [] → behind_key after seats.now.0 ++ self.old ≡ [] }
@@ -103,18 +104,39 @@ impl<'a> Path<'a> {
 
     /// Comes back from the sooner side of a fork, which is sought where it was forgotten.
     #[inline]
-    fn next_fork(&mut self, seats: &'a Seats, after: Option<(i32, [u64; 4])>) -> Option<&'a Fork>
+    fn next_fork(&mut self, seats: &'a Seats, after: &After<'a>) -> Option<&'a Fork>
         requires rises { Rises is_ahead seats.now.0 }
-        requires begins { Begins (behind_key after seats.now.0) self.old }
-        ensures some { IfSome result (λ f. Begins (behind_key after seats.now.0) (f.now.seat ∷ f.now.later.0 ++ self.new)) }
-        ensures none { IfNone result ((behind_key after seats.now.0 ≡ []) × (self.new ≡ [])) }
+        requires begins { Begins (behind_key (after_of after.now) seats.now.0) self.old }
+        ensures some { IfSome result (λ f. Begins (behind_key (after_of after.now) seats.now.0) (f.now.seat ∷ f.now.later.0 ++ self.new)) }
+        ensures none { IfNone result ((behind_key (after_of after.now) seats.now.0 ≡ []) × (self.new ≡ [])) }
     {
         match self.pop() {
             None => {
-                self.seek(seats, after);
+                self.seek(seats, after.key());
                 self.pop()
             }
             fork => fork,
+        }
+    }
+}
+
+/// How far a walk has come.
+#[derive(Drop)]
+struct After<'a> {
+    /// The key behind which it began, if not at the first seat.
+    first: Option<Key>,
+    /// The seat that came last.
+    last: Option<&'a Seat>,
+}
+
+impl<'a> After<'a> {
+    /// The key behind which all stand that are left.
+    fn key(&self) -> Option<Key>
+        ensures { result ≡ after_of self.now }
+    {
+        match self.last {
+            None => self.first,
+            Some(seat) => Some(seat.key),
         }
     }
 }
@@ -123,7 +145,7 @@ impl<'a> Path<'a> {
 #[derive(Drop)]
 pub(crate) struct Walk<'a> {
     seats: &'a Seats,
-    after: Option<(i32, [u64; 4])>,
+    after: After<'a>,
     path: Path<'a>,
 }
 
@@ -132,25 +154,28 @@ impl<'a> Model for Walk<'a> {
     ghost use Rattle.source_rows.specs.declared.seats.Seat.{Seat};
     ghost use Rattle.source_rows.specs.Inserted.{Rises};
     ghost use Rattle.source_rows.specs.Seats.{is_ahead};
-    ghost use Rattle.source_rows.specs.Walk.{Begins, KeysRise, behind_key};
+    ghost use Rattle.source_rows.specs.Walk.{Begins, KeysRise, behind_key, after_of};
 
     ghost Value = { List Seat };
 
-    ghost view = { λ w. behind_key w.after w.seats.now.0 };
+    ghost view = { λ w. behind_key (after_of w.after) w.seats.now.0 };
 
-    ghost invariant = { λ w. Rises is_ahead w.seats.now.0 × KeysRise w.seats.now.0 × Begins (behind_key w.after w.seats.now.0) w.path };
+    ghost invariant = { λ w. Rises is_ahead w.seats.now.0 × KeysRise w.seats.now.0 × Begins (behind_key (after_of w.after) w.seats.now.0) w.path };
 }
 
 impl<'a> Walk<'a> {
     /// The seats that stand behind a key, or all.
-    pub fn new(seats: &'a Seats, after: Option<(i32, [u64; 4])>) -> Walk<'a>
+    pub fn new(seats: &'a Seats, after: Option<Key>) -> Walk<'a>
         requires rises { Rises is_ahead seats.now.0 }
         requires keys { KeysRise seats.now.0 }
         ensures { result ≡ behind_key after seats.now.0 }
     {
         Walk {
             seats,
-            after,
+            after: After {
+                first: after,
+                last: None,
+            },
             path: Path::new(),
         }
     }
@@ -165,9 +190,8 @@ impl<'a> Iterator for Walk<'a> {
 
     #[inline]
     fn next(&mut self) -> Option<&'a Seat> {
-        let fork = self.path.next_fork(self.seats, self.after)?;
-        let key = fork.seat.place();
-        self.after = Some(key);
+        let fork = self.path.next_fork(self.seats, &self.after)?;
+        self.after.last = Some(&fork.seat);
         self.path.enter(&fork.later);
         Some(&fork.seat)
     }

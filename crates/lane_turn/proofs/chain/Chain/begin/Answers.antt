@@ -1,4 +1,4 @@
-use Rattle.std.proofs.Common.{◌≡◌, ap, ◌∙◌, sym, subst, ◌∷◌, ◌++◌, [], List}
+use Rattle.std.proofs.Common.{◌≡◌, ap, ◌∙◌, sym, subst, ◌∷◌, ◌++◌, List}
 use Rattle.lane_turn.specs.declared.layer.Layer.{Layer}
 use Rattle.lane_turn.specs.Nest.{layers_of}
 use Rattle.lane_turn.specs.Tally.{IsSmall, more, tally_of}
@@ -13,6 +13,7 @@ invariant_of-self c =
     let l = c.args.layer in
     let ls = layers_of c.self.inside.nest in
     let now = layers_of c.self-2.inside.nest in
-    let same : now ≡ ls = c.self-2.view_is ∙ (c.in_ok-inner.ensures.same ∙ sym c.self.view_is) in
-    let put : layers_of c.put.new.self ≡ l ∷ ls = c.put.ensures ∙ (ap (λ (xs : List Layer). (xs ++ l ∷ []) ++ now) c.in_ok-inner.ensures.nothing ∙ ap (λ (xs : List Layer). l ∷ xs) same) in
+    let shell = c.in_ok-begun.ensures.shell in
+    let same : now ≡ ls = c.self-2.view_is ∙ (c.in_ok-begun.ensures.same ∙ sym c.self.view_is) in
+    let put : layers_of c.put.new.self ≡ l ∷ ls = c.put.ensures ∙ (ap (λ (xs : List Layer). xs ++ c.in_ok-begun.begun.value.layer ∷ now) shell.1 ∙ (ap (λ (x : Layer). x ∷ now) shell.0 ∙ ap (λ (xs : List Layer). l ∷ xs) same)) in
     c.in_ok-tally.ensures ∙ (ap (more l) c.self.invariant ∙ (more_of l ls ∙ ap tally_of (sym put)))

@@ -41,8 +41,8 @@ returns-then-is_before t c =
     let same : c.deref-fork.result.now ≡ c.in-Some.fork.value = search rules in
     let f = at_Fork c.self.view_is c.requires c.in-Some.is same in
     let fork = c.deref-fork.result.now in
-    let before : is_lt (key_cmp fork.seat.key c.args.first) ≡ true = search rules in
-    let e = ap (λ (l : List Seat). map (λ (s : Seat). s.id) (filter (is_between c.args.first c.args.last) l)) f.is ∙ ap (map (λ (s : Seat). s.id)) (between_later c.args.first c.args.last fork.sooner.0 fork.seat fork.later.0 f.rises before) in
+    let before : is_lt (key_cmp fork.seat.key c.args.first.now) ≡ true = search rules in
+    let e = ap (λ (l : List Seat). map (λ (s : Seat). s.id) (filter (is_between c.args.first.now c.args.last.now) l)) f.is ∙ ap (map (λ (s : Seat). s.id)) (between_later c.args.first.now c.args.last.now fork.sooner.0 fork.seat fork.later.0 f.rises before) in
     subst (λ (l : List ℕ). OnOk c.add_between.result (c.add_between.new.ids.items ≡ c.args.ids.now.items ++ l)) (sym e) c.add_between.ensures
 
 pub returns-then-is_before-2 : goal.returns-then-is_before-2
@@ -50,6 +50,6 @@ returns-then-is_before-2 t c =
     let same : c.deref-fork.result.now ≡ c.in-Some.fork.value = search rules in
     let f = at_Fork c.self.view_is c.requires c.in-Some.is same in
     let fork = c.deref-fork.result.now in
-    let behind : is_lt (key_cmp c.args.last fork.seat.key) ≡ true = search rules in
-    let e = ap (λ (l : List Seat). map (λ (s : Seat). s.id) (filter (is_between c.args.first c.args.last) l)) f.is ∙ ap (map (λ (s : Seat). s.id)) (between_sooner c.args.first c.args.last fork.sooner.0 fork.seat fork.later.0 f.rises behind) in
+    let behind : is_lt (key_cmp c.args.last.now fork.seat.key) ≡ true = search rules in
+    let e = ap (λ (l : List Seat). map (λ (s : Seat). s.id) (filter (is_between c.args.first.now c.args.last.now) l)) f.is ∙ ap (map (λ (s : Seat). s.id)) (between_sooner c.args.first.now c.args.last.now fork.sooner.0 fork.seat fork.later.0 f.rises behind) in
     subst (λ (l : List ℕ). OnOk c.add_between-then-is_before-2.result (c.add_between-then-is_before-2.new.ids.items ≡ c.args.ids.now.items ++ l)) (sym e) c.add_between-then-is_before-2.ensures

@@ -26,31 +26,31 @@ returns-then-is_before-clause-some t c =
     let same : c.deref-fork.result.now ≡ c.in-Some.fork.value = search rules in
     let f = at_Fork c.self.view_is c.requires c.in-Some.is same in
     let fork = c.deref-fork.result.now in
-    let behind : stands_to c.args.key fork.seat ≡ false = search rules in
-    some_of (λ (s : Bor Seat). IsLastTo c.args.key fork.sooner.0 s.now) (λ (s : Bor Seat). IsLastTo c.args.key c.args.self.now.0 s.now)
-    (λ s h. subst (λ (l : List Seat). IsLastTo c.args.key l s.now) (sym f.is) (last_sooner c.args.key fork.sooner.0 fork.seat fork.later.0 s.now f.rises behind h)) c.last_to.result c.last_to.ensures.some
+    let behind : stands_to c.args.key.now fork.seat ≡ false = search rules in
+    some_of (λ (s : Bor Seat). IsLastTo c.args.key.now fork.sooner.0 s.now) (λ (s : Bor Seat). IsLastTo c.args.key.now c.args.self.now.0 s.now)
+    (λ s h. subst (λ (l : List Seat). IsLastTo c.args.key.now l s.now) (sym f.is) (last_sooner c.args.key.now fork.sooner.0 fork.seat fork.later.0 s.now f.rises behind h)) c.last_to.result c.last_to.ensures.some
 
 pub returns-then-is_before-clause-none : goal.returns-then-is_before-clause-none
 returns-then-is_before-clause-none t c =
     let same : c.deref-fork.result.now ≡ c.in-Some.fork.value = search rules in
     let f = at_Fork c.self.view_is c.requires c.in-Some.is same in
     let fork = c.deref-fork.result.now in
-    let behind : stands_to c.args.key fork.seat ≡ false = search rules in
-    none_of (AllByRecursion (λ u. stands_to c.args.key u ≡ false) fork.sooner.0) (AllByRecursion (λ u. stands_to c.args.key u ≡ false) c.args.self.now.0)
-    (λ h. subst (AllByRecursion (λ u. stands_to c.args.key u ≡ false)) (sym f.is) (none_sooner c.args.key fork.sooner.0 fork.seat fork.later.0 f.rises behind h)) c.last_to.result c.last_to.ensures.none
+    let behind : stands_to c.args.key.now fork.seat ≡ false = search rules in
+    none_of (AllByRecursion (λ u. stands_to c.args.key.now u ≡ false) fork.sooner.0) (AllByRecursion (λ u. stands_to c.args.key.now u ≡ false) c.args.self.now.0)
+    (λ h. subst (AllByRecursion (λ u. stands_to c.args.key.now u ≡ false)) (sym f.is) (none_sooner c.args.key.now fork.sooner.0 fork.seat fork.later.0 f.rises behind h)) c.last_to.result c.last_to.ensures.none
 
 pub returns-in-None-last_to-clause-some : goal.returns-in-None-last_to-clause-some
 returns-in-None-last_to-clause-some t c =
     let same : c.deref-fork.result.now ≡ c.in-Some.fork.value = search rules in
     let f = at_Fork c.self.view_is c.requires c.in-Some.is same in
     let fork = c.deref-fork.result.now in
-    let here : stands_to c.args.key fork.seat ≡ true = search rules in
-    subst (λ (l : List Seat). IsLastTo c.args.key l fork.seat) (sym f.is) (last_here c.args.key fork.sooner.0 fork.seat fork.later.0 here c.in-None-last_to.ensures.none)
+    let here : stands_to c.args.key.now fork.seat ≡ true = search rules in
+    subst (λ (l : List Seat). IsLastTo c.args.key.now l fork.seat) (sym f.is) (last_here c.args.key.now fork.sooner.0 fork.seat fork.later.0 here c.in-None-last_to.ensures.none)
 
 pub returns-in_default-clause-some : goal.returns-in_default-clause-some
 returns-in_default-clause-some t c =
     let same : c.deref-fork.result.now ≡ c.in-Some.fork.value = search rules in
     let f = at_Fork c.self.view_is c.requires c.in-Some.is same in
     let fork = c.deref-fork.result.now in
-    some_of (λ (s : Bor Seat). IsLastTo c.args.key fork.later.0 s.now) (λ (s : Bor Seat). IsLastTo c.args.key c.args.self.now.0 s.now)
-    (λ s h. subst (λ (l : List Seat). IsLastTo c.args.key l s.now) (sym f.is) (last_later c.args.key fork.sooner.0 fork.seat fork.later.0 s.now h)) c.last_to-in-Some.result c.last_to-in-Some.ensures.some
+    some_of (λ (s : Bor Seat). IsLastTo c.args.key.now fork.later.0 s.now) (λ (s : Bor Seat). IsLastTo c.args.key.now c.args.self.now.0 s.now)
+    (λ s h. subst (λ (l : List Seat). IsLastTo c.args.key.now l s.now) (sym f.is) (last_later c.args.key.now fork.sooner.0 fork.seat fork.later.0 s.now h)) c.last_to-in-Some.result c.last_to-in-Some.ensures.some

@@ -6,28 +6,21 @@ use Rattle.std.specs.Option.{option_map, is_some}
 use Rattle.slab.specs.Slab.{get, with_value}
 use Rattle.source_rows.specs.declared.row.Row.{Row}
 use Rattle.source_rows.specs.Rows.{row_of, changed}
-use Rattle.source_rows.specs.Seats.{seat_of, replaced}
+use Rattle.source_rows.specs.Seats.{seat_of, swapped}
 use Rattle.source_rows.specs.Slots.{rows_at, asks, IsTime}
 use Rattle.source_rows.proofs.Edits.{Stays}
 use Rattle.source_rows.proofs.Filled.{in_slot, put_filled, rises_rows_at, times_put}
 use Rattle.source_rows.proofs.Forest.{found}
 use Rattle.source_rows.proofs.Kept.{put_one, none_changed}
-use Rattle.source_rows.proofs.Seated.{rises_seats, there_seated, put_seated}
+use Rattle.source_rows.proofs.Seated.{rises_seats, set_seated}
 use Rattle.source_rows.proofs.Slots.{at_id, put_done, looked, none_there, id_of, may-put, neither}
 use Rattle.source_rows.proofs.table.Table.set_ready.Goals as goal
 
 stays : (t : ℤ) → Stays (λ r. record r { ready = t })
 stays t = record { key = λ r. refl; id = λ r. refl; level = λ r. refl; order = λ r. refl; parent = λ r. refl; lineage = λ r. refl }
 
-pub replace-requires-clause-rises : goal.replace-requires-clause-rises
-replace-requires-clause-rises c = rises_seats c.self.inside.slots c.self.inside.keys.entries c.self.inside.seats c.self.invariant.filled.table c.self.invariant.seated
-
-pub replace-requires-clause-there : goal.replace-requires-clause-there
-replace-requires-clause-there c =
-    let at : get c.self.inside.slots c.in-Some.key ≡ Some c.in-Some-get_mut.slot.now = search rules in
-    let row = in_slot c.self.inside.slots c.args.id c.in-Some.key c.in-Some-get_mut.slot.now c.self.inside.keys.entries c.self.invariant.filled.table (sym c.slot_of.ensures ∙ c.in-Some.is) at in
-    let there = there_seated (rows_at c.self.inside.slots c.self.inside.keys.entries) c.args.id c.in-Some-get_mut.slot.now c.self.inside.seats c.self.invariant.seated row.0 in
-    search (rules, there)
+pub set-requires : goal.set-requires
+set-requires c = rises_seats c.self.inside.slots c.self.inside.keys.entries c.self.inside.seats c.self.invariant.filled.table c.self.invariant.seated
 
 pub invariant_of-self : goal.invariant_of-self
 invariant_of-self c =
@@ -44,11 +37,11 @@ invariant_of-self c =
     let by_id : lookup (at_id row.id) entries ≡ Some c.in-Some.key = subst (λ (n : ℕ). lookup (at_id n) entries ≡ Some c.in-Some.key) (sym there.1) named in
     let is : row_of row.id rows ≡ Some old = subst (λ (n : ℕ). row_of n rows ≡ Some old) (sym there.1) there.0 in
     let done = (put_done slots c.in-Some.key row entries c.self.invariant.filled.table by_id).rows_are in
-    let seats : c.replace.new.self.0 ≡ replaced (seat_of old) (seat_of row) c.self.inside.seats.0 = search (rules, to_z-of_z) in
+    let seats : c.set.new.self.0 ≡ swapped (seat_of old) (seat_of row) c.self.inside.seats.0 = search (rules, to_z-of_z) in
     let time : IsTime row = search rules in
     rw to_z-of_z (record {
       filled = put_filled slots c.in-Some.key row old entries c.self.invariant.filled by_id at;
-      seated = put_seated rows new row old c.self.inside.seats c.replace.new.self c.self.invariant.seated (rises_rows_at slots entries c.self.invariant.filled.table) is done seats c.replace.ensures.low;
+      seated = set_seated rows new row old c.self.inside.seats c.set.new.self c.self.invariant.seated (rises_rows_at slots entries c.self.invariant.filled.table) is done refl seats c.set.ensures.height;
       quiet = λ e. may-put c.self.inside.may_ask rows new row c.self.invariant.quiet done (neither c.self.inside.may_ask (asks row.kind) e (found (λ r. asks r.kind ≡ false) c.args.id old rows (c.self.invariant.quiet e) there.0));
       times = times_put rows new row c.self.invariant.times time done;
     })
