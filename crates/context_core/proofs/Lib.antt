@@ -1,4 +1,3 @@
-pub mod OneEach
 pub mod Walk
 pub mod Cutoff
 pub mod Wait
@@ -6,4 +5,5 @@ pub mod Called
 pub mod Lent
 pub mod Phased
 pub mod AtTwo
+pub mod InClasses
 pub mod Candidates

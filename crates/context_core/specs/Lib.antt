@@ -1,4 +1,5 @@
 pub mod Ready
+pub mod Classes
 pub mod Phases
 pub mod Lending
 pub mod Lent

@@ -13,9 +13,11 @@ ghost use Rattle.context_core.specs.Ready.{in_view, own_ready, selected, is_free
 ghost use Rattle.context_core.specs.Lent.{lends};
 ghost use Rattle.context_core.specs.Phases.{ms_until, least_ready, wait_of, interests, asked_rows, levels_for, shown, handed, walk};
 
+use crate::busy::{Busy, classes_of_ids};
 use crate::interest::{Interest, Prepared, Shown};
+use crate::polled::{Polled, classes_of_shown};
 use crate::ready::{
-    interest, is_beyond, is_callable, is_free, level_at, ms_until, one_each, own_ready, sooner,
+    interest, is_beyond, is_callable, is_free, level_at, ms_until, own_ready, sooner,
 };
 use cancel_view::View;
 use source_rows::{Levels, Row, Rows};
@@ -84,7 +86,7 @@ impl Context {
     }
 
     /// How many milliseconds a poll may wait where nothing is ready.
-    fn wait(&self, now: u64, busy: &[u64]) -> i64
+    fn wait(&self, now: u64, busy: &Busy) -> i64
         requires { now ≤ latest }
         ensures { result ≡ ms_until now (next_ready now (filter (is_free busy.now) self.now.rows.rows)) }
     {
@@ -100,6 +102,20 @@ impl Context {
         ms_until(now, least)
     }
 
+    /// The least priority of what is ready before any descriptor is asked.
+    fn most_urgent(&self, now: u64, busy: &Busy, view: &View) -> Option<i32>
+        requires { now ≤ latest }
+        ensures { result ≡ least_ready (in_view view.now) now busy.now self.now.rows.rows }
+    {
+        let polled = Polled::nothing();
+        'rows: for row in self.rows.candidates(now) {
+            if is_callable(row, &polled, now, busy, view) {
+                return Some(row.priority);
+            }
+        }
+        None
+    }
+
     /// What is ready before any descriptor is asked, at a time in microseconds, with the ids of the sources of this
     /// context whose calls are in progress and may not be dispatched again.
     pub fn prepare(&self, now: u64, busy: &[u64], view: &View) -> Prepared
@@ -107,17 +123,17 @@ impl Context {
         ensures priority { result.priority ≡ least_ready (in_view view.now) now busy.now self.now.rows.rows }
         ensures timeout { result.timeout_ms ≡ wait_of now busy.now self.now.rows.rows result.priority }
     {
-        'rows: for row in self.rows.candidates(now) {
-            if is_callable(row, &[], now, busy, view) {
-                return Prepared {
-                    priority: Some(row.priority),
-                    timeout_ms: 0,
-                };
-            }
-        }
-        Prepared {
-            priority: None,
-            timeout_ms: self.wait(now, busy),
+        let classes = classes_of_ids(busy);
+        let busy = Busy::new(busy, &classes);
+        match self.most_urgent(now, &busy, view) {
+            Some(priority) => Prepared {
+                priority: Some(priority),
+                timeout_ms: 0,
+            },
+            None => Prepared {
+                priority: None,
+                timeout_ms: self.wait(now, &busy),
+            },
         }
     }
 
@@ -130,12 +146,25 @@ impl Context {
     ) -> Result<Vec<Interest>, AllocError>
         ensures { IfOk result (λ list. list.items ≡ interests prepared.now.priority busy.now self.now.rows.rows) }
     {
-        let mut list = Vec::new(alloc);
         if !self.rows.may_ask() {
-            return Ok(list);
+            return Ok(Vec::new(alloc));
         }
+        let classes = classes_of_ids(busy);
+        self.interests(alloc, prepared.priority, &Busy::new(busy, &classes))
+    }
+
+    /// What the free sources that are not less urgent than a priority ask of descriptors, in order.
+    fn interests(
+        &self,
+        alloc: Global,
+        least: Option<i32>,
+        busy: &Busy,
+    ) -> Result<Vec<Interest>, AllocError>
+        ensures { IfOk result (λ list. list.items ≡ interests least busy.now self.now.rows.rows) }
+    {
+        let mut list = Vec::new(alloc);
         'rows: for row in self.rows.candidates(0) {
-            if let Some(interest) = interest(row, prepared.priority, busy) {
+            if let Some(interest) = interest(row, least, busy) {
                 list.push(interest)?;
             }
         }
@@ -147,7 +176,7 @@ impl Context {
         &self,
         alloc: Global,
         least: Option<i32>,
-        busy: &[u64],
+        busy: &Busy,
         levels: &[u8],
     ) -> Result<Vec<Shown>, AllocError>
         ensures { IfOk result (λ list. list.items ≡ handed (asked_rows least busy.now self.now.rows.rows) levels.now) }
@@ -174,9 +203,9 @@ impl Context {
         &self,
         alloc: Global,
         least: Option<i32>,
-        polled: &[Shown],
+        polled: &Polled,
         now: u64,
-        busy: &[u64],
+        busy: &Busy,
         view: &View,
     ) -> Result<Vec<u64>, AllocError>
         requires { now ≤ latest }
@@ -215,9 +244,12 @@ impl Context {
         ensures { (level : ℕ → ℕ) → levels.now ≡ levels_for level (asked_rows prepared.now.priority busy.now self.now.rows.rows)
             → IfOk result (λ ids. ids.items ≡ selected (own_ready level (in_view view.now) now) busy.now self.now.rows.rows) }
     {
-        let polled = self.polled(alloc, prepared.priority, busy, levels)?;
-        let shown = one_each(alloc, &polled)?;
-        self.walk(alloc, prepared.priority, &shown, now, busy, view)
+        let classes = classes_of_ids(busy);
+        let busy = Busy::new(busy, &classes);
+        let list = self.polled(alloc, prepared.priority, &busy, levels)?;
+        let classes = classes_of_shown(&list);
+        let polled = Polled::new(&list, &classes);
+        self.walk(alloc, prepared.priority, &polled, now, &busy, view)
     }
 }
 
@@ -226,9 +258,9 @@ impl Context {
 fn visit(
     lent: &mut BTreeSet<u64>,
     row: &Row,
-    polled: &[Shown],
+    polled: &Polled,
     now: u64,
-    busy: &[u64],
+    busy: &Busy,
     view: &View,
 ) -> Result<bool, AllocError>
     requires { now ≤ latest }

@@ -5,10 +5,13 @@
 //! for what, and `check` the sources that are dispatched next.
 #![tactic(auto)]
 
+mod busy;
+mod classes;
 mod context;
 mod defaults;
 mod interest;
 mod laws;
+mod polled;
 mod ready;
 
 pub use context::Context;

@@ -1,17 +1,17 @@
 //! What makes a source ready.
-ghost use Rattle.std.specs.Prelude.{ℕ, List, ◌∷◌, ◌++◌, IfOk, OnOk, ◌≡◌, ◌≤◌, ◌^◌, ◌==◌, Some, None, IfSome, IsTrue, int_lt, slice_get, pos, if◌then◌else◌};
+ghost use Rattle.std.specs.Prelude.{◌≡◌, ◌≤◌, ◌^◌, ◌==◌, Some, None, IfSome, IsTrue, int_lt, slice_get, pos, if◌then◌else◌};
 ghost use Rattle.loop_script.specs.Bounds.{latest};
 ghost use Rattle.source_rows.specs.Rows.{sooner};
-ghost use Rattle.std.specs.List.{find, list_any};
+ghost use Rattle.std.specs.List.{list_any};
 ghost use Rattle.context_core.specs.Ready.{in_view, is_due, has_bit, own_ready, is_blocked, is_free, is_callable};
-ghost use Rattle.context_core.specs.declared.interest.Shown.{Shown};
 ghost use Rattle.context_core.specs.Phases.{less_urgent, shown, is_asked, interest_of, ms_until};
 
-use crate::interest::{Interest, Shown};
+use crate::busy::Busy;
+use crate::interest::Interest;
+use crate::polled::Polled;
 use cancel_view::View;
 use loop_script::Kind;
 use source_rows::Row;
-use std::alloc::{AllocError, Global};
 
 /// The bits of an error (8), a hang-up (16) and an invalid descriptor (32), which are told whether they are asked for or not.
 const ALWAYS_TOLD: u8 = 56;
@@ -31,74 +31,29 @@ fn has_bit(level: u8, bits: u8) -> bool
     level & (bits | ALWAYS_TOLD) != 0
 }
 
-/// What is listed of a descriptor.
-fn find_shown(polled: &[Shown], fd: u32) -> Option<Shown>
-    ensures { result ≡ find (λ s. s.fd == fd) polled.now }
-{
-    polled.iter().copied().find(|s| s.fd == fd)
-}
-
-/// Lists what a descriptor shows, unless something is listed of it.
-fn list_once(list: &mut Vec<Shown>, one: Shown) -> Result<(), AllocError>
-    ensures { OnOk result ((fd : ℕ) (rest : List Shown) → find (λ s. s.fd == fd) (list.new.items ++ rest) ≡ find (λ s. s.fd == fd) (list.old.items ++ one ∷ rest)) }
-{
-    if find_shown(list, one.fd).is_some() {
-        return Ok(());
-    }
-    list.push(one)?;
-    Ok(())
-}
-
-/// One of each descriptor that is listed: the first.
-pub(crate) fn one_each(alloc: Global, polled: &[Shown]) -> Result<Vec<Shown>, AllocError>
-    ensures { IfOk result (λ list. (fd : ℕ) → shown list.items fd ≡ shown polled.now fd) }
-{
-    let mut list = Vec::new(alloc);
-    'polled: for one in polled {
-        list_once(&mut list, *one)?;
-    }
-    Ok(list)
-}
-
-/// The level that a descriptor shows; 0 where it is not listed.
-fn level_in(polled: &[Shown], fd: u32) -> u8
-    ensures { result ≡ shown polled.now fd }
-{
-    match find_shown(polled, fd) {
-        Some(s) => s.level,
-        None => 0,
-    }
-}
-
 /// Whether a source is ready by itself.
 #[inline]
-pub(crate) fn own_ready(row: &Row, polled: &[Shown], now: u64, view: &View) -> bool
+pub(crate) fn own_ready(row: &Row, polled: &Polled, now: u64, view: &View) -> bool
     requires { now ≤ latest }
     ensures { result ≡ own_ready (shown polled.now) (in_view view.now) now row.now }
 {
     match row.kind {
         Kind::Idle => true,
-        Kind::Fd(fd, bits) => has_bit(level_in(polled, fd), bits) || is_due(row.ready, now),
+        Kind::Fd(fd, bits) => has_bit(polled.level(fd), bits) || is_due(row.ready, now),
         Kind::Cancel(c) => view.is_cancelled(c) || is_due(row.ready, now),
         _ => is_due(row.ready, now),
     }
 }
 
-/// Whether an id is listed.
-fn is_listed(id: u64, busy: &[u64]) -> bool
-    ensures { result ≡ list_any (λ b. b == id) busy.now }
-{
-    busy.iter().any(|b| *b == id)
-}
-
 /// Whether an id of a lineage is listed. A lineage is filled up with its last id, which is looked for once.
-fn has_listed(lineage: &[u64], busy: &[u64]) -> bool
+#[inline(never)]
+fn has_listed(lineage: &[u64], busy: &Busy) -> bool
     ensures { result ≡ list_any (λ id. list_any (λ b. b == id) busy.now) lineage.now }
 {
     let mut last = None;
     for id in lineage {
         if last != Some(*id) {
-            if is_listed(*id, busy) {
+            if busy.has(*id) {
                 return true;
             }
             last = Some(*id);
@@ -109,7 +64,7 @@ fn has_listed(lineage: &[u64], busy: &[u64]) -> bool
 
 /// Whether a call of a source, or of one above it, is in progress.
 #[inline]
-fn is_blocked(row: &Row, busy: &[u64]) -> bool
+fn is_blocked(row: &Row, busy: &Busy) -> bool
     ensures { result ≡ is_blocked busy.now row.now }
 {
     if busy.is_empty() {
@@ -120,7 +75,7 @@ fn is_blocked(row: &Row, busy: &[u64]) -> bool
 
 /// Whether no call of a source, or of one above it, is in progress.
 #[inline]
-pub(crate) fn is_free(row: &Row, busy: &[u64]) -> bool
+pub(crate) fn is_free(row: &Row, busy: &Busy) -> bool
     ensures { result ≡ is_free busy.now row.now }
 {
     !is_blocked(row, busy)
@@ -128,7 +83,7 @@ pub(crate) fn is_free(row: &Row, busy: &[u64]) -> bool
 
 /// Whether a source is free, and ready by itself.
 #[inline]
-pub(crate) fn is_callable(row: &Row, polled: &[Shown], now: u64, busy: &[u64], view: &View) -> bool
+pub(crate) fn is_callable(row: &Row, polled: &Polled, now: u64, busy: &Busy, view: &View) -> bool
     requires { now ≤ latest }
     ensures { result ≡ is_callable (own_ready (shown polled.now) (in_view view.now) now) busy.now row.now }
 {
@@ -146,7 +101,7 @@ pub(crate) fn is_beyond(least: Option<i32>, priority: i32) -> bool
 }
 
 /// What a source asks of a descriptor, where it is free and not less urgent than the least known priority.
-pub(crate) fn interest(row: &Row, least: Option<i32>, busy: &[u64]) -> Option<Interest>
+pub(crate) fn interest(row: &Row, least: Option<i32>, busy: &Busy) -> Option<Interest>
     ensures { result ≡ (if is_asked least busy.now row.now then Some (interest_of row.now) else None) }
 {
     match row.kind {

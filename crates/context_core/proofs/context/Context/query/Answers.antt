@@ -1,24 +1,8 @@
-use Rattle.std.proofs.Common.{◌≡◌, [], List, map, filter, false, ap, sym, ◌∙◌, rules}
-use Rattle.source_rows.specs.declared.row.Row.{Row}
-use Rattle.source_rows.specs.Candidates.{candidates}
-use Rattle.context_core.specs.Phases.{is_asked, interest_of}
-use Rattle.context_core.proofs.Candidates.{asked_candidates}
-use Rattle.context_core.proofs.Phased.{asked_more, none_asked}
+use Rattle.std.proofs.Common.{◌≡◌, false, sym, ◌∙◌, rules}
+use Rattle.context_core.proofs.Phased.{none_asked}
 use Rattle.context_core.proofs.context.Context.query.Goals as goal
-
-pub rows-preserved-in-Continue-1 : goal.rows-preserved-in-Continue-1
-rows-preserved-in-Continue-1 c =
-    asked_more c.args.prepared.now.priority c.args.busy.now c.in-Some.row.now _ _ _ _ _ c.in-Some-interest.interest c.in-Some-interest.ensures c.in_ok-push.ensures.items c.in-Some.ensures.steps c.rows.invariant
 
 pub returns-then-not-may_ask : goal.returns-then-not-may_ask
 returns-then-not-may_ask c =
     let off : c.may_ask.result ≡ false = search rules in
-    c.new-list.ensures.items ∙ sym (none_asked c.args.prepared.now.priority c.args.busy.now c.args.self.now.rows.rows (c.may_ask.ensures off))
-
-pub rows-init : goal.rows-init
-rows-init c =
-    let rows = c.args.self.now.rows.rows in
-    let it : c.into_iter-row-iterator.result ≡ candidates 0 rows = search rules in
-    let none : c.new-list.result.items ≡ [] = c.new-list.ensures.items in
-    rw none (ap (λ (l : List Row). map interest_of (filter (is_asked c.args.prepared.now.priority c.args.busy.now) l)) it
-    ∙ ap (map interest_of) (asked_candidates 0 c.args.prepared.now.priority c.args.busy.now rows c.candidates-row-items.ensures.forest))
+    c.new.ensures.items ∙ sym (none_asked c.args.prepared.now.priority c.args.busy.now c.args.self.now.rows.rows (c.may_ask.ensures off))

@@ -1,6 +1,0 @@
-use Rattle.std.proofs.Common.{◌≡◌, ◌++◌, map, filter}
-use Rattle.context_core.specs.Phases.{is_asked, interest_of, interests}
-use Rattle.context_core.proofs.context.Context.query.Given as goal
-
-abbrev pub invariant-rows : goal.invariant-rows
-invariant-rows l = l.list.items ++ map interest_of (filter (is_asked l.prepared.priority l.busy) l.row-iterator) ≡ interests l.prepared.priority l.busy l.self.rows.rows

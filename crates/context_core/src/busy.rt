@@ -1,0 +1,87 @@
+//! The calls in progress, to be found by the ids of their sources.
+ghost use Rattle.std.specs.Prelude.{◌≡◌, ◌==◌, length, IsTrue};
+ghost use Rattle.std.specs.List.{list_any};
+ghost use Rattle.context_core.specs.Classes.{TellsOfIds};
+
+use crate::classes::{Classes, next_place};
+use std::marker::Model;
+
+/// The ids of sources whose calls are in progress, seen as their list.
+#[derive(Drop)]
+pub(crate) struct Busy<'a> {
+    ids: &'a [u64],
+    classes: &'a Classes,
+}
+
+impl<'a> Model for Busy<'a> {
+    ghost use Rattle.std.specs.Prelude.{List};
+    ghost use Rattle.loop_script.specs.Units.{SourceId};
+    ghost use Rattle.context_core.specs.Classes.{TellsOfIds};
+
+    ghost Value = { List SourceId };
+
+    ghost view = { λ b. b.ids.now };
+
+    ghost invariant = { λ b. TellsOfIds b.ids.now b.classes.now };
+}
+
+impl<'a> Busy<'a> {
+    /// Calls of the sources with these ids, which are of these classes, are in progress.
+    pub fn new(ids: &'a [u64], classes: &'a Classes) -> Busy<'a>
+        requires { TellsOfIds ids.now classes.now }
+        ensures { result ≡ ids.now }
+    {
+        Busy { ids, classes }
+    }
+
+    /// Whether no call is in progress.
+    #[inline]
+    pub fn is_empty(&self) -> bool
+        ensures { result ≡ (length self.now == 0) }
+    {
+        self.ids.is_empty()
+    }
+
+    /// Whether an id is listed.
+    #[inline]
+    pub fn has(&self, id: u64) -> bool
+        ensures { result ≡ list_any (λ b. b == id) self.now }
+    {
+        let place = self.classes.place(id);
+        if place == 0 {
+            return false;
+        }
+        stands_at(self.ids, place as usize - 1, id) || is_listed(self.ids, id)
+    }
+}
+
+/// Whether an id stands at a place.
+#[inline]
+fn stands_at(ids: &[u64], place: usize, id: u64) -> bool
+    ensures { IsTrue result → IsTrue (list_any (λ b. b == id) ids.now) }
+{
+    match ids.get(place) {
+        Some(b) => *b == id,
+        None => false,
+    }
+}
+
+/// Whether an id is listed.
+fn is_listed(ids: &[u64], id: u64) -> bool
+    ensures { result ≡ list_any (λ b. b == id) ids.now }
+{
+    ids.iter().any(|b| *b == id)
+}
+
+/// The classes of ids.
+pub(crate) fn classes_of_ids(ids: &[u64]) -> Classes
+    ensures { TellsOfIds ids.now result }
+{
+    let mut classes = Classes::new();
+    let mut place = 0;
+    'ids: for id in ids {
+        place = next_place(place);
+        classes.note(*id, place);
+    }
+    classes
+}
