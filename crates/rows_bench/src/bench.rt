@@ -11,8 +11,8 @@ use std::alloc::Global;
 
 /// Rows, and how many edits are left that take an id or an order number. There are more than a request can ask for.
 #[derive(Drop)]
-pub(crate) struct Bench {
-    pub(crate) rows: Rows,
+struct Bench {
+    rows: Rows,
     left: u64,
     ghost ids: { rows.next_id + left ≤ count_end },
     ghost orders: { rows.next_order + left ≤ count_end },
@@ -36,7 +36,7 @@ pub(crate) fn run(alloc: Global, request: Request) -> Result<u64, Refusal> {
 
 impl Bench {
     /// No rows yet.
-    pub(crate) fn new(alloc: Global) -> Bench {
+    fn new(alloc: Global) -> Bench {
         Bench {
             rows: Rows::new(alloc, Levels::Two),
             left: EDITS,
@@ -44,7 +44,7 @@ impl Bench {
     }
 
     /// One round: the measured call on each row, and what they answered, in sum.
-    pub(crate) fn round(
+    fn round(
         &mut self,
         alloc: Global,
         request: Request,
@@ -71,7 +71,7 @@ impl Bench {
     }
 
     /// Attaches the rows of a request, and answers the sum of their ids.
-    pub(crate) fn attach_all(&mut self, request: Request) -> Result<u64, Refusal> {
+    fn attach_all(&mut self, request: Request) -> Result<u64, Refusal> {
         let mut sum = 0_u64;
         for number in 1..=request.count {
             let id = self.attach(source(request.work, number))?;
@@ -102,7 +102,7 @@ impl Bench {
 
     /// Gives each row the priority below the one that it has, so that rows which were in order stay so. Answers how many
     /// there were.
-    pub(crate) fn set_priorities(&mut self, ids: &[u32], round: u32) -> Result<u64, Refusal>
+    fn set_priorities(&mut self, ids: &[u32], round: u32) -> Result<u64, Refusal>
         requires { round ≤ 1000000 }
     {
         let mut sum = 0_u64;

@@ -7,8 +7,6 @@ mod orders;
 mod random;
 mod refusal;
 mod request;
-#[cfg(test)]
-mod tests;
 
 use bench::run;
 use refusal::Refusal;

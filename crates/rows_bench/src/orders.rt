@@ -1,6 +1,8 @@
 //! The orders in which rounds take rows.
-ghost use Rattle.std.specs.Prelude.{◌<◌};
+ghost use Rattle.std.specs.Prelude.{◌<◌, ◌≡◌, ◌%◌, map, IfOk};
 ghost use Rattle.std.specs.List.Sorted.{IsPermutation};
+ghost use Rattle.source_rows.specs.Rows.{in_order};
+ghost use Rattle.rows_bench.specs.declared.request.Order.TheVariants.{Loop};
 
 use crate::random::Random;
 use crate::refusal::Refusal;
@@ -18,7 +20,11 @@ pub(crate) struct Orders {
 
 impl Orders {
     /// The orders of rows.
-    pub(crate) fn of(alloc: Global, rows: &Rows, order: Order) -> Result<Orders, Refusal> {
+    pub(crate) fn of(alloc: Global, rows: &Rows, order: Order) -> Result<Orders, Refusal>
+        ensures of_loop { order ≡ Loop → IfOk result (λ o. (o.odd.items ≡ map (λ r. r.id) (in_order rows.now.rows)) × (o.even.items ≡ map (λ r. r.id) (in_order rows.now.rows))) }
+        ensures odd { IfOk result (λ o. IsPermutation (map (λ r. r.id) (in_order rows.now.rows)) o.odd.items) }
+        ensures even { IfOk result (λ o. IsPermutation (map (λ r. r.id) (in_order rows.now.rows)) o.even.items) }
+    {
         let mut odd = ids_in_order(alloc, rows)?;
         let mut even = ids_in_order(alloc, rows)?;
         if order == Order::Random {
@@ -29,7 +35,10 @@ impl Orders {
     }
 
     /// The ids as a round takes them.
-    pub(crate) fn of_round(&self, round: u32) -> &[u32] {
+    pub(crate) fn of_round(&self, round: u32) -> &[u32]
+        ensures odd { round % 2 ≡ 1 → result.now ≡ self.now.odd.items }
+        ensures even { round % 2 ≡ 0 → result.now ≡ self.now.even.items }
+    {
         if round % 2 == 1 {
             self.odd.as_slice()
         } else {
@@ -39,7 +48,9 @@ impl Orders {
 }
 
 /// The ids in the order in which an iteration dispatches their rows. Rows that are new have ids as small as their number.
-fn ids_in_order(alloc: Global, rows: &Rows) -> Result<Vec<u32>, Refusal> {
+fn ids_in_order(alloc: Global, rows: &Rows) -> Result<Vec<u32>, Refusal>
+    ensures { IfOk result (λ ids. ids.items ≡ map (λ r. r.id) (in_order rows.now.rows)) }
+{
     let mut ids = Vec::new(alloc);
     for id in rows.ordered() {
         let Ok(id) = u32::try_from(*id) else {
