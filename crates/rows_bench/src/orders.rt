@@ -1,7 +1,8 @@
 //! The orders in which rounds take rows.
-ghost use Rattle.std.specs.Prelude.{◌<◌, ◌≡◌, ◌%◌, map, IfOk};
+ghost use Rattle.std.specs.Prelude.{◌<◌, ◌≡◌, ◌%◌, map, IfOk, IfErr};
 ghost use Rattle.std.specs.List.Sorted.{IsPermutation};
 ghost use Rattle.source_rows.specs.Rows.{in_order};
+ghost use Rattle.rows_bench.specs.declared.refusal.Refusal.TheVariants.{Call};
 ghost use Rattle.rows_bench.specs.declared.request.Order.TheVariants.{Loop};
 
 use crate::random::Random;
@@ -24,6 +25,7 @@ impl Orders {
         ensures of_loop { order ≡ Loop → IfOk result (λ o. (o.odd.items ≡ map (λ r. r.id) (in_order rows.now.rows)) × (o.even.items ≡ map (λ r. r.id) (in_order rows.now.rows))) }
         ensures odd { IfOk result (λ o. IsPermutation (map (λ r. r.id) (in_order rows.now.rows)) o.odd.items) }
         ensures even { IfOk result (λ o. IsPermutation (map (λ r. r.id) (in_order rows.now.rows)) o.even.items) }
+        ensures refused { IfErr result (λ refusal. refusal ≡ Call) }
     {
         let mut odd = ids_in_order(alloc, rows)?;
         let mut even = ids_in_order(alloc, rows)?;
@@ -49,7 +51,8 @@ impl Orders {
 
 /// The ids in the order in which an iteration dispatches their rows. Rows that are new have ids as small as their number.
 fn ids_in_order(alloc: Global, rows: &Rows) -> Result<Vec<u32>, Refusal>
-    ensures { IfOk result (λ ids. ids.items ≡ map (λ r. r.id) (in_order rows.now.rows)) }
+    ensures ids { IfOk result (λ ids. ids.items ≡ map (λ r. r.id) (in_order rows.now.rows)) }
+    ensures refused { IfErr result (λ refusal. refusal ≡ Call) }
 {
     let mut ids = Vec::new(alloc);
     for id in rows.ordered() {

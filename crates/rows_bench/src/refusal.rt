@@ -1,4 +1,6 @@
 //! Why the program ended without its line.
+ghost use Rattle.std.specs.Prelude.{◌≡◌};
+
 use source_rows::RowsFault;
 use std::alloc::AllocError;
 
@@ -36,12 +38,20 @@ impl Refusal {
 }
 
 impl From<AllocError> for Refusal {
+    ghost use Rattle.rows_bench.specs.declared.refusal.Refusal.TheVariants.{Call};
+
+    ghost from_gives = { λ _ refusal. refusal ≡ Call };
+
     fn from(_: AllocError) -> Refusal {
         Refusal::Call
     }
 }
 
 impl From<RowsFault> for Refusal {
+    ghost use Rattle.rows_bench.specs.declared.refusal.Refusal.TheVariants.{Call};
+
+    ghost from_gives = { λ _ refusal. refusal ≡ Call };
+
     fn from(_: RowsFault) -> Refusal {
         Refusal::Call
     }
