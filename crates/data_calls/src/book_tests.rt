@@ -106,6 +106,18 @@ fn reply(task: u64, outcome: Outcome, cancel: Option<u32>, check: bool) -> Reply
     }
 }
 
+// (a proof grows faster than the length of its function, and most by assertions: each kind stands in a function of its own)
+
+/// What a poll of a tick gave is what it had to.
+fn expect_polled(rt: &impl Abort, tick: u32, polled: &Polled, replies: &[Reply], late: &[u64]) {
+    expect_replies(rt, tick, polled.replies.as_slice(), replies);
+    assert_eq!(rt; polled.late.as_slice(), late, "late in {tick}");
+}
+
+fn expect_replies(rt: &impl Abort, tick: u32, found: &[Reply], wanted: &[Reply]) {
+    assert_eq!(rt; found, wanted, "the replies in {tick}");
+}
+
 /// Polls in the next tick, and compares.
 fn expect(
     rt: &impl Abort,
@@ -117,14 +129,14 @@ fn expect(
     ensures { GoesOn lane.new.book lane.new.view lane.new.cancellables lane.new.started lane.new.tick }
 {
     let polled = lane.poll(rt)?;
-    assert_eq!(rt;
-        polled.replies.as_slice(),
-        replies,
-        "the replies in {}",
-        lane.tick
-    );
-    assert_eq!(rt; polled.late.as_slice(), late, "late in {}", lane.tick);
+    expect_polled(rt, lane.tick, &polled, replies, late);
     Ok(())
+}
+
+fn expect_wake(rt: &impl Abort, lane: &Lane, wake: Option<u64>)
+    requires { GoesOn lane.now.book lane.now.view lane.now.cancellables lane.now.started lane.now.tick }
+{
+    assert_eq!(rt; lane.wake(), wake);
 }
 
 /// Starts a task, polls it to its end and starts another.
@@ -132,11 +144,11 @@ fn start_and_end(rt: &impl Abort, lane: &mut Lane) -> Result<(), BookFault>
     requires { GoesOn lane.old.book lane.old.view lane.old.cancellables lane.old.started lane.old.tick }
     ensures { GoesOn lane.new.book lane.new.view lane.new.cancellables lane.new.started lane.new.tick }
 {
-    assert_eq!(rt; lane.wake(), None);
+    expect_wake(rt, lane, None);
     begin(rt, lane, &task(value(1), None, true, false), 0)?;
-    assert_eq!(rt; lane.wake(), Some(1));
+    expect_wake(rt, lane, Some(1));
     expect(rt, lane, &[reply(0, Outcome::Ok(1), None, true)], &[])?;
-    assert_eq!(rt; lane.wake(), None);
+    expect_wake(rt, lane, None);
     expect(rt, lane, &[], &[])?;
     begin(rt, lane, &task(value(2), None, true, false), 1)
 }
@@ -171,7 +183,54 @@ fn begin(rt: &impl Abort, lane: &mut Lane, spec: &TaskSpec, number: u64) -> Resu
     ensures { GoesOn lane.new.book lane.new.view lane.new.cancellables lane.new.started lane.new.tick }
 {
     let started = lane.start(rt, spec)?;
-    assert_eq!(rt; started, number);
+    expect_number(rt, started, number);
+    Ok(())
+}
+
+fn expect_number(rt: &impl Abort, found: u64, wanted: u64) {
+    assert_eq!(rt; found, wanted);
+}
+
+/// Starts a task of a tree that a cancellation does not end, and which is to have a number.
+fn begin_tree(
+    rt: &impl Abort,
+    lane: &mut Lane,
+    tree: TaskTree,
+    cancel: Option<u32>,
+    check: bool,
+    number: u64,
+) -> Result<(), BookFault>
+    requires { GoesOn lane.old.book lane.old.view lane.old.cancellables lane.old.started lane.old.tick }
+    ensures { GoesOn lane.new.book lane.new.view lane.new.cancellables lane.new.started lane.new.tick }
+{
+    begin(rt, lane, &task(tree, cancel, check, false), number)
+}
+
+/// Starts a task of two ticks, which looks at the cancellable when its result is taken or does not.
+fn begin_sleeper(rt: &impl Abort, lane: &mut Lane, check: bool, number: u64) -> Result<(), Fail>
+    requires { GoesOn lane.old.book lane.old.view lane.old.cancellables lane.old.started lane.old.tick }
+    ensures { GoesOn lane.new.book lane.new.view lane.new.cancellables lane.new.started lane.new.tick }
+{
+    let tree = after_sleep(lane.alloc, 2000, 4)?;
+    begin_tree(rt, lane, tree, Some(0), check, number)?;
+    Ok(())
+}
+
+fn begin_tie(rt: &impl Abort, lane: &mut Lane, number: u64) -> Result<(), Fail>
+    requires { GoesOn lane.old.book lane.old.view lane.old.cancellables lane.old.started lane.old.tick }
+    ensures { GoesOn lane.new.book lane.new.view lane.new.cancellables lane.new.started lane.new.tick }
+{
+    let tree = tie(lane.alloc)?;
+    begin_tree(rt, lane, tree, None, true, number)?;
+    Ok(())
+}
+
+fn begin_at_the_limit(rt: &impl Abort, lane: &mut Lane, number: u64) -> Result<(), Fail>
+    requires { GoesOn lane.old.book lane.old.view lane.old.cancellables lane.old.started lane.old.tick }
+    ensures { GoesOn lane.new.book lane.new.view lane.new.cancellables lane.new.started lane.new.tick }
+{
+    let tree = end_at_the_limit(lane.alloc)?;
+    begin_tree(rt, lane, tree, None, true, number)?;
     Ok(())
 }
 
@@ -180,28 +239,11 @@ fn begin_five(rt: &impl Abort, lane: &mut Lane) -> Result<(), Fail>
     requires { GoesOn lane.old.book lane.old.view lane.old.cancellables lane.old.started lane.old.tick }
     ensures { GoesOn lane.new.book lane.new.view lane.new.cancellables lane.new.started lane.new.tick }
 {
-    let alloc = lane.alloc;
     begin(rt, lane, &task(sleep(3000), Some(0), true, true), 0)?;
-    begin(rt, lane, &task(tie(alloc)?, None, true, false), 1)?;
-    begin(
-        rt,
-        lane,
-        &task(end_at_the_limit(alloc)?, None, true, false),
-        2,
-    )?;
-    begin(
-        rt,
-        lane,
-        &task(after_sleep(alloc, 2000, 4)?, Some(0), false, false),
-        3,
-    )?;
-    begin(
-        rt,
-        lane,
-        &task(after_sleep(alloc, 2000, 4)?, Some(0), true, false),
-        4,
-    )?;
-    Ok(())
+    begin_tie(rt, lane, 1)?;
+    begin_at_the_limit(rt, lane, 2)?;
+    begin_sleeper(rt, lane, false, 3)?;
+    begin_sleeper(rt, lane, true, 4)
 }
 
 /// The ticks 1 to 3, in which the tasks end that nothing cancels.
@@ -209,11 +251,11 @@ fn poll_three(rt: &impl Abort, lane: &mut Lane) -> Result<(), BookFault>
     requires { GoesOn lane.old.book lane.old.view lane.old.cancellables lane.old.started lane.old.tick }
     ensures { GoesOn lane.new.book lane.new.view lane.new.cancellables lane.new.started lane.new.tick }
 {
-    assert_eq!(rt; lane.wake(), Some(1));
+    expect_wake(rt, lane, Some(1));
     expect(rt, lane, &[], &[])?;
-    assert_eq!(rt; lane.wake(), Some(2));
+    expect_wake(rt, lane, Some(2));
     expect(rt, lane, &[reply(1, Outcome::Ok(1), None, true)], &[])?;
-    assert_eq!(rt; lane.wake(), Some(3));
+    expect_wake(rt, lane, Some(3));
     expect(rt, lane, &ends_in_tick_three(), &[])
 }
 
@@ -230,12 +272,12 @@ fn poll_cancelled(rt: &impl Abort, lane: &mut Lane) -> Result<(), BookFault>
     requires { GoesOn lane.old.book lane.old.view lane.old.cancellables lane.old.started lane.old.tick }
     ensures { GoesOn lane.new.book lane.new.view lane.new.cancellables lane.new.started lane.new.tick }
 {
-    assert_eq!(rt; lane.wake(), Some(4));
+    expect_wake(rt, lane, Some(4));
     expect(rt, lane, &cancelled_in_tick_four(), &[0])?;
-    assert_eq!(rt; lane.wake(), Some(6));
+    expect_wake(rt, lane, Some(6));
     expect(rt, lane, &[], &[])?;
     expect(rt, lane, &[], &[5])?;
-    assert_eq!(rt; lane.wake(), None);
+    expect_wake(rt, lane, None);
     Ok(())
 }
 
@@ -246,16 +288,31 @@ fn cancelled_in_tick_four() -> [Reply; 2] {
     ]
 }
 
-/// The tasks of a script whose lane cancels in its turn of tick 3, after the polls, and then starts the last task.
+/// Cancels in the turn of tick 3, after the polls, and then starts the last task.
+fn cancel_and_begin(rt: &impl Abort, lane: &mut Lane) -> Result<(), Fail>
+    requires { GoesOn lane.old.book lane.old.view lane.old.cancellables lane.old.started lane.old.tick }
+    ensures { GoesOn lane.new.book lane.new.view lane.new.cancellables lane.new.started lane.new.tick }
+{
+    lane.cancel(rt, 0)?;
+    begin(rt, lane, &task(sleep(2000), Some(0), true, true), 5)?;
+    Ok(())
+}
+
+fn run_tasks(rt: &impl Abort, lane: &mut Lane) -> Result<(), Fail>
+    requires { GoesOn lane.old.book lane.old.view lane.old.cancellables lane.old.started lane.old.tick }
+{
+    begin_five(rt, lane)?;
+    poll_three(rt, lane)?;
+    cancel_and_begin(rt, lane)?;
+    poll_cancelled(rt, lane)?;
+    Ok(())
+}
+
+/// The tasks of a script, of which a cancellation ends some.
 #[test]
 fn tasks(rt: HostRuntime) -> Result<(), Fail> {
     let mut lane = Lane::new(rt.alloc(), 1)?;
-    begin_five(&rt, &mut lane)?;
-    poll_three(&rt, &mut lane)?;
-    lane.cancel(&rt, 0)?;
-    begin(&rt, &mut lane, &task(sleep(2000), Some(0), true, true), 5)?;
-    poll_cancelled(&rt, &mut lane)?;
-    Ok(())
+    run_tasks(&rt, &mut lane)
 }
 
 fn cancel_one_of_two(rt: &impl Abort, lane: &mut Lane) -> Result<(), Fail>
@@ -265,12 +322,12 @@ fn cancel_one_of_two(rt: &impl Abort, lane: &mut Lane) -> Result<(), Fail>
     begin(rt, lane, &task(sleep(9000), Some(1), true, true), 0)?;
     begin(rt, lane, &task(sleep(7000), Some(1), true, false), 1)?;
     expect(rt, lane, &[], &[])?;
-    assert_eq!(rt; lane.wake(), Some(8));
+    expect_wake(rt, lane, Some(8));
     lane.cancel(rt, 1)?;
-    assert_eq!(rt; lane.wake(), Some(2));
+    expect_wake(rt, lane, Some(2));
     let cancelled = reply(0, Outcome::Cancelled, Some(1), true);
     expect(rt, lane, &[cancelled], &[])?;
-    assert_eq!(rt; lane.wake(), Some(8));
+    expect_wake(rt, lane, Some(8));
     Ok(())
 }
 
@@ -281,13 +338,17 @@ fn wake_of_a_cancelled_task(rt: HostRuntime) -> Result<(), Fail> {
     cancel_one_of_two(&rt, &mut lane)
 }
 
+fn expect_fault(rt: &impl Abort, found: Option<BookFault>, wanted: BookFault) {
+    assert_eq!(rt; found, Some(wanted));
+}
+
 fn expect_spent_once(rt: &impl Abort, lane: &mut Lane)
     requires { GoesOn lane.old.book lane.old.view lane.old.cancellables lane.old.started lane.old.tick }
     ensures { GoesOn lane.new.book lane.new.view lane.new.cancellables lane.new.started lane.new.tick }
 {
     let spec = task(value(1), None, true, false);
-    assert_eq!(rt; lane.start(rt, &spec), Err(BookFault::Spent));
-    assert_eq!(rt; lane.poll(rt).err(), Some(BookFault::Spent));
+    expect_fault(rt, lane.start(rt, &spec).err(), BookFault::Spent);
+    expect_fault(rt, lane.poll(rt).err(), BookFault::Spent);
 }
 
 /// That a book answers `Spent`, to both calls and a second time too, and has no wake.
@@ -297,7 +358,7 @@ fn expect_spent(rt: &impl Abort, lane: &mut Lane)
 {
     expect_spent_once(rt, lane);
     expect_spent_once(rt, lane);
-    assert_eq!(rt; lane.wake(), None);
+    expect_wake(rt, lane, None);
 }
 
 /// Polls a book with one task that ends at once, where memory may be refused.
@@ -307,12 +368,12 @@ fn poll_one(rt: &impl Abort, lane: &mut Lane)
 {
     match lane.poll(rt) {
         Err(fault) => {
-            assert_eq!(rt; fault, BookFault::OutOfMemory);
+            expect_fault(rt, Some(fault), BookFault::OutOfMemory);
             expect_spent(rt, lane);
         }
         Ok(polled) => {
             let want = reply(0, Outcome::Ok(1), Some(0), true);
-            assert_eq!(rt; polled.replies.as_slice(), [want].as_slice());
+            expect_replies(rt, lane.tick, polled.replies.as_slice(), &[want]);
             poll_none(rt, lane);
         }
     }
@@ -335,11 +396,11 @@ fn refused_book(rt: HostRuntime) {
     };
     match lane.start(&rt, &task(value(1), Some(0), true, true)) {
         Err(fault) => {
-            assert_eq!(rt; fault, BookFault::OutOfMemory);
+            expect_fault(&rt, Some(fault), BookFault::OutOfMemory);
             expect_spent(&rt, &mut lane);
         }
         Ok(number) => {
-            assert_eq!(rt; number, 0);
+            expect_number(&rt, number, 0);
             poll_one(&rt, &mut lane);
         }
     }

@@ -1,6 +1,7 @@
 //! Letters in a tray and in order, with ample memory and with memory refused.
 use post_office::{Body, Letter, Post, Tray, merge};
 use std::alloc::Global;
+use std::process::Abort;
 use std::test::Fail;
 
 fn letter(sender: u32, number: u64) -> Letter {
@@ -30,11 +31,10 @@ fn merges_by_sender_and_number(rt: HostRuntime) -> Result<(), Fail> {
         return Ok(());
     };
     let merged = merge(rt.alloc(), tray.into_letters())?;
-    let expected = [(0, 0), (0, 1), (1, 0), (2, 0)];
-    assert_eq!(rt; merged.len(), expected.len());
-    for (merged, (sender, number)) in merged.iter().zip(expected.iter()) {
-        assert_eq!(rt; *merged, letter(*sender, *number));
-    }
+    assert_eq!(rt;
+        merged.as_slice(),
+        [letter(0, 0), letter(0, 1), letter(1, 0), letter(2, 0)].as_slice()
+    );
     Ok(())
 }
 
@@ -43,6 +43,10 @@ fn merges_none(rt: HostRuntime) -> Result<(), Fail> {
     let merged = merge(rt.alloc(), Tray::new(rt.alloc()).into_letters())?;
     assert_eq!(rt; merged.len(), 0);
     Ok(())
+}
+
+fn expect_letter(rt: &impl Abort, found: &Letter, wanted: &Letter) {
+    assert_eq!(rt; found, wanted);
 }
 
 /// A letter that finds no memory comes back, and the tray keeps what it had.
@@ -57,7 +61,7 @@ fn refused_post(rt: HostRuntime) {
                     return;
                 }
             }
-            Err(back) => assert_eq!(rt; back, letter(0, number)),
+            Err(back) => expect_letter(&rt, &back, &letter(0, number)),
         }
     }
     assert_eq!(rt; tray.into_letters(), taken);
@@ -82,9 +86,14 @@ fn refused_merge(rt: HostRuntime) {
         return;
     };
     if let Ok(merged) = merge(rt.alloc(), tray.into_letters()) {
-        assert_eq!(rt; merged.len(), 40);
-        for (place, merged) in (0..40_u32).zip(merged.iter()) {
-            assert_eq!(rt; *merged, letter(place / 10, u64::from(place % 10)));
-        }
+        expect_forty(&rt, &merged);
+    }
+}
+
+/// Ten letters of each of four senders, in order.
+fn expect_forty(rt: &impl Abort, merged: &[Letter]) {
+    assert_eq!(rt; merged.len(), 40);
+    for (place, merged) in (0..40_u32).zip(merged.iter()) {
+        expect_letter(rt, merged, &letter(place / 10, u64::from(place % 10)));
     }
 }

@@ -96,12 +96,20 @@ fn letters_of_two_threads(rt: HostRuntime) -> Result<(), Fail> {
     office.take_back(one);
     let letters = office.drain(&rt, rt.alloc())?;
     assert_eq!(rt; letters.len(), 6);
-    for sender in [1, 2] {
-        assert_eq!(rt;
-            numbers_of(rt.alloc(), &letters, sender)?.as_slice(),
-            [0, 1, 2].as_slice()
-        );
-    }
+    expect_three(&rt, rt.alloc(), &letters, 1)?;
+    expect_three(&rt, rt.alloc(), &letters, 2)?;
+    Ok(())
+}
+
+/// A sender's letters are 0, 1 and 2, in their order.
+fn expect_three(
+    rt: &impl Abort,
+    alloc: Global,
+    letters: &[Letter],
+    sender: u32,
+) -> Result<(), AllocError> {
+    let numbers = numbers_of(alloc, letters, sender)?;
+    assert_eq!(rt; numbers.as_slice(), [0, 1, 2].as_slice());
     Ok(())
 }
 

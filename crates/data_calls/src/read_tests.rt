@@ -1,4 +1,6 @@
 //! A script that is read with ample memory and tells its parts, and one that is read with memory refused.
+ghost use Rattle.std.specs.Prelude.{◌≡◌};
+
 use loop_script::{Action, Body, Script, ScriptFault};
 use std::alloc::Global;
 use std::process::Abort;
@@ -10,60 +12,78 @@ fn first_run() -> &'static str {
     r#"{"version":1,"ticks":2,"tick_us":1000,"loops":[0],"procs":[{"do":[["log",7]]}],"lanes":[{"contexts":1,"start":[["attach",0,0,{"kind":["idle"],"call":0}],["run",0]]}]}"#
 }
 
-// (a proof grows faster than the length of its function, so a test is short)
+// (a proof grows faster than the length of its function, and most by assertions: numbers are compared in one function)
+
+fn expect(rt: &impl Abort, found: u64, wanted: u64)
+    ensures { found ≡ wanted }
+{
+    assert_eq!(rt; found, wanted);
+}
 
 #[test]
 fn tells_its_parts(rt: HostRuntime) -> Result<(), Fail> {
     let script = Script::read(rt.alloc(), first_run().as_bytes())?;
-    assert_eq!(rt; script.version(), 1);
-    assert_eq!(rt; script.ticks(), 2);
-    assert_eq!(rt; script.now(1), 1000);
-    assert_eq!(rt; script.contexts(), 1);
-    assert_eq!(rt; script.home(0), 0);
+    expect(&rt, script.version().into(), 1);
+    expect(&rt, script.ticks().into(), 2);
+    expect(&rt, script.now(1), 1000);
+    expect(&rt, script.contexts().into(), 1);
+    expect(&rt, script.home(0).into(), 0);
     Ok(())
 }
 
 #[test]
 fn tells_its_bodies(rt: HostRuntime) -> Result<(), Fail> {
     let script = Script::read(rt.alloc(), first_run().as_bytes())?;
-    assert_eq!(rt; script.actions(Body::Start(0)).len(), 2);
-    assert_eq!(rt; script.actions(Body::Nothing).len(), 0);
-    assert!(rt; !script.stays(Body::Procedure(0), 1));
-    assert!(rt; script.stays(Body::Nothing, 1));
+    expect(&rt, script.actions(Body::Start(0)).len() as u64, 2);
+    expect(&rt, script.actions(Body::Nothing).len() as u64, 0);
+    expect(&rt, script.stays(Body::Procedure(0), 1) as u64, 0);
+    expect(&rt, script.stays(Body::Nothing, 1) as u64, 1);
     Ok(())
 }
 
 #[test]
 fn tells_its_lists(rt: HostRuntime) -> Result<(), Fail> {
     let script = Script::read(rt.alloc(), first_run().as_bytes())?;
-    let lanes = script.lanes();
-    assert_eq!(rt; lanes, 1);
-    assert_eq!(rt; script.lane(0).contexts, 1);
-    match script.actions(Body::Procedure(0)) {
-        [Action::Log(n)] => assert_eq!(rt; *n, 7),
-        _ => assert!(rt; false),
-    }
-    let loops = script.loops();
-    assert_eq!(rt; loops, 1);
-    assert_eq!(rt; script.loop_context(0), 0);
+    expect(&rt, script.lanes().into(), 1);
+    expect(&rt, script.lane(0).contexts.into(), 1);
+    expect(&rt, only_log(script.actions(Body::Procedure(0))).into(), 7);
+    expect(&rt, script.loops().into(), 1);
+    expect(&rt, script.loop_context(0).into(), 0);
     Ok(())
+}
+
+/// The number of the one action of a list, which is to log it; 0 where there is none such.
+fn only_log(actions: &[Action]) -> u32 {
+    match actions {
+        [Action::Log(n)] => *n,
+        _ => 0,
+    }
 }
 
 fn two_descriptors() -> &'static str {
     r#"{"version":1,"ticks":9,"tick_us":1,"cancellables":1,"fds":[[],[[2,1],[5,20]]],"lanes":[{"contexts":1,"start":[["attach",0,0,{"kind":["fd",1,63]}],["attach",0,0,{"kind":["timeout",1]}],["attach",0,0,{"kind":["ready",1]}],["attach",0,0,{"kind":["cancel",0]}]]}]}"#
 }
 
+fn levels(script: &Script) -> [u8; 4] {
+    [
+        script.level(1, 1),
+        script.level(1, 4),
+        script.level(1, 5),
+        script.level(0, 5),
+    ]
+}
+
+fn changes(script: &Script) -> [Option<u32>; 2] {
+    [script.next_change(1, 2), script.next_change(1, 5)]
+}
+
 /// The levels of two descriptors, and each word of a kind, as the format writes it.
 #[test]
 fn tells_levels(rt: HostRuntime) -> Result<(), Fail> {
     let script = Script::read(rt.alloc(), two_descriptors().as_bytes())?;
-    assert_eq!(rt; script.cancellables(), 1);
-    assert_eq!(rt; script.level(1, 1), 0);
-    assert_eq!(rt; script.level(1, 4), 1);
-    assert_eq!(rt; script.level(1, 5), 20);
-    assert_eq!(rt; script.level(0, 5), 0);
-    assert_eq!(rt; script.next_change(1, 2), Some(5));
-    assert_eq!(rt; script.next_change(1, 5), None);
+    expect(&rt, script.cancellables().into(), 1);
+    assert_eq!(rt; levels(&script), [0, 1, 20, 0]);
+    assert_eq!(rt; changes(&script), [Some(5), None]);
     Ok(())
 }
 
@@ -99,12 +119,14 @@ fn expect_read(
     };
     match found {
         Err(fault) => assert!(rt; false, "{fault}"),
-        Ok(script) => {
-            assert_eq!(rt; counts(&script), known);
-            for (body, length) in lengths {
-                assert_eq!(rt; script.actions(*body).len(), *length);
-            }
-        }
+        Ok(script) => expect_sizes(rt, &script, known, lengths),
+    }
+}
+
+fn expect_sizes(rt: &impl Abort, script: &Script, known: [u32; 4], lengths: &[(Body, usize)]) {
+    assert_eq!(rt; counts(script), known);
+    for (body, length) in lengths {
+        expect(rt, script.actions(*body).len() as u64, *length as u64);
     }
 }
 

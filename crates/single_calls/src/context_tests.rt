@@ -1,7 +1,8 @@
 //! The phases on single contexts.
 ghost use Rattle.std.specs.Prelude.{◌≡◌, ◌<◌, ◌+◌, OnOk};
 
-use cancel_view::View;
+use crate::expected::expect;
+use cancel_view::{OutOfMemory, View};
 use context_core::{Context, DefaultStack, Interest, Prepared};
 use loop_script::{Kind, SourceSpec};
 use source_rows::{Levels, RowsFault};
@@ -38,8 +39,8 @@ fn expect_phases(
     asked: &[Interest],
 ) -> Result<(), AllocError> {
     let found = context.prepare(0, &[], view);
-    assert_eq!(rt; found, prepared);
     let interests = context.query(alloc, &found, &[])?;
+    expect(rt, found == prepared);
     assert_eq!(rt; interests.as_slice(), asked);
     Ok(())
 }
@@ -105,7 +106,7 @@ fn waits_in_whole_milliseconds(rt: HostRuntime) -> Result<(), Fail> {
     let view = View::new(rt.alloc(), 1)?;
     let mut context = Context::new(rt.alloc(), Levels::Two);
     attach(&mut context, Kind::ReadyTime(1500), 0)?;
-    assert_eq!(rt; context.prepare(0, &[], &view), waiting(2));
+    expect(&rt, context.prepare(0, &[], &view) == waiting(2));
     Ok(())
 }
 
@@ -118,18 +119,45 @@ fn empty(rt: HostRuntime) -> Result<(), Fail> {
     Ok(())
 }
 
-/// A source that waits for a cancellable, before it is cancelled and after.
+/// A source that waits for a cancellable.
+fn of_a_cancellable(alloc: Global) -> Result<Context, RowsFault> {
+    let mut context = Context::new(alloc, Levels::Two);
+    attach(&mut context, Kind::Cancel(0), 0)?;
+    Ok(context)
+}
+
+fn cancelled(alloc: Global) -> Result<View, OutOfMemory> {
+    let mut view = View::new(alloc, 1)?;
+    view.cancel(alloc, 0)?;
+    Ok(view)
+}
+
+/// What is ready by a view, with no descriptors: its priority, and the sources.
+fn expect_ready(
+    rt: &impl Abort,
+    alloc: Global,
+    context: &Context,
+    view: &View,
+    priority: Option<i32>,
+    ids: &[u64],
+) -> Result<(), AllocError> {
+    expect(rt, context.prepare(0, &[], view).priority == priority);
+    expect_selected(rt, alloc, context, view, &[], ids)
+}
+
+/// Before the cancellable is cancelled, and after.
+fn expect_waits(rt: &impl Abort, alloc: Global, context: &Context) -> Result<(), Fail> {
+    let before = View::new(alloc, 1)?;
+    expect_ready(rt, alloc, context, &before, None, &[])?;
+    let after = cancelled(alloc)?;
+    expect_ready(rt, alloc, context, &after, Some(0), &[1])?;
+    Ok(())
+}
+
 #[test]
 fn waits_for_a_cancellable(rt: HostRuntime) -> Result<(), Fail> {
-    let mut view = View::new(rt.alloc(), 1)?;
-    let mut context = Context::new(rt.alloc(), Levels::Two);
-    attach(&mut context, Kind::Cancel(0), 0)?;
-    assert_eq!(rt; context.prepare(0, &[], &view).priority, None);
-    expect_selected(&rt, rt.alloc(), &context, &view, &[], &[])?;
-    view.cancel(rt.alloc(), 0)?;
-    assert_eq!(rt; context.prepare(0, &[], &view).priority, Some(0));
-    expect_selected(&rt, rt.alloc(), &context, &view, &[], &[1])?;
-    Ok(())
+    let context = of_a_cancellable(rt.alloc())?;
+    expect_waits(&rt, rt.alloc(), &context)
 }
 
 /// Two pushes: the one below can't be popped before the one on top.
@@ -138,10 +166,10 @@ fn pops_what_is_on_top(rt: HostRuntime) -> Result<(), Fail> {
     let mut stack = DefaultStack::new(rt.alloc());
     stack.push(1)?;
     stack.push(2)?;
-    assert_eq!(rt; stack.pop(1), false);
-    assert_eq!(rt; stack.pop(2), true);
-    assert_eq!(rt; stack.top(), Some(1));
-    assert_eq!(rt; (stack.contains(1), stack.contains(2)), (true, false));
+    expect(&rt, !stack.pop(1));
+    expect(&rt, stack.pop(2));
+    expect(&rt, stack.top() == Some(1));
+    expect(&rt, stack.contains(1) && !stack.contains(2));
     Ok(())
 }
 
@@ -150,9 +178,10 @@ fn pops_what_is_on_top(rt: HostRuntime) -> Result<(), Fail> {
 fn releases_what_was_acquired(rt: HostRuntime) -> Result<(), Fail> {
     let mut context = Context::new(rt.alloc(), Levels::Two);
     context.acquire();
-    assert_eq!(rt; context.is_owned(), true);
-    assert_eq!(rt; (context.release(), context.release()), (true, false));
-    assert_eq!(rt; context.is_owned(), false);
+    expect(&rt, context.is_owned());
+    expect(&rt, context.release());
+    expect(&rt, !context.release());
+    expect(&rt, !context.is_owned());
     Ok(())
 }
 
@@ -179,7 +208,7 @@ fn refused_phases(rt: HostRuntime) {
         return;
     };
     if phases(&rt, rt.alloc(), &context, &view).is_err() {
-        assert!(rt; phases(&rt, rt.alloc(), &context, &view).is_ok());
+        expect(&rt, phases(&rt, rt.alloc(), &context, &view).is_ok());
     }
 }
 
@@ -187,9 +216,9 @@ fn refused_phases(rt: HostRuntime) {
 fn push_again(rt: &impl Abort, stack: &mut DefaultStack, context: u32) {
     let top = stack.top();
     if stack.push(context).is_err() {
-        assert_eq!(rt; stack.top(), top);
-        assert!(rt; !stack.contains(context));
-        assert!(rt; stack.push(context).is_ok());
+        expect(rt, stack.top() == top);
+        expect(rt, !stack.contains(context));
+        expect(rt, stack.push(context).is_ok());
     }
 }
 
@@ -200,10 +229,10 @@ fn refused_push(rt: HostRuntime) {
     for context in 1..=9 {
         push_again(&rt, &mut stack, context);
     }
-    assert!(rt; !stack.pop(1));
+    expect(&rt, !stack.pop(1));
     for context in (1..=9).rev() {
-        assert_eq!(rt; stack.top(), Some(context));
-        assert!(rt; stack.pop(context));
+        expect(&rt, stack.top() == Some(context));
+        expect(&rt, stack.pop(context));
     }
-    assert_eq!(rt; stack.top(), None);
+    expect(&rt, stack.top() == None);
 }

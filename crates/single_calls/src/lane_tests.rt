@@ -2,10 +2,12 @@
 ghost use Rattle.std.specs.Prelude.{◌≡◌, ℕ, ◌^◌, false, Err, IsTrue};
 ghost use Rattle.lane_turn.specs.Sound.{IsReady};
 
+use crate::expected::expect;
 use lane_turn::{Event, LaneFault, LaneState, Line};
 use loop_script::{Outcome, Script};
 use post_office::Tray;
 use std::alloc::Global;
+use std::process::Abort;
 use std::test::Fail;
 
 fn first_run_script() -> &'static str {
@@ -44,9 +46,13 @@ fn first_run(rt: HostRuntime) -> Result<(), Fail> {
     let script = Script::read(rt.alloc(), first_run_script().as_bytes())?;
     let mut lane = LaneState::new(rt.alloc(), &script, 0)?;
     two_turns(rt.alloc(), &script, &mut lane)?;
-    assert_eq!(rt; lane.trace(), LINES.as_slice());
-    assert!(rt; !lane.halted());
+    expect_lines(&rt, &lane, &LINES);
+    expect(&rt, !lane.halted());
     Ok(())
+}
+
+fn expect_lines(rt: &impl Abort, lane: &LaneState, lines: &[Line]) {
+    assert_eq!(rt; lane.trace(), lines);
 }
 
 /// A spent lane answers so to each call that may be refused, and stays as it is.
@@ -66,6 +72,24 @@ fn stays_spent(alloc: Global, script: &Script, lane: &mut LaneState) -> bool
     answers_spent(alloc, script, lane) && answers_spent(alloc, script, lane)
 }
 
+/// The lines are right, or memory ran out and the lane is spent.
+fn expect_lines_or_spent(
+    rt: &impl Abort,
+    alloc: Global,
+    script: &Script,
+    lane: &mut LaneState,
+    ended: Result<(), LaneFault>,
+    lines: &[Line],
+)
+    requires { ended ≡ Err LaneFault.OutOfMemory → IsTrue lane.old.spent }
+{
+    match ended {
+        Ok(()) => expect_lines(rt, lane, lines),
+        Err(LaneFault::Spent) => expect(rt, false),
+        Err(LaneFault::OutOfMemory) => expect(rt, stays_spent(alloc, script, lane)),
+    }
+}
+
 /// Whatever request is refused, the lines are right or the lane is spent.
 #[test]
 fn refused_turn(rt: HostRuntime) {
@@ -75,13 +99,8 @@ fn refused_turn(rt: HostRuntime) {
     let Ok(mut lane) = LaneState::new(rt.alloc(), &script, 0) else {
         return;
     };
-    match two_turns(rt.alloc(), &script, &mut lane) {
-        Ok(()) => assert_eq!(rt; lane.trace(), LINES.as_slice()),
-        Err(LaneFault::Spent) => assert!(rt; false),
-        Err(LaneFault::OutOfMemory) => {
-            assert!(rt; stays_spent(rt.alloc(), &script, &mut lane));
-        }
-    }
+    let ended = two_turns(rt.alloc(), &script, &mut lane);
+    expect_lines_or_spent(&rt, rt.alloc(), &script, &mut lane, ended, &LINES);
 }
 
 fn reply_script() -> &'static str {
@@ -135,7 +154,7 @@ fn takes_a_reply(rt: HostRuntime) -> Result<(), Fail> {
     let script = Script::read(rt.alloc(), reply_script().as_bytes())?;
     let mut lane = LaneState::new(rt.alloc(), &script, 0)?;
     take_reply(rt.alloc(), &script, &mut lane)?;
-    assert_eq!(rt; lane.trace(), REPLY_LINES.as_slice());
+    expect_lines(&rt, &lane, &REPLY_LINES);
     Ok(())
 }
 
@@ -148,11 +167,6 @@ fn refused_reply(rt: HostRuntime) {
     let Ok(mut lane) = LaneState::new(rt.alloc(), &script, 0) else {
         return;
     };
-    match take_reply(rt.alloc(), &script, &mut lane) {
-        Ok(()) => assert_eq!(rt; lane.trace(), REPLY_LINES.as_slice()),
-        Err(LaneFault::Spent) => assert!(rt; false),
-        Err(LaneFault::OutOfMemory) => {
-            assert!(rt; stays_spent(rt.alloc(), &script, &mut lane));
-        }
-    }
+    let ended = take_reply(rt.alloc(), &script, &mut lane);
+    expect_lines_or_spent(&rt, rt.alloc(), &script, &mut lane, ended, &REPLY_LINES);
 }

@@ -4,6 +4,8 @@
 #[cfg(test)]
 mod context_tests;
 #[cfg(test)]
+mod expected;
+#[cfg(test)]
 mod lane_tests;
 #[cfg(test)]
 mod stepper_tests;

@@ -1,6 +1,7 @@
 //! Steppers: which workers can share lanes, ticks to the last, and refused memory.
 ghost use Rattle.std.specs.Prelude.{◌≡◌, ◌<◌, length, IfOk, IfSome};
 
+use crate::expected::expect;
 use loop_script::Script;
 use std::alloc::{AllocError, Global};
 use std::process::Abort;
@@ -26,26 +27,23 @@ fn table(alloc: Global, workers: &[u32]) -> Result<Sharing, AllocError> {
     Ok(Sharing::Fixed(workers.to_vec(alloc)?))
 }
 
-fn expect(rt: &impl Abort, stepper: Result<Stepper, StepFault>, refusal: Option<StepFault>) {
-    assert_eq!(rt; stepper.err(), refusal);
+fn expect_fault(rt: &impl Abort, found: Option<StepFault>, wanted: Option<StepFault>) {
+    assert_eq!(rt; found, wanted);
 }
 
 #[test]
 fn workers_share_lanes(rt: HostRuntime) -> Result<(), Fail> {
     let alloc = rt.alloc();
     for workers in [0, 65] {
-        expect(
-            &rt,
-            stepper(alloc, workers, Sharing::Round)?,
-            Some(StepFault::Workers),
-        );
+        let refused = stepper(alloc, workers, Sharing::Round)?.err();
+        expect_fault(&rt, refused, Some(StepFault::Workers));
     }
     for short_or_far in [[0].as_slice(), [0, 2].as_slice()] {
-        let refused = stepper(alloc, 2, table(alloc, short_or_far)?)?;
-        expect(&rt, refused, Some(StepFault::Table));
+        let refused = stepper(alloc, 2, table(alloc, short_or_far)?)?.err();
+        expect_fault(&rt, refused, Some(StepFault::Table));
     }
-    expect(&rt, stepper(alloc, 2, table(alloc, &[1, 0])?)?, None);
-    expect(&rt, stepper(alloc, 4, Sharing::Round)?, None);
+    expect_fault(&rt, stepper(alloc, 2, table(alloc, &[1, 0])?)?.err(), None);
+    expect_fault(&rt, stepper(alloc, 4, Sharing::Round)?.err(), None);
     Ok(())
 }
 
@@ -62,7 +60,7 @@ fn step_all<T: Threads + Wait + Sync>(rt: &T, stepper: &mut Stepper) -> Result<[
 fn expect_ticks<T: Threads + Wait + Sync + Abort>(rt: &T, stepper: Result<Stepper, StepFault>) {
     match stepper {
         Ok(mut stepper) => {
-            assert_eq!(rt; step_all(rt, &mut stepper), Ok([true, true, false]));
+            expect(rt, step_all(rt, &mut stepper) == Ok([true, true, false]));
         }
         Err(fault) => assert!(rt; false, "{fault}"),
     }
@@ -92,9 +90,13 @@ fn expect_spent<T: Threads + Wait + Sync + Abort>(rt: &T, stepper: &mut Stepper)
     requires { 0 < length stepper.old.script.lanes }
     ensures { stepper.new.script ≡ stepper.old.script }
 {
-    assert_eq!(rt; stepper.tick(rt, &OpenGate), Err(StepFault::Spent));
-    assert_eq!(rt; stepper.run(rt, &OpenGate), Err(StepFault::Spent));
-    assert_eq!(rt; stepper.trace(0).err(), Some(StepFault::Spent));
+    expect_fault(
+        rt,
+        stepper.tick(rt, &OpenGate).err(),
+        Some(StepFault::Spent),
+    );
+    expect_fault(rt, stepper.run(rt, &OpenGate).err(), Some(StepFault::Spent));
+    expect_fault(rt, stepper.trace(0).err(), Some(StepFault::Spent));
 }
 
 /// Steps to the end, or the stepper is spent, and is so a second time too.
@@ -102,9 +104,9 @@ fn step_or_spend<T: Threads + Wait + Sync + Abort>(rt: &T, stepper: &mut Stepper
     requires { 0 < length stepper.old.script.lanes }
 {
     match step_all(rt, stepper) {
-        Ok(stepped) => assert_eq!(rt; stepped, [true, true, false]),
+        Ok(stepped) => expect(rt, stepped == [true, true, false]),
         Err(fault) => {
-            assert_eq!(rt; fault, StepFault::OutOfMemory);
+            expect_fault(rt, Some(fault), Some(StepFault::OutOfMemory));
             expect_spent(rt, stepper);
             expect_spent(rt, stepper);
         }
@@ -121,7 +123,7 @@ fn expect_stepped<T: Threads + Wait + Sync + Abort>(
     match made(alloc, workers, sharing) {
         None => {}
         Some(Ok(mut stepper)) => step_or_spend(rt, &mut stepper),
-        Some(Err(fault)) => assert_eq!(rt; fault, StepFault::OutOfMemory),
+        Some(Err(fault)) => expect_fault(rt, Some(fault), Some(StepFault::OutOfMemory)),
     }
 }
 
@@ -138,7 +140,7 @@ fn refused_stepper(rt: HostRuntime) {
 /// A refusal with another cause is looked at first, and takes no memory.
 fn expect_cause(rt: &impl Abort, alloc: Global, workers: u32, sharing: Sharing, cause: StepFault) {
     if let Some(made) = made(alloc, workers, sharing) {
-        expect(rt, made, Some(cause));
+        expect_fault(rt, made.err(), Some(cause));
     }
 }
 

@@ -1,6 +1,7 @@
 //! Single calls of a view: with ample memory, and with memory refused.
 ghost use Rattle.std.specs.Prelude.{◌≡◌, ◌≤◌, ◌<◌, ◌+◌, IfOk, OnErr};
 
+use crate::expected::expect;
 use cancel_view::{Connected, Fired, OutOfMemory, View};
 use std::alloc::Global;
 use std::process::Abort;
@@ -15,14 +16,14 @@ fn connect(rt: &impl Abort, view: &mut View, c: u32, proc: u32, id: u64) -> Resu
     ensures same { OnErr result (view.new ≡ view.old) }
 {
     let connected = view.connect(c, proc)?;
-    assert_eq!(rt; connected, Connected::Id(id));
+    expect(rt, connected == Connected::Id(id));
     Ok(())
 }
 
 fn expect_disconnect(rt: &impl Abort, view: &mut View, id: u64, answer: bool)
     ensures { view.new.next_id ≡ view.old.next_id }
 {
-    assert_eq!(rt; view.disconnect(id), answer);
+    expect(rt, view.disconnect(id) == answer);
 }
 
 /// Cancels, which is to call handlers.
@@ -34,8 +35,8 @@ fn expect_fired(
     fired: &[Fired],
 ) -> Result<(), Fail> {
     let found = view.cancel(alloc, c)?.ok_or("a first cancel")?;
+    expect(rt, view.is_cancelled(c));
     assert_eq!(rt; found.as_slice(), fired);
-    assert!(rt; view.is_cancelled(c));
     Ok(())
 }
 
@@ -50,7 +51,7 @@ fn with_two(rt: &impl Abort, alloc: Global) -> Result<View, OutOfMemory> {
 #[test]
 fn handlers_come_and_go(rt: HostRuntime) -> Result<(), Fail> {
     let mut view = with_two(&rt, rt.alloc())?;
-    assert!(rt; !view.is_cancelled(0));
+    expect(&rt, !view.is_cancelled(0));
     expect_disconnect(&rt, &mut view, 1, true);
     expect_disconnect(&rt, &mut view, 1, false);
     expect_disconnect(&rt, &mut view, 0, true);
@@ -78,8 +79,8 @@ fn with_cancelled(rt: &impl Abort, alloc: Global) -> Result<View, OutOfMemory>
 #[test]
 fn cancelled_for_good(rt: HostRuntime) -> Result<(), Fail> {
     let mut view = with_cancelled(&rt, rt.alloc())?;
-    assert_eq!(rt; view.connect(0, 7)?, Connected::Already);
-    assert!(rt; view.cancel(rt.alloc(), 0)?.is_none());
+    expect(&rt, view.connect(0, 7)? == Connected::Already);
+    expect(&rt, view.cancel(rt.alloc(), 0)?.is_none());
     Ok(())
 }
 
@@ -108,7 +109,7 @@ fn handlers_by_rising_id(rt: HostRuntime) -> Result<(), Fail> {
     let mut view = with_handlers_of_two(&rt, rt.alloc())?;
     let of_first = [Fired { id: 1, proc: 10 }, Fired { id: 4, proc: 13 }];
     expect_fired(&rt, rt.alloc(), &mut view, 0, &of_first)?;
-    assert!(rt; !view.is_cancelled(1));
+    expect(&rt, !view.is_cancelled(1));
     expect_fired(&rt, rt.alloc(), &mut view, 1, &[Fired { id: 2, proc: 11 }])?;
     Ok(())
 }
@@ -120,7 +121,7 @@ fn connect_again(rt: &impl Abort, view: &mut View, proc: u32, id: u64)
 {
     if connect(rt, view, 0, proc, id).is_err() {
         expect_disconnect(rt, view, id, false);
-        assert!(rt; connect(rt, view, 0, proc, id).is_ok());
+        expect(rt, connect(rt, view, 0, proc, id).is_ok());
     }
 }
 
@@ -130,7 +131,10 @@ fn fire(rt: &impl Abort, alloc: Global, view: &mut View) -> Result<(), OutOfMemo
 {
     let fired = view.cancel(alloc, 0)?;
     let known = [Fired { id: 2, proc: 6 }];
-    assert!(rt; fired.is_some_and(|fired| fired.as_slice() == known.as_slice()));
+    expect(
+        rt,
+        fired.is_some_and(|fired| fired.as_slice() == known.as_slice()),
+    );
     Ok(())
 }
 
@@ -139,8 +143,8 @@ fn fire_again(rt: &impl Abort, alloc: Global, view: &mut View)
     ensures { view.new.next_id ≡ view.old.next_id }
 {
     if fire(rt, alloc, view).is_err() {
-        assert!(rt; !view.is_cancelled(0));
-        assert!(rt; fire(rt, alloc, view).is_ok());
+        expect(rt, !view.is_cancelled(0));
+        expect(rt, fire(rt, alloc, view).is_ok());
     }
 }
 
@@ -156,7 +160,6 @@ fn refused_view(rt: HostRuntime) {
     expect_disconnect(&rt, &mut view, 1, false);
     expect_disconnect(&rt, &mut view, 0, true);
     fire_again(&rt, rt.alloc(), &mut view);
-    let again = view.cancel(rt.alloc(), 0);
-    assert!(rt; again.is_ok_and(|fired| fired.is_none()));
-    assert_eq!(rt; view.connect(0, 7), Ok(Connected::Already));
+    expect(&rt, matches!(view.cancel(rt.alloc(), 0), Ok(None)));
+    expect(&rt, view.connect(0, 7) == Ok(Connected::Already));
 }

@@ -1,6 +1,7 @@
 //! What a lane watches: a task that is cancelled, one that runs, handlers, and refused memory.
 ghost use Rattle.std.specs.Prelude.{◌≡◌, ◌≤◌, ◌<◌, ◌+◌, IfOk, OnOk, OnErr, Some};
 
+use crate::expected::expect;
 use cancel_view::{Connected, Fired, OutOfMemory};
 use lane_watch::Watch;
 use loop_script::{Node, Outcome, TaskSpec, TaskTree};
@@ -61,7 +62,7 @@ fn cancelled(rt: &impl Abort, alloc: Global) -> Result<Watch, OutOfMemory>
     let mut watch = begun(alloc)?;
     poll(&mut watch, alloc, 1)?;
     let came = cancel(&mut watch, alloc, 1)?;
-    assert!(rt; came);
+    expect(rt, came);
     Ok(watch)
 }
 
@@ -69,15 +70,15 @@ fn cancelled(rt: &impl Abort, alloc: Global) -> Result<Watch, OutOfMemory>
 fn expect_reply(rt: &impl Abort, polled: &Polled, outcome: Outcome) {
     match polled.replies.as_slice() {
         [reply] => assert_eq!(rt; reply.outcome, outcome),
-        _ => assert!(rt; false),
+        _ => expect(rt, false),
     }
-    assert_eq!(rt; polled.late.as_slice().len(), 0);
+    expect(rt, polled.late.as_slice().is_empty());
 }
 
 #[test]
 fn task_replies_where_it_is_cancelled(rt: HostRuntime) -> Result<(), Fail> {
     let mut watch = cancelled(&rt, rt.alloc())?;
-    assert!(rt; watch.view().is_cancelled(0));
+    expect(&rt, watch.view().is_cancelled(0));
     let polled = poll(&mut watch, rt.alloc(), 2)?;
     expect_reply(&rt, &polled, Outcome::Cancelled);
     Ok(())
@@ -94,8 +95,8 @@ fn polled_to_end(rt: &impl Abort, alloc: Global) -> Result<Polled, OutOfMemory> 
 #[test]
 fn cancelled_task_ends_late(rt: HostRuntime) -> Result<(), Fail> {
     let polled = polled_to_end(&rt, rt.alloc())?;
-    assert_eq!(rt; polled.replies.as_slice().len(), 0);
-    assert_eq!(rt; polled.late.as_slice(), [0].as_slice());
+    expect(&rt, polled.replies.as_slice().is_empty());
+    expect(&rt, polled.late.as_slice() == [0].as_slice());
     Ok(())
 }
 
@@ -107,7 +108,7 @@ fn connect(rt: &impl Abort, watch: &mut Watch, proc: u32, id: u64) -> Result<(),
     ensures same { OnErr result (watch.new ≡ watch.old) }
 {
     let connected = watch.connect(0, proc)?;
-    assert_eq!(rt; connected, Connected::Id(id));
+    expect(rt, connected == Connected::Id(id));
     Ok(())
 }
 
@@ -118,7 +119,7 @@ fn with_handlers(rt: &impl Abort, alloc: Global) -> Result<Watch, OutOfMemory>
     let mut watch = begun(alloc)?;
     connect(rt, &mut watch, 5, 1)?;
     connect(rt, &mut watch, 6, 2)?;
-    assert!(rt; watch.disconnect(1));
+    expect(rt, watch.disconnect(1));
     Ok(watch)
 }
 
@@ -132,7 +133,7 @@ fn handlers_of_a_watch(rt: HostRuntime) -> Result<(), Fail> {
 
 fn expect_no_reply(rt: &impl Abort, polled: Result<Polled, OutOfMemory>) {
     if let Ok(polled) = polled {
-        assert_eq!(rt; polled.replies.as_slice().len(), 0);
+        expect(rt, polled.replies.as_slice().is_empty());
     }
 }
 
@@ -164,13 +165,16 @@ fn cancel_again(rt: &impl Abort, alloc: Global, watch: &mut Watch)
 {
     let fired = match watch.cancel(alloc, 0, 0) {
         Err(OutOfMemory) => {
-            assert!(rt; !watch.view().is_cancelled(0));
+            expect(rt, !watch.view().is_cancelled(0));
             watch.cancel(alloc, 0, 0)
         }
         fired => fired,
     };
-    assert!(rt; fired.is_ok_and(|fired| fired.is_some_and(|fired| fired.len() == 1)));
-    assert!(rt; watch.view().is_cancelled(0));
+    expect(
+        rt,
+        fired.is_ok_and(|fired| fired.is_some_and(|fired| fired.len() == 1)),
+    );
+    expect(rt, watch.view().is_cancelled(0));
 }
 
 /// Whatever request is refused, what the view has and its handlers are as they were or as the call leaves them.
@@ -181,8 +185,8 @@ fn refused_handlers(rt: HostRuntime) {
         return;
     };
     if connect(&rt, &mut watch, 5, 1).is_err() {
-        assert!(rt; !watch.disconnect(1));
-        assert!(rt; connect(&rt, &mut watch, 5, 1).is_ok());
+        expect(&rt, !watch.disconnect(1));
+        expect(&rt, connect(&rt, &mut watch, 5, 1).is_ok());
     }
     cancel_again(&rt, alloc, &mut watch);
 }

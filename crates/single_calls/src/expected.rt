@@ -1,0 +1,10 @@
+//! What tests expect. A proof grows faster than the length of its function, and most by assertions, so these stand here.
+ghost use Rattle.std.specs.Prelude.{IsTrue};
+
+use std::process::Abort;
+
+pub(crate) fn expect(rt: &impl Abort, holds: bool)
+    ensures { IsTrue holds }
+{
+    assert!(rt; holds);
+}
