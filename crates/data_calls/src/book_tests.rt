@@ -191,46 +191,20 @@ fn expect_number(rt: &impl Abort, found: u64, wanted: u64) {
     assert_eq!(rt; found, wanted);
 }
 
-/// Starts a task of a tree that a cancellation does not end, and which is to have a number.
-fn begin_tree(
+/// Starts a task of a tree that was made, which a cancellation does not end, and which is to have a number.
+fn begin_made(
     rt: &impl Abort,
     lane: &mut Lane,
-    tree: TaskTree,
+    made: Result<TaskTree, AllocError>,
     cancel: Option<u32>,
     check: bool,
     number: u64,
-) -> Result<(), BookFault>
+) -> Result<(), Fail>
     requires { GoesOn lane.old.book lane.old.view lane.old.cancellables lane.old.started lane.old.tick }
     ensures { GoesOn lane.new.book lane.new.view lane.new.cancellables lane.new.started lane.new.tick }
 {
-    begin(rt, lane, &task(tree, cancel, check, false), number)
-}
-
-/// Starts a task of two ticks, which looks at the cancellable when its result is taken or does not.
-fn begin_sleeper(rt: &impl Abort, lane: &mut Lane, check: bool, number: u64) -> Result<(), Fail>
-    requires { GoesOn lane.old.book lane.old.view lane.old.cancellables lane.old.started lane.old.tick }
-    ensures { GoesOn lane.new.book lane.new.view lane.new.cancellables lane.new.started lane.new.tick }
-{
-    let tree = after_sleep(lane.alloc, 2000, 4)?;
-    begin_tree(rt, lane, tree, Some(0), check, number)?;
-    Ok(())
-}
-
-fn begin_tie(rt: &impl Abort, lane: &mut Lane, number: u64) -> Result<(), Fail>
-    requires { GoesOn lane.old.book lane.old.view lane.old.cancellables lane.old.started lane.old.tick }
-    ensures { GoesOn lane.new.book lane.new.view lane.new.cancellables lane.new.started lane.new.tick }
-{
-    let tree = tie(lane.alloc)?;
-    begin_tree(rt, lane, tree, None, true, number)?;
-    Ok(())
-}
-
-fn begin_at_the_limit(rt: &impl Abort, lane: &mut Lane, number: u64) -> Result<(), Fail>
-    requires { GoesOn lane.old.book lane.old.view lane.old.cancellables lane.old.started lane.old.tick }
-    ensures { GoesOn lane.new.book lane.new.view lane.new.cancellables lane.new.started lane.new.tick }
-{
-    let tree = end_at_the_limit(lane.alloc)?;
-    begin_tree(rt, lane, tree, None, true, number)?;
+    let tree = made?;
+    begin(rt, lane, &task(tree, cancel, check, false), number)?;
     Ok(())
 }
 
@@ -239,11 +213,12 @@ fn begin_five(rt: &impl Abort, lane: &mut Lane) -> Result<(), Fail>
     requires { GoesOn lane.old.book lane.old.view lane.old.cancellables lane.old.started lane.old.tick }
     ensures { GoesOn lane.new.book lane.new.view lane.new.cancellables lane.new.started lane.new.tick }
 {
+    let alloc = lane.alloc;
     begin(rt, lane, &task(sleep(3000), Some(0), true, true), 0)?;
-    begin_tie(rt, lane, 1)?;
-    begin_at_the_limit(rt, lane, 2)?;
-    begin_sleeper(rt, lane, false, 3)?;
-    begin_sleeper(rt, lane, true, 4)
+    begin_made(rt, lane, tie(alloc), None, true, 1)?;
+    begin_made(rt, lane, end_at_the_limit(alloc), None, true, 2)?;
+    begin_made(rt, lane, after_sleep(alloc, 2000, 4), Some(0), false, 3)?;
+    begin_made(rt, lane, after_sleep(alloc, 2000, 4), Some(0), true, 4)
 }
 
 /// The ticks 1 to 3, in which the tasks end that nothing cancels.
