@@ -6,3 +6,14 @@ pub mod Keeping
 pub mod Readings
 pub mod Trees
 pub mod Depth
+pub mod Alternatives
+pub mod Meets
+pub mod Openings
+pub mod Behind
+pub mod Leaves
+pub mod WordRows
+pub mod SourcesRead
+pub mod TreesRead
+pub mod ActionsRead
+pub mod ScriptsRead
+pub mod OneMeaning

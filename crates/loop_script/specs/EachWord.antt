@@ -8,16 +8,16 @@ use Rattle.loop_script.specs.declared.action.Action.TheVariants.{Attach, Child, 
 use Rattle.loop_script.specs.Tree.{value, fail, sleep, check, seq, both, first, within}
 
 -- the parts of a list
-abbrev items : List Data → Items
+abbrev pub items : List Data → Items
 items [] = no_items
 items (d ∷ ds) = item d (items ds)
 
 -- a list
-abbrev row : List Data → Data
+abbrev pub row : List Data → Data
 row ds = array (items ds)
 
 -- a whole number
-abbrev n : ℕ → Data
+abbrev pub n : ℕ → Data
 n k = number (unsigned k)
 
 -- a number below 0
@@ -25,7 +25,7 @@ abbrev below_zero : ℤ → Data
 below_zero z = number (negative z)
 
 -- a text
-abbrev word : List ℕ → Data
+abbrev pub word : List ℕ → Data
 word w = string w
 
 -- {"call":0,"kind":["idle"],"priority":-5,"recurse":true}

@@ -24,3 +24,10 @@ pub mod EachWord
 pub mod TreeDepth
 pub mod TreeForm
 pub mod TaskForm
+pub mod Form
+pub mod Tables
+pub mod Place
+pub mod Misfit
+pub mod Meaning
+pub mod ByTables
+pub mod EachDefault
