@@ -86,7 +86,7 @@ some_unplaced : (f : Row → Bool) (m : ℤ) (r : Row) (qs : List Row) → SomeA
 some_unplaced f m r [] s = s
 some_unplaced f m r (q ∷ qs) s = some_unplaced_by f m r q qs (stands_before r q) (some_unplaced f m r qs) s
 
-some_of_order : (f : Row → Bool) (m : ℤ) (rows : List Row) → SomeAt f m (in_order rows) → SomeAt f m rows
+pub some_of_order : (f : Row → Bool) (m : ℤ) (rows : List Row) → SomeAt f m (in_order rows) → SomeAt f m rows
 some_of_order f m [] s = s
 some_of_order f m (r ∷ rows) s = elim (some_unplaced f m r (in_order rows) s) [ inl t ↦ inl t | inr t ↦ inr (some_of_order f m rows t) ]
 
@@ -109,7 +109,7 @@ first_by f r q qs true e k ih h =
     subst (λ (x : Row). AllByRecursion (λ z. f z ≡ true → int_lt z.priority x.priority ≡ false) (q ∷ qs)) (same_row q r h) (λ _. not_below q.priority, each_behind f q qs k)
 first_by f r q qs false e k ih h = (λ t. let never = sym e ∙ t in cc, ih h)
 
-first_least : (f : Row → Bool) (r : Row) (qs : List Row) → IsInOrder qs → find f qs ≡ Some r → AllByRecursion (λ z. f z ≡ true → int_lt z.priority r.priority ≡ false) qs
+pub first_least : (f : Row → Bool) (r : Row) (qs : List Row) → IsInOrder qs → find f qs ≡ Some r → AllByRecursion (λ z. f z ≡ true → int_lt z.priority r.priority ≡ false) qs
 first_least f r [] s h = tt
 first_least f r (q ∷ qs) s h = first_by f r q qs (f q) refl s.0 (first_least f r qs s.1) h
 
@@ -117,7 +117,7 @@ found_by : (f : Row → Bool) (r q : Row) (qs : List Row) (b : Bool) → f q ≡
 found_by f r q qs true e ih h = inl (e, ap (λ (x : Row). x.priority) (same_row q r h))
 found_by f r q qs false e ih h = inr (ih h)
 
-found_some : (f : Row → Bool) (r : Row) (qs : List Row) → find f qs ≡ Some r → SomeAt f r.priority qs
+pub found_some : (f : Row → Bool) (r : Row) (qs : List Row) → find f qs ≡ Some r → SomeAt f r.priority qs
 found_some f r [] h = let no : None ≡ Some r = h in cc
 found_some f r (q ∷ qs) h = found_by f r q qs (f q) refl (found_some f r qs) h
 
@@ -125,7 +125,7 @@ none_by : (f : Row → Bool) (q : Row) (qs : List Row) (b : Bool) → f q ≡ b 
 none_by f q qs true e ih h = let no : Some q ≡ None = h in cc
 none_by f q qs false e ih h = (e, ih h)
 
-none_found : (f : Row → Bool) (qs : List Row) → find f qs ≡ None → AllByRecursion (λ z. f z ≡ false) qs
+pub none_found : (f : Row → Bool) (qs : List Row) → find f qs ≡ None → AllByRecursion (λ z. f z ≡ false) qs
 none_found f [] h = tt
 none_found f (q ∷ qs) h = none_by f q qs (f q) refl (none_found f qs) h
 
@@ -179,7 +179,7 @@ has_by f m r xs true e ih (inr s) = inr (ih s)
 has_by f m r xs false e ih (inl s) = let no = sym e ∙ s.0 in cc
 has_by f m r xs false e ih (inr s) = ih s
 
-has_passed : (f : Row → Bool) (m : ℤ) (xs : List Row) → SomeAt f m xs → HasAt m (filter f xs)
+pub has_passed : (f : Row → Bool) (m : ℤ) (xs : List Row) → SomeAt f m xs → HasAt m (filter f xs)
 has_passed f m [] s = s
 has_passed f m (r ∷ xs) s = has_by f m r xs (f r) refl (has_passed f m xs) s
 
@@ -187,7 +187,7 @@ passed_by : (f : Row → Bool) (P : Row → Type 0) (r : Row) (xs : List Row) (b
 passed_by f P r xs true e h k = (h e, k)
 passed_by f P r xs false e h k = k
 
-all_passed : (f : Row → Bool) (P : Row → Type 0) (xs : List Row) → AllByRecursion (λ r. f r ≡ true → P r) xs → AllByRecursion P (filter f xs)
+pub all_passed : (f : Row → Bool) (P : Row → Type 0) (xs : List Row) → AllByRecursion (λ r. f r ≡ true → P r) xs → AllByRecursion P (filter f xs)
 all_passed f P [] h = tt
 all_passed f P (r ∷ xs) h = passed_by f P r xs (f r) refl h.0 (all_passed f P xs h.1)
 

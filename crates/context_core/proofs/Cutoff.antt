@@ -85,7 +85,7 @@ some_gt m r (q ∷ xs) h (inl e) =
     rw f refl
 some_gt m r (q ∷ xs) h (inr e) = rw (some_gt m r xs h e) (and_false (int_le r.priority q.priority))
 
-urgent_by : (m : ℤ) (r : Row) (xs : List Row) (b : Bool) → int_lt m r.priority ≡ b → AllByRecursion (λ q. int_lt q.priority m ≡ false) xs → HasAt m xs → list_all (λ q. int_le r.priority q.priority) xs ≡ not b
+pub urgent_by : (m : ℤ) (r : Row) (xs : List Row) (b : Bool) → int_lt m r.priority ≡ b → AllByRecursion (λ q. int_lt q.priority m ≡ false) xs → HasAt m xs → list_all (λ q. int_le r.priority q.priority) xs ≡ not b
 urgent_by m r xs true e k has = some_gt m r xs e has
 urgent_by m r xs false e k has = all_le m r xs e k
 
@@ -204,7 +204,7 @@ walk_finds ready bound rows h = walk_finds_by ready bound rows (least_of (filter
 
 -- ---- only what is within the bound is looked at
 
-abbrev SameWithin : (f g : Row → Bool) → Option ℤ → List Row → Type 0
+abbrev pub SameWithin : (f g : Row → Bool) → Option ℤ → List Row → Type 0
 SameWithin f g bound rs = AllByRecursion (λ r. less_urgent bound r.priority ≡ false → f r ≡ g r) rs
 
 closer : (bound : Option ℤ) (p q : ℤ) → less_urgent bound p ≡ false → int_lt p q ≡ false → less_urgent bound q ≡ false
@@ -237,7 +237,7 @@ handed_by : (level : ℕ → ℕ) (fd q : ℕ) (o : Option Shown) (b : Bool) →
 handed_by level fd q o true e k = elim (eqb_tells fd q) [ inl t ↦ ap level t.1 | inr f ↦ let never = sym e ∙ f.0 in cc ]
 handed_by level fd q o false e k = k
 
-abbrev ShownAs : (level : ℕ → ℕ) → List Shown → List Row → Type 0
+abbrev pub ShownAs : (level : ℕ → ℕ) → List Shown → List Row → Type 0
 ShownAs level list rows = AllByRecursion (λ q. shown list (fd_of q.kind) ≡ level (fd_of q.kind)) rows
 
 handed_rest : (level : ℕ → ℕ) (fd : ℕ) (list : List Shown) (xs : List Row) → ShownAs level list xs → ShownAs level ((record { fd = fd; level = level fd }) ∷ list) xs
@@ -247,7 +247,7 @@ handed_rest level fd list (q ∷ xs) h = (handed_by level fd (fd_of q.kind) (fin
 handed_first : (level : ℕ → ℕ) (o : Option Shown) (fd : ℕ) → level_of (cond (fd == fd) (Some (record { fd = fd; level = level fd })) o) ≡ level fd
 handed_first level o fd = elim (eqb_tells fd fd) [ inl t ↦ rw t.0 refl | inr f ↦ absurd (f.1 refl) ]
 
-handed_is : (level : ℕ → ℕ) (rs : List Row) → ShownAs level (handed rs (levels_for level rs)) rs
+pub handed_is : (level : ℕ → ℕ) (rs : List Row) → ShownAs level (handed rs (levels_for level rs)) rs
 handed_is level [] = tt
 handed_is level (r ∷ rs) =
     (handed_first level (find (λ (s : Shown). s.fd == fd_of r.kind) (handed rs (levels_for level rs))) (fd_of r.kind), handed_rest level (fd_of r.kind) (handed rs (levels_for level rs)) rs (handed_is level rs))
@@ -337,7 +337,7 @@ each_calls : (f g : ℕ → ℕ) (now : ℕ) (view : ℕ → Bool) (busy : List 
 each_calls f g now view busy bound r [] h tree asked = tt
 each_calls f g now view busy bound r (q ∷ xs) h tree asked = (calls_same f g now view busy bound r q h tree.0 asked.0, each_calls f g now view busy bound r xs h tree.1 asked.1)
 
-each_ready : (f g : ℕ → ℕ) (now : ℕ) (view : ℕ → Bool) (busy : List ℕ) (bound : Option ℤ) (rows xs : List Row)
+pub each_ready : (f g : ℕ → ℕ) (now : ℕ) (view : ℕ → Bool) (busy : List ℕ) (bound : Option ℤ) (rows xs : List Row)
     → AllByRecursion (λ r. AllByRecursion (λ q. is_under r.id q ≡ true → q.priority ≡ r.priority) rows) xs → AllByRecursion (λ q. is_asked bound busy q ≡ true → f (fd_of q.kind) ≡ g (fd_of q.kind)) rows
     → SameWithin (is_ready (own_ready f view now) busy rows) (is_ready (own_ready g view now) busy rows) bound xs
 each_ready f g now view busy bound rows [] tree asked = tt

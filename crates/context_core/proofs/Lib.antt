@@ -7,3 +7,4 @@ pub mod Phased
 pub mod AtTwo
 pub mod InClasses
 pub mod Candidates
+pub mod Standings

@@ -1,5 +1,5 @@
 //! A context, and its three phases.
-ghost use Rattle.std.specs.Prelude.{◌≡◌, false, ◌≤◌, ◌<◌, ◌^◌, ◌==◌, ◌&&◌, ◌||◌, IfOk, OnOk, ℕ, filter};
+ghost use Rattle.std.specs.Prelude.{◌≡◌, false, ◌≤◌, ◌<◌, ◌^◌, ◌==◌, ◌&&◌, ◌||◌, IfOk, OnOk, ℕ, filter, map, None};
 ghost use Rattle.std.specs.Borrow.{sem};
 ghost use Rattle.loop_script.specs.Bounds.{count_end, latest};
 ghost use Rattle.context_core.specs.Lending.{LendsRows};
@@ -11,6 +11,7 @@ ghost use Rattle.std.specs.Ordering.{nat_cmp};
 ghost use Rattle.std.specs.BTreeSet.{contains};
 ghost use Rattle.context_core.specs.Ready.{in_view, own_ready, selected, is_free, is_ready, is_callable};
 ghost use Rattle.context_core.specs.Lent.{lends};
+ghost use Rattle.context_core.specs.Standing.{standing, first_with};
 ghost use Rattle.context_core.specs.Phases.{ms_until, least_ready, wait_of, interests, asked_rows, levels_for, shown, handed, walk};
 
 use crate::busy::{Busy, classes_of_ids};
@@ -19,6 +20,7 @@ use crate::polled::{Polled, classes_of_shown};
 use crate::ready::{
     interest, is_beyond, is_callable, is_free, level_at, ms_until, own_ready, sooner,
 };
+use crate::standing::{Standing, stand};
 use cancel_view::View;
 use source_rows::{Levels, Row, Rows};
 use std::alloc::{AllocError, Global};
@@ -250,6 +252,63 @@ impl Context {
         let classes = classes_of_shown(&list);
         let polled = Polled::new(&list, &classes);
         self.walk(alloc, prepared.priority, &polled, now, &busy, view)
+    }
+
+    /// What an iteration begun now would do with each source, in the order of dispatch, where descriptors are known by a list.
+    fn all_standings(
+        &self,
+        alloc: Global,
+        polled: &Polled,
+        now: u64,
+        busy: &Busy,
+        view: &View,
+    ) -> Result<Vec<Standing>, AllocError>
+        requires { now ≤ latest }
+        ensures one_tree { IsOneTree self.now.rows.rows }
+        ensures list { IfOk result (λ list. list.items ≡ map (standing (shown polled.now) (in_view view.now) now busy.now self.now.rows.rows) (in_order self.now.rows.rows)) }
+    {
+        let mut list = Vec::new(alloc);
+        let mut lent = BTreeSet::new(alloc);
+        let mut first = None;
+        'rows: for row in self.rows.in_order() {
+            let ready = visit(&mut lent, row, polled, now, busy, view)?;
+            first = first_of(first, row, ready);
+            list.push(stand(row, ready, first, polled, busy))?;
+        }
+        Ok(list)
+    }
+
+    /// What an iteration begun now would do with each source, and why, in the order of dispatch, as that of `rows`, by the
+    /// levels that descriptors show to the interests of a `query` after a `prepare` that found nothing ready, one each.
+    pub fn standings(
+        &self,
+        alloc: Global,
+        now: u64,
+        busy: &[u64],
+        view: &View,
+        levels: &[u8],
+    ) -> Result<Vec<Standing>, AllocError>
+        requires { now ≤ latest }
+        ensures { (level : ℕ → ℕ) → levels.now ≡ levels_for level (asked_rows None busy.now self.now.rows.rows)
+            → IfOk result (λ list. list.items ≡ map (standing level (in_view view.now) now busy.now self.now.rows.rows) (in_order self.now.rows.rows)) }
+    {
+        let classes = classes_of_ids(busy);
+        let busy = Busy::new(busy, &classes);
+        let list = self.polled(alloc, None, &busy, levels)?;
+        let classes = classes_of_shown(&list);
+        let polled = Polled::new(&list, &classes);
+        self.all_standings(alloc, &polled, now, &busy, view)
+    }
+}
+
+/// The row that was ready first, where a ready one comes after it or is it.
+fn first_of(first: Option<Row>, row: &Row, ready: bool) -> Option<Row>
+    ensures { result ≡ first_with first ready row.now }
+{
+    if first.is_none() && ready {
+        Some(*row)
+    } else {
+        first
     }
 }
 

@@ -10,11 +10,12 @@ mod classes;
 mod context;
 mod defaults;
 mod interest;
-mod laws;
+pub mod laws;
 mod polled;
 mod ready;
+mod standing;
 
 pub use context::Context;
 pub use defaults::DefaultStack;
 pub use interest::{Interest, Prepared};
-pub use laws::blocking_goes_by_parents;
+pub use standing::Standing;

@@ -83,6 +83,37 @@ fn numbers_of(alloc: Global, letters: &[Letter], sender: u32) -> Result<Vec<u64>
     Ok(numbers)
 }
 
+/// The office's own calls, which pass on to its queue: a letter posted, one through a post that is lent, and another.
+fn post_by_the_office<R: Wait>(
+    rt: &R,
+    office: &Office,
+    mut pass: OfficePass,
+) -> Result<OfficePass, Letter>
+    requires { pass.home ≡ office.now.home }
+    ensures { IfOk result (λ back. back.home ≡ office.now.home) }
+{
+    office.post_as(rt, &mut pass, letter(1, 0))?;
+    let mut lent = office.lend(rt, pass);
+    let posted = lent.post(letter(1, 1));
+    let mut pass = lent.into_pass();
+    posted?;
+    office.post_as(rt, &mut pass, letter(1, 2))?;
+    Ok(pass)
+}
+
+#[test]
+fn letters_by_the_office(rt: HostRuntime) -> Result<(), Fail> {
+    let mut office = Office::new(rt.alloc())?;
+    let pass = office.pass()?;
+    let Ok(pass) = post_by_the_office(&rt, &office, pass) else {
+        return Err(OutOfMemory.into());
+    };
+    office.take_back(pass);
+    let letters = office.drain(&rt, rt.alloc())?;
+    expect_three(&rt, rt.alloc(), &letters, 1)?;
+    Ok(())
+}
+
 #[test]
 fn letters_of_two_threads(rt: HostRuntime) -> Result<(), Fail> {
     let mut office = Office::new(rt.alloc())?;
@@ -198,6 +229,32 @@ fn work_of_two_threads(rt: HostRuntime) -> Result<(), Fail> {
     list.take_back(two);
     list.take_back(one);
     assert!(rt; list.take_rest(&rt).is_none());
+    Ok(())
+}
+
+/// Takes by the list's own call, which passes on to its queue.
+fn take_by_the_list<R: Wait>(rt: &R, list: &WorkList<Job>, pass: &mut WorkPass<Job>) -> Option<u32>
+    requires { pass.old.home ≡ list.now.home }
+    ensures { pass.new.home ≡ list.now.home }
+{
+    list.take(rt, pass).map(|job| job.number())
+}
+
+#[test]
+fn work_by_the_list(rt: HostRuntime) -> Result<(), Fail> {
+    let mut list = WorkList::new(rt.alloc())?;
+    if put_three(&rt, &mut list).is_err() {
+        return Err(OutOfMemory.into());
+    }
+    let mut pass = list.pass()?;
+    let taken = [
+        take_by_the_list(&rt, &list, &mut pass),
+        take_by_the_list(&rt, &list, &mut pass),
+        take_by_the_list(&rt, &list, &mut pass),
+        take_by_the_list(&rt, &list, &mut pass),
+    ];
+    list.take_back(pass);
+    assert!(rt; taken == [Some(0), Some(1), Some(2), None]);
     Ok(())
 }
 

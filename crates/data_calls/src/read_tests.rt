@@ -105,21 +105,24 @@ fn counts(script: &Script) -> [u32; 4] {
     ]
 }
 
-/// Whatever request is refused, the script is not read, and then read again it has what it has to have.
+/// Whatever request is refused, the script is not read, and then it is read again.
+fn read_at_last(alloc: Global, text: &str) -> Result<Script, ScriptFault> {
+    match Script::read(alloc, text.as_bytes()) {
+        Err(ScriptFault::OutOfMemory) => Script::read(alloc, text.as_bytes()),
+        found => found,
+    }
+}
+
+/// How many lanes, loops, cancellables there are, and how long lists are.
 fn expect_read(
     rt: &impl Abort,
-    alloc: Global,
-    text: &str,
+    script: &Result<Script, ScriptFault>,
     known: [u32; 4],
     lengths: &[(Body, usize)],
 ) {
-    let found = match Script::read(alloc, text.as_bytes()) {
-        Err(ScriptFault::OutOfMemory) => Script::read(alloc, text.as_bytes()),
-        found => found,
-    };
-    match found {
+    match script {
         Err(fault) => assert!(rt; false, "{fault}"),
-        Ok(script) => expect_sizes(rt, &script, known, lengths),
+        Ok(script) => expect_sizes(rt, script, known, lengths),
     }
 }
 
@@ -130,8 +133,17 @@ fn expect_sizes(rt: &impl Abort, script: &Script, known: [u32; 4], lengths: &[(B
     }
 }
 
+/// What the procedures from the third on log.
+fn expect_logs(rt: &impl Abort, script: &Script, logs: [u32; 4]) {
+    for (proc, log) in (2..).zip(logs) {
+        let found = only_log(script.actions(Body::Procedure(proc)));
+        expect(rt, found.into(), log.into());
+    }
+}
+
 #[test]
 fn refused_read_of_posts(rt: HostRuntime) {
+    let script = read_at_last(rt.alloc(), posts_in_one_tick());
     let lengths = [
         (Body::Start(0), 2),
         (Body::Start(1), 3),
@@ -139,15 +151,73 @@ fn refused_read_of_posts(rt: HostRuntime) {
         (Body::Procedure(0), 2),
         (Body::Procedure(5), 1),
     ];
-    expect_read(&rt, rt.alloc(), posts_in_one_tick(), [3, 3, 3, 0], &lengths);
+    expect_read(&rt, &script, [3, 3, 3, 0], &lengths);
+    if let Ok(script) = &script {
+        expect_logs(&rt, script, [20, 30, 40, 50]);
+    }
+}
+
+/// What the script says of a task beside its tree.
+#[derive(Clone, Copy, Debug, PartialEq, Eq)]
+struct Flags {
+    cancel: Option<u32>,
+    check: bool,
+    return_on_cancel: bool,
+}
+
+fn flags_of(action: &Action) -> Option<Flags> {
+    match action {
+        Action::Task(spec) => Some(Flags {
+            cancel: spec.cancel,
+            check: spec.check,
+            return_on_cancel: spec.return_on_cancel,
+        }),
+        _ => None,
+    }
+}
+
+const USUAL: Flags = Flags {
+    cancel: None,
+    check: true,
+    return_on_cancel: false,
+};
+
+const OF_TASKS: [Flags; 5] = [
+    Flags {
+        cancel: Some(0),
+        check: true,
+        return_on_cancel: true,
+    },
+    USUAL,
+    USUAL,
+    Flags {
+        cancel: Some(0),
+        check: false,
+        return_on_cancel: false,
+    },
+    Flags {
+        cancel: Some(0),
+        check: true,
+        return_on_cancel: false,
+    },
+];
+
+fn expect_tasks(rt: &impl Abort, script: &Script) {
+    for (action, wanted) in script.actions(Body::Start(0)).iter().zip(OF_TASKS) {
+        assert!(rt; flags_of(action) == Some(wanted));
+    }
 }
 
 #[test]
 fn refused_read_of_tasks(rt: HostRuntime) {
+    let script = read_at_last(rt.alloc(), tasks());
     let lengths = [
         (Body::Start(0), 7),
         (Body::Procedure(0), 0),
         (Body::Procedure(1), 2),
     ];
-    expect_read(&rt, rt.alloc(), tasks(), [7, 1, 1, 1], &lengths);
+    expect_read(&rt, &script, [7, 1, 1, 1], &lengths);
+    if let Ok(script) = &script {
+        expect_tasks(&rt, script);
+    }
 }

@@ -35,6 +35,7 @@ enum Step {
     NextReady(u64),
     Dispatched(u64),
     Destroy(u64),
+    IsThere(u64),
 }
 
 /// Takes a step. Where a call answers true or false the number is 1 or 0, and where it answers none it is 0.
@@ -47,12 +48,13 @@ fn take(rows: &mut Tried, step: &Step) -> Result<u64, RowsFault> {
         Step::NextReady(now) => Ok(rows.next_ready(*now)),
         Step::Dispatched(id) => Ok(rows.dispatched(*id).unwrap_or(0)),
         Step::Destroy(id) => Ok(rows.destroy(*id) as u64),
+        Step::IsThere(id) => Ok(rows.rows.row(*id).is_some() as u64),
     }
 }
 
 type Known = (Step, Result<u64, RowsFault>, &'static [u64]);
 
-fn steps_of_two_levels() -> [Known; 15] {
+fn steps_of_two_levels() -> [Known; 16] {
     [
         (Step::Attach(idle()), Ok(1), &[1]),
         (Step::Attach(timeout()), Ok(2), &[2, 1]),
@@ -66,6 +68,7 @@ fn steps_of_two_levels() -> [Known; 15] {
         (Step::Ready(2, 5), Ok(1), &[3, 1, 2]),
         (Step::NextReady(4), Ok(5), &[3, 1, 2]),
         (Step::Destroy(1), Ok(1), &[2]),
+        (Step::IsThere(3), Ok(0), &[2]),
         (Step::Destroy(1), Ok(0), &[2]),
         (Step::Dispatched(2), Ok(1), &[2]),
         (Step::Dispatched(1), Ok(0), &[2]),

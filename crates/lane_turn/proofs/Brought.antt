@@ -1,10 +1,13 @@
 -- What letters bring to a lane, and what it holds and tells of that at each tick.
-use Rattle.std.proofs.Common.{◌≡◌, ℕ, zero, suc, ◌+◌, ◌==◌, ◌&&◌, Bool, true, false, cond, List, [], ◌∷◌, refl, ap, sym, ◌∙◌, arith}
+use Rattle.std.proofs.Common.{◌≡◌, ℕ, zero, suc, ◌+◌, ◌<◌, ◌==◌, ◌&&◌, Bool, true, false, cond, List, [], ◌∷◌, ◌++◌, length, refl, ap, sym, ◌∙◌, arith, subst}
 use Rattle.std.specs.Prelude.{is_some, slice_index_or}
-use Rattle.std.proofs.lemmas.List.Sums.{sum_by-cons}
+use Rattle.std.specs.List.{AllByRecursion}
+use Rattle.std.proofs.lemmas.List.{length-map, length_push}
+use Rattle.std.proofs.lemmas.List.Sums.{sum_by-cons, sum_by_push}
 use Rattle.loop_script.specs.declared.plan.Plan.{Plan}
 use Rattle.loop_script.specs.declared.source.SourceSpec.{SourceSpec}
 use Rattle.loop_script.specs.Parts.{time_of}
+use Rattle.loop_script.specs.References.{sizes}
 use Rattle.source_rows.specs.Rows.{attached}
 use Rattle.task_steps.specs.declared.entry.Reply.{Reply}
 use Rattle.post_office.specs.declared.letter.Letter.{Letter}
@@ -12,14 +15,17 @@ use Rattle.post_office.specs.declared.letter.Body.{Body}
 use Rattle.post_office.specs.declared.letter.Body.TheVariants.{Attach, Complete, Cancelled}
 use Rattle.lane_turn.specs.declared.line.Event.TheVariants as events
 use Rattle.lane_turn.specs.Lane.{Lane, context_at, next_id, with_rows, edited, written}
-use Rattle.lane_turn.specs.Turn.{turned}
+use Rattle.lane_turn.specs.Replies.{Replies, replies_at}
+use Rattle.lane_turn.specs.Turn.{opening, open_replies, turned}
+use Rattle.lane_turn.specs.declared.replies.Awaited.{Awaited}
 use Rattle.lane_turn.specs.Deliver.{reply_spec, holding, arrived_source, received_body, received, received_all}
 use Rattle.lane_turn.specs.Owed.{one_for, lane_under}
-use Rattle.lane_turn.specs.Taken.{results, awaited, brings, brought, brought_before}
+use Rattle.lane_turn.specs.Arrivals.{held_of}
+use Rattle.lane_turn.specs.Taken.{results, awaited_in, awaited, brings, brought, brought_before}
 use Rattle.lane_turn.proofs.Leaves.{Leaves, results_other, same, line, edit, leaves_trans, either, leaves_cancel}
-use Rattle.lane_turn.proofs.Taking.{IsFresh, awaited_with, given_with, given_still, next_new, left}
+use Rattle.lane_turn.proofs.Taking.{IsFresh, fresh_more, awaited_next, left}
 use Rattle.lane_turn.proofs.Moving.{turned_moves}
-use Rattle.lane_turn.proofs.Arrivals.{own_held, held_turned, next_more, still_has}
+use Rattle.lane_turn.proofs.Arrivals.{own_held, length_held, held_turned, next_more, still_has}
 
 -- ---- one letter
 
@@ -49,11 +55,12 @@ reply_gains : (s n tick now sender : ℕ) (reply : Reply) (lane : Lane) (b : Boo
 reply_gains s n tick now sender reply lane true e f =
     let id : ℕ = next_id (context_at reply.ctx lane) in
     let there : Lane = edited reply.ctx (attached (reply_spec reply) now) lane in
+    let a : Awaited = record { sender = sender; reply = reply } in
     let more : next_id (context_at reply.ctx there) ≡ id + 1 = next_more (with_rows (attached (reply_spec reply) now)) (λ c. refl) lane.contexts reply.ctx e in
-    let rise = (edit s n lane reply.ctx (attached (reply_spec reply) now) (λ rows. omega arith)).rise in
+    let h : Leaves s n lane there = edit s n lane reply.ctx (attached (reply_spec reply) now) (λ rows. omega arith) in
     let told = results_other s n tick (events.Arrive reply.ctx id) lane.trace refl in
-    let held = awaited_with s n (reply.ctx, id) (record { sender = sender; reply = reply }) lane.replies (next_new lane.contexts reply.ctx lane.replies f) in
-    (given_with there.contexts (reply.ctx, id) (record { sender = sender; reply = reply }) lane.replies (omega (arith, more)) (given_still lane.contexts there.contexts rise lane.replies f), omega (arith, told, held, with_true (sender == s) (reply.task == n)))
+    let held = awaited_next s n lane.contexts reply.ctx a lane.replies e f in
+    (fresh_more lane.contexts there.contexts reply.ctx a lane.replies h.size h.rise more f, omega (arith, told, held, with_true (sender == s) (reply.task == n)))
 reply_gains s n tick now sender reply lane false e f = (f, omega (arith, never_both (sender == s) (reply.task == n) false refl))
 
 pub leaves_arrived : (s n tick now context : ℕ) (spec : SourceSpec) (lane : Lane) → Leaves s n lane (arrived_source tick now context spec lane)
@@ -99,10 +106,38 @@ own_turned : (script : Plan) (tick : ℕ) (lane : Lane) → OwnAlike (turned scr
 own_turned script tick lane c =
     own_held (turned script tick lane).contexts c ∙ (ap (λ bs. slice_index_or bs c false) (held_turned script tick lane) ∙ sym (own_held lane.contexts c))
 
+-- at first nothing is held
+open_size : (n : ℕ) → length (open_replies n) ≡ n
+open_size zero = refl
+open_size (suc n) = length_push (open_replies n) [] ∙ omega (arith, open_size n)
+
+open_at : (n c : ℕ) → replies_at c (open_replies n) ≡ []
+open_at zero c = refl
+open_at (suc n) c = none_pushed (open_replies n) c (λ i. open_at n i)
+  where
+    none_pushed : (all : List Replies) (c : ℕ) → ((i : ℕ) → replies_at i all ≡ []) → replies_at c (all ++ [] ∷ []) ≡ []
+    none_pushed [] zero h = refl
+    none_pushed [] (suc c) h = refl
+    none_pushed (es ∷ all) zero h = h zero
+    none_pushed (es ∷ all) (suc c) h = none_pushed all c (λ i. h (suc i))
+
+open_awaited : (s n m : ℕ) → awaited s n (open_replies m) ≡ 0
+open_awaited s n zero = refl
+open_awaited s n (suc m) = sum_by_push (awaited_in s n) (open_replies m) [] ∙ omega (arith, open_awaited s n m)
+
+open_fresh : (script : Plan) (lane : ℕ) → IsFresh (opening script lane)
+open_fresh script lane =
+    let m : ℕ = (sizes script).contexts in
+    let size : length (held_of (opening script lane).contexts) ≡ length (opening script lane).contexts = simp length-map in
+    record {
+      size = omega (arith, open_size m, size, length_held script lane m);
+      given = λ c. subst (λ (es : Replies). AllByRecursion (λ e. e.0 < next_id (context_at c (opening script lane))) es) (sym (open_at m c)) tt;
+    }
+
 under_taken : (script : Plan) (mail : ℕ → List Letter) (lane s n tick : ℕ) →
     IsFresh (lane_under script mail lane tick)
     × (results s n (lane_under script mail lane tick).trace + awaited s n (lane_under script mail lane tick).replies ≡ brought_before script mail lane s n tick)
-under_taken script mail lane s n zero = (tt, refl)
+under_taken script mail lane s n zero = (open_fresh script lane, omega (arith, open_awaited s n (sizes script).contexts))
 under_taken script mail lane s n (suc k) =
     let before : Lane = lane_under script mail lane k in
     let r = under_taken script mail lane s n k in

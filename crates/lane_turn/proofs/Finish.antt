@@ -1,5 +1,5 @@
 -- A turn by its steps: any number of steps that is large enough gives the same.
-use Rattle.std.proofs.Common.{◌≡◌, ℕ, zero, suc, ◌<◌, ◌≤◌, ◌≢◌, true, false, Option, Some, None, is_some, unwrap_or, refl, ap, sym, ◌∙◌, arith, subst}
+use Rattle.std.proofs.Common.{◌≡◌, ℕ, zero, suc, ◌<◌, ◌≤◌, ◌≢◌, Bool, true, false, Option, Some, None, is_some, unwrap_or, refl, ap, sym, ◌∙◌, arith, subst}
 use Rattle.std.specs.Option.{option_map_or}
 use Rattle.loop_script.specs.declared.plan.Plan.{Plan}
 use Rattle.lane_turn.specs.Lane.{Turn}
@@ -87,6 +87,14 @@ finished_now script tick t h = fixed script tick t (none_of (step script tick t)
 
 pub stepped_now : (script : Plan) (tick : ℕ) (t : Turn) → is_some (step script tick t) ≡ false → stepped script tick t ≡ t
 stepped_now script tick t h = ap (λ (o : Option Turn). unwrap_or o t) (none_of (step script tick t) h)
+
+-- a step, or none where none is left, leads to the same end
+pub finished_same : (script : Plan) (tick : ℕ) (t : Turn) → finished script tick (stepped script tick t) ≡ finished script tick t
+finished_same script tick t = by_more (is_some (step script tick t)) refl
+  where
+    by_more : (b : Bool) → is_some (step script tick t) ≡ b → finished script tick (stepped script tick t) ≡ finished script tick t
+    by_more true e = finished_on script tick t e
+    by_more false e = ap (finished script tick) (stepped_now script tick t e)
 
 sound_on : (script : Plan) (n tick k : ℕ) (t : Turn) (o : Option Turn) → step script tick t ≡ o → IsSound n t → ((u : Turn) → IsSound n u → IsSound n (finish script tick k u)) → IsSound n (finish script tick (suc k) t)
 sound_on script n tick k t None e s f = subst (IsSound n) (sym (fixed script tick t e (suc k))) s

@@ -50,7 +50,8 @@ use Rattle.lane_turn.specs.Sound.{Bounded, IsSound, IsReady}
 use Rattle.lane_turn.specs.Levels.{IsGrown, Grown, IsOfTwoLevels, OfTwoLevels, OfAllLanes}
 use Rattle.lane_turn.proofs.Mild.{within_weaker}
 use Rattle.lane_turn.proofs.Bounds.{bounded_at}
-use Rattle.lane_turn.proofs.Turns.{IsTidy, tidy_on, begun_tidy, kept_finish, kept_finished, Kept}
+use Rattle.lane_turn.specs.Sound.{IsTidy}
+use Rattle.lane_turn.proofs.Turns.{tidy_on, begun_tidy, kept_finish, kept_finished, Kept}
 use Rattle.lane_turn.proofs.Runs.{most_at, ready_at, posted_fits, AllReady}
 use Rattle.lane_turn.proofs.Turns.{ready-turned}
 use Rattle.lane_turn.proofs.Delivered.{ready_received}

@@ -1,4 +1,4 @@
--- What tells no result, leaves the replies that are held, and lowers no next id.
+-- What tells no result, leaves the replies that are held, and lowers no next id of as many contexts.
 use Rattle.std.proofs.Common.{◌≡◌, ℕ, ℤ, zero, suc, ◌+◌, ◌-◌, ◌<◌, ◌≤◌, ◌==◌, Bool, true, false, cond, Option, Some, None, List, [], ◌∷◌, ◌++◌, slice_set, length, take, refl, ap, sym, ◌∙◌, arith, subst}
 use Rattle.std.specs.Prelude.{nat_lt, is_some, is_none, not, ◌&&◌, slice_get, option_map, unwrap_or}
 use Rattle.std.specs.List.{AllByRecursion}
@@ -58,6 +58,7 @@ pub record IsPlaced (m : ℕ) (lane : Lane) : Type 0 where
 pub record Leaves (s n : ℕ) (lane after : Lane) : Type 0 where
   pub told : results s n after.trace ≡ results s n lane.trace
   pub replies : after.replies ≡ lane.replies
+  pub size : length after.contexts ≡ length lane.contexts
   pub rise : Rises lane.contexts after.contexts
   pub place : (m : ℕ) → 0 < m → IsPlaced m lane → IsPlaced m after
 
@@ -88,26 +89,31 @@ pub same : (s n : ℕ) (lane after : Lane) → after.trace ≡ lane.trace → af
 same s n lane after t r c d ts = record {
   told = ap (results s n) t;
   replies = r;
+  size = ap (λ (cs : List (Option Context)). length cs) c;
   rise = subst (Rises lane.contexts) (sym c) (λ i. omega arith);
   place = λ m z p. place_same m lane after (ap (λ (cs : List (Option Context)). length cs) c) d ts p;
 }
 
 pub line : (s n : ℕ) (lane : Lane) (tick : ℕ) (event : Event) → is_result s n event ≡ false → Leaves s n lane (written tick event lane)
-line s n lane tick event e = record { told = results_other s n tick event lane.trace e; replies = refl; rise = λ i. omega arith; place = λ m z p. place_same m lane (written tick event lane) refl refl refl p }
+line s n lane tick event e = record { told = results_other s n tick event lane.trace e; replies = refl; size = refl; rise = λ i. omega arith; place = λ m z p. place_same m lane (written tick event lane) refl refl refl p }
 
 change : (s n : ℕ) (lane : Lane) (context : ℕ) (f : Context → Context) → ((c : Context) → c.rows.next_id ≤ (f c).rows.next_id) → Leaves s n lane (with_context context f lane)
 change s n lane context f e = record {
   told = refl;
   replies = refl;
+  size = same_size;
   rise = rises_changed f e lane.contexts context;
-  place = λ m z p. place_same m lane (with_context context f lane) (let size : length (slice_set lane.contexts context (option_map f (context_at context lane))) ≡ length lane.contexts = simp length-set in size) refl refl p;
+  place = λ m z p. place_same m lane (with_context context f lane) same_size refl refl p;
 }
+  where
+    same_size : length (slice_set lane.contexts context (option_map f (context_at context lane))) ≡ length lane.contexts
+    same_size = simp length-set
 
 pub edit : (s n : ℕ) (lane : Lane) (context : ℕ) (f : RowSet → RowSet) → ((rows : RowSet) → rows.next_id ≤ (f rows).next_id) → Leaves s n lane (edited context f lane)
 edit s n lane context f e = change s n lane context (with_rows f) (λ c. e c.rows)
 
 pub leaves_trans : (s n : ℕ) (a b c : Lane) → Leaves s n a b → Leaves s n b c → Leaves s n a c
-leaves_trans s n a b c h g = record { told = g.told ∙ h.told; replies = g.replies ∙ h.replies; rise = λ i. omega (arith, h.rise i, g.rise i); place = λ m z p. g.place m z (h.place m z p) }
+leaves_trans s n a b c h g = record { told = g.told ∙ h.told; replies = g.replies ∙ h.replies; size = g.size ∙ h.size; rise = λ i. omega (arith, h.rise i, g.rise i); place = λ m z p. g.place m z (h.place m z p) }
 
 pub either : (s n : ℕ) (lane x y : Lane) (b : Bool) → Leaves s n lane x → Leaves s n lane y → Leaves s n lane (cond b x y)
 either s n lane x y true p q = p
@@ -224,7 +230,7 @@ leaves_attach s n tick now context slot spec lane =
     (leaves_trans s n lane there _ (edit s n lane context (attached spec now) (λ rows. omega arith)) (same s n there _ refl refl refl refl refl))
     (line s n lane tick (events.Miss words.Attach) refl)
 
-own_within : (contexts : List (Option Context)) (c : ℕ) → is_some (present (slice_get contexts c)) ≡ true → c < length contexts
+pub own_within : (contexts : List (Option Context)) (c : ℕ) → is_some (present (slice_get contexts c)) ≡ true → c < length contexts
 own_within [] c e = let no : false ≡ true = e in cc
 own_within (o ∷ contexts) zero e = omega arith
 own_within (o ∷ contexts) (suc c) e = omega (arith, own_within contexts c e)
@@ -239,13 +245,14 @@ leaves_push : (s n tick context : ℕ) (lane : Lane) (b : Bool) → is_some (con
 leaves_push s n tick context lane true e = record {
   told = refl;
   replies = refl;
+  size = refl;
   rise = λ i. omega arith;
   place = λ m z p. record { all = p.all; defaults = each-push (λ c. c < m) lane.defaults context p.defaults (omega (arith, own_within lane.contexts context e, p.all)); tasks = p.tasks };
 }
 leaves_push s n tick context lane false e = line s n lane tick (events.Miss words.Push) refl
 
 leaves_popped : (s n context : ℕ) (lane : Lane) → Leaves s n lane (record lane { defaults = popped context lane.defaults })
-leaves_popped s n context lane = record { told = refl; replies = refl; rise = λ i. omega arith; place = λ m z p. record { all = p.all; defaults = by m (is_on_top context lane.defaults) p.defaults; tasks = p.tasks } }
+leaves_popped s n context lane = record { told = refl; replies = refl; size = refl; rise = λ i. omega arith; place = λ m z p. record { all = p.all; defaults = by m (is_on_top context lane.defaults) p.defaults; tasks = p.tasks } }
   where
     by : (m : ℕ) (b : Bool) → AllByRecursion (λ c. c < m) lane.defaults → AllByRecursion (λ c. c < m) (cond b (take (length lane.defaults - 1) lane.defaults) lane.defaults)
     by m true h = each_front (λ c. c < m) (length lane.defaults - 1) lane.defaults h
@@ -261,6 +268,7 @@ leaves_task : (s n tick : ℕ) (spec : TaskSpec) (lane : Lane) → Leaves s n la
 leaves_task s n tick spec lane = record {
   told = refl;
   replies = refl;
+  size = refl;
   rise = λ i. omega arith;
   place = λ m z p. record {
     all = p.all;

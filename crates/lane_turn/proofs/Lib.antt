@@ -53,3 +53,4 @@ pub mod Stays
 pub mod EachLane
 pub mod Traced
 pub mod Rested
+pub mod Stands

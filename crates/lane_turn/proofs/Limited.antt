@@ -1,6 +1,6 @@
 -- What a step takes of the actions and dispatches that a turn may take.
 use Rattle.std.proofs.Common.{◌≡◌, inl, inr, ℕ, zero, suc, ◌≤◌, Bool, true, false, cond, Option, Some, None, List, [], ◌∷◌, refl, ap, sym, ◌∙◌, arith, subst}
-use Rattle.std.specs.Prelude.{slice_get}
+use Rattle.std.specs.Prelude.{slice_get, is_some}
 use Rattle.loop_script.specs.declared.plan.Plan.{Plan}
 use Rattle.loop_script.specs.declared.action.Action.{Action}
 use Rattle.loop_script.specs.Parts.{actions_of}
@@ -17,7 +17,7 @@ use Rattle.lane_turn.specs.Frames.{Frame, CallOf, IterOf, LoopOf}
 use Rattle.lane_turn.specs.Lane.{Lane, Turn, taken, popped, written, row_of, is_running, iterating}
 use Rattle.lane_turn.specs.Acted.{acted, sends}
 use Rattle.lane_turn.specs.Step.{step, step_call, step_id, step_polling, limited_by, dispatching, with_lane}
-use Rattle.lane_turn.specs.Limited.{TakesOne}
+use Rattle.lane_turn.specs.Limited.{TakesOne, is_counted, is_counted_in, is_counted_by}
 use Rattle.lane_turn.proofs.Iterations.{some_turn, going, in_the_middle}
 
 takes_one : (tick : ℕ) (mail : Option Mail) (f : Lane → Lane) (t : Turn) (left : ℕ) → t.left ≡ left → TakesOne tick t (limited_by tick mail f t left)
@@ -99,3 +99,44 @@ falls_polling script tick t (task ∷ tasks) u e = subst (Falls (record t { unpo
 
 pub left_falls : (script : Plan) (tick : ℕ) (t u : Turn) → step script tick t ≡ Some u → u.left ≤ t.left
 left_falls script tick t u e = falls_polling script tick t t.unpolled u e
+
+-- ---- what is not counted takes none
+
+abbrev Leaves : Turn → Turn → Type 0
+Leaves t u = u.left ≡ t.left
+
+leaves_call : (script : Plan) (tick : ℕ) (t : Turn) (call : Call) (a : Option Action) → is_some a ≡ false → Leaves t (step_call script tick t call a)
+leaves_call script tick t call (Some a) h = let no : true ≡ false = h in cc
+leaves_call script tick t call None h = refl
+
+leaves_id : (tick : ℕ) (t : Turn) (context : ℕ) (r : Option Row) → is_some r ≡ false → Leaves t (step_id tick t context r)
+leaves_id tick t context (Some row) h = let no : true ≡ false = h in cc
+leaves_id tick t context None h = refl
+
+leaves_loop : (script : Plan) (tick : ℕ) (t : Turn) (number context : ℕ) (runs iterated : Bool) (u : Turn)
+    → cond runs (cond iterated None (Some (record t { lane = iterating script tick context askers.Loop t.lane; iterated = true }))) (Some (with_lane (λ lane. written tick (events.LoopEnd number) (popped lane)) t)) ≡ Some u → Leaves t u
+leaves_loop script tick t number context true true u e = cc
+leaves_loop script tick t number context true false u e = subst (Leaves t) (some_turn _ _ e) refl
+leaves_loop script tick t number context false iterated u e = subst (Leaves t) (some_turn _ _ e) refl
+
+leaves_going : (script : Plan) (tick : ℕ) (t : Turn) (frames : List Frame) (status : Status) (u : Turn) → is_counted script (turn t frames status) ≡ false → step script tick (turn t frames status) ≡ Some u → Leaves (turn t frames status) u
+leaves_going script tick t [] GoesOn u h e = cc
+leaves_going script tick t (CallOf call ∷ below) GoesOn u h e =
+    let now : Turn = turn t (CallOf call ∷ below) GoesOn in
+    subst (Leaves now) (some_turn _ _ e) (leaves_call script tick now call (slice_get (actions_of script call.body) call.place) h)
+leaves_going script tick t (IterOf context [] asker ∷ below) GoesOn u h e = subst (Leaves (turn t (IterOf context [] asker ∷ below) GoesOn)) (some_turn _ _ e) refl
+leaves_going script tick t (IterOf context (id ∷ ids) asker ∷ below) GoesOn u h e =
+    let now : Turn = turn t (IterOf context (id ∷ ids) asker ∷ below) GoesOn in
+    subst (Leaves now) (some_turn _ _ e) (leaves_id tick now context (row_of context id now.lane) h)
+leaves_going script tick t (LoopOf number context ∷ below) GoesOn u h e =
+    let now : Turn = turn t (LoopOf number context ∷ below) GoesOn in
+    leaves_loop script tick now number context (is_running number now.lane) now.iterated u e
+leaves_going script tick t frames Ended u h e = cc
+leaves_going script tick t frames Halted u h e = cc
+
+leaves_polling : (script : Plan) (tick : ℕ) (t : Turn) (tasks : List Started) (u : Turn) → is_counted_by script t.lane tasks t.lane.status ≡ false → step_polling script tick (record t { unpolled = tasks }) tasks ≡ Some u → Leaves (record t { unpolled = tasks }) u
+leaves_polling script tick t [] u h e = leaves_going script tick t t.lane.frames t.lane.status u h e
+leaves_polling script tick t (task ∷ tasks) u h e = subst (Leaves (record t { unpolled = task ∷ tasks })) (some_turn _ _ e) refl
+
+pub others_leave : (script : Plan) (tick : ℕ) (t u : Turn) → is_counted script t ≡ false → step script tick t ≡ Some u → u.left ≡ t.left
+others_leave script tick t u h e = leaves_polling script tick t t.unpolled u h e

@@ -8,9 +8,9 @@ use Rattle.lane_watch.specs.Tasks.{Started, Tasks, reply_at, is_late_at, stays_a
 use Rattle.lane_turn.specs.declared.line.Line.{Line}
 use Rattle.lane_turn.specs.Lane.{Turn}
 use Rattle.lane_turn.specs.Step.{polled, sent_with, posted_with, mail_of, one_if, late_line}
-use Rattle.lane_turn.specs.Turn.{finished}
+use Rattle.lane_turn.specs.Turn.{finish, finished}
 use Rattle.lane_turn.specs.Polls.{letters_of, staying_among, after_polls}
-use Rattle.lane_turn.proofs.Finish.{finished_on}
+use Rattle.lane_turn.proofs.Finish.{finished_on, finish_none, one_taken}
 use Rattle.lane_turn.proofs.Turns.{Kept}
 
 -- ---- the parts of a poll, before those of the others
@@ -73,6 +73,14 @@ polls_by script tick t (task ∷ tasks) =
     sym (finished_on script tick (record t { unpolled = task ∷ tasks }) refl)
     ∙ (polls_by script tick (polled tick task (record t { unpolled = tasks })) tasks
     ∙ ap (finished script tick) (poll_first tick t task tasks))
+
+-- and are as many steps as there are tasks
+pub polls_as_steps : (script : Plan) (tick : ℕ) (t : Turn) (tasks : List Started) → finish script tick (length tasks) (record t { unpolled = tasks }) ≡ after_polls tick (record t { unpolled = tasks })
+polls_as_steps script tick t [] = finish_none script tick (record t { unpolled = [] }) ∙ sym (none_to_poll tick t)
+polls_as_steps script tick t (task ∷ tasks) =
+    let u : Turn = polled tick task (record t { unpolled = tasks }) in
+    one_taken script tick (record t { unpolled = task ∷ tasks }) u refl (length tasks)
+    ∙ (polls_as_steps script tick u tasks ∙ poll_first tick t task tasks)
 
 -- what each step keeps, they keep
 keep_by : (script : Plan) (tick : ℕ) (P : Turn → Type 0) → Kept script tick P → (t : Turn) (tasks : List Started) → P (record t { unpolled = tasks }) → P (after_polls tick (record t { unpolled = tasks }))

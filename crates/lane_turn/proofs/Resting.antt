@@ -1,5 +1,5 @@
 -- What lies in a lane's frames while it rests: the boxes and the flat list say the same.
-use Rattle.std.proofs.Common.{◌≡◌, ℕ, suc, ◌+◌, ◌==◌, ◌&&◌, ◌||◌, Bool, true, false, cond, Option, Some, None, List, [], ◌∷◌, ◌++◌, length, reverse, refl, ap, ◌∙◌, arith, append-nil}
+use Rattle.std.proofs.Common.{◌≡◌, ℕ, suc, ◌+◌, ◌-◌, ◌≤◌, ◌==◌, ◌&&◌, ◌||◌, Bool, true, false, cond, Option, Some, None, List, [], ◌∷◌, ◌++◌, length, reverse, refl, ap, ◌∙◌, arith, append-nil}
 use Rattle.std.specs.Prelude.{slice_get, is_some}
 use Rattle.std.specs.List.{list_any, cons_option}
 use Rattle.std.proofs.lemmas.List.{reverse-append}
@@ -113,3 +113,23 @@ no_rest context (IterOf c ids asker ∷ below) h =
     let here = none_taken (c == context) ids (or_left (c == context && is_any ids) (list_any (has_rest context) below) h) in
     λ i. IterOf c (here i) asker ∷ no_rest context below (or_right (c == context && is_any ids) (list_any (has_rest context) below) h) i
 no_rest context (LoopOf number c ∷ below) h = ap (λ (fs : List Frame). LoopOf number c ∷ fs) (no_rest context below h)
+
+-- ---- from the outermost inwards
+
+frames_split : (height : ℕ) (live : List (Option ℕ)) (xs : List Layer) (x : Layer) → frames_from height live (xs ++ x ∷ []) ≡ frames_from (height + 1) live xs ++ frame_of live height x ∷ []
+frames_split height live [] x = let e : height + 0 ≡ height = omega arith in ap (λ (h : ℕ). frame_of live h x ∷ []) e
+frames_split height live (y ∷ xs) x =
+    let e : height + length (xs ++ x ∷ []) ≡ height + 1 + length xs = omega (arith, length_last xs x) in
+    ap (λ (h : ℕ). frame_of live h y ∷ frames_from height live (xs ++ x ∷ [])) e
+    ∙ ap (λ (fs : List Frame). frame_of live (height + 1 + length xs) y ∷ fs) (frames_split height live xs x)
+
+pub first_inwards : (all left : ℕ) (live : List (Option ℕ)) (xs : List Layer) (x : Layer) → length (xs ++ x ∷ []) ≡ left → left ≤ all
+    → reverse (frames_from (all - left) live (xs ++ x ∷ [])) ≡ frame_of live (all - left) x ∷ reverse (frames_from (all - (left - 1)) live xs)
+first_inwards all left live xs x e h =
+    let next : all - left + 1 ≡ all - (left - 1) = omega (arith, e, h, length_last xs x) in
+    ap reverse (frames_split (all - left) live xs x)
+    ∙ (reverse-append (frames_from (all - left + 1) live xs) (frame_of live (all - left) x ∷ [])
+    ∙ ap (λ (n : ℕ). frame_of live (all - left) x ∷ reverse (frames_from n live xs)) next)
+
+pub all_inwards : (live : List (Option ℕ)) (ls : List Layer) → reverse (frames_from 0 live ls) ≡ reverse (frames_of live ls)
+all_inwards live ls = ap reverse (frames_are live ls)

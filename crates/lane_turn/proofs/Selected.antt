@@ -1,26 +1,28 @@
 -- What an iteration is to dispatch: the most urgent ready sources, by their numbers, and each once.
 use Rattle.std.proofs.Common.{◌≡◌, ◌≢◌, ℕ, ℤ, ◌<◌, ◌≤◌, ◌==◌, ◌&&◌, Bool, true, false, cond, Option, Some, List, [], ◌∷◌, ◌⊎◌, inl, inr, filter, length, refl, ap, sym, ◌∙◌, arith, subst, ltb-true, ltb-false}
 use Rattle.std.specs.Prelude.{int_le, nat_lt}
-use Rattle.std.specs.List.{AllByRecursion, list_all}
+use Rattle.std.specs.List.{AllByRecursion, list_all, list_any}
 use Rattle.std.proofs.lemmas.Bool.Decides.{eqb_tells}
 use Rattle.std.proofs.lemmas.Int.{ints}
 use Rattle.loop_script.specs.declared.plan.Plan.{Plan}
 use Rattle.source_rows.specs.declared.row.Row.{Row}
-use Rattle.source_rows.specs.Rows.{row_of as row_with, in_order, stands_before}
+use Rattle.source_rows.specs.Rows.{row_of as row_with, in_order, is_under, stands_before}
 use Rattle.source_rows.specs.Tree.{IsForest}
 use Rattle.source_rows.specs.Lists.{Pairs}
-use Rattle.source_rows.proofs.Lists.{all_both, all_map, all_passed, pairs_map, pairs_filter, pairs_with, pairs_and, all_true}
+use Rattle.source_rows.proofs.Lists.{all_of, all_both, all_map, all_passed, pairs_map, pairs_filter, pairs_with, pairs_and, all_true}
 use Rattle.source_rows.proofs.Order.{all_in_order, pairs_in_order, sorted_in_order}
 use Rattle.source_rows.proofs.Forest.{found, all_found, one_order}
+use Rattle.source_rows.proofs.Behind.{all_behind}
 use Rattle.source_rows.proofs.Post.{post_order}
 use Rattle.context_core.specs.declared.context.Context.{Context}
 use Rattle.context_core.specs.Ready.{Own, is_ready, is_most_urgent, ready_rows, selected}
+use Rattle.context_core.proofs.Standings.{among}
 use Rattle.lane_turn.specs.Frames.{Frame, CallOf, IterOf, LoopOf, busy}
 use Rattle.lane_turn.specs.Sources.{own_ready_at, tree_levels, chosen_in}
 use Rattle.lane_turn.specs.Lane.{Lane, context_at, chosen}
 use Rattle.lane_turn.specs.Levels.{Grown, OfAllLanes}
 use Rattle.lane_turn.specs.Tick.{lanes_at, lane_within}
-use Rattle.lane_turn.specs.Selected.{IsUrgent, GoesBefore, IsInOrder, HasEachOnce}
+use Rattle.lane_turn.specs.Selected.{NoneMoreUrgent, IsUrgent, HasAllUrgent, GoesBefore, IsInOrder, HasEachOnce}
 use Rattle.lane_turn.proofs.Adds.{each_as}
 use Rattle.lane_turn.proofs.Grown.{grown_run, own_grown}
 use Rattle.lane_turn.proofs.Waits.{AllWait}
@@ -45,9 +47,13 @@ once_run script tick steps =
 abbrev Siblings : Row → Row → Type 0
 Siblings r q = r.parent ≡ q.parent → r.priority ≡ q.priority → r.order < q.order → stands_before r q ≡ true
 
+abbrev Behind : Row → Row → Type 0
+Behind r q = is_under r.id q ≡ true → stands_before q r ≡ false → r ≡ q
+
 record Stands (rows : List Row) (r : Row) : Type 0 where
   there : row_with r.id rows ≡ Some r
   siblings : AllByRecursion (Siblings r) rows
+  behind : AllByRecursion (Behind r) rows
   apart : AllByRecursion (λ x. r.order ≡ x.order → r ≡ x) rows
 
 record Goes (context_at : Own) (blocked : List ℕ) (rows : List Row) (r : Row) : Type 0 where
@@ -57,8 +63,12 @@ record Goes (context_at : Own) (blocked : List ℕ) (rows : List Row) (r : Row) 
 
 all_stand : (rows : List Row) → IsForest rows → AllByRecursion (Stands rows) rows
 all_stand rows f =
-    let sides = all_both (λ (r : Row). AllByRecursion (Siblings r) rows) (λ (r : Row). AllByRecursion (λ x. r.order ≡ x.order → r ≡ x) rows) (λ (r : Row). AllByRecursion (Siblings r) rows × AllByRecursion (λ x. r.order ≡ x.order → r ≡ x) rows) (λ r a b. (a, b)) rows (post_order rows f).siblings (one_order rows f.differ) in
-    all_both (λ (r : Row). row_with r.id rows ≡ Some r) (λ (r : Row). AllByRecursion (Siblings r) rows × AllByRecursion (λ x. r.order ≡ x.order → r ≡ x) rows) (Stands rows) (λ r a b. record { there = a; siblings = b.0; apart = b.1 }) rows (all_found rows f.rising) sides
+    let S : Row → Type 0 = λ r. AllByRecursion (Siblings r) rows in
+    let B : Row → Type 0 = λ r. AllByRecursion (Behind r) rows in
+    let O : Row → Type 0 = λ r. AllByRecursion (λ x. r.order ≡ x.order → r ≡ x) rows in
+    let sides = all_both S B (λ (r : Row). S r × B r) (λ r a b. (a, b)) rows (post_order rows f).siblings (all_behind rows f) in
+    let both = all_both (λ (r : Row). S r × B r) O (λ (r : Row). S r × B r × O r) (λ r a b. (a.0, a.1, b)) rows sides (one_order rows f.differ) in
+    all_both (λ (r : Row). row_with r.id rows ≡ Some r) (λ (r : Row). S r × B r × O r) (Stands rows) (λ r a b. record { there = a; siblings = b.0; behind = b.1; apart = b.2 }) rows (all_found rows f.rising) both
 
 and_right : (a b : Bool) → (a && b) ≡ true → b ≡ true
 and_right true b e = e
@@ -90,6 +100,22 @@ all_go context_at blocked rows f =
 pub all_urgent : (context_at : Own) (blocked : List ℕ) (rows : List Row) → IsForest rows → AllByRecursion (IsUrgent context_at blocked rows) (selected context_at blocked rows)
 all_urgent context_at blocked rows f = all_map (Goes context_at blocked rows) (IsUrgent context_at blocked rows) (λ r. r.id) (λ r g. (r, (g.stands).there, g.ready, g.urgent)) (in_order (Chosen context_at blocked rows)) (all_go context_at blocked rows f)
 
+-- ---- none is left out
+
+all_pass : (f p : Row → Bool) (rows : List Row) → AllByRecursion (λ q. f q ≡ true → p q ≡ true) rows → list_all p (filter f rows) ≡ true
+all_pass f p [] h = refl
+all_pass f p (x ∷ rows) h = by (f x) refl (all_pass f p rows h.1)
+  where
+    by : (b : Bool) → f x ≡ b → list_all p (filter f rows) ≡ true → list_all p (cond b (x ∷ filter f rows) (filter f rows)) ≡ true
+    by true e ih = rw (h.0 e) ih
+    by false e ih = ih
+
+pub none_left_out : (context_at : Own) (blocked : List ℕ) (rows : List Row) → IsForest rows → HasAllUrgent context_at blocked rows (selected context_at blocked rows)
+none_left_out context_at blocked rows f =
+    all_of (λ (r : Row). row_with r.id rows ≡ Some r) (λ (r : Row). is_ready context_at blocked rows r ≡ true → NoneMoreUrgent context_at blocked rows r → list_any (λ id. id == r.id) (selected context_at blocked rows) ≡ true)
+    (λ r there ready least. among context_at blocked rows r f.rising there ∙ rw ready (all_pass (is_ready context_at blocked rows) (λ q. int_le r.priority q.priority) rows least))
+    rows (all_found rows f.rising)
+
 least_both : (a b : ℤ) → int_le a b ≡ true → int_le b a ≡ true → a ≡ b
 least_both a b h k = omega (arith, ints, h, k)
 
@@ -110,19 +136,27 @@ by_number rows r q s t f p e false l = other (eqb_tells r.order q.order)
         let behind : stands_before q r ≡ true = found (Siblings q) r.id r rows t.siblings s.there (sym e) (sym p) (omega (arith, above, apart.1)) in
         let no : true ≡ false = sym behind ∙ f.0 in cc
 
-goes_before : (context_at : Own) (blocked : List ℕ) (rows : List Row) (r q : Row) → Goes context_at blocked rows r → Goes context_at blocked rows q → Follow r q → (r.priority ≡ q.priority) × (r.parent ≡ q.parent → r.order < q.order)
-goes_before context_at blocked rows r q g h f =
+-- a row that follows another is not under it
+not_below : (rows : List Row) (r q : Row) → Stands rows r → Stands rows q → Follow r q → is_under r.id q ≡ true → ⊥
+not_below rows r q s t f u = f.1 (ap (λ (x : Row). x.id) (found (Behind r) q.id q rows s.behind t.there u f.0))
+
+one_priority : (context_at : Own) (blocked : List ℕ) (rows : List Row) (r q : Row) → Goes context_at blocked rows r → Goes context_at blocked rows q → r.priority ≡ q.priority
+one_priority context_at blocked rows r q g h =
     let to = found (λ (x : Row). is_ready context_at blocked rows x ≡ true → int_le r.priority x.priority ≡ true) q.id q rows g.urgent (h.stands).there h.ready in
     let from = found (λ (x : Row). is_ready context_at blocked rows x ≡ true → int_le q.priority x.priority ≡ true) r.id r rows h.urgent (g.stands).there g.ready in
-    let same : r.priority ≡ q.priority = least_both r.priority q.priority to from in
-    (same, λ e. by_number rows r q g.stands h.stands f same e (nat_lt r.order q.order) refl)
+    least_both r.priority q.priority to from
 
 of_ids : (context_at : Own) (blocked : List ℕ) (rows : List Row) (r q : Row) → Goes context_at blocked rows r → Goes context_at blocked rows q → Follow r q → GoesBefore rows r.id q.id
-of_ids context_at blocked rows r q g h f r' q' e k =
-    let first : r ≡ r' = row_same r r' (sym (g.stands).there ∙ e) in
-    let second : q ≡ q' = row_same q q' (sym (h.stands).there ∙ k) in
-    subst (λ (x : Row). (x.priority ≡ q'.priority) × (x.parent ≡ q'.parent → x.order < q'.order)) first
-    (subst (λ (y : Row). (r.priority ≡ y.priority) × (r.parent ≡ y.parent → r.order < y.order)) second (goes_before context_at blocked rows r q g h f))
+of_ids context_at blocked rows r q g h f =
+    let same = one_priority context_at blocked rows r q g h in
+    let first : (x : Row) → row_with r.id rows ≡ Some x → r ≡ x = λ x e. row_same r x (sym (g.stands).there ∙ e) in
+    let second : (y : Row) → row_with q.id rows ≡ Some y → q ≡ y = λ y e. row_same q y (sym (h.stands).there ∙ e) in
+    record {
+      priority = λ x y e k. sym (ap (λ (z : Row). z.priority) (first x e)) ∙ (same ∙ ap (λ (z : Row). z.priority) (second y k));
+      number = λ x y e k. subst (λ (z : Row). z.parent ≡ y.parent → z.order < y.order) (first x e)
+          (subst (λ (z : Row). r.parent ≡ z.parent → r.order < z.order) (second y k) (λ p. by_number rows r q g.stands h.stands f same p (nat_lt r.order q.order) refl));
+      lower = λ x y e k. subst (λ (z : Row). is_under r.id z ≡ true → ⊥) (second y k) (not_below rows r q g.stands h.stands f);
+    }
 
 pub all_before : (context_at : Own) (blocked : List ℕ) (rows : List Row) → IsForest rows → Pairs (GoesBefore rows) (selected context_at blocked rows)
 all_before context_at blocked rows f =
@@ -139,7 +173,7 @@ lane_order script lane g now context c e =
     let f = ((own_grown (tree_levels script) lane context c e g).sound).forest in
     let from = own_ready_at script now lane.view in
     let blocked : List ℕ = busy context lane.frames in
-    subst (λ (o : Option Context). IsInOrder from blocked c.rows.rows (chosen_in script now lane.view blocked o)) (sym e) (record { urgent = all_urgent from blocked c.rows.rows f; order = all_before from blocked c.rows.rows f })
+    subst (λ (o : Option Context). IsInOrder from blocked c.rows.rows (chosen_in script now lane.view blocked o)) (sym e) (record { urgent = all_urgent from blocked c.rows.rows f; whole = none_left_out from blocked c.rows.rows f; order = all_before from blocked c.rows.rows f })
 
 pub order_run : (script : Plan) → length script.lanes ≤ 64
     → OfAllLanes script (λ lane. (now context : ℕ) (c : Context) → context_at context lane ≡ Some c → IsInOrder (own_ready_at script now lane.view) (busy context lane.frames) c.rows.rows (chosen script now context lane))

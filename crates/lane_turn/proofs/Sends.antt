@@ -30,6 +30,8 @@ pub record Sends (tick : ℕ) (t u : Turn) : Type 0 where
   pub now : u.lane.tasks.tick ≡ t.lane.tasks.tick
   pub view : length u.lane.view.members ≡ length t.lane.view.members
   pub paced : (n : ℕ) → IsPaced n t → IsPaced n u
+  pub tasks : u.lane.tasks.next + u.left ≤ t.lane.tasks.next + t.left
+  pub letters : u.sent + length u.unpolled + u.left ≤ t.sent + length t.unpolled + t.left
   pub mail : Option Mail
   pub sent : u.sent ≡ sent_with mail t.sent
   pub posted : u.posted ≡ posted_with tick t.lane.number t.sent t.posted mail
@@ -50,6 +52,8 @@ counted_sends tick mail f t zero e h = record {
   now = refl;
   view = refl;
   paced = λ n p. record { next = p.next; few = p.few; sent = p.sent };
+  tasks = omega arith;
+  letters = omega arith;
   mail = None;
   sent = refl;
   posted = refl;
@@ -61,6 +65,8 @@ counted_sends tick mail f t (suc left) e h = record {
   now = h.tick;
   view = h.view;
   paced = λ n p. record { next = omega (arith, e, h.next, p.next); few = omega (arith, e, h.few, p.few); sent = omega (arith, e, sent_most mail t.sent, p.sent) };
+  tasks = omega (arith, e, h.next);
+  letters = omega (arith, e, sent_most mail t.sent);
   mail = mail;
   sent = refl;
   posted = refl;
@@ -75,6 +81,8 @@ freely_sends tick t after iterated h = record {
   now = h.tick;
   view = h.view;
   paced = λ n p. record { next = omega (arith, h.next, p.next); few = omega (arith, h.few, p.few); sent = p.sent };
+  tasks = omega (arith, h.next);
+  letters = omega arith;
   mail = None;
   sent = refl;
   posted = refl;
@@ -145,6 +153,8 @@ polled_sends tick t task tasks =
         few = omega (arith, p.few, length-append t.lane.tasks.started (one_if stays task), one_most Started stays task);
         sent = omega (arith, p.sent, sent_most mail t.sent);
       };
+      tasks = omega arith;
+      letters = omega (arith, sent_most mail t.sent);
       mail = mail;
       sent = refl;
       posted = refl;

@@ -1,14 +1,15 @@
 -- What is held and taken of replies: by ids that were given, and each once.
-use Rattle.std.proofs.Common.{◌≡◌, ◌≢◌, ℕ, ◌+◌, ◌<◌, Bool, true, false, cond, Option, Some, None, List, [], ◌∷◌, ◌++◌, refl, ap, sym, ◌∙◌, arith, subst}
-use Rattle.std.specs.Prelude.{nat_lt, slice_get}
+use Rattle.std.proofs.Common.{◌≡◌, ◌≢◌, ℕ, zero, suc, ◌+◌, ◌<◌, ◌≤◌, Bool, true, false, cond, Option, Some, None, List, [], ◌∷◌, ◌++◌, length, slice_set, refl, ap, sym, ◌∙◌, arith, subst}
+use Rattle.std.specs.Prelude.{nat_lt, is_some, slice_get}
 use Rattle.std.specs.List.{AllByRecursion}
 use Rattle.std.specs.Ordering.{nat_cmp, match_ordering}
 use Rattle.std.specs.declared.cmp.Ordering.{Ordering}
 use Rattle.std.specs.declared.cmp.Ordering.TheVariants.{Less, Equal, Greater}
 use Rattle.std.specs.Map.{lookup, remove_entry}
-use Rattle.std.specs.BTreeMap.{is_at, insert_entry}
-use Rattle.std.proofs.lemmas.List.Sums.{sum_by-cons, sum_by-append}
-use Rattle.std.proofs.lemmas.Map.Lookups.{exact_unsigned, exact_pairs}
+use Rattle.std.specs.BTreeMap.{is_at}
+use Rattle.std.proofs.lemmas.List.{length-set}
+use Rattle.std.proofs.lemmas.List.Sums.{sum_by-cons, sum_by-set, sum_by-append}
+use Rattle.std.proofs.lemmas.Map.Lookups.{exact_unsigned}
 use Rattle.source_rows.specs.declared.row.Row.{Row}
 use Rattle.source_rows.specs.Rows.{counted as counted_once}
 use Rattle.context_core.specs.declared.context.Context.{Context}
@@ -17,88 +18,134 @@ use Rattle.lane_turn.specs.declared.line.Line.{Line}
 use Rattle.lane_turn.specs.declared.line.Event.TheVariants as events
 use Rattle.lane_turn.specs.declared.lane.Status.TheVariants.{Halted}
 use Rattle.lane_turn.specs.declared.replies.Awaited.{Awaited}
-use Rattle.lane_turn.specs.Replies.{Replies, by_source, reply_held, without_reply}
+use Rattle.lane_turn.specs.Replies.{Replies, held_with, held_without, replies_at, reply_held, with_reply, without_reply}
 use Rattle.lane_turn.specs.Frames.{calls_in_progress, depth}
 use Rattle.lane_turn.specs.Lane.{Lane, present, next_id, edited, written, stopped, taken}
 use Rattle.lane_turn.specs.Step.{dispatching, result_lines, result_of}
 use Rattle.lane_turn.specs.Owed.{one_for}
-use Rattle.lane_turn.specs.Taken.{is_result, results, is_awaited, awaited}
-use Rattle.lane_turn.proofs.Leaves.{Rises, Leaves, results_push, same, line, edit, leaves_trans}
+use Rattle.lane_turn.specs.Taken.{is_result, results, is_awaited, awaited_in, awaited}
+use Rattle.lane_turn.proofs.Leaves.{Rises, Leaves, results_push, own_within, same, line, edit, leaves_trans}
 
--- ---- what is held
+-- ---- what the sources of one context hold
 
-awaited_cons : (s n : ℕ) (e : (ℕ × ℕ) × Awaited) (es : Replies) → awaited s n (e ∷ es) ≡ one_for (is_awaited s n e.1) + awaited s n es
-awaited_cons s n e es = sum_by-cons (λ (e : (ℕ × ℕ) × Awaited). cond (is_awaited s n e.1) 1 0) e es
+held_cons : (s n : ℕ) (e : ℕ × Awaited) (es : Replies) → awaited_in s n (e ∷ es) ≡ one_for (is_awaited s n e.1) + awaited_in s n es
+held_cons s n e es = sum_by-cons (λ (e : ℕ × Awaited). cond (is_awaited s n e.1) 1 0) e es
 
 abbrev pub weight : (s n : ℕ) → Option Awaited → ℕ
 weight s n None = 0
 weight s n (Some a) = one_for (is_awaited s n a)
 
-pub awaited_without : (s n : ℕ) (test : ℕ × ℕ → Bool) (es : Replies) → awaited s n (remove_entry test es) + weight s n (lookup test es) ≡ awaited s n es
-awaited_without s n test [] = refl
-awaited_without s n test (e ∷ es) = by (awaited_without s n test es) (test e.0)
+held_less : (s n : ℕ) (test : ℕ → Bool) (es : Replies) → awaited_in s n (remove_entry test es) + weight s n (lookup test es) ≡ awaited_in s n es
+held_less s n test [] = refl
+held_less s n test (e ∷ es) = by (held_less s n test es) (test e.0)
   where
-    by : awaited s n (remove_entry test es) + weight s n (lookup test es) ≡ awaited s n es → (b : Bool) → awaited s n (cond b es (e ∷ remove_entry test es)) + weight s n (cond b (Some e.1) (lookup test es)) ≡ awaited s n (e ∷ es)
-    by r true = omega (arith, awaited_cons s n e es)
-    by r false = omega (arith, awaited_cons s n e es, awaited_cons s n e (remove_entry test es), r)
+    by : awaited_in s n (remove_entry test es) + weight s n (lookup test es) ≡ awaited_in s n es → (b : Bool) → awaited_in s n (cond b es (e ∷ remove_entry test es)) + weight s n (cond b (Some e.1) (lookup test es)) ≡ awaited_in s n (e ∷ es)
+    by r true = omega (arith, held_cons s n e es)
+    by r false = omega (arith, held_cons s n e es, held_cons s n e (remove_entry test es), r)
 
--- no entry has the key
-abbrev pub IsNew : ℕ × ℕ → Replies → Type 0
-IsNew k es = AllByRecursion (λ e. by_source k e.0 ≢ Equal) es
+-- no entry has the id
+abbrev IsNew : ℕ → Replies → Type 0
+IsNew id es = AllByRecursion (λ e. nat_cmp id e.0 ≢ Equal) es
 
-pub awaited_with : (s n : ℕ) (k : ℕ × ℕ) (a : Awaited) (es : Replies) → IsNew k es → awaited s n (insert_entry by_source es k a) ≡ awaited s n es + one_for (is_awaited s n a)
-awaited_with s n k a [] h = awaited_cons s n (k, a) [] ∙ omega arith
-awaited_with s n k a (e ∷ es) h = by (awaited_with s n k a es h.1) (by_source k e.0) h.0
+held_more : (s n id : ℕ) (a : Awaited) (es : Replies) → IsNew id es → awaited_in s n (held_with id a es) ≡ awaited_in s n es + one_for (is_awaited s n a)
+held_more s n id a [] h = held_cons s n (id, a) [] ∙ omega arith
+held_more s n id a (e ∷ es) h = by (held_more s n id a es h.1) (nat_cmp id e.0) h.0
   where
-    by : awaited s n (insert_entry by_source es k a) ≡ awaited s n es + one_for (is_awaited s n a) → (o : Ordering) → o ≢ Equal → awaited s n (match_ordering o ((k, a) ∷ e ∷ es) ((e.0, a) ∷ es) (e ∷ insert_entry by_source es k a)) ≡ awaited s n (e ∷ es) + one_for (is_awaited s n a)
-    by r Less g = omega (arith, awaited_cons s n (k, a) (e ∷ es))
+    by : awaited_in s n (held_with id a es) ≡ awaited_in s n es + one_for (is_awaited s n a) → (o : Ordering) → o ≢ Equal → awaited_in s n (match_ordering o ((id, a) ∷ e ∷ es) ((e.0, a) ∷ es) (e ∷ held_with id a es)) ≡ awaited_in s n (e ∷ es) + one_for (is_awaited s n a)
+    by r Less g = omega (arith, held_cons s n (id, a) (e ∷ es))
     by r Equal g = absurd (g refl)
-    by r Greater g = omega (arith, awaited_cons s n e es, awaited_cons s n e (insert_entry by_source es k a), r)
+    by r Greater g = omega (arith, held_cons s n e es, held_cons s n e (held_with id a es), r)
+
+-- ---- what those of all contexts hold
+
+pub awaited_less : (s n context id : ℕ) (all : List Replies) → awaited s n (without_reply context id all) + weight s n (reply_held context id all) ≡ awaited s n all
+awaited_less s n context id [] = refl
+awaited_less s n zero id (es ∷ all) = omega (arith, sum_by-cons (awaited_in s n) es all, sum_by-cons (awaited_in s n) (held_without id es) all, held_less s n (is_at (nat_cmp id)) es)
+awaited_less s n (suc context) id (es ∷ all) =
+    omega (arith, sum_by-cons (awaited_in s n) es all, sum_by-cons (awaited_in s n) es (without_reply context id all), awaited_less s n context id all)
+
+awaited_more : (s n context id : ℕ) (a : Awaited) (all : List Replies) → context < length all → IsNew id (replies_at context all) → awaited s n (with_reply context id a all) ≡ awaited s n all + one_for (is_awaited s n a)
+awaited_more s n context id a all l h =
+    let held : Replies = replies_at context all in
+    omega (arith, sum_by-set (awaited_in s n) all context (held_with id a held) [] l, held_more s n id a held h)
 
 -- ---- the ids of what is held were given
 
-abbrev pub IsGiven : List (Option Context) → ℕ × ℕ → Type 0
-IsGiven contexts k = k.1 < next_id (present (slice_get contexts k.0))
+-- what the sources of a context hold, where its next id is given: of one that is not there nothing
+abbrev AreGiven : ℕ → Replies → Type 0
+AreGiven next es = AllByRecursion (λ e. e.0 < next) es
 
-abbrev pub AreGiven : List (Option Context) → Replies → Type 0
-AreGiven contexts es = AllByRecursion (λ e. IsGiven contexts e.0) es
-
-pub given_still : (before after : List (Option Context)) → Rises before after → (es : Replies) → AreGiven before es → AreGiven after es
+given_still : (before after : ℕ) → before ≤ after → (es : Replies) → AreGiven before es → AreGiven after es
 given_still before after r [] h = tt
-given_still before after r (e ∷ es) h = (omega (arith, h.0, r ((e.0).0)), given_still before after r es h.1)
+given_still before after r (e ∷ es) h = (omega (arith, h.0, r), given_still before after r es h.1)
 
-given_without : (contexts : List (Option Context)) (test : ℕ × ℕ → Bool) (es : Replies) → AreGiven contexts es → AreGiven contexts (remove_entry test es)
-given_without contexts test [] h = tt
-given_without contexts test (e ∷ es) h = by (given_without contexts test es h.1) (test e.0)
+given_without : (next : ℕ) (test : ℕ → Bool) (es : Replies) → AreGiven next es → AreGiven next (remove_entry test es)
+given_without next test [] h = tt
+given_without next test (e ∷ es) h = by (given_without next test es h.1) (test e.0)
   where
-    by : AreGiven contexts (remove_entry test es) → (b : Bool) → AreGiven contexts (cond b es (e ∷ remove_entry test es))
+    by : AreGiven next (remove_entry test es) → (b : Bool) → AreGiven next (cond b es (e ∷ remove_entry test es))
     by r true = h.1
     by r false = (h.0, r)
 
-pub given_with : (contexts : List (Option Context)) (k : ℕ × ℕ) (a : Awaited) (es : Replies) → IsGiven contexts k → AreGiven contexts es → AreGiven contexts (insert_entry by_source es k a)
-given_with contexts k a [] g h = (g, tt)
-given_with contexts k a (e ∷ es) g h = by (given_with contexts k a es g h.1) (by_source k e.0)
+given_with : (next id : ℕ) (a : Awaited) (es : Replies) → id < next → AreGiven next es → AreGiven next (held_with id a es)
+given_with next id a [] g h = (g, tt)
+given_with next id a (e ∷ es) g h = by (given_with next id a es g h.1) (nat_cmp id e.0)
   where
-    by : AreGiven contexts (insert_entry by_source es k a) → (o : Ordering) → AreGiven contexts (match_ordering o ((k, a) ∷ e ∷ es) ((e.0, a) ∷ es) (e ∷ insert_entry by_source es k a))
+    by : AreGiven next (held_with id a es) → (o : Ordering) → AreGiven next (match_ordering o ((id, a) ∷ e ∷ es) ((e.0, a) ∷ es) (e ∷ held_with id a es))
     by r Less = (g, h)
     by r Equal = (h.0, h.1)
     by r Greater = (h.0, r)
 
 -- so what is given next is new
-pub next_new : (contexts : List (Option Context)) (c : ℕ) (es : Replies) → AreGiven contexts es → IsNew (c, next_id (present (slice_get contexts c))) es
-next_new contexts c [] h = tt
-next_new contexts c (e ∷ es) h = (not_same, next_new contexts c es h.1)
-  where
-    not_same : by_source (c, next_id (present (slice_get contexts c))) e.0 ≢ Equal
-    not_same q =
-        let p : (c, next_id (present (slice_get contexts c))) ≡ e.0 = exact_pairs nat_cmp nat_cmp exact_unsigned exact_unsigned (c, next_id (present (slice_get contexts c))) e.0 q in
-        let l : next_id (present (slice_get contexts c)) < next_id (present (slice_get contexts c)) = subst (IsGiven contexts) (sym p) h.0 in
-        absurd (omega (arith, l))
+next_new : (next : ℕ) (es : Replies) → AreGiven next es → IsNew next es
+next_new next [] h = tt
+next_new next (e ∷ es) h = (λ q. let p : next ≡ e.0 = exact_unsigned next e.0 q in absurd (omega (arith, p, h.0)), next_new next es h.1)
+
+-- ---- by context
+
+-- what holds of the replies of each context, where those of one are changed
+each_set : (P : ℕ → Replies → Type 0) (all : List Replies) (context : ℕ) (es : Replies) → ((c : ℕ) → P c (replies_at c all)) → P context es → (c : ℕ) → P c (replies_at c (slice_set all context es))
+each_set P [] context es h g c = h c
+each_set P (x ∷ all) zero es h g zero = g
+each_set P (x ∷ all) zero es h g (suc c) = h (suc c)
+each_set P (x ∷ all) (suc context) es h g zero = h zero
+each_set P (x ∷ all) (suc context) es h g (suc c) = each_set (λ i. P (suc i)) all context es (λ i. h (suc i)) g c
+
+-- there is a place for the replies of each context, whose ids were given
+pub record AreFresh (contexts : List (Option Context)) (all : List Replies) : Type 0 where
+  pub size : length all ≡ length contexts
+  pub given : (c : ℕ) → AreGiven (next_id (present (slice_get contexts c))) (replies_at c all)
+
+pub fresh_still : (before after : List (Option Context)) (all : List Replies) → length after ≡ length before → Rises before after → AreFresh before all → AreFresh after all
+fresh_still before after all l r f = record { size = f.size ∙ sym l; given = λ c. given_still _ _ (r c) (replies_at c all) (f.given c) }
+
+fresh_less : (contexts : List (Option Context)) (context id : ℕ) (all : List Replies) → AreFresh contexts all → AreFresh contexts (without_reply context id all)
+fresh_less contexts context id all f = record {
+  size = simp length-set f.size;
+  given = each_set (λ c es. AreGiven (next_id (present (slice_get contexts c))) es) all context (held_without id (replies_at context all)) f.given (given_without _ (is_at (nat_cmp id)) (replies_at context all) (f.given context));
+}
+
+-- a source that a context gets holds a reply
+pub fresh_more : (before after : List (Option Context)) (context : ℕ) (a : Awaited) (all : List Replies) → length after ≡ length before → Rises before after
+    → next_id (present (slice_get after context)) ≡ next_id (present (slice_get before context)) + 1 → AreFresh before all → AreFresh after (with_reply context (next_id (present (slice_get before context))) a all)
+fresh_more before after context a all l r m f =
+    let id : ℕ = next_id (present (slice_get before context)) in
+    let still : AreFresh after all = fresh_still before after all l r f in
+    record {
+      size = simp length-set still.size;
+      given = each_set (λ c es. AreGiven (next_id (present (slice_get after c))) es) all context (held_with id a (replies_at context all)) still.given (given_with _ id a (replies_at context all) (omega (arith, m)) (still.given context));
+    }
+
+pub awaited_next : (s n : ℕ) (contexts : List (Option Context)) (context : ℕ) (a : Awaited) (all : List Replies) → is_some (present (slice_get contexts context)) ≡ true → AreFresh contexts all
+    → awaited s n (with_reply context (next_id (present (slice_get contexts context))) a all) ≡ awaited s n all + one_for (is_awaited s n a)
+awaited_next s n contexts context a all e f =
+    let id : ℕ = next_id (present (slice_get contexts context)) in
+    awaited_more s n context id a all (omega (arith, own_within contexts context e, f.size)) (next_new id (replies_at context all) (f.given context))
 
 -- ---- what moves a reply from what is held to what is told
 
 abbrev pub IsFresh : Lane → Type 0
-IsFresh lane = AreGiven lane.contexts lane.replies
+IsFresh lane = AreFresh lane.contexts lane.replies
 
 pub record Moves (s n : ℕ) (lane after : Lane) : Type 0 where
   pub sum : results s n after.trace + awaited s n after.replies ≡ results s n lane.trace + awaited s n lane.replies
@@ -107,7 +154,7 @@ pub record Moves (s n : ℕ) (lane after : Lane) : Type 0 where
 pub left : (s n : ℕ) (lane after : Lane) → Leaves s n lane after → Moves s n lane after
 left s n lane after h = record {
   sum = omega (arith, h.told, ap (awaited s n) h.replies);
-  fresh = λ f. given_still lane.contexts after.contexts h.rise after.replies (subst (AreGiven lane.contexts) (sym h.replies) f);
+  fresh = λ f. fresh_still lane.contexts after.contexts after.replies h.size h.rise (subst (AreFresh lane.contexts) (sym h.replies) f);
 }
 
 pub moves_trans : (s n : ℕ) (a b c : Lane) → Moves s n a b → Moves s n b c → Moves s n a c
@@ -130,10 +177,9 @@ moves_dispatch : (s n tick context id : ℕ) (lane after : Lane)
 moves_dispatch s n tick context id lane after t r c =
     let o : Option Awaited = reply_held context id lane.replies in
     let told = ap (results s n) t ∙ results_append s n lane.trace (result_lines tick o lane.view) in
-    let kept = awaited_without s n (is_at (by_source (context, id))) lane.replies in
     record {
-      sum = omega (arith, told, result_weight s n tick o lane.view, ap (awaited s n) r, kept);
-      fresh = λ f. subst (λ (es : Replies). AreGiven after.contexts es) (sym r) (subst (λ (cs : List (Option Context)). AreGiven cs (without_reply context id lane.replies)) (sym c) (given_without lane.contexts (is_at (by_source (context, id))) lane.replies f));
+      sum = omega (arith, told, result_weight s n tick o lane.view, ap (awaited s n) r, awaited_less s n context id lane.replies);
+      fresh = λ f. subst (AreFresh after.contexts) (sym r) (subst (λ (cs : List (Option Context)). AreFresh cs (without_reply context id lane.replies)) (sym c) (fresh_less lane.contexts context id lane.replies f));
     }
 
 pub moves_dispatching : (s n tick context : ℕ) (row : Row) (lane : Lane) → Moves s n lane (dispatching tick context row lane)

@@ -4,7 +4,7 @@ use Rattle.loop_script.specs.declared.plan.Plan.{Plan}
 use Rattle.lane_turn.specs.Lane.{Lane, Turn}
 use Rattle.lane_turn.specs.Step.{step}
 use Rattle.lane_turn.specs.Turn.{work, stepped, finish, finished, begun, turned, out_of}
-use Rattle.lane_turn.specs.Sound.{IsSound, IsPaced, IsReady}
+use Rattle.lane_turn.specs.Sound.{IsSound, IsPaced, IsReady, IsTidy}
 use Rattle.lane_turn.specs.Letters.{AreNumbered}
 use Rattle.lane_turn.proofs.Mild.{within_weaker}
 use Rattle.lane_turn.proofs.Steps.{goes}
@@ -26,13 +26,6 @@ kept_finish script tick (suc k) P f t p = kept_on script tick k P f t (step scri
 pub kept_finished : (script : Plan) (tick : ℕ) (P : Turn → Type 0) → Kept script tick P → (t : Turn) → P t → P (finished script tick t)
 unfolding finished
 kept_finished script tick P f t p = kept_finish script tick (work t) P f t p
-
--- what a lane with its bounds keeps in a turn
-pub record IsTidy (n m tick size : ℕ) (t : Turn) : Type 0 where
-  pub sound : IsSound m t
-  pub paced : IsPaced n t
-  pub now : t.lane.tasks.tick ≡ tick
-  pub view : length t.lane.view.members ≡ size
 
 pub tidy_on : (script : Plan) (n m tick size : ℕ) → Kept script tick (IsTidy n m (tick + 1) size)
 tidy_on script n m tick size t u e h =
@@ -83,3 +76,37 @@ out_numbered script tick lane = (turn_numbers script tick lane).numbered
 
 pub turned_number : (script : Plan) (tick : ℕ) (lane : Lane) → (turned script tick lane).number ≡ lane.number
 turned_number script tick lane = (turn_numbers script tick lane).number
+
+-- a step, or none where none is left, keeps that, and leads to the same end
+pub tidy_stays : (script : Plan) (n m tick size : ℕ) (t : Turn) → IsTidy n m (tick + 1) size t → IsTidy n m (tick + 1) size (stepped script tick t)
+tidy_stays script n m tick size t h = tidy_next script n m tick size t (step script tick t) refl h
+
+number_next : (script : Plan) (tick : ℕ) (t : Turn) (o : Option Turn) → step script tick t ≡ o → (unwrap_or o t).lane.number ≡ t.lane.number
+number_next script tick t None e = refl
+number_next script tick t (Some u) e = (step_tells script tick t u e).number
+
+pub number_stays : (script : Plan) (tick : ℕ) (t : Turn) → (stepped script tick t).lane.number ≡ t.lane.number
+number_stays script tick t = number_next script tick t (step script tick t) refl
+
+-- ---- how many tasks a turn starts, and how many letters it sends
+
+-- so many at most, by what a turn may still start and send
+record IsFew (tasks letters : ℕ) (t : Turn) : Type 0 where
+  next : t.lane.tasks.next + t.left ≤ tasks
+  sent : t.sent + length t.unpolled + t.left ≤ letters
+
+few_on : (script : Plan) (tick tasks letters : ℕ) → Kept script tick (IsFew tasks letters)
+few_on script tick tasks letters t u e h =
+    let s = step_tells script tick t u e in
+    record { next = omega (arith, s.tasks, h.next); sent = omega (arith, s.letters, h.sent) }
+
+few_turned : (script : Plan) (tick : ℕ) (lane : Lane) → IsFew (lane.tasks.next + 10000) (length lane.tasks.started + 10000) (finished script tick (begun tick lane))
+few_turned script tick lane =
+    kept_finished script tick (IsFew (lane.tasks.next + 10000) (length lane.tasks.started + 10000)) (few_on script tick (lane.tasks.next + 10000) (length lane.tasks.started + 10000)) (begun tick lane)
+    (record { next = omega arith; sent = omega arith })
+
+pub tasks_few : (script : Plan) (tick : ℕ) (lane : Lane) → (turned script tick lane).tasks.next ≤ lane.tasks.next + 10000
+tasks_few script tick lane = omega (arith, (few_turned script tick lane).next)
+
+pub letters_few : (script : Plan) (tick : ℕ) (lane : Lane) → length (out_of script tick lane) ≤ length lane.tasks.started + 10000
+letters_few script tick lane = omega (arith, (few_turned script tick lane).sent, (turn_numbers script tick lane).sent)

@@ -14,7 +14,8 @@ use Rattle.lane_turn.specs.declared.slot.Held.{Held}
 use Rattle.lane_turn.specs.declared.slot.Held.TheVariants.{Source, Handler}
 use Rattle.cancel_view.specs.Seen.{Seen}
 use Rattle.lane_turn.specs.Frames.{Frame, IterOf, advanced, emptied, busy}
-use Rattle.lane_turn.specs.Sources.{chosen_in}
+use Rattle.context_core.specs.declared.standing.Standing.{Standing}
+use Rattle.lane_turn.specs.Sources.{chosen_in, standings_in}
 use Rattle.post_office.specs.declared.letter.Letter.{Letter}
 use Rattle.lane_turn.specs.Replies.{Replies}
 use Rattle.lane_watch.specs.Tasks.{Started, Tasks}
@@ -22,7 +23,7 @@ use Rattle.loop_script.specs.Units.{Tick, LaneNumber, ContextNumber, LoopNumber,
 
 -- a lane: its number; its contexts by number, where those of other lanes are none; what its slots name; its view of
 -- cancellations, with its handlers; its tasks; its frames with the innermost first; the loops that run; the stack of its
--- thread-default contexts; the replies that its sources hold; what it wrote
+-- thread-default contexts; the replies that its sources hold, by context; what it wrote
 pub record Lane : Type 0 where
   pub number : LaneNumber
   pub contexts : List (Option Context)
@@ -32,7 +33,7 @@ pub record Lane : Type 0 where
   pub frames : List Frame
   pub running : List Bool
   pub defaults : Defaults
-  pub replies : Replies
+  pub replies : List Replies
   pub trace : List Line
   pub status : Status
 
@@ -162,6 +163,10 @@ noting tick c lane = record lane { tasks = record lane.tasks { came = slice_set 
 -- the ids that an iteration of a context would dispatch at a tick
 abbrev pub chosen : Plan → Tick → ContextNumber → Lane → List SourceId
 chosen script tick context lane = chosen_in script tick lane.view (busy context lane.frames) (context_at context lane)
+
+-- what an iteration of a context begun now would do with each of its sources, in the order of dispatch
+abbrev pub standings : Plan → Tick → ContextNumber → Lane → List Standing
+standings script tick context lane = standings_in script tick lane.view (busy context lane.frames) (context_at context lane)
 
 -- whether there is an id
 abbrev pub is_any : List ℕ → Bool

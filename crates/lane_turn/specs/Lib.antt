@@ -30,3 +30,5 @@ pub mod Blocked
 pub mod Selected
 pub mod Stays
 pub mod Limited
+pub mod InProgress
+pub mod Stands

@@ -53,3 +53,15 @@ pub record IsPaced (n : ℕ) (t : Turn) : Type 0 where
   pub next : t.lane.tasks.next + t.left ≤ n
   pub few : length t.unpolled + length t.lane.tasks.started + t.left ≤ n
   pub sent : t.sent + length t.unpolled + t.left ≤ n
+
+-- what a lane with its bounds keeps in a turn: neither tasks nor letters pass n, and no counter m, in the rest of it; its tasks are polled
+-- next at a tick; and its view is of so many cancellables
+pub record IsTidy (n m tick size : ℕ) (t : Turn) : Type 0 where
+  pub sound : IsSound m t
+  pub paced : IsPaced n t
+  pub now : t.lane.tasks.tick ≡ tick
+  pub view : length t.lane.view.members ≡ size
+
+-- a turn of a script's lane at a tick, in which no counter passes m any more
+abbrev pub IsGoing : (script : Plan) (tick : Tick) (m : ℕ) → Turn → Type 0
+IsGoing script tick m t = IsTidy (most_steps * (tick + 1)) m (tick + 1) script.cancellables t

@@ -1,14 +1,16 @@
 -- The contexts of a lane: their sources, and what a call's end does to one.
-use Rattle.std.specs.Prelude.{ℕ, ◌+◌, ◌*◌, ◌==◌, ℤ, pos, Option, Some, None, List, [], if◌then◌else◌}
+use Rattle.std.specs.Prelude.{ℕ, ◌+◌, ◌*◌, ◌==◌, ℤ, pos, Option, Some, None, List, [], map, if◌then◌else◌}
 use Rattle.loop_script.specs.declared.plan.Plan.{Plan}
 use Rattle.loop_script.specs.declared.source.Kind.{Kind}
 use Rattle.loop_script.specs.declared.source.Kind.TheVariants.{Idle, Timeout, ReadyTime, Fd, Cancel}
 use Rattle.loop_script.specs.Parts.{time_of, level_of}
 use Rattle.source_rows.specs.declared.row.Row.{Row}
-use Rattle.source_rows.specs.Rows.{RowSet, no_rows, row_of, ready_set}
+use Rattle.source_rows.specs.Rows.{in_order, RowSet, no_rows, row_of, ready_set}
 use Rattle.context_core.specs.declared.context.Context.{Context}
 use Rattle.cancel_view.specs.Seen.{Seen}
 use Rattle.context_core.specs.Ready.{Own, in_view, own_ready, selected}
+use Rattle.context_core.specs.declared.standing.Standing.{Standing}
+use Rattle.context_core.specs.Standing.{standing}
 use Rattle.loop_script.specs.Units.{Tick, Microseconds, SourceId}
 
 -- at how many levels the sources of a script stand at most: in version 1 a child has no children
@@ -49,3 +51,9 @@ own_ready_at script tick view = own_ready (λ fd. level_of script fd tick) (in_v
 abbrev pub chosen_in : Plan → Tick → Seen → List SourceId → Option Context → List SourceId
 chosen_in script tick view busy None = []
 chosen_in script tick view busy (Some context) = selected (own_ready_at script tick view) busy context.rows.rows
+
+-- what an iteration of a context begun now would do with each of its sources, in the order of dispatch; none of another lane's
+abbrev pub standings_in : Plan → Tick → Seen → List SourceId → Option Context → List Standing
+standings_in script tick view busy None = []
+standings_in script tick view busy (Some context) =
+    map (standing (λ fd. level_of script fd tick) (in_view view) (time_of script tick) busy context.rows.rows) (in_order context.rows.rows)

@@ -24,13 +24,17 @@ is_result sender number _ = false
 abbrev pub results : LaneNumber → TaskNumber → List Line → ℕ
 results sender number lines = count_by (λ line. is_result sender number line.event) lines
 
--- how many replies of the task are held
+-- whether a reply that is held is one of the task
 abbrev pub is_awaited : LaneNumber → TaskNumber → Awaited → Bool
 is_awaited sender number awaited = (awaited.sender == sender) && (awaited.reply.task == number)
 
--- how many replies of a task are held
-abbrev pub awaited : LaneNumber → TaskNumber → Replies → ℕ
-awaited sender number replies = count_by (λ entry. is_awaited sender number entry.1) replies
+-- how many replies of the task the sources of a context hold
+abbrev pub awaited_in : LaneNumber → TaskNumber → Replies → ℕ
+awaited_in sender number replies = count_by (λ entry. is_awaited sender number entry.1) replies
+
+-- how many those of all contexts hold
+abbrev pub awaited : LaneNumber → TaskNumber → List Replies → ℕ
+awaited sender number all = sum_by (awaited_in sender number) all
 
 -- how many replies of the task a lane accounts for: it holds them still, or it told their results
 abbrev pub accounted : LaneNumber → TaskNumber → Lane → ℕ

@@ -13,6 +13,7 @@ use Rattle.lane_turn.specs.declared.slot.Held.{Held}
 use Rattle.lane_watch.specs.Watch.{nothing_seen, no_tasks}
 use Rattle.context_core.specs.declared.context.Context.{Context}
 use Rattle.lane_turn.specs.Sources.{no_sources}
+use Rattle.lane_turn.specs.Replies.{Replies}
 use Rattle.lane_turn.specs.Lane.{Lane, Turn}
 use Rattle.post_office.specs.declared.letter.Letter.{Letter}
 use Rattle.lane_turn.specs.Step.{step}
@@ -78,6 +79,14 @@ begun tick lane = record {
   posted = [];
 }
 
+-- the same where the post held letters before
+abbrev pub begun_with : Tick → List Letter → Lane → Turn
+begun_with tick letters lane = record (begun tick lane) { posted = letters }
+
+-- the turn once its tasks are polled: a step for each of them
+abbrev pub begun_polled : Plan → Tick → List Letter → Lane → Turn
+begun_polled script tick letters lane = finish script tick (length lane.tasks.started) (begun_with tick letters lane)
+
 -- the lane after its turn
 abbrev pub turned : Plan → Tick → Lane → Lane
 turned script tick lane = (finished script tick (begun tick lane)).lane
@@ -109,6 +118,11 @@ abbrev pub open_loops : ℕ → List Bool
 open_loops zero = []
 open_loops (suc n) = open_loops n ++ false ∷ []
 
+-- replies of no source
+abbrev pub open_replies : ℕ → List Replies
+open_replies zero = []
+open_replies (suc n) = open_replies n ++ [] ∷ []
+
 -- a lane that holds its start call
 abbrev pub opening : Plan → LaneNumber → Lane
 opening script lane = record {
@@ -120,7 +134,7 @@ opening script lane = record {
   frames = CallOf (record { origin = origins.Start; body = bodies.Start lane; place = 0 }) ∷ [];
   running = open_loops (length script.loops);
   defaults = [];
-  replies = [];
+  replies = open_replies (sizes script).contexts;
   trace = [];
   status = GoesOn;
 }

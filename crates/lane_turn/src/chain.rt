@@ -5,6 +5,7 @@ ghost use Rattle.lane_turn.specs.Quiet.{has_rest};
 ghost use Rattle.lane_turn.specs.Nest.{layers_of, frames_of, is_dispatch_layer, is_call_layer, busy_layers, owns_layer, advanced_layers, taken_layers, top_of_layers, HasRoomLayers};
 ghost use Rattle.loop_script.specs.Bounds.{count_end};
 
+use crate::in_progress::InProgress;
 use crate::layer::{Layer, Top};
 use crate::nest::{Nest, Shell};
 use crate::tally::Tally;
@@ -112,6 +113,13 @@ impl Chain {
         ensures { result ≡ list_any (has_rest context) (frames_of live.now self.now) }
     {
         self.nest.has_rest(live, 0, context)
+    }
+
+    /// What is in progress, from the outermost inwards.
+    pub(crate) fn inwards<'a>(&'a self, live: &'a [Option<usize>]) -> InProgress<'a>
+        ensures { result ≡ reverse (frames_of live.now self.now) }
+    {
+        InProgress::new(&self.nest, live, self.tally.layers)
     }
 
     /// Whether something in progress owns a context.

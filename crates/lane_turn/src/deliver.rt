@@ -42,12 +42,8 @@ impl Lane {
             return Ok(());
         }
         let id = self.attach(reply.ctx, reply_spec(&reply), script.now(tick))?;
-        if self
-            .replies
-            .insert((reply.ctx, id), Awaited { sender, reply })
-            .is_err()
-        {
-            return Err(AllocError);
+        if let Some(held) = self.replies.get_mut(reply.ctx as usize) {
+            held.put(id, Awaited { sender, reply })?;
         }
         self.write(tick, Event::Arrive(reply.ctx, id))
     }

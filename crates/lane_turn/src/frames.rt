@@ -1,5 +1,5 @@
 //! What a lane is in the middle of. Contracts see a flat list of frames, the innermost first.
-ghost use Rattle.std.specs.Prelude.{◌≡◌, ℕ, ◌∷◌, ◌<◌, ◌≤◌, ◌^◌, ◌==◌, [], Some, drop, length, OnOk, IfOk, if◌then◌else◌};
+ghost use Rattle.std.specs.Prelude.{◌≡◌, ℕ, ◌∷◌, ◌<◌, ◌≤◌, ◌^◌, ◌==◌, [], Some, reverse, drop, length, OnOk, IfOk, if◌then◌else◌};
 ghost use Rattle.std.specs.List.{list_any};
 ghost use Rattle.lane_turn.specs.Frames.{CallOf, IterOf, LoopOf, top_of, advanced, emptied, depth, calls_in_progress, busy, owns, HasRoom, IsTaken};
 ghost use Rattle.lane_turn.specs.Nest.{height_at};
@@ -7,6 +7,7 @@ ghost use Rattle.lane_turn.specs.Quiet.{has_rest};
 ghost use Rattle.loop_script.specs.Bounds.{count_end};
 
 use crate::chain::Chain;
+use crate::in_progress::InProgress;
 use crate::layer::{Asker, Call, Iteration, Layer, Top};
 use std::alloc::{AllocError, Global};
 use std::marker::Model;
@@ -110,6 +111,13 @@ impl Frames {
         ensures { result ≡ list_any (owns context) self.now }
     {
         self.chain.owns(context)
+    }
+
+    /// What is in progress, from the outermost inwards.
+    pub fn inwards(&self) -> InProgress<'_>
+        ensures { result ≡ reverse self.now }
+    {
+        self.chain.inwards(&self.live)
     }
 
     /// Begins a call in what is innermost.

@@ -2,21 +2,20 @@
 ghost use Rattle.std.specs.Prelude.{◌≡◌, ◌^◌, ◌≤◌, IfOk, OnOk, IfSome, OnSome, None, true, false, is_some, is_none, slice_get};
 ghost use Rattle.std.specs.Borrow.{sem};
 ghost use Rattle.std.specs.Option.{option_copied, option_copied_mut};
-ghost use Rattle.lane_turn.specs.Lane.{written, set_running, is_running, context_at, held, place_at, handler_at, set_slot, chosen, stopped};
+ghost use Rattle.lane_turn.specs.Lane.{written, set_running, is_running, context_at, held, place_at, handler_at, set_slot, chosen, standings, stopped};
 ghost use Rattle.lane_turn.specs.Lending.{LendsContext};
 ghost use Rattle.lane_turn.specs.Acted.{missed};
 ghost use Rattle.lane_turn.specs.Meaning.{lane_of};
 
 use crate::frames::Frames;
 use crate::line::{Event, Line, Word};
-use crate::replies::Awaited;
-use crate::select::select;
+use crate::replies::Replies;
+use crate::select::{select, stand};
 use crate::slot::{Held, Place};
-use context_core::{Context, DefaultStack};
+use context_core::{Context, DefaultStack, Standing};
 use lane_watch::Watch;
 use loop_script::Script;
 use std::alloc::{AllocError, Global};
-use std::collections::BTreeMap;
 
 /// Whether a lane goes on.
 #[derive(Clone, Copy, Debug, PartialEq, Eq)]
@@ -43,8 +42,8 @@ pub struct Lane {
     pub running: Vec<bool>,
     /// The thread-default contexts.
     pub defaults: DefaultStack,
-    /// What the sources of replies hold, by their context and id.
-    pub replies: BTreeMap<(u32, u64), Awaited>,
+    /// What the sources of replies hold, by context.
+    pub replies: Vec<Replies>,
     pub trace: Vec<Line>,
     pub status: Status,
 }
@@ -160,6 +159,23 @@ impl Lane {
         let busy = self.frames.busy(context)?;
         match self.context(context) {
             Some(context) => select(alloc, context, script, tick, &busy, self.watch.view()),
+            None => Ok(Vec::new(alloc)),
+        }
+    }
+
+    /// What an iteration of a context begun now would do with each of its sources, in the order of dispatch.
+    pub(crate) fn stand(
+        &self,
+        alloc: Global,
+        script: &Script,
+        tick: u32,
+        context: u32,
+    ) -> Result<Vec<Standing>, AllocError>
+        ensures { IfOk result (λ list. list.items ≡ standings script.now tick context (lane_of self.now)) }
+    {
+        let busy = self.frames.busy(context)?;
+        match self.context(context) {
+            Some(context) => stand(alloc, context, script, tick, &busy, self.watch.view()),
             None => Ok(Vec::new(alloc)),
         }
     }

@@ -14,6 +14,7 @@ ghost use Rattle.lane_turn.specs.Blocked.{BlockedWait};
 ghost use Rattle.lane_turn.specs.Selected.{IterationsHaveOrder};
 ghost use Rattle.lane_turn.specs.Stays.{SourcesStay};
 ghost use Rattle.lane_turn.specs.Limited.{StepsAreLimited};
+ghost use Rattle.lane_turn.specs.Stands.{StandingsStay};
 
 /// A turn leaves a lane with no step left: it rests, has ended or is halted.
 pub fn turns_end()
@@ -93,8 +94,8 @@ pub fn blocked_sources_wait()
     ensures { BlockedWait }
 {}
 
-/// What an iteration dispatches: the most urgent ready sources of its context, all of one priority, in the order of their numbers,
-/// and none twice.
+/// What an iteration dispatches: the most urgent ready sources of its context, all of these and no other, of one priority, in the
+/// order of their numbers and each behind those under it, and none twice.
 pub fn iterations_have_order()
     ensures { IterationsHaveOrder }
 {}
@@ -106,8 +107,14 @@ pub fn sources_stay_as_kept()
 {}
 
 /// A turn takes at most 10,000 actions and dispatches, those of a handler's list not counted: each takes one of the number that
-/// the turn began with, and no step gives one back. Where none is left the lane is halted in its place, by the line `halt steps`
-/// alone.
+/// the turn began with, any other step none, and no step gives one back. Where none is left the lane is halted in its place, by the
+/// line `halt steps` alone. So a turn starts at most 10,000 tasks, and sends at most as many letters as it polls tasks, and 10,000.
 pub fn steps_are_limited()
     ensures { StepsAreLimited }
+{}
+
+/// Once an iteration is begun, what an iteration would do with each source is what it was when this one was begun: so it may be
+/// asked for right after the step.
+pub fn standings_stay()
+    ensures { StandingsStay }
 {}

@@ -87,7 +87,7 @@ pub enum Top {
 }
 
 /// Whether the iteration of a context at a height is its live one.
-fn is_live(live: &[Option<usize>], height: usize, context: u32) -> bool
+pub(crate) fn is_live(live: &[Option<usize>], height: usize, context: u32) -> bool
     ensures { result ≡ is_live live.now height context }
 {
     match live.get(context as usize) {

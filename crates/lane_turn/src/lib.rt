@@ -9,8 +9,9 @@ mod chain;
 mod deliver;
 mod frames;
 mod handlers;
+mod in_progress;
 mod lane;
-mod laws;
+pub mod laws;
 mod layer;
 mod letters;
 mod limits;
@@ -27,11 +28,9 @@ mod tally;
 mod turn;
 mod wakes;
 
+pub use in_progress::{Activity, InProgress};
 pub use lane::Status;
-pub use laws::{
-    blocked_sources_wait, depths_hold, ended_lanes_rest, iterations_go_on, iterations_have_order,
-    letters_arrive, letters_tell, levels_go_by_version, replies_are_taken_once, replies_come_once,
-    sources_stay_as_kept, steps_are_limited, traces_grow, turns_end, views_agree,
-};
+pub use layer::{Asker, Call, Caller, Origin};
 pub use line::{Event, Invoked, Line, Word};
 pub use state::{LaneFault, LaneState};
+pub use turn::Turn;

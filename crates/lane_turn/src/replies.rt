@@ -1,4 +1,10 @@
 //! What the sources of replies hold.
+ghost use Rattle.std.specs.Prelude.{◌≡◌, [], OnOk};
+ghost use Rattle.lane_turn.specs.Replies.{held_under, held_with, held_without};
+
+use std::alloc::{AllocError, Global};
+use std::collections::BTreeMap;
+use std::marker::Model;
 use task_steps::Reply;
 
 /// A reply whose source was not dispatched yet.
@@ -7,4 +13,48 @@ pub struct Awaited {
     /// The lane whose task replied.
     pub sender: u32,
     pub reply: Reply,
+}
+
+/// The replies that the sources of one context hold, by their ids. Contracts see the list of them.
+#[derive(Drop)]
+pub struct Replies {
+    held: BTreeMap<u64, Awaited>,
+}
+
+impl Model for Replies {
+    ghost use Rattle.std.specs.Prelude.{ℕ, List};
+    ghost use Rattle.lane_turn.specs.declared.replies.Awaited.{Awaited};
+
+    ghost Value = { List (ℕ × Awaited) };
+
+    ghost view = { λ s. s.held.entries };
+}
+
+impl Replies {
+    /// None. It takes no memory.
+    pub(crate) fn new(alloc: Global) -> Self
+        ensures { result ≡ [] }
+    {
+        Replies {
+            held: BTreeMap::new(alloc),
+        }
+    }
+
+    /// A source holds a reply.
+    pub(crate) fn put(&mut self, id: u64, awaited: Awaited) -> Result<(), AllocError>
+        ensures { OnOk result (self.new ≡ held_with id awaited self.old) }
+    {
+        if self.held.insert(id, awaited).is_err() {
+            return Err(AllocError);
+        }
+        Ok(())
+    }
+
+    /// The reply that a source holds, which it holds no more.
+    pub(crate) fn take(&mut self, id: u64) -> Option<Awaited>
+        ensures taken { result ≡ held_under id self.old }
+        ensures left { self.new ≡ held_without id self.old }
+    {
+        self.held.remove(&id)
+    }
 }

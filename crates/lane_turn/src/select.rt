@@ -1,10 +1,10 @@
 //! What an iteration selects, by the three phases.
 ghost use Rattle.std.specs.Prelude.{◌≡◌, map, IfOk, Some};
 ghost use Rattle.loop_script.specs.Parts.{level_of};
-ghost use Rattle.lane_turn.specs.Sources.{chosen_in};
+ghost use Rattle.lane_turn.specs.Sources.{chosen_in, standings_in};
 
 use cancel_view::View;
-use context_core::{Context, Interest};
+use context_core::{Context, Interest, Prepared, Standing};
 use loop_script::Script;
 use std::alloc::{AllocError, Global};
 
@@ -39,4 +39,24 @@ pub(crate) fn select(
     let interests = context.query(alloc, &prepared, busy)?;
     let levels = poll(alloc, script, tick, &interests)?;
     context.check(alloc, &prepared, now, busy, view, &levels)
+}
+
+/// What an iteration of a context begun at a tick would do with each of its sources, in the order of dispatch.
+pub(crate) fn stand(
+    alloc: Global,
+    context: &Context,
+    script: &Script,
+    tick: u32,
+    busy: &[u64],
+    view: &View,
+) -> Result<Vec<Standing>, AllocError>
+    ensures { IfOk result (λ list. list.items ≡ standings_in script.now tick view.now busy.now (Some context.now)) }
+{
+    let nothing_ready = Prepared {
+        priority: None,
+        timeout_ms: -1,
+    };
+    let interests = context.query(alloc, &nothing_ready, busy)?;
+    let levels = poll(alloc, script, tick, &interests)?;
+    context.standings(alloc, script.now(tick), busy, view, &levels)
 }

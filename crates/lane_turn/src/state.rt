@@ -1,31 +1,37 @@
 //! A lane between its turns.
-ghost use Rattle.std.specs.Prelude.{◌≡◌, ℕ, ◌+◌, ◌*◌, ◌^◌, ◌<◌, ◌≤◌, ◌++◌, ◌↔◌, ◌≢◌, [], false, length, IsTrue, IsOk, OnOk, IfOk, IfSome, Err};
+ghost use Rattle.std.specs.Prelude.{◌≡◌, ℕ, ◌+◌, ◌*◌, ◌^◌, ◌<◌, ◌≤◌, ◌++◌, ◌↔◌, ◌≢◌, [], false, length, IsTrue, IsOk, OnOk, IfOk, IfSome, Ok, Err, is_some, option_map, reverse};
 ghost use Rattle.loop_script.specs.Bounds.{tick_end};
-ghost use Rattle.lane_turn.specs.Turn.{turned, out_of, opening, open_context, open_contexts, open_slots, open_loops};
+ghost use Rattle.lane_turn.specs.Step.{step};
+ghost use Rattle.lane_turn.specs.Lane.{context_at, standings};
+ghost use Rattle.std.specs.Option.{option_copied};
+ghost use Rattle.lane_turn.specs.Turn.{begun_with, begun_polled, finished, stepped, turned, out_of, opening, open_context, open_contexts, open_slots, open_loops, open_replies};
 ghost use Rattle.lane_turn.specs.Deliver.{received_all};
 ghost use Rattle.lane_turn.specs.Quiet.{at_tick, IsQuietUntil};
 ghost use Rattle.lane_watch.specs.Watch.{GivesNothing};
 ghost use Rattle.lane_watch.specs.Watch.{nothing_seen, no_tasks};
 ghost use Rattle.source_rows.specs.Rows.{level_count};
 ghost use Rattle.lane_turn.specs.Sources.{tree_levels};
-ghost use Rattle.lane_turn.specs.Meaning.{lane_of};
-ghost use Rattle.lane_turn.specs.Sound.{IsReady};
+ghost use Rattle.lane_turn.specs.Meaning.{lane_of, turn_at, IsTurnOf};
+ghost use Rattle.lane_turn.specs.Sound.{IsReady, IsGoing};
 ghost use Rattle.lane_turn.specs.Limits.{half_count, most_letters, most_steps, turn_growth};
 
 use crate::frames::Frames;
+use crate::in_progress::InProgress;
 use crate::lane::{Lane, Status};
 use crate::layer::{Call, Origin};
 use crate::limits::SLOTS;
 use crate::line::Line;
+use crate::replies::Replies;
 use crate::slot::Held;
+use crate::turn::Turn;
 use crate::wakes::{sooner, tick_of};
-use context_core::{Context, DefaultStack};
+use cancel_view::View;
+use context_core::{Context, DefaultStack, Standing};
 use lane_watch::Watch;
 use loop_script::{Body, Script};
 use post_office::{Letter, Numbered, Post};
-use source_rows::Levels;
+use source_rows::{Levels, Rows};
 use std::alloc::{AllocError, Global};
-use std::collections::BTreeMap;
 use std::marker::Model;
 use thiserror::Error;
 
@@ -143,6 +149,17 @@ fn open_loops(alloc: Global, loops: u32) -> Result<Vec<bool>, AllocError>
     Ok(running)
 }
 
+/// Replies of no source.
+fn open_replies(alloc: Global, contexts: u32) -> Result<Vec<Replies>, AllocError>
+    ensures { IfOk result (λ replies. replies.items ≡ open_replies contexts) }
+{
+    let mut replies = Vec::new(alloc);
+    for _ in 0..contexts {
+        replies.push(Replies::new(alloc))?;
+    }
+    Ok(replies)
+}
+
 /// A lane that holds its start call.
 fn open_lane(alloc: Global, script: &Script, lane: u32) -> Result<Lane, AllocError>
     ensures { IfOk result (λ opened. lane_of opened ≡ opening script.now lane) }
@@ -161,7 +178,7 @@ fn open_lane(alloc: Global, script: &Script, lane: u32) -> Result<Lane, AllocErr
         frames,
         running: open_loops(alloc, script.loops())?,
         defaults: DefaultStack::new(alloc),
-        replies: BTreeMap::new(alloc),
+        replies: open_replies(alloc, script.contexts())?,
         trace: Vec::new(alloc),
         status: Status::GoesOn,
     })
@@ -192,6 +209,85 @@ impl LaneState {
         }
     }
 
+    /// Begins the lane's turn at a tick: its tasks are polled, which are as many steps of the turn. What it sends goes to
+    /// `post`. It answers the turn, for `step`. Where the lane has no task, that takes no memory.
+    ///
+    /// After `OutOfMemory` the lane is spent, as after `turn`.
+    pub fn begin_turn<P: Post>(
+        &mut self,
+        script: &Script,
+        tick: u32,
+        post: &mut P,
+    ) -> Result<Turn, LaneFault>
+        requires ready { self.old.spent ≡ false → IsReady script.now tick half_count self.old.lane }
+        requires tick { tick < tick_end }
+        ensures polled { IfOk result (λ turn. turn_at self.new.lane turn (P.letters post.new) ≡ begun_polled script.now tick (P.letters post.old) self.old.lane) }
+        ensures going { (m : ℕ) → IsReady script.now tick m self.old.lane → IfOk result (λ turn. IsGoing script.now tick (m + turn_growth) (turn_at self.new.lane turn (P.letters post.new))) }
+        ensures leads { IfOk result (λ turn. finished script.now tick (turn_at self.new.lane turn (P.letters post.new)) ≡ finished script.now tick (begun_with tick (P.letters post.old) self.old.lane)) }
+        ensures own { IfOk result (λ turn. IsTurnOf self.new.lane turn) }
+        ensures status { OnOk result (self.new.lane.status ≡ self.old.lane.status) }
+        ensures home { P.home post.new ≡ P.home post.old }
+        ensures lasts { OnOk result (self.new.spent ≡ false) }
+        ensures spent { (result ≡ Err LaneFault.Spent) ↔ IsTrue self.old.spent }
+        ensures memory { result ≡ Err LaneFault.OutOfMemory → IsTrue self.new.spent }
+        ensures stays { result ≡ Err LaneFault.Spent → self.new ≡ self.old }
+        ensures none { self.old.spent ≡ false → self.old.lane.tasks.started ≡ [] → IsOk result }
+    {
+        if self.spent {
+            return Err(LaneFault::Spent);
+        }
+        self.spent = true;
+        match self.lane.begin_turn(self.alloc, script, tick, post) {
+            Err(_) => Err(LaneFault::OutOfMemory),
+            Ok(progress) => {
+                self.spent = false;
+                let lane = self.lane.number;
+                Ok(Turn { lane, progress })
+            }
+        }
+    }
+
+    /// Takes the next step of a turn that `begin_turn` began, with its script, tick and post. It answers false, and changes
+    /// nothing, where no step is left: the lane rests, has ended or is halted.
+    ///
+    /// After `OutOfMemory` the lane is spent, as after `turn`.
+    pub fn step<P: Post>(
+        &mut self,
+        script: &Script,
+        tick: u32,
+        turn: &mut Turn,
+        post: &mut P,
+    ) -> Result<bool, LaneFault>
+        requires own { self.old.spent ≡ false → IsTurnOf self.old.lane turn.old }
+        requires going { self.old.spent ≡ false → IsGoing script.now tick (half_count + turn_growth) (turn_at self.old.lane turn.old (P.letters post.old)) }
+        requires tick { tick < tick_end }
+        ensures own { OnOk result (IsTurnOf self.new.lane turn.new) }
+        ensures more { IfOk result (λ more. more ≡ is_some (step script.now tick (turn_at self.old.lane turn.old (P.letters post.old)))) }
+        ensures next { OnOk result (turn_at self.new.lane turn.new (P.letters post.new) ≡ stepped script.now tick (turn_at self.old.lane turn.old (P.letters post.old))) }
+        ensures going { (m : ℕ) → IsGoing script.now tick m (turn_at self.old.lane turn.old (P.letters post.old)) → OnOk result (IsGoing script.now tick m (turn_at self.new.lane turn.new (P.letters post.new))) }
+        ensures leads { OnOk result (finished script.now tick (turn_at self.new.lane turn.new (P.letters post.new)) ≡ finished script.now tick (turn_at self.old.lane turn.old (P.letters post.old))) }
+        ensures over { result ≡ Ok false → finished script.now tick (turn_at self.old.lane turn.old (P.letters post.old)) ≡ turn_at self.new.lane turn.new (P.letters post.new) }
+        ensures home { P.home post.new ≡ P.home post.old }
+        ensures lasts { OnOk result (self.new.spent ≡ false) }
+        ensures spent { (result ≡ Err LaneFault.Spent) ↔ IsTrue self.old.spent }
+        ensures memory { result ≡ Err LaneFault.OutOfMemory → IsTrue self.new.spent }
+        ensures stays { result ≡ Err LaneFault.Spent → self.new ≡ self.old }
+        ensures rests { self.old.spent ≡ false → self.old.lane.status ≢ Status.GoesOn → IsOk result }
+    {
+        if self.spent {
+            return Err(LaneFault::Spent);
+        }
+        self.spent = true;
+        let progress = &mut turn.progress;
+        match self.lane.step(self.alloc, script, tick, progress, post) {
+            Err(_) => Err(LaneFault::OutOfMemory),
+            Ok(more) => {
+                self.spent = false;
+                Ok(more)
+            }
+        }
+    }
+
     /// The lane's turn at a tick: its tasks are polled, and unless it has ended or is halted its steps are taken. What it
     /// sends goes to `post`. Turns come at each tick from 0 on, each with the script of `new`, and after each the delivery
     /// of the tick's letters; ticks before the one that `next_tick` answers may be passed over, by `pass_to`. The turn of a
@@ -218,17 +314,13 @@ impl LaneState {
         ensures stays { result ≡ Err LaneFault.Spent → self.new ≡ self.old }
         ensures rests { self.old.spent ≡ false → self.old.lane.status ≢ Status.GoesOn → self.old.lane.tasks.started ≡ [] → IsOk result }
     {
-        if self.spent {
-            return Err(LaneFault::Spent);
-        }
-        self.spent = true;
-        match self.lane.take_turn(self.alloc, script, tick, post) {
-            Err(_) => Err(LaneFault::OutOfMemory),
-            Ok(()) => {
-                self.spent = false;
-                Ok(())
+        let mut turn = self.begin_turn(script, tick, post)?;
+        'steps: loop {
+            if !self.step(script, tick, &mut turn, post)? {
+                break;
             }
         }
+        Ok(())
     }
 
     /// Delivers the letters of a tick, in order, once after its turn: replies for the lane's contexts are attached, and
@@ -311,6 +403,43 @@ impl LaneState {
         }
         self.spent = false;
         Ok(())
+    }
+
+    /// What an iteration of a context begun at a tick would do with each of its sources, and why, in the order of dispatch; none of
+    /// a context of another lane. The lane is not changed.
+    pub fn standings(
+        &self,
+        script: &Script,
+        tick: u32,
+        context: u32,
+    ) -> Result<Vec<Standing>, AllocError>
+        ensures { IfOk result (λ list. list.items ≡ standings script.now tick context self.now.lane) }
+    {
+        self.lane.stand(self.alloc, script, tick, context)
+    }
+
+    /// The sources of one of the lane's contexts; none of another lane's. It takes no memory.
+    pub fn sources(&self, context: u32) -> Option<&Rows>
+        ensures { option_copied result ≡ option_map (λ c. c.rows) (context_at context self.now.lane) }
+    {
+        match self.lane.context(context) {
+            None => None,
+            Some(context) => Some(context.rows()),
+        }
+    }
+
+    /// The cancellables that the lane has seen cancelled, and its handlers.
+    pub fn view(&self) -> &View
+        ensures { result.now ≡ self.now.lane.view }
+    {
+        self.lane.watch.view()
+    }
+
+    /// What is in progress, from the outermost inwards. It takes no memory.
+    pub fn frames(&self) -> InProgress<'_>
+        ensures { result ≡ reverse self.now.lane.frames }
+    {
+        self.lane.frames.inwards()
     }
 
     /// What the lane wrote.

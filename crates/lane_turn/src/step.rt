@@ -25,14 +25,14 @@ use std::alloc::{AllocError, Global};
 use task_steps::Reply;
 
 /// How far a turn has come.
-#[derive(Clone, Copy, Debug)]
+#[derive(Debug, Drop)]
 pub struct Progress {
     /// How many actions and dispatches may still be counted.
-    pub left: u32,
+    pub(crate) left: u32,
     /// Whether a loop began an iteration.
-    pub iterated: bool,
+    pub(crate) iterated: bool,
     /// How many letters were sent.
-    pub sent: u64,
+    pub(crate) sent: u64,
 }
 
 /// The result of a task, taken from its reply: cancelled where that is checked and the view has the cancellable.
@@ -170,7 +170,10 @@ impl Lane {
                 depth: depth + 1,
             },
         )?;
-        let awaited = self.replies.remove(&(context, row.id));
+        let awaited = match self.replies.get_mut(context as usize) {
+            Some(held) => held.take(row.id),
+            None => None,
+        };
         self.take_result(tick, awaited)?;
         self.frames.begin_call(Call {
             origin: Origin::Source(Caller {

@@ -1,6 +1,6 @@
-//! All of a turn: the polls of tasks, and the steps.
-ghost use Rattle.std.specs.Prelude.{◌≡◌, ◌≢◌, ◌+◌, ◌^◌, ◌<◌, ◌≤◌, ◌++◌, [], map, length, IsOk, OnOk};
-ghost use Rattle.lane_turn.specs.Turn.{begun, turned, out_of};
+//! A turn that is begun: the polls of tasks.
+ghost use Rattle.std.specs.Prelude.{◌≡◌, ◌≢◌, ◌+◌, ◌^◌, ◌<◌, ◌≤◌, ◌++◌, [], map, length, IsOk, OnOk, IfOk};
+ghost use Rattle.lane_turn.specs.Turn.{begun_with};
 ghost use Rattle.lane_turn.specs.Step.{late_line};
 ghost use Rattle.lane_turn.specs.Polls.{letters_of, after_polls};
 ghost use Rattle.lane_turn.specs.Sound.{IsReady};
@@ -8,7 +8,7 @@ ghost use Rattle.lane_turn.specs.Meaning.{lane_of, turn_of};
 ghost use Rattle.loop_script.specs.Bounds.{count_end, tick_end};
 ghost use Rattle.lane_turn.specs.Limits.{half_count};
 
-use crate::lane::{Lane, Status};
+use crate::lane::Lane;
 use crate::limits::MOST_STEPS;
 use crate::line::Event;
 use crate::step::Progress;
@@ -16,6 +16,14 @@ use loop_script::Script;
 use post_office::{Body, Post};
 use std::alloc::{AllocError, Global};
 use task_steps::Reply;
+
+/// A turn that was begun: whose it is, and how far it has come. The lane takes it on by `LaneState::step`.
+#[derive(Debug, Drop)]
+pub struct Turn {
+    /// The number of its lane.
+    pub(crate) lane: u32,
+    pub(crate) progress: Progress,
+}
 
 impl Progress {
     /// Sends replies.
@@ -77,20 +85,19 @@ impl Lane {
         self.write_late(tick, polled.late.as_slice())
     }
 
-    /// Polls the tasks, and takes steps until the lane rests, has ended or is halted.
-    pub(crate) fn take_turn<P: Post>(
+    /// Begins a turn: polls the tasks. It answers how far the turn has come.
+    pub(crate) fn begin_turn<P: Post>(
         &mut self,
         alloc: Global,
         script: &Script,
         tick: u32,
         post: &mut P,
-    ) -> Result<(), AllocError>
+    ) -> Result<Progress, AllocError>
         requires ready { IsReady script.now tick half_count (lane_of self.old) }
         requires tick { tick < tick_end }
-        ensures turned { OnOk result (lane_of self.new ≡ turned script.now tick (lane_of self.old)) }
-        ensures letters { OnOk result (P.letters post.new ≡ P.letters post.old ++ out_of script.now tick (lane_of self.old)) }
+        ensures polled { IfOk result (λ progress. turn_of self.new progress (P.letters post.new) ≡ after_polls tick (begun_with tick (P.letters post.old) (lane_of self.old))) }
         ensures home { P.home post.new ≡ P.home post.old }
-        ensures rests { (lane_of self.old).status ≢ Status.GoesOn → (lane_of self.old).tasks.started ≡ [] → IsOk result }
+        ensures none { (lane_of self.old).tasks.started ≡ [] → IsOk result }
     {
         let mut progress = Progress {
             left: MOST_STEPS,
@@ -98,11 +105,6 @@ impl Lane {
             sent: 0,
         };
         self.poll_tasks(alloc, tick, &mut progress, post)?;
-        'steps: loop {
-            if !self.step(alloc, script, tick, &mut progress, post)? {
-                break;
-            }
-        }
-        Ok(())
+        Ok(progress)
     }
 }

@@ -94,3 +94,12 @@ no_crew_by args left bytes items asked fault ask whole same class = record {
   ask = ask;
   refused = number_only class.script asked.workers (string_bytes ask.word) asked.sharing fault ask.sharing class.refused;
 }
+
+-- nothing was written, or the writer failed
+pub leaves_or_failed : (args : List (String Global)) (left : Option (List ℕ)) (refusal : Refusal) (old new : List ℕ) (failed : Type 0) → Leaves args left refusal old new → (refusal ≡ Write → failed) → (new ≡ old) ⊎ failed
+leaves_or_failed args left Usage old new failed leaves f = inl leaves
+leaves_or_failed args left (Script fault) old new failed leaves f = inl leaves.nothing
+leaves_or_failed args left Setup old new failed leaves f = inl leaves.1
+leaves_or_failed args left Memory old new failed leaves f = inl leaves
+leaves_or_failed args left Read old new failed leaves f = inl leaves
+leaves_or_failed args left Write old new failed leaves f = inr (f refl)

@@ -35,6 +35,13 @@ IsRunFaultOf bytes workers sharing (faults.Setup fault) = RefusesCrew bytes work
 IsRunFaultOf bytes workers sharing faults.OutOfMemory = Unit {0}
 IsRunFaultOf bytes workers sharing faults.Write = (script : Plan) × IsScriptOf bytes script
 
+-- a run of the bytes by the caller alone may end with this fault: of a script with `OutOfMemory` or `Write` alone
+abbrev pub IsLoneFaultOf : List ℕ → MainFault → Type 0
+IsLoneFaultOf bytes (faults.Script fault) = IsFaultOf bytes fault
+IsLoneFaultOf bytes (faults.Setup fault) = ⊥
+IsLoneFaultOf bytes faults.OutOfMemory = Unit {0}
+IsLoneFaultOf bytes faults.Write = (script : Plan) × IsScriptOf bytes script
+
 -- the same of a run of a script: nothing was written yet
 abbrev pub IsSetupFaultOf : Plan → (workers : ℕ) → Sharing → MainFault → Type 0
 IsSetupFaultOf script workers sharing (faults.Script fault) = ⊥

@@ -8,6 +8,7 @@ ghost use Rattle.mainctx.specs.Writing.{AddsPrefix, GrowAlike, PassesOn};
 use crate::buffer::Buffer;
 use crate::printed::Printed;
 use crate::run::MainFault;
+use crate::text::OutOfMemory;
 use crate::writer::{Out, OutFault};
 use lane_turn::Line;
 use loop_script::Script;
@@ -70,6 +71,20 @@ impl Ended {
         };
         if stepper.run(rt, gate).is_err() {
             return Err(MainFault::OutOfMemory);
+        }
+        Ok(Ended { stepper, lanes })
+    }
+
+    /// Runs a script to its end, in the caller's thread alone.
+    pub fn alone(alloc: Global, script: Script) -> Result<Self, OutOfMemory>
+        ensures script { IfOk result (λ ended. ended ≡ script) }
+    {
+        let lanes = script.lanes();
+        let Ok(mut stepper) = Stepper::new(alloc, script, 1, Sharing::Round) else {
+            return Err(OutOfMemory);
+        };
+        if stepper.run_alone().is_err() {
+            return Err(OutOfMemory);
         }
         Ok(Ended { stepper, lanes })
     }

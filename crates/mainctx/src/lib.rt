@@ -7,7 +7,7 @@ mod ended;
 mod ending;
 mod input;
 mod last_dispatch;
-mod laws;
+pub mod laws;
 mod printed;
 mod run;
 mod status;
@@ -16,8 +16,7 @@ mod words;
 mod writer;
 
 pub use input::INPUT_LIMIT;
-pub use laws::first_run;
-pub use run::{MainFault, run_bytes};
+pub use run::{MainFault, run_alone, run_bytes};
 pub use status::{Refusal, refuse, serve};
 pub use text::{OutOfMemory, add_text};
 pub use writer::{Out, OutFault, OverWrite};

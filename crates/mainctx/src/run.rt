@@ -1,6 +1,6 @@
 //! From the bytes of a script to the bytes of its text.
 ghost use Rattle.std.specs.Prelude.{◌≡◌, ◌≢◌, ◌<◌, ◌↔◌, OnOk, OnErr, IfOk, IfErr, Err};
-ghost use Rattle.mainctx.specs.Run.{IsCrewFor, IsRunFaultOf, IsScriptOf, Writes, WritesPrefix, HoldsText};
+ghost use Rattle.mainctx.specs.Run.{IsCrewFor, IsLoneFaultOf, IsRunFaultOf, IsScriptOf, Writes, WritesPrefix, HoldsText};
 ghost use Rattle.mainctx.specs.Writing.{GrowAlike};
 
 use crate::buffer::Buffer;
@@ -86,6 +86,40 @@ pub fn run_bytes<R: Threads + Wait + Sync, G: Gate, W: Out>(
     ensures holds { OnOk result (HoldsText bytes.now (W.contents out.old) (W.contents out.new)) }
 {
     let ended = run_to_end(rt, alloc, bytes, workers, sharing, gate)?;
+    let mut buffer = Buffer::new(alloc)?;
+    match ended.write(&mut buffer, out) {
+        Ok(()) => Ok(()),
+        Err(OutFault) => Err(MainFault::Write),
+    }
+}
+
+/// Reads a script and runs it to its end, in the caller's thread alone.
+fn run_to_end_alone(alloc: Global, bytes: &[u8]) -> Result<Ended, MainFault>
+    ensures script { IfOk result (λ ended. IsScriptOf bytes.now ended) }
+    ensures fault { IfErr result (λ fault. IsLoneFaultOf bytes.now fault) }
+    ensures not_write { result ≢ Err MainFault.Write }
+{
+    let script = match Script::read(alloc, bytes) {
+        Ok(script) => script,
+        Err(ScriptFault::OutOfMemory) => return Err(MainFault::OutOfMemory),
+        Err(fault) => return Err(MainFault::Script(fault)),
+    };
+    Ok(Ended::alone(alloc, script)?)
+}
+
+/// Does what `run_bytes` does, for any number of workers: the caller takes each turn itself, and needs no handle for it. No
+/// fault is `Setup`.
+#[tactic(auto, using(crate::proofs::Alike::alike_none))]
+pub fn run_alone<W: Out>(alloc: Global, bytes: &[u8], out: &mut W) -> Result<(), MainFault>
+    ensures text { OnOk result (Writes bytes.now (W.taken out.old) (W.taken out.new)) }
+    ensures script { IfErr result (λ fault. IsLoneFaultOf bytes.now fault) }
+    ensures write { (result ≡ Err MainFault.Write) ↔ (W.failures out.old < W.failures out.new) }
+    ensures prefix { result ≡ Err MainFault.Write → WritesPrefix bytes.now (W.taken out.old) (W.taken out.new) }
+    ensures nothing { OnErr result (result ≢ Err MainFault.Write → W.taken out.new ≡ W.taken out.old) }
+    ensures known { GrowAlike (W.taken out.old) (W.taken out.new) (W.contents out.old) (W.contents out.new) }
+    ensures holds { OnOk result (HoldsText bytes.now (W.contents out.old) (W.contents out.new)) }
+{
+    let ended = run_to_end_alone(alloc, bytes)?;
     let mut buffer = Buffer::new(alloc)?;
     match ended.write(&mut buffer, out) {
         Ok(()) => Ok(()),

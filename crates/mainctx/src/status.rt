@@ -1,5 +1,5 @@
 //! What the program does with its arguments, input and output.
-ghost use Rattle.std.specs.Prelude.{◌≡◌, ◌≤◌, ◌⊎◌, ◌↔◌, ℕ, OnOk, IfErr, IfSome, Some, Err};
+ghost use Rattle.std.specs.Prelude.{◌≡◌, ◌<◌, ◌≤◌, ◌⊎◌, ◌↔◌, ℕ, OnOk, IfErr, IfSome, Some, Err};
 ghost use Rattle.mainctx.specs.declared.arguments.Asked.{Asked};
 ghost use Rattle.mainctx.specs.Arguments.{AskFor};
 ghost use Rattle.mainctx.specs.Serving.{Serves, ServesPrefix, ServesHolder, HasFault, HasNoCrew, Leaves, status_of};
@@ -82,6 +82,7 @@ fn attempt<X: Threads + Wait + Sync, R: Read, W: Out>(
     ensures text { OnOk result (Serves (R.remaining input.old) (W.taken out.old) (W.taken out.new)) }
     ensures refusal { IfErr result (λ refusal. Leaves args.now (R.remaining input.old) refusal (W.taken out.old) (W.taken out.new)) }
     ensures usage { (result ≡ Err Refusal.Usage) ↔ ¬ ((asked : Asked) × AskFor args.now asked) }
+    ensures write { (result ≡ Err Refusal.Write) ↔ (W.failures out.old < W.failures out.new) }
     ensures known { GrowAlike (W.taken out.old) (W.taken out.new) (W.contents out.old) (W.contents out.new) }
     ensures holds { OnOk result (ServesHolder (R.remaining input.old) (W.contents out.old) (W.contents out.new)) }
 {
@@ -122,6 +123,8 @@ pub fn serve<X: Threads + Wait + Sync, R: Read, W: Out, E: Write>(
     ensures text { result ≡ 0 → Serves (R.remaining input.old) (W.taken out.old) (W.taken out.new) }
     ensures nothing { 1 ≤ result → result ≤ 3 → W.taken out.new ≡ W.taken out.old }
     ensures prefix { result ≡ 4 → (W.taken out.new ≡ W.taken out.old) ⊎ ServesPrefix (R.remaining input.old) (W.taken out.old) (W.taken out.new) }
+    ensures failed { W.failures out.old < W.failures out.new → result ≡ 4 }
+    ensures rose { result ≡ 4 → (W.taken out.new ≡ W.taken out.old) ⊎ (W.failures out.old < W.failures out.new) }
     ensures status { result ≤ 4 }
     ensures usage { (result ≡ 1) ↔ ¬ ((asked : Asked) × AskFor args.now asked) }
     ensures script { result ≡ 2 → HasFault (R.remaining input.old) ⊎ HasNoCrew args.now (R.remaining input.old) }

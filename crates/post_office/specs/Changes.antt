@@ -1,5 +1,5 @@
 -- What each step of a queue does to its part of a tick, and what its rule says at every moment.
-use Rattle.std.specs.Prelude.{◌≡◌, ℕ, suc, ◌+◌, List, [], ◌∷◌, ◌++◌, length, set, IsPermutation}
+use Rattle.std.specs.Prelude.{◌≡◌, ℕ, zero, suc, ◌+◌, ◌-◌, List, [], ◌∷◌, ◌++◌, length, set, slice_index_or, IsPermutation}
 use mathlib.Core.Option.{some}
 use lib.ListN.{get_elem?}
 use Rattle.post_office.specs.declared.letter.Letter.{Letter}
@@ -7,8 +7,8 @@ use Rattle.post_office.specs.declared.views.WorkView.{WorkView}
 use Rattle.post_office.specs.declared.views.PostView.{PostView}
 use Rattle.post_office.specs.Merge.{IsMerge, concat}
 use Rattle.post_office.specs.Parts.{claims, posts}
-use Rattle.post_office.specs.WorkQueue.{took, taken_of, work_of, WasClaimed}
-use Rattle.post_office.specs.LetterQueue.{posted, posted_of, mail_of, WasPosted}
+use Rattle.post_office.specs.WorkQueue.{took, taker, taken_of, work_of, WasClaimed, keeper as work_keeper}
+use Rattle.post_office.specs.LetterQueue.{posted, poster, posted_of, mail_of, WasPosted, keeper as mail_keeper}
 
 -- a take that gives x, by a pass that is out or by the list itself, is a claim of the first that waits
 abbrev pub TakesAreClaims : Type 0 → Type 0
@@ -30,3 +30,18 @@ EachIsThereOnce T = (items : List T) (own : WorkView T) (vs : List (WorkView T))
 abbrev pub LettersAreMerged : Type 0
 LettersAreMerged = (items : List Letter) (own : PostView) (vs : List PostView) → WasPosted items (own ∷ vs)
     → IsMerge (own.recorded ++ posted_of vs) (own.drained ++ items)
+
+-- the lists of workers, of which the first n are recorded, when a pass comes back: its list stands behind those, and an empty one in its place
+abbrev pub moved_back : {T : Type 0} → (n port : ℕ) → List (List T) → List (List T)
+moved_back zero port lists = slice_index_or lists port [] ∷ set lists port []
+moved_back (suc n) port [] = []
+moved_back (suc n) port (list ∷ lists) = list ∷ moved_back n port lists
+
+-- a pass that is taken back moves its list behind those recorded, and changes nothing else of the part
+pub record ListsMoveBack (T : Type 0) : Type 0 where
+  pub work : (items : List T) (own : WorkView T) (vs : List (WorkView T)) (port : ℕ) (v : WorkView T) → get_elem? vs port ≡ some v
+      → work_of items (work_keeper own.put own.taken (own.recorded ++ v.taken ∷ []) (own.out - 1)) (set vs port (taker [] [] 0))
+      ≡ record (work_of items own vs) { taken = moved_back (suc (length own.recorded)) port (work_of items own vs).taken }
+  pub mail : (items : List Letter) (own : PostView) (vs : List PostView) (port : ℕ) (v : PostView) → get_elem? vs port ≡ some v
+      → mail_of items (mail_keeper (own.recorded ++ v.posted ∷ []) own.drained (own.out - 1)) (set vs port (poster [] 0))
+      ≡ record (mail_of items own vs) { posted = moved_back (length own.recorded) port (mail_of items own vs).posted }

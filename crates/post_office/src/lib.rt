@@ -7,7 +7,7 @@
 //! post. Each worker uses them through a pass of its own, which is made before and taken back after.
 #![tactic(auto)]
 
-mod laws;
+pub mod laws;
 mod lent;
 mod letter;
 mod letter_queue;
@@ -21,7 +21,6 @@ mod views;
 mod work_list;
 mod work_queue;
 
-pub use laws::order_is_one;
 pub use lent::Lent;
 pub use letter::{Body, Letter};
 pub use letter_queue::{LetterQueue, OfficePass};

@@ -104,8 +104,8 @@ impl<T> Model for WorkQueue<T> {
 }
 
 impl<T: Drop> WorkQueue<T> {
-    /// Takes a value that no other pass has taken, of those that were put. `None` comes only where none waited at some
-    /// moment of the call.
+    /// Takes one of the values that were put; the pass has it then behind those that it took before. `None` changes nothing, and
+    /// tells of no value: that each was taken, once, is what `WorkList::take_rest` shows when all passes are back.
     pub fn take<R: Wait>(&self, rt: &R, pass: &mut WorkPass<T>) -> Option<T>
         requires home { pass.old.home ≡ self.now }
         ensures took { MatchOption result (pass.new ≡ pass.old) (λ x. pass.new ≡ takes pass.old x) }

@@ -151,13 +151,23 @@ fn turns_run_side_by_side_in_rounds(rt: HostRuntime) -> Result<(), Fail> {
     Ok(())
 }
 
+/// The workers, a bit each, that took the turns of either lane by a table.
+fn expect_by_a_table<T: Threads + Wait + Sync + Abort>(
+    rt: &T,
+    alloc: Global,
+    table: &[u32],
+    workers: (u32, u32),
+) -> Result<(), Fail> {
+    let gate = met(rt, alloc, Sharing::Fixed(table.to_vec(alloc)?))?;
+    expect_side_by_side(rt, &gate);
+    assert_eq!(rt; gate.workers(), workers);
+    Ok(())
+}
+
 #[test]
 fn turns_run_side_by_side_by_a_table(rt: HostRuntime) -> Result<(), Fail> {
-    let table = [1, 0].to_vec(rt.alloc())?;
-    let gate = met(&rt, rt.alloc(), Sharing::Fixed(table))?;
-    expect_side_by_side(&rt, &gate);
-    assert_eq!(rt; gate.workers(), (0b10, 0b01));
-    Ok(())
+    expect_by_a_table(&rt, rt.alloc(), &[0, 1], (0b01, 0b10))?;
+    expect_by_a_table(&rt, rt.alloc(), &[1, 0], (0b10, 0b01))
 }
 
 #[test]

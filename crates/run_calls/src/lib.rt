@@ -12,4 +12,6 @@ mod script_tests;
 #[cfg(test)]
 mod sparse_tests;
 #[cfg(test)]
+mod table_tests;
+#[cfg(test)]
 mod worked;

@@ -1,7 +1,7 @@
 //! Runs with memory refused, over writers that only compare.
 use crate::script_tests::{first_run, first_run_text};
 use crate::worked::{Worked, cancels, ownership, posts, tasks};
-use mainctx::{MainFault, OverWrite, run_bytes, serve};
+use mainctx::{MainFault, OverWrite, run_alone, run_bytes, serve};
 use std::alloc::Global;
 use std::io;
 use std::io::{Cursor, Write};
@@ -159,6 +159,23 @@ fn refused_ownership_of_one_worker(rt: HostRuntime) {
 #[test]
 fn refused_ownership_of_two_workers(rt: HostRuntime) {
     expect_of_two(&rt, rt.alloc(), ownership());
+}
+
+/// The same by the caller's thread alone, which needs no handle.
+fn expect_by_caller(rt: &impl Abort, alloc: Global, worked: Worked) {
+    let mut out = OverWrite::new(expecting(worked.text));
+    let result = run_alone(alloc, worked.script.as_bytes(), &mut out);
+    expect(rt, result, &out.into_inner(), worked.text);
+}
+
+#[test]
+fn refused_by_the_caller(rt: HostRuntime) {
+    expect_by_caller(&rt, rt.alloc(), posts());
+}
+
+#[test]
+fn refused_tasks_by_the_caller(rt: HostRuntime) {
+    expect_by_caller(&rt, rt.alloc(), tasks());
 }
 
 fn memory() -> &'static str {

@@ -1,7 +1,7 @@
 //! One script and its text, and each form of a line; other whole scripts are vectors.
 use lane_turn::{Event, Invoked, Line, Word};
 use loop_script::Outcome;
-use mainctx::{OverWrite, add_text, run_bytes};
+use mainctx::{OverWrite, add_text, run_alone, run_bytes};
 use std::test::Fail;
 use tick_stepper::{OpenGate, Sharing};
 
@@ -27,6 +27,14 @@ fn writes_the_text(rt: HostRuntime) -> Result<(), Fail> {
         &OpenGate,
         &mut out,
     )?;
+    assert_eq!(rt; out.into_inner().as_slice(), first_run_text().as_bytes());
+    Ok(())
+}
+
+#[test]
+fn writes_the_text_alone(rt: HostRuntime) -> Result<(), Fail> {
+    let mut out = OverWrite::new(Vec::new(rt.alloc()));
+    run_alone(rt.alloc(), first_run().as_bytes(), &mut out)?;
     assert_eq!(rt; out.into_inner().as_slice(), first_run_text().as_bytes());
     Ok(())
 }

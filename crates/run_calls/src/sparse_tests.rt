@@ -1,20 +1,22 @@
-//! Ticks in which nothing is to be done: a gate counts the turns that are taken.
+//! Ticks in which nothing is to be done: a gate counts the turns that are taken, and notes their ticks.
 use lane_turn::{LaneFault, LaneState};
 use loop_script::Script;
 use mainctx::{OverWrite, run_bytes};
 use post_office::Post;
 use std::alloc::Global;
+use std::process::Abort;
 use std::sync::Wait;
-use std::sync::atomic::AtomicU32;
 use std::sync::atomic::Ordering::SeqCst;
+use std::sync::atomic::{AtomicU32, AtomicUsize};
 use std::test::Fail;
 use std::thread::Threads;
 use tick_stepper::{Gate, Sharing};
 
-/// A gate that counts turns.
+/// A gate that counts turns, and notes the ticks of the first three.
 #[derive(Drop)]
 struct Counter {
-    turns: AtomicU32,
+    turns: AtomicUsize,
+    ticks: [AtomicU32; 3],
 }
 
 impl Gate for Counter {
@@ -27,7 +29,10 @@ impl Gate for Counter {
         tick: u32,
         post: &mut P,
     ) -> Result<(), LaneFault> {
-        self.turns.fetch_add(1, SeqCst);
+        let turn = self.turns.fetch_add(1, SeqCst);
+        if let Some(noted) = self.ticks.get(turn) {
+            noted.store(tick, SeqCst);
+        }
         state.turn(script, tick, post)
     }
 }
@@ -37,10 +42,15 @@ fn two_of_a_thousand() -> &'static str {
     r#"{"version": 1, "ticks": 1000, "tick_us": 1000, "loops": [0], "lanes": [{"contexts": 1, "start": [["attach", 0, 0, {"kind": ["timeout", 400]}], ["run", 0]]}]}"#
 }
 
-/// The turns that a run of it takes.
-fn turns<T: Threads + Wait + Sync>(rt: &T, alloc: Global, sharing: Sharing) -> Result<u32, Fail> {
+/// The gate after a run of it.
+fn counted<T: Threads + Wait + Sync>(
+    rt: &T,
+    alloc: Global,
+    sharing: Sharing,
+) -> Result<Counter, Fail> {
     let gate = Counter {
-        turns: AtomicU32::new(0),
+        turns: AtomicUsize::new(0),
+        ticks: [AtomicU32::new(1), AtomicU32::new(1), AtomicU32::new(1)],
     };
     let mut out = OverWrite::new(Vec::new(alloc));
     run_bytes(
@@ -52,12 +62,21 @@ fn turns<T: Threads + Wait + Sync>(rt: &T, alloc: Global, sharing: Sharing) -> R
         &gate,
         &mut out,
     )?;
-    Ok(gate.turns.load(SeqCst))
+    Ok(gate)
+}
+
+fn expect_three(rt: &impl Abort, gate: &Counter) {
+    assert_eq!(rt; gate.turns.load(SeqCst), 3);
+    assert!(rt; gate.ticks[0].load(SeqCst) == 0);
+    assert!(rt; gate.ticks[1].load(SeqCst) == 400);
+    assert!(rt; gate.ticks[2].load(SeqCst) == 800);
 }
 
 #[test]
 fn empty_ticks_take_no_turn(rt: HostRuntime) -> Result<(), Fail> {
-    assert_eq!(rt; turns(&rt, rt.alloc(), Sharing::Round)?, 3);
-    assert_eq!(rt; turns(&rt, rt.alloc(), Sharing::Queue)?, 3);
+    let table = [0].to_vec(rt.alloc())?;
+    for sharing in [Sharing::Round, Sharing::Queue, Sharing::Fixed(table)] {
+        expect_three(&rt, &counted(&rt, rt.alloc(), sharing)?);
+    }
     Ok(())
 }

@@ -12,7 +12,7 @@ use std::test::Fail;
 
 // (a proof grows faster than the length of its function, so a test is short and what tests share is a function)
 
-fn attach(context: &mut Context, kind: Kind, priority: i32) -> Result<(), RowsFault>
+pub(crate) fn attach(context: &mut Context, kind: Kind, priority: i32) -> Result<(), RowsFault>
     requires id { context.old.rows.next_id < 1000 }
     requires order { context.old.rows.next_order < 1000 }
     ensures id { OnOk result (context.new.rows.next_id ≡ context.old.rows.next_id + 1) }
@@ -126,7 +126,7 @@ fn of_a_cancellable(alloc: Global) -> Result<Context, RowsFault> {
     Ok(context)
 }
 
-fn cancelled(alloc: Global) -> Result<View, OutOfMemory> {
+pub(crate) fn cancelled(alloc: Global) -> Result<View, OutOfMemory> {
     let mut view = View::new(alloc, 1)?;
     view.cancel(alloc, 0)?;
     Ok(view)

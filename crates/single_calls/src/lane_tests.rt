@@ -10,11 +10,11 @@ use std::alloc::Global;
 use std::process::Abort;
 use std::test::Fail;
 
-fn first_run_script() -> &'static str {
+pub(crate) fn first_run_script() -> &'static str {
     r#"{"version":1,"ticks":2,"tick_us":1000,"loops":[0],"procs":[{"do":[["log",7]]}],"lanes":[{"contexts":1,"start":[["attach",0,0,{"kind":["idle"],"call":0}],["run",0]]}]}"#
 }
 
-const LINES: [Line; 2] = [
+pub(crate) const LINES: [Line; 2] = [
     Line {
         tick: 0,
         event: Event::Dispatch {
@@ -51,7 +51,7 @@ fn first_run(rt: HostRuntime) -> Result<(), Fail> {
     Ok(())
 }
 
-fn expect_lines(rt: &impl Abort, lane: &LaneState, lines: &[Line]) {
+pub(crate) fn expect_lines(rt: &impl Abort, lane: &LaneState, lines: &[Line]) {
     assert_eq!(rt; lane.trace(), lines);
 }
 
@@ -73,7 +73,7 @@ fn stays_spent(alloc: Global, script: &Script, lane: &mut LaneState) -> bool
 }
 
 /// The lines are right, or memory ran out and the lane is spent.
-fn expect_lines_or_spent(
+pub(crate) fn expect_lines_or_spent(
     rt: &impl Abort,
     alloc: Global,
     script: &Script,

@@ -8,6 +8,10 @@ mod expected;
 #[cfg(test)]
 mod lane_tests;
 #[cfg(test)]
+mod standing_tests;
+#[cfg(test)]
+mod step_tests;
+#[cfg(test)]
 mod stepper_tests;
 #[cfg(test)]
 mod view_tests;

@@ -2,6 +2,7 @@
 ghost use Rattle.std.specs.Prelude.{◌≡◌, ◌<◌, length, IfOk, IfSome};
 
 use crate::expected::expect;
+use lane_turn::{Event, Line};
 use loop_script::Script;
 use std::alloc::{AllocError, Global};
 use std::process::Abort;
@@ -76,10 +77,10 @@ fn ticks_to_the_last(rt: HostRuntime) -> Result<(), Fail> {
 
 /// A stepper, or its refusal; none where the script finds no memory.
 fn made(alloc: Global, workers: u32, sharing: Sharing) -> Option<Result<Stepper, StepFault>>
-    ensures { IfSome result (λ made. IfOk made (λ s. 0 < length s.script.lanes)) }
+    ensures { IfSome result (λ made. IfOk made (λ s. 1 < length s.script.lanes)) }
 {
     let script = Script::read(alloc, two_lanes().as_bytes()).ok()?;
-    if script.lanes() == 0 {
+    if script.lanes() < 2 {
         return None;
     }
     Some(Stepper::new(alloc, script, workers, sharing))
@@ -87,7 +88,7 @@ fn made(alloc: Global, workers: u32, sharing: Sharing) -> Option<Result<Stepper,
 
 /// A spent stepper answers so to each call that may be refused.
 fn expect_spent<T: Threads + Wait + Sync + Abort>(rt: &T, stepper: &mut Stepper)
-    requires { 0 < length stepper.old.script.lanes }
+    requires { 1 < length stepper.old.script.lanes }
     ensures { stepper.new.script ≡ stepper.old.script }
 {
     expect_fault(
@@ -99,12 +100,44 @@ fn expect_spent<T: Threads + Wait + Sync + Abort>(rt: &T, stepper: &mut Stepper)
     expect_fault(rt, stepper.trace(0).err(), Some(StepFault::Spent));
 }
 
+/// The dispatch of a lane's one source, in the context of its number.
+fn dispatch(tick: u32, context: u32) -> Line {
+    Line {
+        tick,
+        event: Event::Dispatch {
+            context,
+            source: 1,
+            priority: 200,
+            depth: 1,
+        },
+    }
+}
+
+fn expect_trace(rt: &impl Abort, trace: Result<&[Line], StepFault>, context: u32) {
+    let wanted = [dispatch(0, context), dispatch(1, context)];
+    match trace {
+        Ok(lines) => assert_eq!(rt; lines, wanted.as_slice()),
+        Err(_) => expect(rt, false),
+    }
+}
+
+/// What both lanes write in two ticks.
+fn expect_traces(rt: &impl Abort, stepper: &Stepper)
+    requires { 1 < length stepper.now.script.lanes }
+{
+    expect_trace(rt, stepper.trace(0), 0);
+    expect_trace(rt, stepper.trace(1), 1);
+}
+
 /// Steps to the end, or the stepper is spent, and is so a second time too.
 fn step_or_spend<T: Threads + Wait + Sync + Abort>(rt: &T, stepper: &mut Stepper)
-    requires { 0 < length stepper.old.script.lanes }
+    requires { 1 < length stepper.old.script.lanes }
 {
     match step_all(rt, stepper) {
-        Ok(stepped) => expect(rt, stepped == [true, true, false]),
+        Ok(stepped) => {
+            expect(rt, stepped == [true, true, false]);
+            expect_traces(rt, stepper);
+        }
         Err(fault) => {
             expect_fault(rt, Some(fault), Some(StepFault::OutOfMemory));
             expect_spent(rt, stepper);
@@ -124,6 +157,40 @@ fn expect_stepped<T: Threads + Wait + Sync + Abort>(
         None => {}
         Some(Ok(mut stepper)) => step_or_spend(rt, &mut stepper),
         Some(Err(fault)) => expect_fault(rt, Some(fault), Some(StepFault::OutOfMemory)),
+    }
+}
+
+/// All ticks, by the caller alone, or the stepper is spent.
+fn step_alone_or_spend<T: Threads + Wait + Sync + Abort>(rt: &T, stepper: &mut Stepper)
+    requires { 1 < length stepper.old.script.lanes }
+{
+    match stepper.run_alone() {
+        Ok(()) => expect_traces(rt, stepper),
+        Err(fault) => {
+            expect_fault(rt, Some(fault), Some(StepFault::OutOfMemory));
+            expect_fault(rt, stepper.run_alone().err(), Some(StepFault::Spent));
+            expect_spent(rt, stepper);
+        }
+    }
+}
+
+#[test]
+fn steps_alone(rt: HostRuntime) -> Result<(), Fail> {
+    match made(rt.alloc(), 1, Sharing::Round) {
+        Some(Ok(mut stepper)) => {
+            expect_fault(&rt, stepper.run_alone().err(), None);
+            expect_traces(&rt, &stepper);
+        }
+        _ => expect(&rt, false),
+    }
+    Ok(())
+}
+
+/// Whatever request is refused.
+#[test]
+fn refused_alone(rt: HostRuntime) {
+    if let Some(Ok(mut stepper)) = made(rt.alloc(), 1, Sharing::Round) {
+        step_alone_or_spend(&rt, &mut stepper);
     }
 }
 

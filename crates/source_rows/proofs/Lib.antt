@@ -17,6 +17,7 @@ pub mod Kin
 pub mod Replanted
 pub mod Moved
 pub mod Band
+pub mod Behind
 pub mod TreeMoves
 pub mod Inserted
 pub mod AtTwo

@@ -178,3 +178,16 @@ under_path rows all a g = each rows (λ r. starts a.level a.path r.path ≡ true
     root_case : (r : Row) → InForest rows r → IsRoot r → starts a.level a.path r.path ≡ true → (k : ℕ) → a.level ≡ suc k → a.order ≡ slice_index r.path k → is_under a.id r ≡ true
     root_case r f p h zero e own = at_level rows a r 0 all g f e own p.level
     root_case r f p h (suc k) e own = let at = p.level in absurd (too_short rows a r (suc k) g (shaped rows all r f) e own (omega (arith, at)))
+
+-- ---- of two rows one at most is under the other
+
+pub one_under : (rows : List Row) → AllByRecursion (InForest rows) rows → (a r : Row) → InForest rows a → InForest rows r → is_under a.id r ≡ true → is_under r.id a ≡ true → a ≡ r
+one_under rows all a r f g h k =
+    let down = under rows all a f r g h in
+    let up = under rows all r g a f k in
+    let mine = own_number a r.path (shaped rows all a f) down.path in
+    let its = own_number r r.path (shaped rows all r g) (starts_self r.level r g.level (shaped rows all r g)) in
+    same_order rows a r f g (numbers mine.0 its.0 mine.1 its.1 mine.2 its.2 down.level up.level)
+  where
+    numbers : (i j : ℕ) → a.level ≡ suc i → r.level ≡ suc j → a.order ≡ slice_index r.path i → r.order ≡ slice_index r.path j → a.level ≤ r.level → r.level ≤ a.level → a.order ≡ r.order
+    numbers i j e u m n down up = let same : i ≡ j = omega (arith, e, u, down, up) in m ∙ (ap (slice_index r.path) same ∙ sym n)

@@ -9,7 +9,7 @@ mod candidates;
 mod fault;
 mod guesses;
 mod in_order;
-mod laws;
+pub mod laws;
 mod levels;
 mod moves;
 mod removal;
@@ -24,10 +24,6 @@ mod walk;
 pub use candidates::Candidates;
 pub use fault::RowsFault;
 pub use in_order::{InOrder, Ordered};
-pub use laws::{
-    edits_keep_trees, levels_go_by_parents, order_changes_little, order_is_post_order,
-    paths_stand_together, worked_orders,
-};
 pub use levels::Levels;
 pub use row::Row;
 pub use rows::Rows;

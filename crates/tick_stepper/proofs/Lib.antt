@@ -20,3 +20,5 @@ pub mod Workers
 pub mod Delivery
 pub mod Changes
 pub mod Happens
+pub mod Accounts
+pub mod Tied

@@ -22,7 +22,7 @@ use Rattle.tick_stepper.specs.Order.{RisesBy}
 use Rattle.tick_stepper.specs.declared.share.Numbered.{Numbered}
 use Rattle.tick_stepper.specs.declared.rest.Resting.{Resting}
 use Rattle.tick_stepper.specs.Share.{unspent, numbered, numbered_one, stepped_one, turned_one, out_of_one, IsReadyOne, IsRound}
-use Rattle.tick_stepper.specs.Rest.{lane_at, all_at, comes_by, is_due, woken, all_woken, HasPassed, Rests, IsSettled, AreAt}
+use Rattle.tick_stepper.specs.Rest.{lane_at, all_at, comes_by, is_due, woken, all_woken, HasPassed, Rests, IsSettled, AreAt, IsParted, AreTurned}
 use Rattle.tick_stepper.proofs.Handed.{rec_of, of_rec, front_of}
 use Rattle.tick_stepper.proofs.Sorted.{sorted_is}
 use Rattle.tick_stepper.proofs.Turns.{turned_in_order}
@@ -369,6 +369,18 @@ delivered_at script tick shown now letters turns sent took =
     let all : List Letter = posted_at script tick (lanes_at script tick) in
     took ∙ (λ i. map (stepped_one (received_all script tick (sent i))) (turns i))
     ∙ (numbered_step (received_all script tick all) (received_number script tick all) (map (turned script tick) (lanes_at script tick)) ∙ ap (λ k. numbered (lanes_at script k)) (sym (add-one tick)))
+
+-- ---- a tick after its turns, whoever took them
+
+pub turned_parted : (script : Plan) (tick : ℕ) (lanes : List Resting) (due done : List Numbered) (letters : List Letter) (resting : List Resting)
+    → tick < script.ticks → AreAt script tick lanes → IsParted tick lanes due resting
+    → done ≡ map (turned_one script tick) due → letters ≡ flat_map (out_of_one script tick) due → AreTurned script tick done letters resting
+turned_parted script tick lanes due done letters resting left at p turns sent = record {
+  lanes = subst (IsPermutation (numbered (map (turned script tick) (lanes_at script tick))))
+      (λ i. sym (turns ∙ ap (map (turned_one script tick)) p.due) i ++ all_woken (tick + 1) (sym p.resting i)) (turns_at script tick lanes left at);
+  letters = sent ∙ (ap (flat_map (out_of_one script tick)) p.due ∙ sent_at script tick lanes left at);
+  rest = subst (AllByRecursion (Rests script (tick + 1))) (sym p.resting) (others_rest script tick lanes left at.rest);
+}
 
 -- ---- tests that tell of none
 

@@ -7,3 +7,5 @@ pub mod Queue
 pub mod Rest
 pub mod Sparse
 pub mod Stepper
+pub mod Account
+pub mod Tie

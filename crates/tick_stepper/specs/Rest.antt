@@ -1,15 +1,17 @@
 -- Lanes that are left alone until their next turn.
-use Rattle.std.specs.Prelude.{◌≡◌, ◌+◌, ◌<◌, ◌≤◌, Bool, false, nat_le, Option, Some, None, List, map}
-use Rattle.std.specs.List.{AllByRecursion}
+use Rattle.std.specs.Prelude.{◌≡◌, ◌+◌, ◌<◌, ◌≤◌, ◌++◌, Bool, false, nat_le, not, Option, Some, None, List, map, IsPermutation}
+use Rattle.std.specs.List.{AllByRecursion, filter}
 use Rattle.loop_script.specs.declared.plan.Plan.{Plan}
 use Rattle.task_steps.specs.Run.{IsAfter}
 use Rattle.lane_watch.specs.Watch.{GivesNothing}
 use Rattle.lane_turn.specs.Lane.{Lane}
 use Rattle.lane_turn.specs.Quiet.{at_tick, IsQuiet}
-use Rattle.lane_turn.specs.Tick.{lanes_at}
+use Rattle.lane_turn.specs.Turn.{turned}
+use Rattle.lane_turn.specs.Tick.{posted_at, lanes_at}
+use Rattle.post_office.specs.declared.letter.Letter.{Letter}
 use Rattle.tick_stepper.specs.declared.share.Numbered.{Numbered}
 use Rattle.tick_stepper.specs.declared.rest.Resting.{Resting}
-use Rattle.tick_stepper.specs.Share.{unspent}
+use Rattle.tick_stepper.specs.Share.{unspent, numbered}
 use Rattle.loop_script.specs.Units.{Tick}
 
 -- the lane as it is at the beginning of a tick
@@ -58,3 +60,14 @@ pub record IsSettled (script : Plan) (tick : Tick) (lanes : List Numbered) (ones
 pub record AreAt (script : Plan) (tick : Tick) (ones : List Resting) : Type 0 where
   pub lanes : all_at tick ones ≡ lanes_at script tick
   pub rest : AllByRecursion (Rests script tick) ones
+
+-- lanes are parted into those whose turn comes at a tick, brought to it, and those that rest
+pub record IsParted (tick : Tick) (lanes : List Resting) (turning : List Numbered) (others : List Resting) : Type 0 where
+  pub due : turning ≡ all_woken tick (filter (is_due tick) lanes)
+  pub resting : others ≡ filter (λ one. not (is_due tick one)) lanes
+
+-- the lanes of a run after the turns of a tick: those that took theirs, what these posted, and those that rest
+pub record AreTurned (script : Plan) (tick : Tick) (done : List Numbered) (posted : List Letter) (resting : List Resting) : Type 0 where
+  pub lanes : IsPermutation (numbered (map (turned script tick) (lanes_at script tick))) (done ++ all_woken (tick + 1) resting)
+  pub letters : posted ≡ posted_at script tick (lanes_at script tick)
+  pub rest : AllByRecursion (Rests script (tick + 1)) resting

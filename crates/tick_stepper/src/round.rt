@@ -5,21 +5,21 @@ ghost use Rattle.loop_script.specs.Bounds.{most_lanes, most_ticks};
 ghost use Rattle.lane_turn.specs.Turn.{turned};
 ghost use Rattle.lane_turn.specs.Tick.{posted_at, lanes_at};
 ghost use Rattle.tick_stepper.specs.Crew.{refusal_of};
-ghost use Rattle.tick_stepper.specs.Rest.{all_woken, HasPassed, Rests, AreAt};
+ghost use Rattle.tick_stepper.specs.Rest.{all_woken, HasPassed, Rests, AreAt, IsParted, AreTurned};
 ghost use Rattle.tick_stepper.specs.Share.{numbered, turned_one, out_of_one, IsFresh, IsTurned, IsRound};
 
 use crate::crew::{Crew, Sharing};
 use crate::deal::{deal, gather};
 use crate::deliver::deliver_all;
 use crate::fault::OutOfMemory;
-use crate::gate::Gate;
+use crate::gate::{Gate, OpenGate};
 use crate::queue::turn_by_queue;
 use crate::rest::{Resting, by_number, part, settle, wake_all};
-use crate::share::{Numbered, Share, in_order, turn_share};
+use crate::share::{Numbered, Share, in_order, take_turns, turn_share};
 use crate::side_by_side::map_side_by_side;
 use lane_turn::LaneFault;
 use loop_script::Script;
-use post_office::{Letter, merge};
+use post_office::{Letter, Tray, merge};
 use std::alloc::{AllocError, Global};
 use std::sync::Wait;
 use std::thread::Threads;
@@ -140,6 +140,52 @@ fn put_back(
     Ok(by_number(ones)?)
 }
 
+/// The lanes whose turn comes at a tick, by number, and those that rest.
+struct Parted {
+    due: Vec<Numbered>,
+    resting: Vec<Resting>,
+}
+
+/// Parts the lanes of a run at a tick, and brings those to it whose turn comes.
+fn begin_tick(
+    alloc: Global,
+    script: &Script,
+    tick: u32,
+    lanes: Vec<Resting>,
+) -> Result<Parted, OutOfMemory>
+    requires few { length script.now.lanes ≤ most_lanes }
+    requires tick { tick < most_ticks }
+    requires lanes { AreAt script.now tick lanes.items }
+    ensures round { IfOk result (λ parted. IsRound script.now tick parted.due.items) }
+    ensures parted { IfOk result (λ parted. IsParted tick lanes.items parted.due.items parted.resting.items) }
+{
+    let (due, resting) = part(alloc, tick, lanes)?;
+    let due = wake_all(tick, Vec::new(alloc), due)?;
+    Ok(Parted { due, resting })
+}
+
+/// Lanes after a tick in which some took their turns and posted letters: these are delivered. Without a letter no lane that
+/// rests is looked at.
+fn end_tick(
+    alloc: Global,
+    script: &Script,
+    tick: u32,
+    done: Vec<Numbered>,
+    letters: &[Letter],
+    resting: Vec<Resting>,
+) -> Result<Vec<Resting>, OutOfMemory>
+    requires few { length script.now.lanes ≤ most_lanes }
+    requires tick { tick < most_ticks }
+    requires turns { AreTurned script.now tick done.items letters.now resting.items }
+    ensures { IfOk result (λ lanes. AreAt script.now (tick + 1) lanes.items) }
+{
+    if letters.is_empty() {
+        put_back(alloc, script, tick, done, resting)
+    } else {
+        deliver_to_all(alloc, script, tick, done, resting, letters)
+    }
+}
+
 /// A tick of the lanes of a run: the turns of those whose turn comes, and then the delivery of what these posted. Every
 /// other lane's turn would do nothing, and without a letter its delivery neither.
 pub(crate) fn run_tick<R: Threads + Wait + Sync, G: Gate>(
@@ -158,12 +204,42 @@ pub(crate) fn run_tick<R: Threads + Wait + Sync, G: Gate>(
     requires lanes { AreAt script.now tick lanes.items }
     ensures { IfOk result (λ lanes. AreAt script.now (tick + 1) lanes.items) }
 {
-    let (due, resting) = part(alloc, tick, lanes)?;
-    let due = wake_all(tick, Vec::new(alloc), due)?;
+    let Parted { due, resting } = begin_tick(alloc, script, tick, lanes)?;
     let (done, letters) = turn_all(rt, alloc, gate, script, tick, crew, due)?;
-    if letters.is_empty() {
-        put_back(alloc, script, tick, done, resting)
-    } else {
-        deliver_to_all(alloc, script, tick, done, resting, letters.as_slice())
-    }
+    end_tick(alloc, script, tick, done, letters.as_slice(), resting)
+}
+
+/// Lanes after their turns at a tick, by number, and what they posted, by sender and number. The caller takes each turn.
+fn turn_alone(
+    alloc: Global,
+    script: &Script,
+    tick: u32,
+    mut lanes: Vec<Numbered>,
+) -> Result<(Vec<Numbered>, Vec<Letter>), OutOfMemory>
+    requires tick { tick < most_ticks }
+    requires lanes { IsRound script.now tick lanes.items }
+    ensures lanes { IfOk result (λ r. r.0.items ≡ map (turned_one script.now tick) lanes.items) }
+    ensures letters { IfOk result (λ r. r.1.items ≡ flat_map (out_of_one script.now tick) lanes.items) }
+{
+    let mut tray = Tray::new(alloc);
+    take_turns(&OpenGate, script, tick, 0, lanes.as_mut_slice(), &mut tray)?;
+    Ok((lanes, tray.into_letters()))
+}
+
+/// A tick of the lanes of a run, as `run_tick`: the caller takes each turn.
+pub(crate) fn run_tick_alone(
+    alloc: Global,
+    script: &Script,
+    tick: u32,
+    lanes: Vec<Resting>,
+) -> Result<Vec<Resting>, OutOfMemory>
+    requires few { length script.now.lanes ≤ most_lanes }
+    requires tick { tick < most_ticks }
+    requires left { tick < script.now.ticks }
+    requires lanes { AreAt script.now tick lanes.items }
+    ensures { IfOk result (λ lanes. AreAt script.now (tick + 1) lanes.items) }
+{
+    let Parted { due, resting } = begin_tick(alloc, script, tick, lanes)?;
+    let (done, letters) = turn_alone(alloc, script, tick, due)?;
+    end_tick(alloc, script, tick, done, letters.as_slice(), resting)
 }

@@ -36,7 +36,7 @@ pub(crate) struct Share {
 }
 
 /// Lanes take their turns in order, each by one call of the gate, and post to one tray.
-fn take_turns<G: Gate>(
+pub(crate) fn take_turns<G: Gate>(
     gate: &G,
     script: &Script,
     tick: u32,

@@ -1,14 +1,16 @@
 //! The lanes of a script, tick by tick.
-ghost use Rattle.std.specs.Prelude.{◌≡◌, ◌≢◌, ◌+◌, ◌<◌, ◌↔◌, true, false, length, slice_get, option_map, IsTrue, OnOk, OnErr, IfOk, IfErr, IfSome, Some, Ok, Err};
+ghost use Rattle.std.specs.Prelude.{◌≡◌, ◌≢◌, ◌+◌, ◌<◌, ◌↔◌, true, false, length, slice_get, option_map, IsTrue, OnOk, OnErr, IfOk, IfErr, IfSome, IsSome, None, Some, Ok, Err};
+ghost use Rattle.loop_script.specs.Bounds.{most_ticks};
 ghost use Rattle.lane_turn.specs.Tick.{opened, ticked, lanes_at};
 ghost use Rattle.tick_stepper.specs.Crew.{refusal_of};
+ghost use Rattle.tick_stepper.specs.Rest.{AreAt};
 
 use crate::crew::{Crew, Sharing};
 use crate::fault::{OutOfMemory, StepFault};
 use crate::gate::Gate;
 use crate::open::open_lanes;
 use crate::rest::{Resting, any_due};
-use crate::round::run_tick;
+use crate::round::{run_tick, run_tick_alone};
 use lane_turn::Line;
 use loop_script::Script;
 use std::alloc::Global;
@@ -142,18 +144,84 @@ impl Stepper {
         ensures script { self.new.script ≡ self.old.script }
         ensures memory { OnErr result (IsTrue self.new.spent) }
     {
-        let _most = self.script.ticks();
-        let tick = self.tick;
-        if !any_due(self.lanes.as_slice(), tick) {
-            self.tick += 1;
+        let Some(lanes) = self.begin() else {
             return Ok(());
+        };
+        let lanes = run_tick(
+            rt,
+            self.alloc,
+            gate,
+            &self.script,
+            self.tick,
+            &self.crew,
+            lanes,
+        )?;
+        self.end(lanes);
+        Ok(())
+    }
+
+    /// The lanes of the next tick of those that are left, handed out; the stepper is spent while they are out. None where no turn
+    /// comes in it: then it is stepped.
+    fn begin(&mut self) -> Option<Vec<Resting>>
+        requires unspent { self.old.spent ≡ false }
+        requires left { self.old.tick < self.old.script.ticks }
+        ensures stepped { result ≡ None → self.new ≡ record { script = self.old.script; lanes = lanes_at self.old.script (self.old.tick + 1); tick = self.old.tick + 1; spent = false } }
+        ensures lanes { IfSome result (λ lanes. AreAt self.old.script self.old.tick lanes.items) }
+        ensures low { IsSome result → self.old.tick < most_ticks }
+        ensures out { IsSome result → (self.new.script ≡ self.old.script) × (self.new.tick ≡ self.old.tick) × (self.new.spent ≡ true) }
+    {
+        let _most = self.script.ticks();
+        if !any_due(self.lanes.as_slice(), self.tick) {
+            self.tick += 1;
+            return None;
         }
-        let alloc = self.alloc;
         self.spent = true;
-        let lanes = mem::replace(&mut self.lanes, Vec::new(alloc));
-        self.lanes = run_tick(rt, alloc, gate, &self.script, tick, &self.crew, lanes)?;
+        Some(mem::replace(&mut self.lanes, Vec::new(self.alloc)))
+    }
+
+    /// Takes the lanes back after the tick.
+    fn end(&mut self, lanes: Vec<Resting>)
+        requires left { self.old.tick < self.old.script.ticks }
+        requires lanes { AreAt self.old.script (self.old.tick + 1) lanes.items }
+        ensures { self.new ≡ record { script = self.old.script; lanes = lanes_at self.old.script (self.old.tick + 1); tick = self.old.tick + 1; spent = false } }
+    {
+        let _most = self.script.ticks();
+        self.lanes = lanes;
         self.tick += 1;
         self.spent = false;
+    }
+
+    /// Steps all ticks that are left, as `run` does: the caller takes each turn itself, and needs no handle for it.
+    pub fn run_alone(&mut self) -> Result<(), StepFault>
+        ensures ran { OnOk result (self.new ≡ record { script = self.old.script; lanes = lanes_at self.old.script self.old.script.ticks; tick = self.old.script.ticks; spent = false }) }
+        ensures script { self.new.script ≡ self.old.script }
+        ensures spent { (result ≡ Err StepFault.Spent) ↔ IsTrue self.old.spent }
+        ensures memory { result ≡ Err StepFault.OutOfMemory → IsTrue self.new.spent }
+        ensures stays { result ≡ Err StepFault.Spent → self.new ≡ self.old }
+        ensures faults { (result ≢ Err StepFault.Workers) × (result ≢ Err StepFault.Table) }
+    {
+        if self.spent {
+            return Err(StepFault::Spent);
+        }
+        for _tick in self.tick..self.script.ticks() {
+            self.step_alone()?;
+        }
+        Ok(())
+    }
+
+    /// Steps one tick of those that are left, by the caller, and is spent where memory was refused.
+    fn step_alone(&mut self) -> Result<(), OutOfMemory>
+        requires unspent { self.old.spent ≡ false }
+        requires left { self.old.tick < self.old.script.ticks }
+        ensures stepped { OnOk result (self.new ≡ record { script = self.old.script; lanes = lanes_at self.old.script (self.old.tick + 1); tick = self.old.tick + 1; spent = false }) }
+        ensures script { self.new.script ≡ self.old.script }
+        ensures memory { OnErr result (IsTrue self.new.spent) }
+    {
+        let Some(lanes) = self.begin() else {
+            return Ok(());
+        };
+        let lanes = run_tick_alone(self.alloc, &self.script, self.tick, lanes)?;
+        self.end(lanes);
         Ok(())
     }
 

@@ -1,0 +1,47 @@
+-- What a caller finds in its room.
+use Rattle.std.specs.Prelude.{◌≡◌, ◌<◌, ◌≤◌, ℕ, List, length, take, drop}
+use Rattle.loop_script.specs.declared.plan.Plan.{Plan}
+use Rattle.loop_script.specs.declared.fault.ScriptFault.{ScriptFault}
+use Rattle.loop_script.specs.declared.fault.ScriptFault.TheVariants.{NotJson, Shape, Limit, Reference, Rule, OutOfMemory}
+use Rattle.mainctx.specs.Run.{IsFaultOf, IsScriptOf}
+use Rattle.mainctx.specs.Text.{text_of}
+
+-- the number of a class of fault
+abbrev pub class_of : ScriptFault → ℕ
+class_of NotJson = 1
+class_of Shape = 2
+class_of Limit = 3
+class_of Reference = 4
+class_of Rule = 5
+class_of OutOfMemory = 6
+
+-- the bytes are no script's, by a fault of the class of this number
+pub record HasFaultOf (bytes : List ℕ) (number : ℕ) : Type 0 where
+  pub fault : ScriptFault
+  pub class : class_of fault ≡ number
+  pub refused : IsFaultOf bytes fault
+
+-- a text stands first in a room, and what is behind it is as before
+pub record HasAll (text before room : List ℕ) : Type 0 where
+  pub fits : length text ≤ length room
+  pub begins : take (length text) room ≡ text
+  pub rest : drop (length text) room ≡ drop (length text) before
+
+-- a room is the beginning of a text that is longer
+pub record HasFront (text room : List ℕ) : Type 0 where
+  pub short : length room < length text
+  pub front : room ≡ take (length room) text
+
+-- the text of the script of the bytes, which is so long, stands first in the room
+pub record HoldsText (bytes before room : List ℕ) (needed : ℕ) : Type 0 where
+  pub script : Plan
+  pub read : IsScriptOf bytes script
+  pub long : needed ≡ length (text_of script)
+  pub all : HasAll (text_of script) before room
+
+-- the room is the beginning of that text, which is longer
+pub record HoldsFront (bytes room : List ℕ) (needed : ℕ) : Type 0 where
+  pub script : Plan
+  pub read : IsScriptOf bytes script
+  pub long : needed ≡ length (text_of script)
+  pub front : HasFront (text_of script) room

@@ -1,0 +1,36 @@
+//! The numbers that a call answers.
+ghost use Rattle.std.specs.Prelude.{◌≡◌};
+ghost use Rattle.mainctx_c.specs.Room.{class_of};
+
+use loop_script::ScriptFault;
+
+/// The whole text is in the room.
+pub(crate) const TEXT: u32 = 0;
+/// The bytes are not one JSON value.
+pub(crate) const NOT_JSON: u32 = 1;
+/// A value of the wrong type, a key or a word that is unknown, a list of the wrong length.
+pub(crate) const SHAPE: u32 = 2;
+/// A number or a count outside its range.
+pub(crate) const LIMIT: u32 = 3;
+/// An index of something that the script has not.
+pub(crate) const REFERENCE: u32 = 4;
+/// A procedure that may not be connected or invoked, and the other rules.
+pub(crate) const RULE: u32 = 5;
+/// A request for memory was refused.
+pub(crate) const MEMORY: u32 = 6;
+/// The text is longer than the room.
+pub(crate) const SHORT_ROOM: u32 = 7;
+
+/// The number of a class of fault.
+pub(crate) fn class_of(fault: ScriptFault) -> u32
+    ensures { result ≡ class_of fault }
+{
+    match fault {
+        ScriptFault::NotJson => NOT_JSON,
+        ScriptFault::Shape => SHAPE,
+        ScriptFault::Limit => LIMIT,
+        ScriptFault::Reference => REFERENCE,
+        ScriptFault::Rule => RULE,
+        ScriptFault::OutOfMemory => MEMORY,
+    }
+}

@@ -1,0 +1,62 @@
+//! The engine for callers that are not Rattle: one function, with C's calling convention.
+#![tactic(auto)]
+
+ghost use Rattle.std.specs.Prelude.{◌≡◌, ◌≤◌, ◌<◌, ◌⊎◌};
+ghost use Rattle.mainctx_c.specs.Room.{HasAll, HasFront, HasFaultOf, HoldsText, HoldsFront};
+
+mod answer;
+
+use crate::answer::{MEMORY, SHORT_ROOM, TEXT, class_of};
+use mainctx::{MainFault, OverWrite, run_alone};
+use std::alloc::Global;
+
+/// Puts a text into a room, as much of it as fits, and answers whether that is the whole.
+fn fill(text: &[u8], room: &mut [u8]) -> u32
+    ensures whole { result ≡ TEXT → HasAll text.now room.old room.new }
+    ensures front { result ≡ SHORT_ROOM → HasFront text.now room.new }
+    ensures answers { (result ≡ TEXT) ⊎ (result ≡ SHORT_ROOM) }
+{
+    let most = room.len();
+    if text.len() <= most {
+        room[..text.len()].copy_from_slice(text);
+        TEXT
+    } else {
+        room.copy_from_slice(&text[..most]);
+        SHORT_ROOM
+    }
+}
+
+/// Runs a script to its end in the caller's thread.
+///
+/// It answers 0 where the whole text is in the room, and 7 where the room is too short, and has as much of the text as fits; in both
+/// cases `needed` is the text's length. Else it answers 1 to 5 where the bytes are no script, by the class of their fault, and 6
+/// where a request for memory was refused: then `needed` is 0, and the room is as it was. What is behind the text in the room
+/// stays too.
+#[unsafe(no_mangle)]
+pub extern "C" fn mainctx_run(
+    alloc: Global,
+    script: &[u8],
+    room: &mut [u8],
+    needed: &mut usize,
+) -> u32
+    ensures text { result ≡ TEXT → HoldsText script.now room.old room.new needed.new }
+    ensures front { result ≡ SHORT_ROOM → HoldsFront script.now room.new needed.new }
+    ensures fault { 1 ≤ result → result < MEMORY → HasFaultOf script.now result }
+    ensures stays { 1 ≤ result → result ≤ MEMORY → room.new ≡ room.old }
+    ensures none { 1 ≤ result → result ≤ MEMORY → needed.new ≡ 0 }
+    ensures answers { result ≤ SHORT_ROOM }
+{
+    *needed = 0;
+    let mut out = OverWrite::new(Vec::new(alloc));
+    match run_alone(alloc, script, &mut out) {
+        Ok(()) => {
+            let text = out.into_inner();
+            *needed = text.len();
+            fill(&text, room)
+        }
+        Err(MainFault::Script(fault)) => class_of(fault),
+        // (the writer is a list, which fails for want of memory alone)
+        Err(MainFault::OutOfMemory | MainFault::Write) => MEMORY,
+        Err(MainFault::Setup(_)) => unreachable!(),
+    }
+}
