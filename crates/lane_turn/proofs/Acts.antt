@@ -10,13 +10,13 @@ use Rattle.source_rows.specs.declared.row.Row.{Row}
 use Rattle.source_rows.specs.Rows.{RowSet, attached, destroyed, counted, ready_set, reprioritised}
 use Rattle.context_core.specs.declared.context.Context.{Context}
 use Rattle.lane_turn.specs.declared.slot.Place.{Place}
-use Rattle.lane_turn.specs.declared.slot.Held.{Held}
-use Rattle.lane_turn.specs.declared.slot.Held.TheVariants.{Source, Handler}
+use Rattle.lane_turn.specs.declared.slot.Named.{Named}
+use Rattle.lane_turn.specs.declared.slot.Named.TheVariants.{Source, Handler}
 use Rattle.cancel_view.specs.Seen.{Seen, has, connected, has_other_id, without}
 use Rattle.lane_turn.specs.declared.line.Event.{Event}
 use Rattle.lane_turn.specs.declared.line.Event.TheVariants as events
 use Rattle.lane_turn.specs.Frames.{Frame, CallOf, IterOf, LoopOf, advanced, calls_in_progress}
-use Rattle.lane_turn.specs.Lane.{Lane, context_at, with_context, edited, taken, place_at, handler_at, next_place, set_slot, viewing, stopped, pushed, set_running, written}
+use Rattle.lane_turn.specs.Lane.{Lane, context_at, with_context, edited, taken, place_at, handler_at, next_place, set_slot, viewing, stopped, pushed, set_running, written, is_own}
 use Rattle.lane_turn.specs.Acted.{acted, born, child_of, on_source, set_priority_of, connect, disconnect_of}
 use Rattle.lane_turn.specs.declared.line.Word.{Word}
 use Rattle.lane_turn.specs.declared.line.Word.TheVariants as words
@@ -31,7 +31,7 @@ use Rattle.context_core.specs.Defaults.{Defaults, acquired, released, is_on_top,
 use Rattle.lane_turn.proofs.Mild.{Mild, MildChange, MildEdit, quiet, mild_line, either, begins_frame, mild_change, mild_edit, mild_iterating, mild_attached, mild_born, mild_destroyed, mild_ready_set, mild_reprioritised, mild_counted, mild_plain, plain_cancel, plain_handled, rows_edited, bounded_edited, each_bounded}
 
 -- a slot that names a source
-mild_named : (lane after : Lane) (slot : ℕ) (thing : Held) → Mild lane after → Mild lane (set_slot slot thing after)
+mild_named : (lane after : Lane) (slot : ℕ) (thing : Named) → Mild lane after → Mild lane (set_slot slot thing after)
 mild_named lane after slot thing h = record {
   rows = h.rows;
   frames = h.frames;
@@ -104,7 +104,7 @@ mild_released = record { rows = λ c. omega arith; bounded = λ m c b. record { 
 mild_acquire : (tick context : ℕ) (lane : Lane) → Mild lane (acquire tick context lane)
 mild_acquire tick context lane =
     let acquires : Lane = with_context context acquired lane in
-    either lane (written tick (events.Acquire context true) acquires) (written tick (events.Acquire context false) lane) (is_some (context_at context lane))
+    either lane (written tick (events.Acquire context true) acquires) (written tick (events.Acquire context false) lane) (is_own context lane)
     (mild_written lane acquires tick (events.Acquire context true) (mild_change lane context acquired 0 1 (omega arith) (omega arith) mild_acquired))
     (mild_line lane tick (events.Acquire context false))
 
@@ -130,7 +130,7 @@ mild_invoke tick now context proc lane =
     let none : Lane = called_at_once tick context proc None lane in
     let some : Lane = called_at_once tick context proc (Some context) lane in
     let attached_too : Lane = attaching tick now context proc lane in
-    either lane (invoke_own tick now context proc lane) (written tick (events.Invoke context Posted) lane) (is_some (context_at context lane))
+    either lane (invoke_own tick now context proc lane) (written tick (events.Invoke context Posted) lane) (is_own context lane)
     (either lane none (cond (default_context lane == context) some attached_too) (is_owned context lane) (mild_at_once tick context proc None lane)
     (either lane some attached_too (default_context lane == context) (mild_at_once tick context proc (Some context) lane) attaches))
     (mild_line lane tick (events.Invoke context Posted))
@@ -156,13 +156,13 @@ mild_acted script tick (Cancel c) lane = mild_plain lane _ (plain_cancel script 
 mild_acted script tick (Connect c slot proc) lane = mild_connect script tick c slot proc lane
 mild_acted script tick (Disconnect slot) lane = mild_disconnect tick (handler_at slot lane) lane
 mild_acted script tick (Task spec) lane = quiet lane _ refl refl (omega arith)
-mild_acted script tick (Push context) lane = mild_stack tick words.Push (is_some (context_at context lane)) (stack_with context lane.defaults) lane
+mild_acted script tick (Push context) lane = mild_stack tick words.Push (is_own context lane) (stack_with context lane.defaults) lane
 mild_acted script tick (Pop context) lane = mild_stack tick words.Pop (is_on_top context lane.defaults) (popped context lane.defaults) lane
 mild_acted script tick ShowDefault lane = quiet lane _ refl refl (omega arith)
 mild_acted script tick (Acquire context) lane = mild_acquire tick context lane
 mild_acted script tick (Release context) lane = mild_release tick context lane
 mild_acted script tick (Invoke context proc) lane = mild_invoke tick (time_of script tick) context proc lane
-mild_acted script tick (Give context to) lane = quiet lane _ refl refl (omega arith)
+mild_acted script tick (Give context to) lane = mild_line lane tick (events.Miss words.Give)
 mild_acted script tick (Log n) lane = quiet lane _ refl refl (omega arith)
 
 -- the innermost call or iteration goes on

@@ -134,7 +134,7 @@ after_taken tick lane before after t c h = of_acts tick lane after (trans (Other
 
 does_call : (script : Plan) (tick : ℕ) (t : Turn) (call : Call) (a : Option Action) → On tick t (step_call script tick t call a)
 does_call script tick t call (Some a) =
-    does_counted tick (sends a (taken t.lane)) (λ lane. acted script tick a (taken lane)) t t.left (after_taken tick t.lane (taken t.lane) _ refl refl (adds_acted script tick (calls_in_progress t.lane.frames) a (taken t.lane) (sym (calls_advanced t.lane.frames))))
+    does_counted tick (sends script a (taken t.lane)) (λ lane. acted script tick a (taken lane)) t t.left (after_taken tick t.lane (taken t.lane) _ refl refl (adds_acted script tick (calls_in_progress t.lane.frames) a (taken t.lane) (sym (calls_advanced t.lane.frames))))
 does_call script tick t call None = after_taken tick t.lane (popped t.lane) _ refl refl (adds_returned script tick (calls_in_progress t.lane.frames) call.body call.origin (popped t.lane))
 
 does_id : (tick : ℕ) (t : Turn) (context id : ℕ) (ids : List ℕ) (asker : Asker) (below : List Frame) (r : Option Row) → t.lane.frames ≡ IterOf context (id ∷ ids) asker ∷ below → row_of context id t.lane ≡ r → On tick t (step_id tick t context r)

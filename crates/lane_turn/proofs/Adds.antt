@@ -26,7 +26,8 @@ use Rattle.lane_turn.specs.declared.lane.Status.TheVariants.{Halted}
 use Rattle.lane_turn.specs.declared.slot.Place.{Place}
 use Rattle.lane_turn.specs.Frames.{calls_in_progress}
 use Rattle.lane_turn.specs.Sources.{restarted}
-use Rattle.lane_turn.specs.Lane.{Lane, stopped, context_at, with_rows, with_context, edited, row_at, place_at, handler_at, written, viewing, noting}
+use Rattle.lane_turn.specs.Lane.{Lane, stopped, context_at, with_rows, with_context, edited, row_at, place_at, handler_at, written, viewing, noting, is_own}
+use Rattle.lane_turn.specs.Handover.{may_give, with_given}
 use Rattle.lane_turn.specs.Owned.{default_context, is_owned, may_release, invoke_spec, calling, called_at_once, attaching, invoke_own, invoke}
 use Rattle.lane_turn.specs.Acted.{attach, acted, born, can_bear, child_of, on_source, set_priority_of, plain_acted, all_acted, handled, all_handled, cancel, connect, disconnect_of}
 use Rattle.lane_turn.specs.Step.{returned, answered}
@@ -138,7 +139,7 @@ b_one script tick (SetPriority slot priority) lane = b_none tick lane
 b_one script tick (Iterate context) lane = b_none tick lane
 b_one script tick (Pending context) lane = b_none tick lane
 b_one script tick (Run number) lane = b_none tick lane
-b_one script tick (Quit number) lane = b_either tick lane _ _ (is_some (context_at (context_of script number) lane)) (b_same tick lane _ refl refl refl refl) (b_line tick lane (events.Miss words.Quit) tt)
+b_one script tick (Quit number) lane = b_either tick lane _ _ (is_own (context_of script number) lane) (b_same tick lane _ refl refl refl refl) (b_line tick lane (events.Miss words.Quit) tt)
 b_one script tick (Cancel c) lane = b_none tick lane
 b_one script tick (Connect c slot proc) lane = b_none tick lane
 b_one script tick (Disconnect slot) lane = b_none tick lane
@@ -256,7 +257,7 @@ a_invoke tick n now context proc lane e =
     let none : Lane = called_at_once tick context proc None lane in
     let some : Lane = called_at_once tick context proc (Some context) lane in
     let there : Lane = attaching tick now context proc lane in
-    a_either tick n lane (invoke_own tick now context proc lane) (written tick (events.Invoke context Posted) lane) (is_some (context_at context lane))
+    a_either tick n lane (invoke_own tick now context proc lane) (written tick (events.Invoke context Posted) lane) (is_own context lane)
     (a_either tick n lane none (cond (default_context lane == context) some there) (is_owned context lane) (a_at_once tick n context proc None lane e)
     (a_either tick n lane some there (default_context lane == context) (a_at_once tick n context proc (Some context) lane e) (a_attaching tick n now context proc lane)))
     (a_line tick n lane (events.Invoke context Posted) tt)
@@ -264,7 +265,7 @@ a_invoke tick n now context proc lane e =
 a_attach : (tick n now context slot : ℕ) (spec : SourceSpec) (lane : Lane) → Acts tick n lane (attach tick now context slot spec lane)
 a_attach tick n now context slot spec lane =
     let there : Lane = edited context (attached spec now) lane in
-    a_either tick n lane _ _ (is_some (context_at context lane))
+    a_either tick n lane _ _ (is_own context lane)
     (a_trans tick n lane there _ (a_edit tick n lane context (attached spec now) (edits_attached spec now)) (a_same tick n there _ refl refl))
     (a_line tick n lane (events.Miss words.Attach) tt)
 
@@ -274,26 +275,26 @@ adds_acted script tick n (Child parent slot spec) lane e = a_child tick n (time_
 adds_acted script tick n (Destroy slot) lane e = of_brought tick n lane _ (b_source tick words.Destroy destroyed (place_at slot lane) lane edits_destroyed)
 adds_acted script tick n (SetReady slot us) lane e = of_brought tick n lane _ (b_source tick words.SetReady (λ id. ready_set id us) (place_at slot lane) lane (λ id. edits_ready_set id us))
 adds_acted script tick n (SetPriority slot priority) lane e = a_priority tick n priority (place_at slot lane) lane
-adds_acted script tick n (Iterate context) lane e = a_either tick n lane _ _ (is_some (context_at context lane)) (a_same tick n lane _ refl refl) (a_line tick n lane (events.Iterate context false) tt)
+adds_acted script tick n (Iterate context) lane e = a_either tick n lane _ _ (is_own context lane) (a_same tick n lane _ refl refl) (a_line tick n lane (events.Iterate context false) tt)
 adds_acted script tick n (Pending context) lane e = a_line tick n lane _ tt
-adds_acted script tick n (Run number) lane e = a_either tick n lane _ _ (is_some (context_at (context_of script number) lane)) (a_same tick n lane _ refl refl) (a_line tick n lane (events.Miss words.Run) tt)
-adds_acted script tick n (Quit number) lane e = a_either tick n lane _ _ (is_some (context_at (context_of script number) lane)) (a_same tick n lane _ refl refl) (a_line tick n lane (events.Miss words.Quit) tt)
+adds_acted script tick n (Run number) lane e = a_either tick n lane _ _ (is_own (context_of script number) lane) (a_same tick n lane _ refl refl) (a_line tick n lane (events.Miss words.Run) tt)
+adds_acted script tick n (Quit number) lane e = a_either tick n lane _ _ (is_own (context_of script number) lane) (a_same tick n lane _ refl refl) (a_line tick n lane (events.Miss words.Quit) tt)
 adds_acted script tick n (Cancel c) lane e = of_brought tick n lane _ (b_cancel script tick c lane)
 adds_acted script tick n (Connect c slot proc) lane e = a_connect script tick n c slot proc lane
 adds_acted script tick n (Disconnect slot) lane e = a_disconnect tick n (handler_at slot lane) lane
 adds_acted script tick n (Task spec) lane e = a_same tick n lane _ refl refl
-adds_acted script tick n (Push context) lane e = a_either tick n lane _ _ (is_some (context_at context lane)) (a_same tick n lane _ refl refl) (a_line tick n lane (events.Miss words.Push) tt)
+adds_acted script tick n (Push context) lane e = a_either tick n lane _ _ (is_own context lane) (a_same tick n lane _ refl refl) (a_line tick n lane (events.Miss words.Push) tt)
 adds_acted script tick n (Pop context) lane e = a_either tick n lane _ _ (is_on_top context lane.defaults) (a_same tick n lane _ refl refl) (a_line tick n lane (events.Miss words.Pop) tt)
 adds_acted script tick n ShowDefault lane e = a_line tick n lane (events.Default (default_context lane)) tt
 adds_acted script tick n (Acquire context) lane e =
     let there : Lane = with_context context acquired lane in
-    a_either tick n lane _ _ (is_some (context_at context lane))
+    a_either tick n lane _ _ (is_own context lane)
     (a_trans tick n lane there _ (change (OtherAt tick n) lane context acquired (λ c. edits_same c.rows)) (a_line tick n there (events.Acquire context true) tt))
     (a_line tick n lane (events.Acquire context false) tt)
 adds_acted script tick n (Release context) lane e =
     a_either tick n lane _ _ (may_release (context_at context lane)) (change (OtherAt tick n) lane context released (λ c. edits_same c.rows)) (a_line tick n lane (events.Miss words.Release) tt)
 adds_acted script tick n (Invoke context proc) lane e = a_invoke tick n (time_of script tick) context proc lane e
-adds_acted script tick n (Give context to) lane e = a_same tick n lane lane refl refl
+adds_acted script tick n (Give context to) lane e = a_either tick n lane _ _ (may_give script context to lane) (a_trans tick n lane (with_given context true lane) _ (a_same tick n lane (with_given context true lane) refl refl) (a_line tick n (with_given context true lane) (events.Give context to) tt)) (a_line tick n lane (events.Miss words.Give) tt)
 adds_acted script tick n (Log m) lane e = a_line tick n lane (events.Log m) tt
 
 -- ---- what ends

@@ -1,7 +1,7 @@
 -- What letters attach, and whose contexts are.
 use Rattle.std.proofs.Common.{◌≡◌, ◌≢◌, ◌⊎◌, inl, inr, ℕ, zero, suc, ◌+◌, ◌<◌, ◌≤◌, ◌==◌, Bool, true, false, cond, Option, Some, None, List, [], ◌∷◌, ◌++◌, map, length, slice_set, refl, ap, sym, ◌∙◌, arith, subst, append-nil, ltb-true, ltb-false}
-use Rattle.std.specs.Prelude.{is_some, slice_get, slice_index_or, option_map, nat_lt}
-use Rattle.std.specs.List.{cons_option, range_with_len}
+use Rattle.std.specs.Prelude.{not, ◌&&◌, unwrap_or, is_some, slice_get, slice_index_or, option_map, nat_lt}
+use Rattle.std.specs.List.{AllByRecursion, cons_option, range_with_len}
 use Rattle.std.proofs.lemmas.List.{append_assoc}
 use Rattle.std.proofs.lemmas.List.Elements.{filter_map-append}
 use Rattle.std.proofs.lemmas.Bool.Decides.{eqb_tells}
@@ -27,7 +27,7 @@ use Rattle.lane_turn.specs.declared.line.Word.{Word}
 use Rattle.lane_turn.specs.declared.line.Word.TheVariants as words
 use Rattle.lane_turn.specs.declared.slot.Place.{Place}
 use Rattle.lane_turn.specs.Sources.{no_sources}
-use Rattle.lane_turn.specs.Lane.{Lane, present, context_at, next_id, with_rows, edited, written, place_at, row_at, set_running, viewing, noting}
+use Rattle.lane_turn.specs.Lane.{Lane, present, context_at, next_id, with_rows, edited, written, place_at, row_at, set_running, viewing, noting, is_own, is_given}
 use Rattle.lane_turn.specs.Acted.{missed, on_source, plain_acted, all_acted, handled, all_handled, cancel}
 use Rattle.lane_turn.specs.Deliver.{reply_spec, holding, received_body, received, received_all}
 use Rattle.lane_turn.specs.Turn.{opening, open_context, open_contexts_to, begun, turned}
@@ -36,6 +36,7 @@ use Rattle.lane_turn.specs.Arrivals.{held_of, is_home, is_for_body, is_for, arri
 use Rattle.lane_turn.proofs.Sends.{step_tells}
 use Rattle.lane_turn.proofs.Delivered.{received_steady}
 use Rattle.lane_turn.proofs.Turns.{kept_finished}
+use Rattle.lane_turn.proofs.Ungiven.{next_at}
 
 -- ---- whose contexts are
 
@@ -52,6 +53,21 @@ held_turned script tick lane =
 pub held_received : (script : Plan) (tick : ℕ) (letters : List Letter) (lane : Lane) → held_of (received_all script tick letters lane).contexts ≡ held_of lane.contexts
 held_received script tick [] lane = refl
 held_received script tick (l ∷ letters) lane = held_received script tick letters (received script tick l lane) ∙ (received_steady script tick l.sender l.body lane).holds
+
+-- what is given stays so
+pub given_turned : (script : Plan) (tick : ℕ) (lane : Lane) → (turned script tick lane).given ≡ lane.given
+given_turned script tick lane =
+    kept_finished script tick (λ t. t.lane.given ≡ lane.given) (λ t u e h. (step_tells script tick t u e).given ∙ h) (begun tick lane) refl
+
+pub given_received : (script : Plan) (tick : ℕ) (letters : List Letter) (lane : Lane) → (received_all script tick letters lane).given ≡ lane.given
+given_received script tick [] lane = refl
+given_received script tick (l ∷ letters) lane = given_received script tick letters (received script tick l lane) ∙ (received_steady script tick l.sender l.body lane).given
+
+-- lanes that have the same contexts, and gave the same, own the same
+pub own_same : (context : ℕ) (lane home : Lane) → held_of lane.contexts ≡ held_of home.contexts → lane.given ≡ home.given → is_own context lane ≡ is_own context home
+own_same context lane home h g =
+    ap (λ b. b && not (is_given context lane)) (own_held lane.contexts context ∙ (ap (λ bs. slice_index_or bs context false) h ∙ sym (own_held home.contexts context)))
+    ∙ ap (λ (gs : List Bool). is_some (context_at context home) && not (unwrap_or (slice_get gs context) false)) g
 
 pub length_held : (script : Plan) (lane k : ℕ) → length (held_of (open_contexts_to script lane k)) ≡ k
 length_held script lane zero = refl
@@ -115,7 +131,8 @@ held_tick script tick context letters (lane ∷ lanes) =
 
 pub held_at : (script : Plan) (tick context : ℕ) → context < (sizes script).contexts → map (λ lane. is_some (context_at context lane)) (lanes_at script tick) ≡ map (is_home script context) (range_with_len 0 (length script.lanes))
 held_at script zero context h = held_open script context (range_with_len 0 (length script.lanes)) h
-held_at script (suc tick) context h = held_tick script tick context (posted_at script tick (lanes_at script tick)) (lanes_at script tick) ∙ held_at script tick context h
+held_at script (suc tick) context h =
+    ap (map (has_it context)) (next_at script tick) ∙ (held_tick script tick context (posted_at script tick (lanes_at script tick)) (lanes_at script tick) ∙ held_at script tick context h)
 
 -- ---- what handlers leave alone
 
@@ -123,6 +140,7 @@ held_at script (suc tick) context h = held_tick script tick context (posted_at s
 record Calm (context : ℕ) (lane after : Lane) : Type 0 where
   pub lines : arrivals context after.trace ≡ arrivals context lane.trace
   pub next : next_id (context_at context after) ≡ next_id (context_at context lane)
+  pub given : after.given ≡ lane.given
 
 calm_line : (context tick : ℕ) (event : Event) (lane : Lane) → arrival_of context event ≡ None → arrivals context (lane.trace ++ (record { tick = tick; event = event }) ∷ []) ≡ arrivals context lane.trace
 calm_line context tick event lane e =
@@ -130,13 +148,13 @@ calm_line context tick event lane e =
     ∙ (ap (λ o. arrivals context lane.trace ++ cons_option o []) e ∙ append-nil (arrivals context lane.trace))
 
 calm_written : (context tick : ℕ) (event : Event) (lane : Lane) → arrival_of context event ≡ None → Calm context lane (written tick event lane)
-calm_written context tick event lane e = record { lines = calm_line context tick event lane e; next = refl }
+calm_written context tick event lane e = record { lines = calm_line context tick event lane e; next = refl; given = refl }
 
-calm_same : (context : ℕ) (lane after : Lane) → after.trace ≡ lane.trace → after.contexts ≡ lane.contexts → Calm context lane after
-calm_same context lane after t c = record { lines = ap (arrivals context) t; next = ap (λ (cs : List (Option Context)). next_id (present (slice_get cs context))) c }
+calm_same : (context : ℕ) (lane after : Lane) → after.trace ≡ lane.trace → after.contexts ≡ lane.contexts → after.given ≡ lane.given → Calm context lane after
+calm_same context lane after t c g = record { given = g; lines = ap (arrivals context) t; next = ap (λ (cs : List (Option Context)). next_id (present (slice_get cs context))) c }
 
 calm_trans : (context : ℕ) (a b c : Lane) → Calm context a b → Calm context b c → Calm context a c
-calm_trans context a b c h k = record { lines = k.lines ∙ h.lines; next = k.next ∙ h.next }
+calm_trans context a b c h k = record { lines = k.lines ∙ h.lines; next = k.next ∙ h.next; given = k.given ∙ h.given }
 
 calm_either : (context : ℕ) (lane x y : Lane) (b : Bool) → Calm context lane x → Calm context lane y → Calm context lane (cond b x y)
 calm_either context lane x y true p q = p
@@ -151,7 +169,7 @@ next_kept f e (o ∷ contexts) (suc i) zero = refl
 next_kept f e (o ∷ contexts) (suc i) (suc j) = next_kept f e contexts i j
 
 calm_edit : (context d : ℕ) (edit : RowSet → RowSet) (lane : Lane) → ((s : RowSet) → (edit s).next_id ≡ s.next_id) → Calm context lane (edited d edit lane)
-calm_edit context d edit lane e = record { lines = refl; next = next_kept (with_rows edit) (λ c. e c.rows) lane.contexts d context }
+calm_edit context d edit lane e = record { given = refl; lines = refl; next = next_kept (with_rows edit) (λ c. e c.rows) lane.contexts d context }
 
 calm_source : (context tick : ℕ) (word : Word) (edit : ℕ → RowSet → RowSet) (o : Option Place) (lane : Lane) → ((id : ℕ) (s : RowSet) → (edit id s).next_id ≡ s.next_id) → Calm context lane (on_source tick word edit o lane)
 calm_source context tick word edit None lane e = calm_written context tick (events.Miss word) lane refl
@@ -160,32 +178,32 @@ calm_source context tick word edit (Some place) lane e =
     (calm_edit context place.context (edit place.id) lane (e place.id)) (calm_written context tick (events.Miss word) lane refl)
 
 calm_one : (context : ℕ) (script : Plan) (tick : ℕ) (action : Action) (lane : Lane) → Calm context lane (plain_acted script tick action lane)
-calm_one context script tick (Attach c slot spec) lane = calm_same context lane lane refl refl
-calm_one context script tick (Child parent slot spec) lane = calm_same context lane lane refl refl
+calm_one context script tick (Attach c slot spec) lane = calm_same context lane lane refl refl refl
+calm_one context script tick (Child parent slot spec) lane = calm_same context lane lane refl refl refl
 calm_one context script tick (Destroy slot) lane = calm_source context tick words.Destroy destroyed (place_at slot lane) lane (λ id s. refl)
 calm_one context script tick (SetReady slot us) lane = calm_source context tick words.SetReady (λ id. ready_set id us) (place_at slot lane) lane (λ id s. refl)
-calm_one context script tick (SetPriority slot priority) lane = calm_same context lane lane refl refl
-calm_one context script tick (Iterate c) lane = calm_same context lane lane refl refl
-calm_one context script tick (Pending c) lane = calm_same context lane lane refl refl
-calm_one context script tick (Run number) lane = calm_same context lane lane refl refl
+calm_one context script tick (SetPriority slot priority) lane = calm_same context lane lane refl refl refl
+calm_one context script tick (Iterate c) lane = calm_same context lane lane refl refl refl
+calm_one context script tick (Pending c) lane = calm_same context lane lane refl refl refl
+calm_one context script tick (Run number) lane = calm_same context lane lane refl refl refl
 calm_one context script tick (Quit number) lane =
-    calm_either context lane (set_running number false lane) (missed tick words.Quit lane) (is_some (context_at (context_of script number) lane))
-    (calm_same context lane (set_running number false lane) refl refl) (calm_written context tick (events.Miss words.Quit) lane refl)
-calm_one context script tick (Cancel c) lane = calm_same context lane lane refl refl
-calm_one context script tick (Connect c slot proc) lane = calm_same context lane lane refl refl
-calm_one context script tick (Disconnect slot) lane = calm_same context lane lane refl refl
-calm_one context script tick (Task spec) lane = calm_same context lane lane refl refl
-calm_one context script tick (Push c) lane = calm_same context lane lane refl refl
-calm_one context script tick (Pop c) lane = calm_same context lane lane refl refl
-calm_one context script tick ShowDefault lane = calm_same context lane lane refl refl
-calm_one context script tick (Acquire c) lane = calm_same context lane lane refl refl
-calm_one context script tick (Release c) lane = calm_same context lane lane refl refl
-calm_one context script tick (Invoke c proc) lane = calm_same context lane lane refl refl
-calm_one context script tick (Give c to) lane = calm_same context lane lane refl refl
+    calm_either context lane (set_running number false lane) (missed tick words.Quit lane) (is_own (context_of script number) lane)
+    (calm_same context lane (set_running number false lane) refl refl refl) (calm_written context tick (events.Miss words.Quit) lane refl)
+calm_one context script tick (Cancel c) lane = calm_same context lane lane refl refl refl
+calm_one context script tick (Connect c slot proc) lane = calm_same context lane lane refl refl refl
+calm_one context script tick (Disconnect slot) lane = calm_same context lane lane refl refl refl
+calm_one context script tick (Task spec) lane = calm_same context lane lane refl refl refl
+calm_one context script tick (Push c) lane = calm_same context lane lane refl refl refl
+calm_one context script tick (Pop c) lane = calm_same context lane lane refl refl refl
+calm_one context script tick ShowDefault lane = calm_same context lane lane refl refl refl
+calm_one context script tick (Acquire c) lane = calm_same context lane lane refl refl refl
+calm_one context script tick (Release c) lane = calm_same context lane lane refl refl refl
+calm_one context script tick (Invoke c proc) lane = calm_same context lane lane refl refl refl
+calm_one context script tick (Give c to) lane = calm_same context lane lane refl refl refl
 calm_one context script tick (Log n) lane = calm_written context tick (events.Log n) lane refl
 
 calm_all : (context : ℕ) (script : Plan) (tick : ℕ) (actions : List Action) (lane : Lane) → Calm context lane (all_acted script tick actions lane)
-calm_all context script tick [] lane = calm_same context lane lane refl refl
+calm_all context script tick [] lane = calm_same context lane lane refl refl refl
 calm_all context script tick (a ∷ actions) lane =
     let next : Lane = plain_acted script tick a lane in
     calm_trans context lane next (all_acted script tick actions next) (calm_one context script tick a lane) (calm_all context script tick actions next)
@@ -196,7 +214,7 @@ calm_handled context script tick f lane =
     calm_trans context lane told (handled script tick f lane) (calm_written context tick (events.Handler f.id) lane refl) (calm_all context script tick (actions_of script (Procedure f.proc)) told)
 
 calm_all_handled : (context : ℕ) (script : Plan) (tick : ℕ) (fs : List Fired) (lane : Lane) → Calm context lane (all_handled script tick fs lane)
-calm_all_handled context script tick [] lane = calm_same context lane lane refl refl
+calm_all_handled context script tick [] lane = calm_same context lane lane refl refl refl
 calm_all_handled context script tick (f ∷ fs) lane =
     let next : Lane = handled script tick f lane in
     calm_trans context lane next (all_handled script tick fs next) (calm_handled context script tick f lane) (calm_all_handled context script tick fs next)
@@ -206,8 +224,8 @@ calm_cancel context script tick c lane =
     let noted : Lane = noting tick c (viewing (cancelled c lane.view) lane) in
     let seen : Lane = written tick (events.Cancel c) noted in
     let after : Lane = all_handled script tick (fired c lane.view) seen in
-    calm_either context lane lane after (has c lane.view) (calm_same context lane lane refl refl)
-    (calm_trans context lane noted after (calm_same context lane noted refl refl)
+    calm_either context lane lane after (has c lane.view) (calm_same context lane lane refl refl refl)
+    (calm_trans context lane noted after (calm_same context lane noted refl refl refl)
     (calm_trans context noted seen after (calm_written context tick (events.Cancel c) noted refl) (calm_all_handled context script tick (fired c lane.view) seen)))
 
 -- ---- what a letter attaches
@@ -256,11 +274,19 @@ arrive_line context tick d id ls b e =
     by true = refl
     by false = refl
 
-adds_one : (context tick now d : ℕ) (spec : SourceSpec) (lane : Lane) → is_some (context_at d lane) ≡ true → ((d == context) ≡ true × d ≡ context) ⊎ ((d == context) ≡ false × d ≢ context)
+has_both : (a b : Bool) → (a && b) ≡ true → a ≡ true
+has_both true b h = refl
+has_both false b h = let no : false ≡ true = h in cc
+
+-- an own context is there
+pub has_own : (d : ℕ) (lane : Lane) → is_own d lane ≡ true → is_some (present (slice_get lane.contexts d)) ≡ true
+has_own d lane h = has_both (is_some (context_at d lane)) (not (is_given d lane)) h
+
+adds_one : (context tick now d : ℕ) (spec : SourceSpec) (lane : Lane) → is_own d lane ≡ true → ((d == context) ≡ true × d ≡ context) ⊎ ((d == context) ≡ false × d ≢ context)
     → Adds context (d == context) lane (attached_at tick now d spec lane)
 adds_one context tick now d spec lane h (inl p) = record {
   lines = arrive_line context tick d (next_id (context_at d lane)) lane.trace true p.0 ∙ ap (λ (n : ℕ). arrivals context lane.trace ++ next_id (context_at n lane) ∷ []) p.1 ∙ ap (λ b. arrivals context lane.trace ++ one_id b (next_id (context_at context lane))) (sym p.0);
-  next = subst (λ (n : ℕ). next_id (context_at n (edited d (attached spec now) lane)) ≡ next_id (context_at n lane) + 1) p.1 (next_more (with_rows (attached spec now)) (λ c. refl) lane.contexts d h) ∙ ap (λ b. one_more b (next_id (context_at context lane))) (sym p.0);
+  next = subst (λ (n : ℕ). next_id (context_at n (edited d (attached spec now) lane)) ≡ next_id (context_at n lane) + 1) p.1 (next_more (with_rows (attached spec now)) (λ c. refl) lane.contexts d (has_own d lane h)) ∙ ap (λ b. one_more b (next_id (context_at context lane))) (sym p.0);
 }
 adds_one context tick now d spec lane h (inr p) = record {
   lines = arrive_line context tick d (next_id (context_at d lane)) lane.trace false p.0 ∙ ap (λ b. arrivals context lane.trace ++ one_id b (next_id (context_at context lane))) (sym p.0);
@@ -271,15 +297,15 @@ abbrev Told : ℕ → ℕ → Type 0
 Told d context = ((d == context) ≡ true × d ≡ context) ⊎ ((d == context) ≡ false × d ≢ context)
 
 -- what is not of the lane is not the context that it has
-adds_elsewhere : (context d : ℕ) (lane : Lane) → is_some (context_at d lane) ≡ false → is_some (context_at context lane) ≡ true → Told d context → Adds context (d == context) lane lane
-adds_elsewhere context d lane e h (inl p) = let no : false ≡ true = sym e ∙ (ap (λ (n : ℕ). is_some (context_at n lane)) p.1 ∙ h) in cc
-adds_elsewhere context d lane e h (inr p) = subst (λ b. Adds context b lane lane) (sym p.0) (adds_none context lane lane (calm_same context lane lane refl refl))
+adds_elsewhere : (context d : ℕ) (lane : Lane) → is_own d lane ≡ false → is_own context lane ≡ true → Told d context → Adds context (d == context) lane lane
+adds_elsewhere context d lane e h (inl p) = let no : false ≡ true = sym e ∙ (ap (λ (n : ℕ). is_own n lane) p.1 ∙ h) in cc
+adds_elsewhere context d lane e h (inr p) = subst (λ b. Adds context b lane lane) (sym p.0) (adds_none context lane lane (calm_same context lane lane refl refl refl))
 
-attach_adds : (context tick now d : ℕ) (spec : SourceSpec) (lane : Lane) (b : Bool) → is_some (context_at d lane) ≡ b → is_some (context_at context lane) ≡ true → Adds context (d == context) lane (cond b (attached_at tick now d spec lane) lane)
+attach_adds : (context tick now d : ℕ) (spec : SourceSpec) (lane : Lane) (b : Bool) → is_own d lane ≡ b → is_own context lane ≡ true → Adds context (d == context) lane (cond b (attached_at tick now d spec lane) lane)
 attach_adds context tick now d spec lane true e h = adds_one context tick now d spec lane e (eqb_tells d context)
 attach_adds context tick now d spec lane false e h = adds_elsewhere context d lane e h (eqb_tells d context)
 
-reply_adds : (context tick now sender : ℕ) (reply : Reply) (lane : Lane) (b : Bool) → is_some (context_at reply.ctx lane) ≡ b → is_some (context_at context lane) ≡ true →
+reply_adds : (context tick now sender : ℕ) (reply : Reply) (lane : Lane) (b : Bool) → is_own reply.ctx lane ≡ b → is_own context lane ≡ true →
     let id : ℕ = next_id (context_at reply.ctx lane) in
     Adds context (reply.ctx == context) lane (cond b (written tick (events.Arrive reply.ctx id) (holding reply.ctx id sender reply (edited reply.ctx (attached (reply_spec reply) now) lane))) lane)
 reply_adds context tick now sender reply lane true e h =
@@ -287,21 +313,38 @@ reply_adds context tick now sender reply lane true e h =
     record { lines = a.lines; next = a.next }
 reply_adds context tick now sender reply lane false e h = adds_elsewhere context reply.ctx lane e h (eqb_tells reply.ctx context)
 
-letter_adds : (context : ℕ) (script : Plan) (tick sender : ℕ) (body : Mail) (lane : Lane) → is_some (context_at context lane) ≡ true → Adds context (is_for_body context body) lane (received_body script tick sender body lane)
-letter_adds context script tick sender (mails.Attach d spec) lane h = attach_adds context tick (time_of script tick) d spec lane (is_some (context_at d lane)) refl h
-letter_adds context script tick sender (mails.Complete reply) lane h = reply_adds context tick (time_of script tick) sender reply lane (is_some (context_at reply.ctx lane)) refl h
+letter_adds : (context : ℕ) (script : Plan) (tick sender : ℕ) (body : Mail) (lane : Lane) → is_own context lane ≡ true → Adds context (is_for_body context body) lane (received_body script tick sender body lane)
+letter_adds context script tick sender (mails.Attach d spec) lane h = attach_adds context tick (time_of script tick) d spec lane (is_own d lane) refl h
+letter_adds context script tick sender (mails.Complete reply) lane h = reply_adds context tick (time_of script tick) sender reply lane (is_own reply.ctx lane) refl h
+letter_adds context script tick sender (mails.Give c to) lane h = adds_none context lane lane (calm_same context lane lane refl refl refl)
 letter_adds context script tick sender (mails.Cancelled c) lane h = adds_none context lane (cancel script tick c lane) (calm_cancel context script tick c lane)
 
-pub still_has : (context : ℕ) (script : Plan) (tick sender : ℕ) (body : Mail) (lane : Lane) → is_some (context_at context (received_body script tick sender body lane)) ≡ is_some (context_at context lane)
-still_has context script tick sender body lane =
+given_either : (lane x y : Lane) (b : Bool) → x.given ≡ lane.given → y.given ≡ lane.given → (cond b x y).given ≡ lane.given
+given_either lane x y true p q = p
+given_either lane x y false p q = q
+
+-- a delivery leaves what was given
+received_given : (script : Plan) (tick sender : ℕ) (body : Mail) (lane : Lane) → (received_body script tick sender body lane).given ≡ lane.given
+received_given script tick sender (mails.Attach d spec) lane = given_either lane _ _ (is_own d lane) refl refl
+received_given script tick sender (mails.Complete reply) lane = given_either lane _ _ (is_own reply.ctx lane) refl refl
+received_given script tick sender (mails.Cancelled c) lane = (calm_cancel 0 script tick c lane).given
+received_given script tick sender (mails.Give c to) lane = refl
+
+pub still_there : (context : ℕ) (script : Plan) (tick sender : ℕ) (body : Mail) (lane : Lane) → is_some (context_at context (received_body script tick sender body lane)) ≡ is_some (context_at context lane)
+still_there context script tick sender body lane =
     let after : Lane = received_body script tick sender body lane in
     own_held after.contexts context ∙ (ap (λ bs. slice_index_or bs context false) (received_steady script tick sender body lane).holds ∙ sym (own_held lane.contexts context))
+
+pub still_has : (context : ℕ) (script : Plan) (tick sender : ℕ) (body : Mail) (lane : Lane) → is_own context (received_body script tick sender body lane) ≡ is_own context lane
+still_has context script tick sender body lane =
+    ap (λ b. b && not (is_given context (received_body script tick sender body lane))) (still_there context script tick sender body lane)
+    ∙ ap (λ (gs : List Bool). is_some (context_at context lane) && not (unwrap_or (slice_get gs context) false)) (received_given script tick sender body lane)
 
 ids_step : (context n : ℕ) (letters : List Letter) (b : Bool) → one_id b n ++ ids_for context (one_more b n) letters ≡ cond b (n ∷ ids_for context (n + 1) letters) (ids_for context n letters)
 ids_step context n letters true = refl
 ids_step context n letters false = refl
 
-all_add : (context : ℕ) (script : Plan) (tick : ℕ) (letters : List Letter) (lane : Lane) → is_some (context_at context lane) ≡ true
+all_add : (context : ℕ) (script : Plan) (tick : ℕ) (letters : List Letter) (lane : Lane) → is_own context lane ≡ true
     → arrivals context (received_all script tick letters lane).trace ≡ arrivals context lane.trace ++ ids_for context (next_id (context_at context lane)) letters
 all_add context script tick [] lane h = sym (append-nil (arrivals context lane.trace))
 all_add context script tick (l ∷ letters) lane h =
@@ -316,39 +359,46 @@ all_add context script tick (l ∷ letters) lane h =
     ∙ (append_assoc before (one_id b n) (ids_for context (one_more b n) letters)
     ∙ ap (λ ids. before ++ ids) (ids_step context n letters b))))
 
-pub arrive_once : (script : Plan) (tick context : ℕ) (letters : List Letter) (lane : Lane) (c : Context) → context_at context lane ≡ Some c
+pub arrive_once : (script : Plan) (tick context : ℕ) (letters : List Letter) (lane : Lane) (c : Context) → is_own context lane ≡ true → context_at context lane ≡ Some c
     → arrivals context (received_all script tick letters lane).trace ≡ arrivals context lane.trace ++ ids_for context c.rows.next_id letters
-arrive_once script tick context letters lane c e =
-    all_add context script tick letters lane (ap (λ (o : Option Context). is_some o) e)
+arrive_once script tick context letters lane c h e =
+    all_add context script tick letters lane h
     ∙ ap (λ (o : Option Context). arrivals context lane.trace ++ ids_for context (next_id o) letters) e
 
 -- ---- what no letter attaches
 
-line_elsewhere : (context tick now d : ℕ) (spec : SourceSpec) (lane : Lane) → is_some (context_at d lane) ≡ true → is_some (context_at context lane) ≡ false → Told d context
+line_elsewhere : (context tick now d : ℕ) (spec : SourceSpec) (lane : Lane) → is_own d lane ≡ true → is_own context lane ≡ false → Told d context
     → arrivals context (attached_at tick now d spec lane).trace ≡ arrivals context lane.trace
-line_elsewhere context tick now d spec lane e h (inl p) = let no : true ≡ false = sym e ∙ (ap (λ (n : ℕ). is_some (context_at n lane)) p.1 ∙ h) in cc
+line_elsewhere context tick now d spec lane e h (inl p) = let no : true ≡ false = sym e ∙ (ap (λ (n : ℕ). is_own n lane) p.1 ∙ h) in cc
 line_elsewhere context tick now d spec lane e h (inr p) = arrive_line context tick d (next_id (context_at d lane)) lane.trace false p.0 ∙ append-nil (arrivals context lane.trace)
 
-attach_elsewhere : (context tick now d : ℕ) (spec : SourceSpec) (lane : Lane) (b : Bool) → is_some (context_at d lane) ≡ b → is_some (context_at context lane) ≡ false
+attach_elsewhere : (context tick now d : ℕ) (spec : SourceSpec) (lane : Lane) (b : Bool) → is_own d lane ≡ b → is_own context lane ≡ false
     → arrivals context (cond b (attached_at tick now d spec lane) lane).trace ≡ arrivals context lane.trace
 attach_elsewhere context tick now d spec lane true e h = line_elsewhere context tick now d spec lane e h (eqb_tells d context)
 attach_elsewhere context tick now d spec lane false e h = refl
 
-reply_elsewhere : (context tick now sender : ℕ) (reply : Reply) (lane : Lane) (b : Bool) → is_some (context_at reply.ctx lane) ≡ b → is_some (context_at context lane) ≡ false →
+reply_elsewhere : (context tick now sender : ℕ) (reply : Reply) (lane : Lane) (b : Bool) → is_own reply.ctx lane ≡ b → is_own context lane ≡ false →
     let id : ℕ = next_id (context_at reply.ctx lane) in
     arrivals context (cond b (written tick (events.Arrive reply.ctx id) (holding reply.ctx id sender reply (edited reply.ctx (attached (reply_spec reply) now) lane))) lane).trace ≡ arrivals context lane.trace
 reply_elsewhere context tick now sender reply lane true e h = line_elsewhere context tick now reply.ctx (reply_spec reply) lane e h (eqb_tells reply.ctx context)
 reply_elsewhere context tick now sender reply lane false e h = refl
 
-letter_elsewhere : (context : ℕ) (script : Plan) (tick sender : ℕ) (body : Mail) (lane : Lane) → is_some (context_at context lane) ≡ false → arrivals context (received_body script tick sender body lane).trace ≡ arrivals context lane.trace
-letter_elsewhere context script tick sender (mails.Attach d spec) lane h = attach_elsewhere context tick (time_of script tick) d spec lane (is_some (context_at d lane)) refl h
-letter_elsewhere context script tick sender (mails.Complete reply) lane h = reply_elsewhere context tick (time_of script tick) sender reply lane (is_some (context_at reply.ctx lane)) refl h
+letter_elsewhere : (context : ℕ) (script : Plan) (tick sender : ℕ) (body : Mail) (lane : Lane) → is_own context lane ≡ false → arrivals context (received_body script tick sender body lane).trace ≡ arrivals context lane.trace
+letter_elsewhere context script tick sender (mails.Attach d spec) lane h = attach_elsewhere context tick (time_of script tick) d spec lane (is_own d lane) refl h
+letter_elsewhere context script tick sender (mails.Complete reply) lane h = reply_elsewhere context tick (time_of script tick) sender reply lane (is_own reply.ctx lane) refl h
+letter_elsewhere context script tick sender (mails.Give c to) lane h = refl
 letter_elsewhere context script tick sender (mails.Cancelled c) lane h = (calm_cancel context script tick c lane).lines
 
-all_elsewhere : (context : ℕ) (script : Plan) (tick : ℕ) (letters : List Letter) (lane : Lane) → is_some (context_at context lane) ≡ false → arrivals context (received_all script tick letters lane).trace ≡ arrivals context lane.trace
+all_elsewhere : (context : ℕ) (script : Plan) (tick : ℕ) (letters : List Letter) (lane : Lane) → is_own context lane ≡ false → arrivals context (received_all script tick letters lane).trace ≡ arrivals context lane.trace
 all_elsewhere context script tick [] lane h = refl
 all_elsewhere context script tick (l ∷ letters) lane h =
     all_elsewhere context script tick letters (received script tick l lane) (still_has context script tick l.sender l.body lane ∙ h) ∙ letter_elsewhere context script tick l.sender l.body lane h
 
-pub arrive_elsewhere : (script : Plan) (tick context : ℕ) (letters : List Letter) (lane : Lane) → context_at context lane ≡ None → arrivals context (received_all script tick letters lane).trace ≡ arrivals context lane.trace
-arrive_elsewhere script tick context letters lane e = all_elsewhere context script tick letters lane (ap (λ (o : Option Context). is_some o) e)
+pub arrive_elsewhere : (script : Plan) (tick context : ℕ) (letters : List Letter) (lane : Lane) → is_own context lane ≡ false → arrivals context (received_all script tick letters lane).trace ≡ arrivals context lane.trace
+arrive_elsewhere script tick context letters lane e = all_elsewhere context script tick letters lane e
+
+-- each lane of some, whatever letters come
+pub follow_each : (script : Plan) (tick context : ℕ) (letters : List Letter) (lanes : List Lane)
+    → AllByRecursion (λ lane. (c : Context) → is_own context lane ≡ true → context_at context lane ≡ Some c → arrivals context (received_all script tick letters lane).trace ≡ arrivals context lane.trace ++ ids_for context c.rows.next_id letters) lanes
+follow_each script tick context letters [] = tt
+follow_each script tick context letters (lane ∷ lanes) = (λ c h e. arrive_once script tick context letters lane c h e, follow_each script tick context letters lanes)

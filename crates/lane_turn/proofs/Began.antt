@@ -26,7 +26,7 @@ use Rattle.lane_turn.proofs.Added.{IsDispatched, TellsNext, Told, does}
 use Rattle.lane_turn.proofs.Traced.{brings_all}
 use Rattle.lane_turn.proofs.Freed.{Sits, sits_step, sits_received, numbered_all}
 use Rattle.lane_turn.proofs.Turns.{kept_finish, kept_finished}
-use Rattle.lane_turn.proofs.EachLane.{each_lane}
+use Rattle.lane_turn.proofs.Ungiven.{each_lane_alone}
 
 -- ---- the invariant
 
@@ -59,7 +59,7 @@ counted_all j script lane (suc n) i = counted_pushed j (open_contexts_to script 
 
 counts_run : (script : Plan) (tick : ℕ) → AllByRecursion Counts (lanes_at script tick)
 counts_run script tick =
-    each_lane script (λ k lane. Counts lane)
+    each_lane_alone script (λ k lane. Counts lane)
     (λ n. record { sits = record { numbered = numbered_all script n (sizes script).contexts; waits = tt }; counted = λ i. counted_all i script n (sizes script).contexts i })
     (λ k letters lane h. counts_received script k letters (turned script k lane) (kept_finished script k (λ t. Counts t.lane) (counts_step script k) (begun k lane) (record { sits = record { numbered = (h.sits).numbered; waits = (h.sits).waits }; counted = h.counted }))) tick
 

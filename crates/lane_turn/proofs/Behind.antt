@@ -37,7 +37,7 @@ counted_behind front tick mail f t zero = refl
 counted_behind front tick mail f t (suc n) = ap (λ (l : List Letter). record t { lane = f t.lane; left = n; sent = sent_with mail t.sent; posted = l }) (posted_behind front tick t mail)
 
 call_behind : (front : List Letter) (script : Plan) (tick : ℕ) (t : Turn) (call : Call) (a : Option Action) → step_call script tick (behind front t) call a ≡ behind front (step_call script tick t call a)
-call_behind front script tick t call (Some a) = counted_behind front tick (sends a (taken t.lane)) (λ lane. acted script tick a (taken lane)) t t.left
+call_behind front script tick t call (Some a) = counted_behind front tick (sends script a (taken t.lane)) (λ lane. acted script tick a (taken lane)) t t.left
 call_behind front script tick t call None = refl
 
 id_behind : (front : List Letter) (tick : ℕ) (t : Turn) (context : ℕ) (r : Option Row) → step_id tick (behind front t) context r ≡ behind front (step_id tick t context r)

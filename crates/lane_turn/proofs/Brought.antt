@@ -12,9 +12,9 @@ use Rattle.source_rows.specs.Rows.{attached}
 use Rattle.task_steps.specs.declared.entry.Reply.{Reply}
 use Rattle.post_office.specs.declared.letter.Letter.{Letter}
 use Rattle.post_office.specs.declared.letter.Body.{Body}
-use Rattle.post_office.specs.declared.letter.Body.TheVariants.{Attach, Complete, Cancelled}
+use Rattle.post_office.specs.declared.letter.Body.TheVariants.{Attach, Complete, Cancelled, Give}
 use Rattle.lane_turn.specs.declared.line.Event.TheVariants as events
-use Rattle.lane_turn.specs.Lane.{Lane, context_at, next_id, with_rows, edited, written}
+use Rattle.lane_turn.specs.Lane.{Lane, context_at, next_id, with_rows, edited, written, is_own}
 use Rattle.lane_turn.specs.Replies.{Replies, replies_at}
 use Rattle.lane_turn.specs.Turn.{opening, open_replies, turned}
 use Rattle.lane_turn.specs.declared.replies.Awaited.{Awaited}
@@ -25,7 +25,7 @@ use Rattle.lane_turn.specs.Taken.{results, awaited_in, awaited, brings, brought,
 use Rattle.lane_turn.proofs.Leaves.{Leaves, results_other, same, line, edit, leaves_trans, either, leaves_cancel}
 use Rattle.lane_turn.proofs.Taking.{IsFresh, fresh_more, awaited_next, left}
 use Rattle.lane_turn.proofs.Moving.{turned_moves}
-use Rattle.lane_turn.proofs.Arrivals.{own_held, length_held, held_turned, next_more, still_has}
+use Rattle.lane_turn.proofs.Arrivals.{own_same, has_own, length_held, held_turned, given_turned, next_more, still_has}
 
 -- ---- one letter
 
@@ -49,45 +49,48 @@ with_true false y = refl
 gains_none : (s n : ℕ) (x : Bool) (lane after : Lane) → Leaves s n lane after → IsFresh lane → Gains s n (x && false) lane after
 gains_none s n x lane after h f = let m = left s n lane after h in (m.fresh f, omega (arith, m.sum, never x))
 
-reply_gains : (s n tick now sender : ℕ) (reply : Reply) (lane : Lane) (b : Bool) → is_some (context_at reply.ctx lane) ≡ b → IsFresh lane →
+reply_gains : (s n tick now sender : ℕ) (reply : Reply) (lane : Lane) (b : Bool) → is_own reply.ctx lane ≡ b → IsFresh lane →
     let id : ℕ = next_id (context_at reply.ctx lane) in
     Gains s n ((sender == s) && ((reply.task == n) && b)) lane (cond b (written tick (events.Arrive reply.ctx id) (holding reply.ctx id sender reply (edited reply.ctx (attached (reply_spec reply) now) lane))) lane)
 reply_gains s n tick now sender reply lane true e f =
     let id : ℕ = next_id (context_at reply.ctx lane) in
     let there : Lane = edited reply.ctx (attached (reply_spec reply) now) lane in
     let a : Awaited = record { sender = sender; reply = reply } in
-    let more : next_id (context_at reply.ctx there) ≡ id + 1 = next_more (with_rows (attached (reply_spec reply) now)) (λ c. refl) lane.contexts reply.ctx e in
+    let has : is_some (context_at reply.ctx lane) ≡ true = has_own reply.ctx lane e in
+    let more : next_id (context_at reply.ctx there) ≡ id + 1 = next_more (with_rows (attached (reply_spec reply) now)) (λ c. refl) lane.contexts reply.ctx has in
     let h : Leaves s n lane there = edit s n lane reply.ctx (attached (reply_spec reply) now) (λ rows. omega arith) in
     let told = results_other s n tick (events.Arrive reply.ctx id) lane.trace refl in
-    let held = awaited_next s n lane.contexts reply.ctx a lane.replies e f in
+    let held = awaited_next s n lane.contexts reply.ctx a lane.replies has f in
     (fresh_more lane.contexts there.contexts reply.ctx a lane.replies h.size h.rise more f, omega (arith, told, held, with_true (sender == s) (reply.task == n)))
 reply_gains s n tick now sender reply lane false e f = (f, omega (arith, never_both (sender == s) (reply.task == n) false refl))
 
 pub leaves_arrived : (s n tick now context : ℕ) (spec : SourceSpec) (lane : Lane) → Leaves s n lane (arrived_source tick now context spec lane)
 leaves_arrived s n tick now context spec lane =
     let there : Lane = edited context (attached spec now) lane in
-    either s n lane _ _ (is_some (context_at context lane))
+    either s n lane _ _ (is_own context lane)
     (leaves_trans s n lane there _ (edit s n lane context (attached spec now) (λ rows. omega arith)) (line s n there tick (events.Arrive context (next_id (context_at context lane))) refl))
     (same s n lane lane refl refl refl refl refl)
 
 letter_gains : (s n : ℕ) (script : Plan) (tick sender : ℕ) (body : Body) (lane : Lane) → IsFresh lane → Gains s n ((sender == s) && brings n lane body) lane (received_body script tick sender body lane)
 letter_gains s n script tick sender (Attach context spec) lane f = gains_none s n (sender == s) lane _ (leaves_arrived s n tick (time_of script tick) context spec lane) f
-letter_gains s n script tick sender (Complete reply) lane f = reply_gains s n tick (time_of script tick) sender reply lane (is_some (context_at reply.ctx lane)) refl f
+letter_gains s n script tick sender (Complete reply) lane f = reply_gains s n tick (time_of script tick) sender reply lane (is_own reply.ctx lane) refl f
 letter_gains s n script tick sender (Cancelled c) lane f = gains_none s n (sender == s) lane _ (leaves_cancel s n script tick c lane) f
+letter_gains s n script tick sender (Give context to) lane f = gains_none s n (sender == s) lane _ (same s n lane lane refl refl refl refl refl) f
 
 -- ---- a delivery
 
 pub brought_cons : (s n : ℕ) (home : Lane) (l : Letter) (ls : List Letter) → brought s n home (l ∷ ls) ≡ one_for ((l.sender == s) && brings n home l.body) + brought s n home ls
 brought_cons s n home l ls = sum_by-cons (λ (l : Letter). cond ((l.sender == s) && brings n home l.body) 1 0) l ls
 
--- lanes that have the same contexts
+-- lanes that own the same contexts
 abbrev pub OwnAlike : Lane → Lane → Type 0
-OwnAlike lane home = (c : ℕ) → is_some (context_at c lane) ≡ is_some (context_at c home)
+OwnAlike lane home = (c : ℕ) → is_own c lane ≡ is_own c home
 
 brings_alike : (n : ℕ) (lane home : Lane) → OwnAlike lane home → (body : Body) → brings n lane body ≡ brings n home body
 brings_alike n lane home o (Attach context spec) = refl
 brings_alike n lane home o (Complete reply) = ap (λ b. (reply.task == n) && b) (o reply.ctx)
 brings_alike n lane home o (Cancelled c) = refl
+brings_alike n lane home o (Give context to) = refl
 
 received_gains : (s n : ℕ) (script : Plan) (tick : ℕ) (home : Lane) (letters : List Letter) (lane : Lane) → OwnAlike lane home → IsFresh lane →
     IsFresh (received_all script tick letters lane)
@@ -103,8 +106,7 @@ received_gains s n script tick home (l ∷ ls) lane o f =
 -- ---- a lane at each tick
 
 own_turned : (script : Plan) (tick : ℕ) (lane : Lane) → OwnAlike (turned script tick lane) lane
-own_turned script tick lane c =
-    own_held (turned script tick lane).contexts c ∙ (ap (λ bs. slice_index_or bs c false) (held_turned script tick lane) ∙ sym (own_held lane.contexts c))
+own_turned script tick lane c = own_same c (turned script tick lane) lane (held_turned script tick lane) (given_turned script tick lane)
 
 -- at first nothing is held
 open_size : (n : ℕ) → length (open_replies n) ≡ n

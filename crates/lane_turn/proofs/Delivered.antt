@@ -8,10 +8,10 @@ use Rattle.source_rows.specs.Rows.{attached}
 use Rattle.task_steps.specs.declared.entry.Reply.{Reply}
 use Rattle.post_office.specs.declared.letter.Letter.{Letter}
 use Rattle.post_office.specs.declared.letter.Body.{Body}
-use Rattle.post_office.specs.declared.letter.Body.TheVariants.{Attach, Complete, Cancelled}
+use Rattle.post_office.specs.declared.letter.Body.TheVariants.{Attach, Complete, Cancelled, Give}
 use Rattle.std.specs.Prelude.{is_some}
 use Rattle.lane_turn.specs.declared.line.Event.TheVariants as events
-use Rattle.lane_turn.specs.Lane.{Lane, context_at, next_id, with_rows, edited, written}
+use Rattle.lane_turn.specs.Lane.{Lane, context_at, next_id, with_rows, edited, written, is_own}
 use Rattle.lane_turn.specs.Deliver.{reply_spec, holding, arrived, received_body, received, received_all}
 use Rattle.lane_turn.specs.Turn.{nest_work, row_count}
 use Rattle.lane_turn.specs.Sound.{Bounded, IsReady}
@@ -37,7 +37,7 @@ arrived_mild script tick sender reply lane =
     let id : ℕ = next_id (context_at reply.ctx lane) in
     let there : Lane = edited reply.ctx (attached (reply_spec reply) now) lane in
     let after : Lane = written tick (events.Arrive reply.ctx id) (holding reply.ctx id sender reply there) in
-    either lane after lane (is_some (context_at reply.ctx lane))
+    either lane after lane (is_own reply.ctx lane)
     (mild_beside lane there after (mild_edit lane reply.ctx (attached (reply_spec reply) now) 1 2 (omega arith) (omega arith) (mild_attached (reply_spec reply) now)) refl refl refl)
     (quiet lane lane refl refl (omega arith))
 
@@ -46,20 +46,22 @@ received_mild script tick sender (Attach context spec) lane =
     let now : ℕ = time_of script tick in
     let there : Lane = edited context (attached spec now) lane in
     let after : Lane = written tick (events.Arrive context (next_id (context_at context lane))) there in
-    either lane after lane (is_some (context_at context lane))
+    either lane after lane (is_own context lane)
     (mild_beside lane there after (mild_edit lane context (attached spec now) 1 2 (omega arith) (omega arith) (mild_attached spec now)) refl refl refl)
     (quiet lane lane refl refl (omega arith))
 received_mild script tick sender (Complete reply) lane = arrived_mild script tick sender reply lane
 received_mild script tick sender (Cancelled c) lane = mild_plain lane _ (plain_cancel script tick c lane)
+received_mild script tick sender (Give context to) lane = quiet lane lane refl refl (omega arith)
 
 -- a letter that tells of no cancellable
 untold : (body : Body) (lane after : Lane) → ((c : ℕ) → tells_of c body ≡ false) → Steady 0 None lane after → Steady 0 (Some body) lane after
-untold body lane after f h = record { number = h.number; tick = h.tick; view = h.view; next = h.next; few = h.few; seen = λ c l. h.seen c l ∙ sym (ap (λ x. x || has c lane.view) (f c)); holds = h.holds }
+untold body lane after f h = record { number = h.number; tick = h.tick; view = h.view; next = h.next; few = h.few; seen = λ c l. h.seen c l ∙ sym (ap (λ x. x || has c lane.view) (f c)); holds = h.holds; given = h.given }
 
 pub received_steady : (script : Plan) (tick sender : ℕ) (body : Body) (lane : Lane) → Steady 0 (Some body) lane (received_body script tick sender body lane)
-received_steady script tick sender (Attach context spec) lane = untold (Attach context spec) lane _ (λ c. refl) (steady_either 0 None lane _ _ _ (still 0 lane _ refl refl refl (kept_held (with_rows (attached spec (time_of script tick))) lane.contexts context)) (still 0 lane _ refl refl refl refl))
-received_steady script tick sender (Complete reply) lane = untold (Complete reply) lane _ (λ c. refl) (steady_either 0 None lane _ _ _ (still 0 lane _ refl refl refl (kept_held (with_rows (attached (reply_spec reply) (time_of script tick))) lane.contexts reply.ctx)) (still 0 lane _ refl refl refl refl))
+received_steady script tick sender (Attach context spec) lane = untold (Attach context spec) lane _ (λ c. refl) (steady_either 0 None lane _ _ _ (still 0 lane _ refl refl refl refl (kept_held (with_rows (attached spec (time_of script tick))) lane.contexts context)) (still 0 lane _ refl refl refl refl refl))
+received_steady script tick sender (Complete reply) lane = untold (Complete reply) lane _ (λ c. refl) (steady_either 0 None lane _ _ _ (still 0 lane _ refl refl refl refl (kept_held (with_rows (attached (reply_spec reply) (time_of script tick))) lane.contexts reply.ctx)) (still 0 lane _ refl refl refl refl refl))
 received_steady script tick sender (Cancelled c) lane = steady_told_cancel script tick c lane
+received_steady script tick sender (Give context to) lane = untold (Give context to) lane _ (λ c. refl) (still 0 lane _ refl refl refl refl refl)
 
 ready_body : (script : Plan) (tick next m sender : ℕ) (body : Body) (lane : Lane) → IsReady script next m lane → IsReady script next (m + 2) (received_body script tick sender body lane)
 ready_body script tick next m sender body lane r =

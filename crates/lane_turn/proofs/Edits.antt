@@ -67,11 +67,11 @@ pub none_set : (id : ℕ) (ready : ℤ) (s : RowSet) → is_some (row_of id s.ro
 none_set id ready s e = ap (λ (rows : List Row). record s { rows = rows }) (none_changed id (λ r. record r { ready = ready }) s.rows (not_there (row_of id s.rows) e))
 
 -- a source that can have no child, or gets no priority
-pub bears_none : (place : Place) (lane : Lane) (c : Context) (now : RowSet) (e : RowsFault) → Some c ≡ context_at place.context lane → now ≡ c.rows → child_fault now.levels (row_of place.id now.rows) ≡ Some e → false ≡ can_bear place lane
+pub bears_none : (place : Place) (lane : Lane) (c : Context) (now : RowSet) (e : RowsFault) → Some c ≡ context_at place.context lane → now ≡ c.rows → child_fault now.levels (row_of place.id now.rows) ≡ Some e → false ≡ can_bear_in place.id (context_at place.context lane)
 bears_none place lane c now e h k f =
     ap is_none (sym f ∙ ap (λ (s : RowSet). child_fault s.levels (row_of place.id s.rows)) k) ∙ ap (can_bear_in place.id) h
 
-pub moves_none : (place : Place) (lane : Lane) (c : Context) (now : RowSet) (e : RowsFault) → Some c ≡ context_at place.context lane → now ≡ c.rows → priority_fault (row_of place.id now.rows) ≡ Some e → false ≡ is_none (priority_fault (row_at place lane))
+pub moves_none : (place : Place) (lane : Lane) (c : Context) (now : RowSet) (e : RowsFault) → Some c ≡ context_at place.context lane → now ≡ c.rows → priority_fault (row_of place.id now.rows) ≡ Some e → false ≡ is_none (priority_fault (row_in place.id (context_at place.context lane)))
 moves_none place lane c now e h k f =
     ap is_none (sym f ∙ ap (λ (s : RowSet). priority_fault (row_of place.id s.rows)) k) ∙ ap (λ (o : Option Context). is_none (priority_fault (row_in place.id o))) h
 

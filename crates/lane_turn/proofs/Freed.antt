@@ -34,7 +34,7 @@ use Rattle.lane_turn.proofs.Added.{IsNext, TellsNext, Told, does}
 use Rattle.lane_turn.proofs.Traced.{brings_all}
 use Rattle.lane_turn.proofs.Waits.{is_in, is_held, may_go, WaitsIn, AllWait, NumberedIn, not_true, wait_on, frames_wait}
 use Rattle.lane_turn.proofs.Turns.{kept_finish, kept_finished}
-use Rattle.lane_turn.proofs.EachLane.{each_lane}
+use Rattle.lane_turn.proofs.Ungiven.{each_lane_alone}
 
 -- ---- what is not blocked
 
@@ -137,7 +137,7 @@ numbered_all script lane (suc n) i = numbered_pushed (open_contexts_to script la
 
 pub sits_run : (script : Plan) (tick : ℕ) → AllByRecursion Sits (lanes_at script tick)
 sits_run script tick =
-    each_lane script (λ k lane. Sits lane) (λ n. record { numbered = numbered_all script n (sizes script).contexts; waits = tt })
+    each_lane_alone script (λ k lane. Sits lane) (λ n. record { numbered = numbered_all script n (sizes script).contexts; waits = tt })
     (λ k letters lane h. sits_received script k letters (turned script k lane) (kept_finished script k (λ t. Sits t.lane) (sits_step script k) (begun k lane) (record { numbered = h.numbered; waits = h.waits }))) tick
 
 pub sits_within : (script : Plan) (tick steps : ℕ) (lane : Lane) → Sits lane → Sits (turn_within script tick steps lane).lane

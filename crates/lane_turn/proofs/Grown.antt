@@ -31,7 +31,10 @@ use Rattle.lane_turn.specs.declared.layer.Call.{Call}
 use Rattle.lane_turn.specs.declared.slot.Place.{Place}
 use Rattle.lane_turn.specs.Frames.{Frame, CallOf, IterOf, LoopOf, calls_in_progress}
 use Rattle.lane_turn.specs.Sources.{tree_levels, no_sources, restarted, restarted_row, restarted_kind, due_after}
-use Rattle.lane_turn.specs.Lane.{Lane, Turn, present, context_at, with_rows, with_context, edited, popped, taken, place_at, handler_at, row_of, row_in, row_at, is_running, written, viewing, noting, iterating}
+use Rattle.lane_turn.specs.Lane.{Lane, Turn, present, context_at, with_rows, with_context, edited, popped, taken, place_at, handler_at, row_of, row_in, row_at, is_running, written, viewing, noting, iterating, is_own}
+use Rattle.lane_turn.proofs.Whole.{whole}
+use Rattle.lane_turn.proofs.GoingOver.{going_over, ready_over}
+use Rattle.lane_turn.specs.Handover.{handed_over}
 use Rattle.context_core.specs.Defaults.{acquired, released, is_on_top}
 use Rattle.lane_turn.specs.declared.line.Invoked.TheVariants.{Posted}
 use Rattle.lane_turn.specs.Owned.{default_context, is_owned, may_release, called_at_once, attaching, invoke_own, invoke, invoke_spec}
@@ -44,7 +47,7 @@ use Rattle.lane_turn.specs.declared.line.Word.{Word}
 use Rattle.lane_turn.specs.declared.line.Word.TheVariants as words
 use Rattle.lane_turn.specs.Step.{step, step_polling, step_call, step_id, returned, answered, limited_by, with_lane, dispatching}
 use Rattle.lane_turn.specs.Turn.{begun, turned, opening, open_context, open_contexts_to}
-use Rattle.lane_turn.specs.Deliver.{reply_spec, received_body, received, received_all}
+use Rattle.lane_turn.specs.Deliver.{reply_spec, received_body, received, received_all, delivered}
 use Rattle.lane_turn.specs.Tick.{posted_at, lanes_at, lane_within}
 use Rattle.lane_turn.specs.Sound.{Bounded, IsSound, IsReady}
 use Rattle.lane_turn.specs.Levels.{IsGrown, Grown, IsOfTwoLevels, OfTwoLevels, OfAllLanes}
@@ -144,13 +147,21 @@ levels_born : (levels : ℕ) (spec : SourceSpec) (now : ℕ) (s : RowSet) (o : O
 levels_born levels spec now s None e = e
 levels_born levels spec now s (Some parent) e = e
 
+right_of : (a b : Bool) → (a && b) ≡ true → b ≡ true
+right_of true b h = h
+right_of false b h = let no : false ≡ true = h in cc
+
+own_row : (b : Bool) (o : Option Row) → is_none (priority_fault (cond b o None)) ≡ true → is_none (priority_fault o) ≡ true
+own_row true o h = h
+own_row false o h = let no : false ≡ true = h in cc
+
 grown_child : (levels tick now slot : ℕ) (spec : SourceSpec) (o : Option Place) (lane : Lane) → AllBounded lane → AllGrown levels lane → AllGrown levels (child_of tick now slot spec o lane)
 grown_child levels tick now slot spec None lane b h = h
 grown_child levels tick now slot spec (Some place) lane b h =
     either levels _ _ (can_bear place lane)
     (λ bears. grown_edit levels lane place.context (born spec now place.id)
     (λ c e. let g = own_grown levels lane place.context c e h in
-    let free = no_fault (child_fault c.rows.levels (row_with place.id c.rows.rows)) (sym (ap (can_bear_in place.id) e) ∙ bears) in
+    let free = no_fault (child_fault c.rows.levels (row_with place.id c.rows.rows)) (sym (ap (can_bear_in place.id) e) ∙ right_of (is_own place.context lane) (can_bear_in place.id (context_at place.context lane)) bears) in
     record { most = levels_born levels spec now c.rows (row_with place.id c.rows.rows) g.most; sound = sound_child spec now place.id c.rows (few_numbers lane place.context c e b) free g.sound }) h)
     h
 
@@ -164,7 +175,7 @@ grown_priority levels tick priority (Some place) lane b h =
     either levels _ _ (is_none (priority_fault (row_at place lane)))
     (λ moves. grown_edit levels lane place.context (reprioritised place.id priority)
     (λ c e. let g = own_grown levels lane place.context c e h in
-    let free = no_fault (priority_fault (row_with place.id c.rows.rows)) (sym (ap (λ (o : Option Context). is_none (priority_fault (row_in place.id o))) e) ∙ moves) in
+    let free = no_fault (priority_fault (row_with place.id c.rows.rows)) (sym (ap (λ (o : Option Context). is_none (priority_fault (row_in place.id o))) e) ∙ own_row (is_own place.context lane) (row_of place.context place.id lane) moves) in
     record { most = g.most; sound = sound_reprioritised place.id priority c.rows (few_numbers lane place.context c e b) free g.sound }) h)
     h
 
@@ -221,13 +232,13 @@ grown_invoke levels tick now context proc lane b h =
     let none : Lane = called_at_once tick context proc None lane in
     let some : Lane = called_at_once tick context proc (Some context) lane in
     let attached : Lane = attaching tick now context proc lane in
-    either levels (invoke_own tick now context proc lane) (written tick (events.Invoke context Posted) lane) (is_some (context_at context lane))
+    either levels (invoke_own tick now context proc lane) (written tick (events.Invoke context Posted) lane) (is_own context lane)
     (λ _. either levels none (cond (default_context lane == context) some attached) (is_owned context lane) (λ _. grown_at_once levels tick context proc None lane h)
     (either levels some attached (default_context lane == context) (λ _. grown_at_once levels tick context proc (Some context) lane h) (grown_attach levels now context (invoke_spec proc) lane b h)))
     h
 
 grown_acted : (levels : ℕ) (script : Plan) (tick : ℕ) (action : Action) (lane : Lane) → AllBounded lane → AllGrown levels lane → AllGrown levels (acted script tick action lane)
-grown_acted levels script tick (Attach context slot spec) lane b h = either levels _ _ (is_some (context_at context lane)) (λ _. grown_attach levels (time_of script tick) context spec lane b h) h
+grown_acted levels script tick (Attach context slot spec) lane b h = either levels _ _ (is_own context lane) (λ _. grown_attach levels (time_of script tick) context spec lane b h) h
 grown_acted levels script tick (Child parent slot spec) lane b h = grown_child levels tick (time_of script tick) slot spec (place_at parent lane) lane b h
 grown_acted levels script tick (Destroy slot) lane b h = grown_source levels tick words.Destroy destroyed (grown_destroyed levels) (place_at slot lane) lane h
 grown_acted levels script tick (SetReady slot us) lane b h = grown_source levels tick words.SetReady (λ id. ready_set id us) (λ id. grown_ready_set levels id us) (place_at slot lane) lane h
@@ -240,10 +251,10 @@ grown_acted levels script tick (Cancel c) lane b h = grown_cancel levels script 
 grown_acted levels script tick (Connect c slot proc) lane b h = grown_connect levels script tick c slot proc lane h
 grown_acted levels script tick (Disconnect slot) lane b h = grown_disconnect levels tick (handler_at slot lane) lane h
 grown_acted levels script tick (Task spec) lane b h = h
-grown_acted levels script tick (Push context) lane b h = either levels _ _ (is_some (context_at context lane)) (λ _. h) h
+grown_acted levels script tick (Push context) lane b h = either levels _ _ (is_own context lane) (λ _. h) h
 grown_acted levels script tick (Pop context) lane b h = either levels _ _ (is_on_top context lane.defaults) (λ _. h) h
 grown_acted levels script tick ShowDefault lane b h = h
-grown_acted levels script tick (Acquire context) lane b h = either levels _ _ (is_some (context_at context lane)) (λ _. grown_change levels lane context acquired (λ c. refl) h) h
+grown_acted levels script tick (Acquire context) lane b h = either levels _ _ (is_own context lane) (λ _. grown_change levels lane context acquired (λ c. refl) h) h
 grown_acted levels script tick (Release context) lane b h = either levels _ _ (may_release (context_at context lane)) (λ _. grown_change levels lane context released (λ c. refl) h) h
 grown_acted levels script tick (Invoke context proc) lane b h = grown_invoke levels tick (time_of script tick) context proc lane b h
 grown_acted levels script tick (Give context to) lane b h = h
@@ -281,7 +292,7 @@ StaysGrown levels t u = AllBounded t.lane → AllGrown levels t.lane → AllGrow
 
 grown_call : (levels : ℕ) (script : Plan) (tick : ℕ) (t : Turn) (call : Call) (a : Option Action) → StaysGrown levels t (step_call script tick t call a)
 grown_call levels script tick t call None b h = grown_returned levels script tick call.body call.origin (popped t.lane) h
-grown_call levels script tick t call (Some a) b h = grown_counting levels tick (sends a (taken t.lane)) (λ lane. acted script tick a (taken lane)) t t.left h (grown_acted levels script tick a (taken t.lane) b h)
+grown_call levels script tick t call (Some a) b h = grown_counting levels tick (sends script a (taken t.lane)) (λ lane. acted script tick a (taken lane)) t t.left h (grown_acted levels script tick a (taken t.lane) b h)
 
 grown_id : (levels tick context : ℕ) (t : Turn) (r : Option Row) → StaysGrown levels t (step_id tick t context r)
 grown_id levels tick context t None b h = h
@@ -349,10 +360,11 @@ grown_turned levels m script tick lane h r g =
 -- ---- the deliveries
 
 grown_received : (levels : ℕ) (script : Plan) (tick sender : ℕ) (body : Mail) (lane : Lane) → AllBounded lane → AllGrown levels lane → AllGrown levels (received_body script tick sender body lane)
-grown_received levels script tick sender (mails.Attach context spec) lane b h = either levels _ _ (is_some (context_at context lane)) (λ _. grown_attach levels (time_of script tick) context spec lane b h) h
+grown_received levels script tick sender (mails.Attach context spec) lane b h = either levels _ _ (is_own context lane) (λ _. grown_attach levels (time_of script tick) context spec lane b h) h
 grown_received levels script tick sender (mails.Complete reply) lane b h =
-    either levels _ _ (is_some (context_at reply.ctx lane)) (λ _. grown_attach levels (time_of script tick) reply.ctx (reply_spec reply) lane b h) h
+    either levels _ _ (is_own reply.ctx lane) (λ _. grown_attach levels (time_of script tick) reply.ctx (reply_spec reply) lane b h) h
 grown_received levels script tick sender (mails.Cancelled c) lane b h = grown_cancel levels script tick c lane h
+grown_received levels script tick sender (mails.Give context to) lane b h = h
 
 grown_received_all : (levels : ℕ) (script : Plan) (tick next m : ℕ) (letters : List Letter) (lane : Lane) → m + 2 * length letters ≤ 2 ^ 62 → IsReady script next m lane → AllGrown levels lane → AllGrown levels (received_all script tick letters lane)
 grown_received_all levels script tick next m [] lane h r g = g
@@ -393,11 +405,46 @@ grown_openings : (script : Plan) (numbers : List ℕ) → AllByRecursion (AllGro
 grown_openings script [] = tt
 grown_openings script (n ∷ numbers) = (all_open script n (sizes script).contexts, grown_openings script numbers)
 
+grown_turns : (script : Plan) (tick m : ℕ) (lanes : List Lane) → m + 20001 ≤ 2 ^ 62 → EachGrown script tick m lanes → EachGrown script (tick + 1) (m + 20001) (map (turned script tick) lanes)
+grown_turns script tick m [] h g = tt
+grown_turns script tick m (lane ∷ lanes) h g = ((ready-turned script tick m lane g.0.0, grown_turned (tree_levels script) m script tick lane h g.0.0 g.0.1), grown_turns script tick m lanes h g.1)
+
+-- ---- what goes over
+
+grown_got : (levels : ℕ) (os : List (Option Context)) (i : ℕ) → AllByRecursion (Grown levels) os → Grown levels (present (slice_get os i))
+grown_got levels [] i h = tt
+grown_got levels (o ∷ os) zero h = h.0
+grown_got levels (o ∷ os) (suc i) h = grown_got levels os i h.1
+
+grown_set : (levels : ℕ) (os : List (Option Context)) (i : ℕ) (o : Option Context) → Grown levels o → AllByRecursion (Grown levels) os → AllByRecursion (Grown levels) (slice_set os i o)
+grown_set levels [] i o g h = tt
+grown_set levels (x ∷ os) zero o g h = (g, h.1)
+grown_set levels (x ∷ os) (suc i) o g h = (h.0, grown_set levels os i o g h.1)
+
+grown_over : (levels tick : ℕ) (letters : List Letter) (lanes : List Lane) → AllByRecursion (AllGrown levels) lanes → AllByRecursion (AllGrown levels) (handed_over tick letters lanes)
+grown_over levels tick letters lanes all =
+    going_over tick (AllGrown levels) (λ kept. Grown levels (Some kept.context)) (λ lane h context kept e. subst (Grown levels) ((whole context lane kept e).0) (grown_got levels lane.contexts context h))
+    (λ lane h kept k. grown_set levels lane.contexts kept.number (Some kept.context) k h) (λ lane h context. grown_set levels lane.contexts context None tt h) letters lanes all
+
+grown_alone : (script : Plan) (tick m : ℕ) (lanes : List Lane) → EachGrown script tick m lanes → AllByRecursion (AllGrown (tree_levels script)) lanes
+grown_alone script tick m [] g = tt
+grown_alone script tick m (lane ∷ lanes) g = (g.0.1, grown_alone script tick m lanes g.1)
+
+ready_alone : (script : Plan) (tick m : ℕ) (lanes : List Lane) → EachGrown script tick m lanes → AllReady script tick m lanes
+ready_alone script tick m [] g = tt
+ready_alone script tick m (lane ∷ lanes) g = (g.0.0, ready_alone script tick m lanes g.1)
+
+grown_sent : (script : Plan) (tick m : ℕ) (letters : List Letter) (lanes : List Lane) → m + 2 * length letters ≤ 2 ^ 62 → EachGrown script (tick + 1) m lanes → AllByRecursion (AllGrown (tree_levels script)) (map (received_all script tick letters) lanes)
+grown_sent script tick m letters [] h g = tt
+grown_sent script tick m letters (lane ∷ lanes) h g = (grown_received_all (tree_levels script) script tick (tick + 1) m letters lane h g.0.0 g.0.1, grown_sent script tick m letters lanes h g.1)
+
 grown_each : (script : Plan) (tick m : ℕ) (letters : List Letter) (lanes : List Lane) → m + 20001 + 2 * length letters ≤ 2 ^ 62 → EachGrown script tick m lanes
-    → AllByRecursion (AllGrown (tree_levels script)) (map (received_all script tick letters) (map (turned script tick) lanes))
-grown_each script tick m letters [] h g = tt
-grown_each script tick m letters (lane ∷ lanes) h g =
-    (grown_received_all (tree_levels script) script tick (tick + 1) (m + 20001) letters (turned script tick lane) h (ready-turned script tick m lane g.0.0) (grown_turned (tree_levels script) m script tick lane (omega (arith, h)) g.0.0 g.0.1), grown_each script tick m letters lanes h g.1)
+    → AllByRecursion (AllGrown (tree_levels script)) (delivered script tick letters (map (turned script tick) lanes))
+grown_each script tick m letters lanes h g =
+    let after : List Lane = map (turned script tick) lanes in
+    let t = grown_turns script tick m lanes (omega (arith, h)) g in
+    grown_sent script tick (m + 20001) letters (handed_over tick letters after) h
+    (both script (tick + 1) (m + 20001) (handed_over tick letters after) (ready_over script tick (tick + 1) (m + 20001) letters after (ready_alone script (tick + 1) (m + 20001) after t)) (grown_over (tree_levels script) tick letters after (grown_alone script (tick + 1) (m + 20001) after t)))
 
 grown_at_tick : (script : Plan) (tick : ℕ) → length script.lanes ≤ 64 → tick ≤ 4096 → AllByRecursion (AllGrown (tree_levels script)) (lanes_at script tick)
 grown_at_tick script zero few h = grown_openings script (range_with_len 0 (length script.lanes))

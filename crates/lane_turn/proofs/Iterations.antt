@@ -23,7 +23,7 @@ use Rattle.lane_turn.specs.declared.layer.Call.{Call}
 use Rattle.lane_turn.specs.declared.layer.Origin.{Origin}
 use Rattle.lane_turn.specs.declared.layer.Origin.TheVariants as origins
 use Rattle.lane_turn.specs.Frames.{Frame, CallOf, IterOf, LoopOf, advanced, advanced_one, emptied, emptied_one, calls_in_progress}
-use Rattle.lane_turn.specs.Lane.{Lane, Turn, taken, pushed, popped, stopped, set_running, written, iterating, chosen, is_any, context_at, place_at, handler_at, row_in, row_of, is_running}
+use Rattle.lane_turn.specs.Lane.{Lane, Turn, taken, pushed, popped, stopped, set_running, written, iterating, chosen, is_any, context_at, place_at, handler_at, row_in, row_of, is_running, is_own}
 use Rattle.lane_watch.specs.Tasks.{Started}
 use Rattle.post_office.specs.declared.letter.Body.{Body as Mail}
 use Rattle.lane_turn.specs.declared.line.Invoked.TheVariants.{Posted}
@@ -146,7 +146,7 @@ invoke_on ch tick now context proc lane =
     let none : Lane = called_at_once tick context proc None next in
     let some : Lane = called_at_once tick context proc (Some context) next in
     let attached : Lane = attaching tick now context proc next in
-    by_either ch lane.frames (invoke_own tick now context proc next) (written tick (events.Invoke context Posted) next) (is_some (context_at context next))
+    by_either ch lane.frames (invoke_own tick now context proc next) (written tick (events.Invoke context Posted) next) (is_own context next)
     (by_either ch lane.frames none (cond (default_context next == context) some attached) (is_owned context next) (at_once_on ch tick context proc None lane)
     (by_either ch lane.frames some attached (default_context next == context) (at_once_on ch tick context proc (Some context) lane) (taken_on ch lane.frames)))
     (taken_on ch lane.frames)
@@ -161,7 +161,7 @@ acted_on ch script tick (Iterate context) lane k = by_either ch lane.frames _ _ 
 acted_on ch script tick (Pending context) lane k = taken_on ch lane.frames
 acted_on ch script tick (Run number) lane k =
     let begun : Begun ch lane.frames (LoopOf number (context_of script number) ∷ advanced lane.frames) = (each_taken lane.frames, tt) in
-    by_either ch lane.frames (pushed (LoopOf number (context_of script number)) (set_running number true (taken lane))) (missed tick words.Run (taken lane)) (is_some (context_at (context_of script number) (taken lane)))
+    by_either ch lane.frames (pushed (LoopOf number (context_of script number)) (set_running number true (taken lane))) (missed tick words.Run (taken lane)) (is_own (context_of script number) (taken lane))
     (inr (inr begun)) (taken_on ch lane.frames)
 acted_on ch script tick (Quit number) lane k = by_either ch lane.frames _ _ _ (taken_on ch lane.frames) (taken_on ch lane.frames)
 acted_on ch script tick (Cancel c) lane k = plain_on ch lane.frames (taken lane) _ (plain_cancel script tick c (taken lane)) (taken_on ch lane.frames)
@@ -201,7 +201,7 @@ ended_on : (ch : ℕ → List ℕ) (fs : List Frame) → FramesGoOn ch fs (drop 
 ended_on ch fs = inr (inl (each_same (drop 1 fs)))
 
 call_on : (ch : ℕ → List ℕ) (script : Plan) (tick : ℕ) (t : Turn) (call : Call) (action : Option Action) → ((c : ℕ) → chosen script tick c (taken t.lane) ≡ ch c) → On ch t.lane.frames (step_call script tick t call action)
-call_on ch script tick t call (Some action) k = counted_on ch tick (sends action (taken t.lane)) (λ lane. acted script tick action (taken lane)) t t.left (acted_on ch script tick action t.lane k)
+call_on ch script tick t call (Some action) k = counted_on ch tick (sends script action (taken t.lane)) (λ lane. acted script tick action (taken lane)) t t.left (acted_on ch script tick action t.lane k)
 call_on ch script tick t call None k = returned_on ch script tick call.body call.origin (popped t.lane) t.lane.frames (ended_on ch t.lane.frames)
 
 -- ---- a dispatch is of the next id

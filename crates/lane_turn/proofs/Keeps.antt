@@ -27,7 +27,7 @@ use Rattle.lane_turn.specs.declared.layer.Origin.TheVariants.{Start, Source, Inv
 use Rattle.lane_turn.specs.declared.slot.Place.{Place}
 use Rattle.lane_turn.specs.declared.lane.Status.TheVariants.{Halted}
 use Rattle.lane_turn.specs.Frames.{calls_in_progress}
-use Rattle.lane_turn.specs.Lane.{Lane, context_at, row_at, stopped, place_at, handler_at, written, viewing, noting}
+use Rattle.lane_turn.specs.Lane.{Lane, context_at, row_at, stopped, place_at, handler_at, written, viewing, noting, is_own}
 use Rattle.lane_turn.specs.Owned.{default_context, is_owned, may_release, calling, called_at_once, attaching, invoke_own, invoke}
 use Rattle.lane_turn.specs.Acted.{acted, can_bear, child_of, on_source, set_priority_of, plain_acted, all_acted, handled, all_handled, cancel, connect, disconnect_of}
 use Rattle.lane_turn.specs.Step.{dispatching, returned, answered}
@@ -62,7 +62,7 @@ keeps_one script tick (SetPriority slot priority) lane = keep lane _ refl refl
 keeps_one script tick (Iterate context) lane = keep lane _ refl refl
 keeps_one script tick (Pending context) lane = keep lane _ refl refl
 keeps_one script tick (Run number) lane = keep lane _ refl refl
-keeps_one script tick (Quit number) lane = either lane _ _ (is_some (context_at (context_of script number) lane)) (keep lane _ refl refl) (keep lane _ refl refl)
+keeps_one script tick (Quit number) lane = either lane _ _ (is_own (context_of script number) lane) (keep lane _ refl refl) (keep lane _ refl refl)
 keeps_one script tick (Cancel c) lane = keep lane _ refl refl
 keeps_one script tick (Connect c slot proc) lane = keep lane _ refl refl
 keeps_one script tick (Disconnect slot) lane = keep lane _ refl refl
@@ -127,7 +127,7 @@ keeps_invoke tick now context proc lane =
     let none : Lane = called_at_once tick context proc None lane in
     let some : Lane = called_at_once tick context proc (Some context) lane in
     let there : Lane = attaching tick now context proc lane in
-    either lane (invoke_own tick now context proc lane) (written tick (events.Invoke context Posted) lane) (is_some (context_at context lane))
+    either lane (invoke_own tick now context proc lane) (written tick (events.Invoke context Posted) lane) (is_own context lane)
     (either lane none (cond (default_context lane == context) some there) (is_owned context lane) (keeps_at_once tick context proc None lane)
     (either lane some there (default_context lane == context) (keeps_at_once tick context proc (Some context) lane) (keep lane there refl refl)))
     (keep lane _ refl refl)
@@ -169,32 +169,33 @@ cancel_changes : (script : Plan) (tick c : ℕ) (lane : Lane) → Changes tick l
 cancel_changes script tick c lane = cancel_by script tick c lane (has c lane.view) refl
 
 pub acted_changes : (script : Plan) (tick : ℕ) (action : Action) (lane : Lane) → Changes tick lane (acted script tick action lane)
-acted_changes script tick (Attach context slot spec) lane = inl (either lane _ _ (is_some (context_at context lane)) (keep lane _ refl refl) (keep lane _ refl refl))
+acted_changes script tick (Attach context slot spec) lane = inl (either lane _ _ (is_own context lane) (keep lane _ refl refl) (keep lane _ refl refl))
 acted_changes script tick (Child parent slot spec) lane = inl (keeps_child tick (time_of script tick) slot spec (place_at parent lane) lane)
 acted_changes script tick (Destroy slot) lane = inl (keeps_source tick words.Destroy destroyed (place_at slot lane) lane)
 acted_changes script tick (SetReady slot us) lane = inl (keeps_source tick words.SetReady (λ id. ready_set id us) (place_at slot lane) lane)
 acted_changes script tick (SetPriority slot priority) lane = inl (keeps_priority tick priority (place_at slot lane) lane)
-acted_changes script tick (Iterate context) lane = inl (either lane _ _ (is_some (context_at context lane)) (keep lane _ refl refl) (keep lane _ refl refl))
+acted_changes script tick (Iterate context) lane = inl (either lane _ _ (is_own context lane) (keep lane _ refl refl) (keep lane _ refl refl))
 acted_changes script tick (Pending context) lane = inl (keep lane _ refl refl)
-acted_changes script tick (Run number) lane = inl (either lane _ _ (is_some (context_at (context_of script number) lane)) (keep lane _ refl refl) (keep lane _ refl refl))
-acted_changes script tick (Quit number) lane = inl (either lane _ _ (is_some (context_at (context_of script number) lane)) (keep lane _ refl refl) (keep lane _ refl refl))
+acted_changes script tick (Run number) lane = inl (either lane _ _ (is_own (context_of script number) lane) (keep lane _ refl refl) (keep lane _ refl refl))
+acted_changes script tick (Quit number) lane = inl (either lane _ _ (is_own (context_of script number) lane) (keep lane _ refl refl) (keep lane _ refl refl))
 acted_changes script tick (Cancel c) lane = cancel_changes script tick c lane
 acted_changes script tick (Connect c slot proc) lane = inl (keeps_connect script tick c slot proc lane)
 acted_changes script tick (Disconnect slot) lane = inl (keeps_disconnect tick (handler_at slot lane) lane)
 acted_changes script tick (Task spec) lane = inr (inl (record { spec = spec; context = default_context lane; tasks = refl; members = refl }))
-acted_changes script tick (Push context) lane = inl (either lane _ _ (is_some (context_at context lane)) (keep lane _ refl refl) (keep lane _ refl refl))
+acted_changes script tick (Push context) lane = inl (either lane _ _ (is_own context lane) (keep lane _ refl refl) (keep lane _ refl refl))
 acted_changes script tick (Pop context) lane = inl (either lane _ _ (is_on_top context lane.defaults) (keep lane _ refl refl) (keep lane _ refl refl))
 acted_changes script tick ShowDefault lane = inl (keep lane _ refl refl)
-acted_changes script tick (Acquire context) lane = inl (either lane _ _ (is_some (context_at context lane)) (keep lane _ refl refl) (keep lane _ refl refl))
+acted_changes script tick (Acquire context) lane = inl (either lane _ _ (is_own context lane) (keep lane _ refl refl) (keep lane _ refl refl))
 acted_changes script tick (Release context) lane = inl (either lane _ _ (may_release (context_at context lane)) (keep lane _ refl refl) (keep lane _ refl refl))
 acted_changes script tick (Invoke context proc) lane = inl (keeps_invoke tick (time_of script tick) context proc lane)
 acted_changes script tick (Give context to) lane = inl (keep lane _ refl refl)
 acted_changes script tick (Log n) lane = inl (keep lane _ refl refl)
 
 pub received_changes : (script : Plan) (tick sender : ℕ) (body : Mail) (lane : Lane) → Changes tick lane (received_body script tick sender body lane)
-received_changes script tick sender (mails.Attach context spec) lane = inl (either lane _ _ (is_some (context_at context lane)) (keep lane _ refl refl) (keep lane _ refl refl))
-received_changes script tick sender (mails.Complete reply) lane = inl (either lane _ _ (is_some (context_at reply.ctx lane)) (keep lane _ refl refl) (keep lane _ refl refl))
+received_changes script tick sender (mails.Attach context spec) lane = inl (either lane _ _ (is_own context lane) (keep lane _ refl refl) (keep lane _ refl refl))
+received_changes script tick sender (mails.Complete reply) lane = inl (either lane _ _ (is_own reply.ctx lane) (keep lane _ refl refl) (keep lane _ refl refl))
 received_changes script tick sender (mails.Cancelled c) lane = cancel_changes script tick c lane
+received_changes script tick sender (mails.Give context to) lane = inl (keep lane _ refl refl)
 
 pub keeps_dispatching : (tick context : ℕ) (row : Row) (lane : Lane) → Keeps lane (dispatching tick context row lane)
 keeps_dispatching tick context row lane = either lane _ _ (nat_lt (calls_in_progress lane.frames) 32) (keep lane _ refl refl) (keep lane _ refl refl)

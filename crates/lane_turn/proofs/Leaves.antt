@@ -32,7 +32,8 @@ use Rattle.lane_turn.specs.declared.layer.Origin.TheVariants.{Start, Source, Inv
 use Rattle.lane_turn.specs.declared.slot.Place.{Place}
 use Rattle.lane_turn.specs.Frames.{calls_in_progress}
 use Rattle.lane_turn.specs.Sources.{restarted, restarted_row, restarted_kind}
-use Rattle.lane_turn.specs.Lane.{Lane, present, context_at, next_id, with_rows, with_context, edited, row_at, place_at, handler_at, written, viewing, noting}
+use Rattle.lane_turn.specs.Lane.{Lane, present, context_at, next_id, with_rows, with_context, edited, row_at, place_at, handler_at, written, viewing, noting, is_own, is_given}
+use Rattle.lane_turn.specs.Handover.{may_give, with_given}
 use Rattle.lane_turn.specs.Owned.{default_context, is_owned, may_release, invoke_spec, calling, called_at_once, attaching, invoke_own, invoke}
 use Rattle.lane_turn.specs.Acted.{attach, acted, start_task, born, can_bear, child_of, on_source, set_priority_of, plain_acted, all_acted, handled, all_handled, cancel, connect, disconnect_of}
 use Rattle.lane_turn.specs.Step.{returned, answered}
@@ -134,7 +135,7 @@ leaves_one s n script tick (SetPriority slot priority) lane = same s n lane lane
 leaves_one s n script tick (Iterate context) lane = same s n lane lane refl refl refl refl refl
 leaves_one s n script tick (Pending context) lane = same s n lane lane refl refl refl refl refl
 leaves_one s n script tick (Run number) lane = same s n lane lane refl refl refl refl refl
-leaves_one s n script tick (Quit number) lane = either s n lane _ _ (is_some (context_at (context_of script number) lane)) (same s n lane _ refl refl refl refl refl) (line s n lane tick (events.Miss words.Quit) refl)
+leaves_one s n script tick (Quit number) lane = either s n lane _ _ (is_own (context_of script number) lane) (same s n lane _ refl refl refl refl refl) (line s n lane tick (events.Miss words.Quit) refl)
 leaves_one s n script tick (Cancel c) lane = same s n lane lane refl refl refl refl refl
 leaves_one s n script tick (Connect c slot proc) lane = same s n lane lane refl refl refl refl refl
 leaves_one s n script tick (Disconnect slot) lane = same s n lane lane refl refl refl refl refl
@@ -218,7 +219,7 @@ leaves_invoke s n tick now context proc lane =
     let none : Lane = called_at_once tick context proc None lane in
     let some : Lane = called_at_once tick context proc (Some context) lane in
     let there : Lane = attaching tick now context proc lane in
-    either s n lane (invoke_own tick now context proc lane) (written tick (events.Invoke context Posted) lane) (is_some (context_at context lane))
+    either s n lane (invoke_own tick now context proc lane) (written tick (events.Invoke context Posted) lane) (is_own context lane)
     (either s n lane none (cond (default_context lane == context) some there) (is_owned context lane) (leaves_at_once s n tick context proc None lane)
     (either s n lane some there (default_context lane == context) (leaves_at_once s n tick context proc (Some context) lane) (leaves_attaching s n tick now context proc lane)))
     (line s n lane tick (events.Invoke context Posted) refl)
@@ -226,7 +227,7 @@ leaves_invoke s n tick now context proc lane =
 leaves_attach : (s n tick now context slot : ℕ) (spec : SourceSpec) (lane : Lane) → Leaves s n lane (attach tick now context slot spec lane)
 leaves_attach s n tick now context slot spec lane =
     let there : Lane = edited context (attached spec now) lane in
-    either s n lane _ _ (is_some (context_at context lane))
+    either s n lane _ _ (is_own context lane)
     (leaves_trans s n lane there _ (edit s n lane context (attached spec now) (λ rows. omega arith)) (same s n there _ refl refl refl refl refl))
     (line s n lane tick (events.Miss words.Attach) refl)
 
@@ -241,13 +242,17 @@ each_front P zero (x ∷ xs) h = tt
 each_front P (suc k) [] h = tt
 each_front P (suc k) (x ∷ xs) h = (h.0, each_front P k xs h.1)
 
-leaves_push : (s n tick context : ℕ) (lane : Lane) (b : Bool) → is_some (context_at context lane) ≡ b → Leaves s n lane (cond b (record lane { defaults = pushed context lane.defaults }) (written tick (events.Miss words.Push) lane))
+left_of : (a b : Bool) → (a && b) ≡ true → a ≡ true
+left_of true b h = refl
+left_of false b h = let no : false ≡ true = h in cc
+
+leaves_push : (s n tick context : ℕ) (lane : Lane) (b : Bool) → is_own context lane ≡ b → Leaves s n lane (cond b (record lane { defaults = pushed context lane.defaults }) (written tick (events.Miss words.Push) lane))
 leaves_push s n tick context lane true e = record {
   told = refl;
   replies = refl;
   size = refl;
   rise = λ i. omega arith;
-  place = λ m z p. record { all = p.all; defaults = each-push (λ c. c < m) lane.defaults context p.defaults (omega (arith, own_within lane.contexts context e, p.all)); tasks = p.tasks };
+  place = λ m z p. record { all = p.all; defaults = each-push (λ c. c < m) lane.defaults context p.defaults (omega (arith, own_within lane.contexts context (left_of (is_some (context_at context lane)) (not (is_given context lane)) e), p.all)); tasks = p.tasks };
 }
 leaves_push s n tick context lane false e = line s n lane tick (events.Miss words.Push) refl
 
@@ -283,25 +288,25 @@ leaves_acted s n script tick (Child parent slot spec) lane = leaves_child s n ti
 leaves_acted s n script tick (Destroy slot) lane = leaves_source s n tick words.Destroy destroyed (place_at slot lane) lane (λ id rows. omega arith)
 leaves_acted s n script tick (SetReady slot us) lane = leaves_source s n tick words.SetReady (λ id. ready_set id us) (place_at slot lane) lane (λ id rows. omega arith)
 leaves_acted s n script tick (SetPriority slot priority) lane = leaves_priority s n tick priority (place_at slot lane) lane
-leaves_acted s n script tick (Iterate context) lane = either s n lane _ _ (is_some (context_at context lane)) (same s n lane _ refl refl refl refl refl) (line s n lane tick (events.Iterate context false) refl)
+leaves_acted s n script tick (Iterate context) lane = either s n lane _ _ (is_own context lane) (same s n lane _ refl refl refl refl refl) (line s n lane tick (events.Iterate context false) refl)
 leaves_acted s n script tick (Pending context) lane = line s n lane tick _ refl
-leaves_acted s n script tick (Run number) lane = either s n lane _ _ (is_some (context_at (context_of script number) lane)) (same s n lane _ refl refl refl refl refl) (line s n lane tick (events.Miss words.Run) refl)
-leaves_acted s n script tick (Quit number) lane = either s n lane _ _ (is_some (context_at (context_of script number) lane)) (same s n lane _ refl refl refl refl refl) (line s n lane tick (events.Miss words.Quit) refl)
+leaves_acted s n script tick (Run number) lane = either s n lane _ _ (is_own (context_of script number) lane) (same s n lane _ refl refl refl refl refl) (line s n lane tick (events.Miss words.Run) refl)
+leaves_acted s n script tick (Quit number) lane = either s n lane _ _ (is_own (context_of script number) lane) (same s n lane _ refl refl refl refl refl) (line s n lane tick (events.Miss words.Quit) refl)
 leaves_acted s n script tick (Cancel c) lane = leaves_cancel s n script tick c lane
 leaves_acted s n script tick (Connect c slot proc) lane = leaves_connect s n script tick c slot proc lane
 leaves_acted s n script tick (Disconnect slot) lane = leaves_disconnect s n tick (handler_at slot lane) lane
 leaves_acted s n script tick (Task spec) lane = leaves_task s n tick spec lane
-leaves_acted s n script tick (Push context) lane = leaves_push s n tick context lane (is_some (context_at context lane)) refl
+leaves_acted s n script tick (Push context) lane = leaves_push s n tick context lane (is_own context lane) refl
 leaves_acted s n script tick (Pop context) lane = either s n lane _ _ (is_on_top context lane.defaults) (leaves_popped s n context lane) (line s n lane tick (events.Miss words.Pop) refl)
 leaves_acted s n script tick ShowDefault lane = line s n lane tick (events.Default (default_context lane)) refl
 leaves_acted s n script tick (Acquire context) lane =
     let there : Lane = with_context context acquired lane in
-    either s n lane _ _ (is_some (context_at context lane))
+    either s n lane _ _ (is_own context lane)
     (leaves_trans s n lane there _ (change s n lane context acquired (λ c. omega arith)) (line s n there tick (events.Acquire context true) refl))
     (line s n lane tick (events.Acquire context false) refl)
 leaves_acted s n script tick (Release context) lane = either s n lane _ _ (may_release (context_at context lane)) (change s n lane context released (λ c. omega arith)) (line s n lane tick (events.Miss words.Release) refl)
 leaves_acted s n script tick (Invoke context proc) lane = leaves_invoke s n tick (time_of script tick) context proc lane
-leaves_acted s n script tick (Give context to) lane = same s n lane lane refl refl refl refl refl
+leaves_acted s n script tick (Give context to) lane = either s n lane _ _ (may_give script context to lane) (leaves_trans s n lane (with_given context true lane) _ (same s n lane (with_given context true lane) refl refl refl refl refl) (line s n (with_given context true lane) tick (events.Give context to) refl)) (line s n lane tick (events.Miss words.Give) refl)
 leaves_acted s n script tick (Log m) lane = line s n lane tick (events.Log m) refl
 
 -- ---- what ends

@@ -54,3 +54,6 @@ pub mod EachLane
 pub mod Traced
 pub mod Rested
 pub mod Stands
+pub mod Whole
+pub mod Ungiven
+pub mod GoingOver

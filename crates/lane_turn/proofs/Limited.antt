@@ -40,7 +40,7 @@ takes_action script tick t u call action below p s f a e =
     let at : step script tick now ≡ Some u = in_the_middle script tick t u frames p s f e in
     let so : Some (step_call script tick now call (Some action)) ≡ Some u = ap (λ (o : Option Action). Some (step_call script tick now call o)) (sym a) ∙ at in
     of_middle tick t u frames s f
-    (subst (TakesOne tick now) (some_turn _ _ so) (takes_one tick (sends action (taken now.lane)) (λ lane. acted script tick action (taken lane)) now now.left refl))
+    (subst (TakesOne tick now) (some_turn _ _ so) (takes_one tick (sends script action (taken now.lane)) (λ lane. acted script tick action (taken lane)) now now.left refl))
 
 pub takes_dispatch : (script : Plan) (tick : ℕ) (t u : Turn) (context id : ℕ) (ids : List ℕ) (asker : Asker) (below : List Frame) (row : Row) → t.unpolled ≡ [] → t.lane.status ≡ GoesOn
     → t.lane.frames ≡ IterOf context (id ∷ ids) asker ∷ below → row_of context id t.lane ≡ Some row → step script tick t ≡ Some u → TakesOne tick t u
@@ -62,7 +62,7 @@ falls_limited tick mail f t zero e = omega arith
 falls_limited tick mail f t (suc n) e = omega (arith, e)
 
 falls_call : (script : Plan) (tick : ℕ) (t : Turn) (call : Call) (a : Option Action) → Falls t (step_call script tick t call a)
-falls_call script tick t call (Some a) = falls_limited tick (sends a (taken t.lane)) (λ lane. acted script tick a (taken lane)) t t.left refl
+falls_call script tick t call (Some a) = falls_limited tick (sends script a (taken t.lane)) (λ lane. acted script tick a (taken lane)) t t.left refl
 falls_call script tick t call None = omega arith
 
 falls_id : (tick : ℕ) (t : Turn) (context : ℕ) (r : Option Row) → Falls t (step_id tick t context r)

@@ -1,6 +1,6 @@
 -- In a run no reply is lost.
 use Rattle.std.proofs.Common.{◌≡◌, ◌≢◌, ◌⊎◌, inl, inr, ℕ, zero, suc, ◌+◌, ◌-◌, ◌<◌, ◌≤◌, ◌==◌, ◌&&◌, Bool, true, false, cond, List, [], ◌∷◌, ◌++◌, map, length, slice_set, option_map, refl, ap, sym, ◌∙◌, arith, subst, sum_by, ltb-false}
-use Rattle.std.specs.Prelude.{nat_lt, is_some, slice_index_or}
+use Rattle.std.specs.Prelude.{not, unwrap_or, slice_get, nat_lt, is_some, slice_index_or}
 use Rattle.std.specs.List.{flat_map, range_with_len}
 use Rattle.std.proofs.lemmas.List.{length-map, length-set}
 use Rattle.std.proofs.lemmas.List.Sums.{sum_by-cons}
@@ -13,10 +13,10 @@ use Rattle.loop_script.specs.References.{sizes}
 use Rattle.source_rows.specs.Rows.{attached}
 use Rattle.post_office.specs.declared.letter.Letter.{Letter}
 use Rattle.post_office.specs.declared.letter.Body.{Body}
-use Rattle.post_office.specs.declared.letter.Body.TheVariants.{Attach, Complete, Cancelled}
+use Rattle.post_office.specs.declared.letter.Body.TheVariants.{Attach, Complete, Cancelled, Give}
 use Rattle.lane_turn.specs.declared.line.Event.TheVariants as events
-use Rattle.lane_turn.specs.Lane.{Lane, context_at, next_id, with_rows, edited, written}
-use Rattle.lane_turn.specs.Turn.{opening, turned, out_of}
+use Rattle.lane_turn.specs.Lane.{Lane, context_at, next_id, with_rows, edited, written, is_own, is_given}
+use Rattle.lane_turn.specs.Turn.{opening, open_loops, turned, out_of}
 use Rattle.lane_turn.specs.Deliver.{reply_spec, holding, received_body, received, received_all}
 use Rattle.lane_turn.specs.Tick.{lanes_at, posted_at}
 use Rattle.lane_turn.specs.Arrivals.{held_of}
@@ -24,7 +24,7 @@ use Rattle.lane_turn.specs.Letters.{AreNumbered}
 use Rattle.lane_turn.specs.Owed.{one_for, is_reply, replied, lane_under, posted_before}
 use Rattle.lane_turn.specs.Taken.{accounted, brings, brought, brought_before}
 use Rattle.lane_turn.proofs.Turns.{out_numbered}
-use Rattle.lane_turn.proofs.Arrivals.{own_held, length_held, open_at}
+use Rattle.lane_turn.proofs.Arrivals.{own_held, own_same, given_turned, given_received, length_held, open_at}
 use Rattle.lane_turn.proofs.Owed.{run_under}
 use Rattle.lane_turn.proofs.Leaves.{IsPlaced, place_same, leaves_cancel}
 use Rattle.lane_turn.proofs.Moving.{IsHomed, AreHomed, turned_homes}
@@ -36,7 +36,8 @@ use Rattle.lane_turn.proofs.Taken.{over, over_none, over_cons, over_nil, over_ad
 received_placed : (m : ℕ) (script : Plan) (tick sender : ℕ) (body : Body) (lane : Lane) → 0 < m → IsPlaced m lane → IsPlaced m (received_body script tick sender body lane)
 received_placed m script tick sender (Attach context spec) lane z p = (leaves_arrived 0 0 tick (time_of script tick) context spec lane).place m z p
 received_placed m script tick sender (Cancelled c) lane z p = (leaves_cancel 0 0 script tick c lane).place m z p
-received_placed m script tick sender (Complete reply) lane z p = by (is_some (context_at reply.ctx lane))
+received_placed m script tick sender (Give context to) lane z p = p
+received_placed m script tick sender (Complete reply) lane z p = by (is_own reply.ctx lane)
   where
     size : length (slice_set lane.contexts reply.ctx (option_map (with_rows (attached (reply_spec reply) (time_of script tick))) (context_at reply.ctx lane))) ≡ length lane.contexts
     size = simp length-set
@@ -84,11 +85,27 @@ home_within number (lane ∷ lanes) c h =
     let sum = sum_by-cons (λ (l : LaneSpec). l.contexts) lane lanes in
     home_by number lane lanes c (nat_lt c lane.contexts) refl (λ le. home_within (number + 1) lanes (c - lane.contexts) (omega (arith, h, sum, le)))
 
-has_home : (script : Plan) (mail : ℕ → List Letter) (k c : ℕ) → c < (sizes script).contexts → is_some (context_at c (lane_under script mail (home_of script c) k)) ≡ true
+-- at first nothing is given
+none_open : (n c : ℕ) → unwrap_or (slice_get (open_loops n) c) false ≡ false
+none_open zero c = refl
+none_open (suc n) c = none_pushed (open_loops n) c (λ i. none_open n i)
+  where
+    none_pushed : (bs : List Bool) (c : ℕ) → ((i : ℕ) → unwrap_or (slice_get bs i) false ≡ false) → unwrap_or (slice_get (bs ++ false ∷ []) c) false ≡ false
+    none_pushed [] zero h = refl
+    none_pushed [] (suc c) h = refl
+    none_pushed (b ∷ bs) zero h = h zero
+    none_pushed (b ∷ bs) (suc c) h = none_pushed bs c (λ i. h (suc i))
+
+given_under : (script : Plan) (mail : ℕ → List Letter) (lane k : ℕ) → (lane_under script mail lane k).given ≡ (opening script lane).given
+given_under script mail lane zero = refl
+given_under script mail lane (suc k) = given_received script k (mail k) (turned script k (lane_under script mail lane k)) ∙ (given_turned script k (lane_under script mail lane k) ∙ given_under script mail lane k)
+
+has_home : (script : Plan) (mail : ℕ → List Letter) (k c : ℕ) → c < (sizes script).contexts → is_own c (lane_under script mail (home_of script c) k) ≡ true
 has_home script mail k c h =
-    own_held (lane_under script mail (home_of script c) k).contexts c
-    ∙ (ap (λ bs. slice_index_or bs c false) (held_under script mail (home_of script c) k)
-    ∙ (open_at script (home_of script c) (sizes script).contexts c h ∙ eq-eqb (home_of script c) (home_of script c) refl))
+    let home : Lane = opening script (home_of script c) in
+    let there : is_some (context_at c home) ≡ true = own_held home.contexts c ∙ (open_at script (home_of script c) (sizes script).contexts c h ∙ eq-eqb (home_of script c) (home_of script c) refl) in
+    own_same c (lane_under script mail (home_of script c) k) home (held_under script mail (home_of script c) k) (given_under script mail (home_of script c) k)
+    ∙ (ap (λ b. b && not (is_given c home)) there ∙ ap not (none_open (sizes script).contexts c))
 
 -- ---- all is brought
 
@@ -108,10 +125,11 @@ over_same f h e a (suc m) l g = by (eqb_tells a h) (λ k. over_same f h e (a + 1
 one_brought : (s n : ℕ) (script : Plan) (mail : ℕ → List Letter) (k sender : ℕ) (body : Body) → IsHomed (sizes script).contexts body
     → over (λ i. one_for ((sender == s) && brings n (lane_under script mail i k) body)) (numbers script) ≡ one_for ((sender == s) && is_reply n body)
 one_brought s n script mail k sender (Attach context spec) h = over_all (λ i. one_for ((sender == s) && false)) (λ i. never (sender == s)) (numbers script) ∙ sym (never (sender == s))
+one_brought s n script mail k sender (Give context to) h = over_all (λ i. one_for ((sender == s) && false)) (λ i. never (sender == s)) (numbers script) ∙ sym (never (sender == s))
 one_brought s n script mail k sender (Cancelled c) h = over_all (λ i. one_for ((sender == s) && false)) (λ i. never (sender == s)) (numbers script) ∙ sym (never (sender == s))
 one_brought s n script mail k sender (Complete reply) h =
-    over_same (λ i. one_for ((sender == s) && ((reply.task == n) && is_some (context_at reply.ctx (lane_under script mail i k))))) (home_of script reply.ctx)
-    (λ l p. never_both (sender == s) (reply.task == n) _ (false_from_ne_true (is_some (context_at reply.ctx (lane_under script mail l k))) (λ e. p (own_home script mail l k reply.ctx e))))
+    over_same (λ i. one_for ((sender == s) && ((reply.task == n) && is_own reply.ctx (lane_under script mail i k)))) (home_of script reply.ctx)
+    (λ l p. never_both (sender == s) (reply.task == n) _ (false_from_ne_true (is_own reply.ctx (lane_under script mail l k)) (λ e. p (own_home script mail l k reply.ctx e))))
     0 (length script.lanes) (omega arith) (home_within 0 script.lanes reply.ctx h)
     ∙ (ap (λ b. one_for ((sender == s) && ((reply.task == n) && b))) (has_home script mail k reply.ctx h) ∙ with_true (sender == s) (reply.task == n))
 

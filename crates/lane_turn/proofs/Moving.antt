@@ -40,6 +40,7 @@ abbrev pub IsHomed : ℕ → Mail → Type 0
 IsHomed m (mails.Attach context spec) = Unit {0}
 IsHomed m (mails.Complete reply) = reply.ctx < m
 IsHomed m (mails.Cancelled c) = Unit {0}
+IsHomed m (mails.Give context to) = Unit {0}
 
 abbrev pub AreHomed : ℕ → List Letter → Type 0
 AreHomed m letters = AllByRecursion (λ l. IsHomed m l.body) letters
@@ -62,6 +63,7 @@ no_reply : (m : ℕ) (mail : Option Mail) → ((n : ℕ) → mail_count n mail �
 no_reply m None h = tt
 no_reply m (Some (mails.Attach context spec)) h = tt
 no_reply m (Some (mails.Cancelled c)) h = tt
+no_reply m (Some (mails.Give context to)) h = tt
 no_reply m (Some (mails.Complete reply)) h = absurd (omega (arith, h reply.task, ap one_for (eq-eqb reply.task reply.task refl)))
 
 place_dispatching : (m tick context : ℕ) (row : Row) (lane : Lane) → IsPlaced m lane → IsPlaced m (dispatching tick context row lane)
@@ -95,7 +97,7 @@ counted_on s n tick mail f t (suc left) g h p = record { moves = h; homes = λ m
 call_on : (s n : ℕ) (script : Plan) (tick : ℕ) (t : Turn) (call : Call) (a : Option Action) → On s n t (step_call script tick t call a)
 call_on s n script tick t call (Some a) =
     let h : Leaves s n t.lane (acted script tick a (taken t.lane)) = leaves_trans s n t.lane (taken t.lane) _ (same s n t.lane (taken t.lane) refl refl refl refl refl) (leaves_acted s n script tick a (taken t.lane)) in
-    counted_on s n tick (sends a (taken t.lane)) (λ lane. acted script tick a (taken lane)) t t.left (λ m. no_reply m (sends a (taken t.lane)) (λ i. sends_none i a (taken t.lane))) (left s n t.lane _ h) h.place
+    counted_on s n tick (sends script a (taken t.lane)) (λ lane. acted script tick a (taken lane)) t t.left (λ m. no_reply m (sends script a (taken t.lane)) (λ i. sends_none i script a (taken t.lane))) (left s n t.lane _ h) h.place
 call_on s n script tick t call None =
     freely_on s n t _ t.iterated (leaves_trans s n t.lane (popped t.lane) _ (same s n t.lane (popped t.lane) refl refl refl refl refl) (leaves_returned s n script tick call.body call.origin (popped t.lane)))
 

@@ -19,7 +19,7 @@ use Rattle.lane_turn.specs.declared.lane.Status.{Status}
 use Rattle.lane_turn.specs.declared.lane.Status.TheVariants.{GoesOn, Ended, Halted}
 use Rattle.lane_turn.specs.declared.layer.Call.{Call}
 use Rattle.lane_turn.specs.Frames.{Frame, CallOf, IterOf, LoopOf}
-use Rattle.lane_turn.specs.Lane.{Lane, Turn, context_at, popped, taken, row_of, iterating, is_running, written}
+use Rattle.lane_turn.specs.Lane.{Lane, Turn, context_at, popped, taken, row_of, iterating, is_running, written, is_own}
 use Rattle.lane_turn.specs.Owned.{invoke_spec}
 use Rattle.lane_turn.specs.Acted.{acted, sends}
 use Rattle.lane_turn.specs.Step.{step, step_polling, step_call, step_id, limited_by, with_lane, dispatching, polled, posted_with, mail_of, one_if}
@@ -30,6 +30,7 @@ use Rattle.lane_turn.specs.Owed.{one_for, owed_by, owed, replied, lane_under, po
 use Rattle.lane_turn.proofs.Keeps.{Keeps, Changes, keep, acted_changes, received_changes, keeps_dispatching, keeps_returned, keeps_answered}
 use Rattle.lane_turn.proofs.Owing.{Owes, mail_count, polled_one, replied_posted, owed_push, owed_if, changes_owed, changes_dated}
 use Rattle.lane_turn.proofs.Turns.{kept_finished}
+use Rattle.lane_turn.proofs.Ungiven.{next_at}
 use Rattle.lane_turn.proofs.Finish.{no_step_left}
 use Rattle.lane_turn.specs.declared.layer.Asker.TheVariants as askers
 
@@ -39,36 +40,36 @@ some_same : (t u : Turn) → Some t ≡ Some u → t ≡ u
 some_same t u e = cc
 
 -- no action sends a reply
-pub sends_none : (n : ℕ) (action : Action) (lane : Lane) → mail_count n (sends action lane) ≡ 0
-sends_none n (Cancel c) lane = by (has c lane.view)
+pub sends_none : (n : ℕ) (script : Plan) (action : Action) (lane : Lane) → mail_count n (sends script action lane) ≡ 0
+sends_none n script (Cancel c) lane = by (has c lane.view)
   where
     by : (b : Bool) → mail_count n (cond b None (Some (mails.Cancelled c))) ≡ 0
     by true = refl
     by false = refl
-sends_none n (Invoke context proc) lane = by (is_some (context_at context lane))
+sends_none n script (Invoke context proc) lane = by (is_own context lane)
   where
     by : (b : Bool) → mail_count n (cond b None (Some (mails.Attach context (invoke_spec proc)))) ≡ 0
     by true = refl
     by false = refl
-sends_none n (Attach context slot spec) lane = refl
-sends_none n (Child parent slot spec) lane = refl
-sends_none n (Destroy slot) lane = refl
-sends_none n (SetReady slot us) lane = refl
-sends_none n (SetPriority slot priority) lane = refl
-sends_none n (Iterate context) lane = refl
-sends_none n (Pending context) lane = refl
-sends_none n (Run number) lane = refl
-sends_none n (Quit number) lane = refl
-sends_none n (Connect c slot proc) lane = refl
-sends_none n (Disconnect slot) lane = refl
-sends_none n (Task spec) lane = refl
-sends_none n (Push context) lane = refl
-sends_none n (Pop context) lane = refl
-sends_none n ShowDefault lane = refl
-sends_none n (Acquire context) lane = refl
-sends_none n (Release context) lane = refl
-sends_none n (Give context to) lane = refl
-sends_none n (Log m) lane = refl
+sends_none n script (Attach context slot spec) lane = refl
+sends_none n script (Child parent slot spec) lane = refl
+sends_none n script (Destroy slot) lane = refl
+sends_none n script (SetReady slot us) lane = refl
+sends_none n script (SetPriority slot priority) lane = refl
+sends_none n script (Iterate context) lane = refl
+sends_none n script (Pending context) lane = refl
+sends_none n script (Run number) lane = refl
+sends_none n script (Quit number) lane = refl
+sends_none n script (Connect c slot proc) lane = refl
+sends_none n script (Disconnect slot) lane = refl
+sends_none n script (Task spec) lane = refl
+sends_none n script (Push context) lane = refl
+sends_none n script (Pop context) lane = refl
+sends_none n script ShowDefault lane = refl
+sends_none n script (Acquire context) lane = refl
+sends_none n script (Release context) lane = refl
+sends_none n script (Give context to) lane = refl
+sends_none n script (Log m) lane = refl
 
 -- the same of a lane whose innermost call has taken an action, or was left
 taken_changes : (k : ℕ) (lane after : Lane) → Changes k (taken lane) after → Changes k lane after
@@ -96,7 +97,7 @@ freely_owes k n total t after iterated none c h = let all = lane_owes k n total 
 
 call_owes : (script : Plan) (k n total : ℕ) (t : Turn) (call : Call) (a : Option Action) → t.unpolled ≡ [] → Owes k n total t → Owes k n total (step_call script k t call a)
 call_owes script k n total t call (Some a) none h =
-    counted_owes k n total (sends a (taken t.lane)) (λ lane. acted script k a (taken lane)) t t.left none (sends_none n a (taken t.lane)) (taken_changes k t.lane _ (acted_changes script k a (taken t.lane))) h
+    counted_owes k n total (sends script a (taken t.lane)) (λ lane. acted script k a (taken lane)) t t.left none (sends_none n script a (taken t.lane)) (taken_changes k t.lane _ (acted_changes script k a (taken t.lane))) h
 call_owes script k n total t call None none h =
     let r = keeps_returned script k call.body call.origin (popped t.lane) in
     freely_owes k n total t _ t.iterated none (keep t.lane _ r.tasks r.members) h
@@ -203,5 +204,6 @@ run_under script (suc k) =
     let letters : List Letter = posted_at script k (lanes_at script k) in
     let mail : ℕ → List Letter = λ j. posted_at script j (lanes_at script j) in
     let numbers : List ℕ = range_with_len 0 (length script.lanes) in
-    ap (λ (lanes : List Lane). map (received_all script k letters) (map (turned script k) lanes)) (run_under script k)
+    next_at script k
+    ∙ ap (λ (lanes : List Lane). map (received_all script k letters) (map (turned script k) lanes)) (run_under script k)
     ∙ mapped_on (received_all script k letters) (turned script k) (λ lane. lane_under script mail lane k) (λ lane. lane_under script mail lane (suc k)) (λ n. refl) numbers

@@ -8,7 +8,9 @@ use Rattle.loop_script.specs.declared.plan.Plan.{Plan}
 use Rattle.post_office.specs.declared.letter.Letter.{Letter}
 use Rattle.lane_turn.specs.Lane.{Lane}
 use Rattle.lane_turn.specs.Turn.{opening, turned, out_of}
-use Rattle.lane_turn.specs.Deliver.{received_all}
+use Rattle.lane_turn.specs.Deliver.{received_all, delivered}
+use Rattle.lane_turn.specs.Handover.{handed_over}
+use Rattle.lane_turn.proofs.GoingOver.{ready_over}
 use Rattle.lane_turn.specs.Tick.{posted_at, lanes_at}
 use Rattle.lane_turn.specs.Sound.{IsReady}
 use Rattle.lane_turn.proofs.Turns.{ready-turned, few-letters}
@@ -32,11 +34,19 @@ few_posted script tick m [] r = omega arith
 few_posted script tick m (lane ∷ lanes) r =
     omega (arith, few-letters script tick m lane r.0, few_posted script tick m lanes r.1, length-append (out_of script tick lane) (flat_map (out_of script tick) lanes))
 
+ready_turns : (script : Plan) (tick m : ℕ) (lanes : List Lane) → AllReady script tick m lanes → AllReady script (tick + 1) (m + 20001) (map (turned script tick) lanes)
+ready_turns script tick m [] r = tt
+ready_turns script tick m (lane ∷ lanes) r = (ready-turned script tick m lane r.0, ready_turns script tick m lanes r.1)
+
+ready_sent : (script : Plan) (tick next m n : ℕ) (letters : List Letter) (lanes : List Lane) → m + 2 * length letters ≤ n → AllReady script next m lanes → AllReady script next n (map (received_all script tick letters) lanes)
+ready_sent script tick next m n letters [] h r = tt
+ready_sent script tick next m n letters (lane ∷ lanes) h r = (ready_weaker script next (m + 2 * length letters) n _ h (ready-received_all script tick next m letters lane r.0), ready_sent script tick next m n letters lanes h r.1)
+
 ready_each : (script : Plan) (tick m n : ℕ) (letters : List Letter) (lanes : List Lane) → m + 20001 + 2 * length letters ≤ n → AllReady script tick m lanes
-    → AllReady script (tick + 1) n (map (received_all script tick letters) (map (turned script tick) lanes))
-ready_each script tick m n letters [] h r = tt
-ready_each script tick m n letters (lane ∷ lanes) h r =
-    (ready_weaker script (tick + 1) (m + 20001 + 2 * length letters) n _ h (ready-received_all script tick (tick + 1) (m + 20001) letters (turned script tick lane) (ready-turned script tick m lane r.0)), ready_each script tick m n letters lanes h r.1)
+    → AllReady script (tick + 1) n (delivered script tick letters (map (turned script tick) lanes))
+ready_each script tick m n letters lanes h r =
+    ready_sent script tick (tick + 1) (m + 20001) n letters (handed_over tick letters (map (turned script tick) lanes)) h
+    (ready_over script tick (tick + 1) (m + 20001) letters (map (turned script tick) lanes) (ready_turns script tick m lanes r))
 
 lanes_same : (script : Plan) (tick : ℕ) → length (lanes_at script tick) ≡ length script.lanes
 lanes_same script zero = simp (length-map, length-range_with_len)

@@ -3,18 +3,21 @@ use Rattle.std.proofs.Common.{◌≡◌, ◌||◌, ◌<◌, ℕ, zero, suc, ◌+
 use Rattle.std.specs.Prelude.{slice_get}
 use Rattle.loop_script.specs.declared.plan.Plan.{Plan}
 use Rattle.loop_script.specs.declared.action.Action.{Action}
+use Rattle.loop_script.specs.declared.action.Action.TheVariants as actions
 use Rattle.loop_script.specs.Parts.{actions_of}
 use Rattle.source_rows.specs.declared.row.Row.{Row}
 use Rattle.post_office.specs.declared.letter.Letter.{Letter}
 use Rattle.post_office.specs.declared.letter.Body.{Body as Mail}
+use Rattle.post_office.specs.declared.letter.Body.TheVariants as mails
 use Rattle.lane_watch.specs.Tasks.{Started, reply_at, stays_at}
 use Rattle.lane_turn.specs.declared.line.Event.TheVariants as events
 use Rattle.lane_turn.specs.declared.lane.Status.{Status}
 use Rattle.lane_turn.specs.declared.lane.Status.TheVariants.{GoesOn, Ended, Halted}
 use Rattle.lane_turn.specs.declared.layer.Call.{Call}
 use Rattle.lane_turn.specs.Frames.{Frame, CallOf, IterOf, LoopOf}
-use Rattle.lane_turn.specs.Lane.{Lane, Turn, popped, taken, row_of, iterating, is_running, written}
+use Rattle.lane_turn.specs.Lane.{Lane, Turn, popped, taken, row_of, iterating, is_running, written, is_own}
 use Rattle.lane_turn.specs.Acted.{acted, sends}
+use Rattle.lane_turn.specs.Owned.{invoke_spec}
 use Rattle.lane_turn.specs.Step.{step, step_polling, step_call, step_id, limited_by, with_lane, dispatching, polled, letter, sent_with, posted_with, mail_of, one_if}
 use Rattle.lane_turn.specs.Sound.{IsPaced}
 use Rattle.task_steps.specs.declared.entry.Reply.{Reply}
@@ -23,6 +26,48 @@ use Rattle.lane_turn.specs.Arrivals.{held_of}
 use Rattle.lane_turn.specs.Letters.{AreNumbered}
 use Rattle.lane_turn.proofs.Steady.{Steady, told_by, still, steady_trans, steady_acted, steady_dispatching, steady_returned, steady_answered}
 use Rattle.lane_turn.specs.declared.layer.Asker.TheVariants as askers
+
+-- what gives no context
+abbrev pub IsPlain : Mail → Type 0
+IsPlain (mails.Attach context spec) = Unit {0}
+IsPlain (mails.Complete reply) = Unit {0}
+IsPlain (mails.Cancelled c) = Unit {0}
+IsPlain (mails.Give context to) = ⊥
+
+abbrev pub IsPlainMail : Option Mail → Type 0
+IsPlainMail None = Unit {0}
+IsPlainMail (Some body) = IsPlain body
+
+sends_plain : (script : Plan) (action : Action) (lane : Lane) → IsPlainMail (sends script action lane)
+sends_plain script (actions.Cancel c) lane = by (has c lane.view)
+  where
+    by : (b : Bool) → IsPlainMail (cond b None (Some (mails.Cancelled c)))
+    by true = tt
+    by false = tt
+sends_plain script (actions.Invoke context proc) lane = by (is_own context lane)
+  where
+    by : (b : Bool) → IsPlainMail (cond b None (Some (mails.Attach context (invoke_spec proc))))
+    by true = tt
+    by false = tt
+sends_plain script (actions.Attach context slot spec) lane = tt
+sends_plain script (actions.Child parent slot spec) lane = tt
+sends_plain script (actions.Destroy slot) lane = tt
+sends_plain script (actions.SetReady slot us) lane = tt
+sends_plain script (actions.SetPriority slot priority) lane = tt
+sends_plain script (actions.Iterate context) lane = tt
+sends_plain script (actions.Pending context) lane = tt
+sends_plain script (actions.Run number) lane = tt
+sends_plain script (actions.Quit number) lane = tt
+sends_plain script (actions.Connect c slot proc) lane = tt
+sends_plain script (actions.Disconnect slot) lane = tt
+sends_plain script (actions.Task spec) lane = tt
+sends_plain script (actions.Push context) lane = tt
+sends_plain script (actions.Pop context) lane = tt
+sends_plain script actions.ShowDefault lane = tt
+sends_plain script (actions.Acquire context) lane = tt
+sends_plain script (actions.Release context) lane = tt
+sends_plain script (actions.Give context to) lane = tt
+sends_plain script (actions.Log n) lane = tt
 
 -- a step sends one letter at most, the next of the turn, and starts one task at most where it counts one
 pub record Sends (tick : ℕ) (t u : Turn) : Type 0 where
@@ -37,6 +82,8 @@ pub record Sends (tick : ℕ) (t u : Turn) : Type 0 where
   pub posted : u.posted ≡ posted_with tick t.lane.number t.sent t.posted mail
   pub seen : (c : ℕ) → c < length t.lane.view.members → has c u.lane.view ≡ (told_by c mail || has c t.lane.view)
   pub holds : held_of u.lane.contexts ≡ held_of t.lane.contexts
+  pub given : u.lane.given ≡ t.lane.given
+  pub plain : IsPlainMail mail
 
 some_same : (t u : Turn) → Some t ≡ Some u → t ≡ u
 some_same t u e = cc
@@ -46,12 +93,12 @@ sent_most None n = omega arith
 sent_most (Some body) n = omega arith
 
 -- what is counted
-counted_sends : (tick : ℕ) (mail : Option Mail) (f : Lane → Lane) (t : Turn) (left : ℕ) → t.left ≡ left → Steady 1 mail t.lane (f t.lane) → Sends tick t (limited_by tick mail f t left)
-counted_sends tick mail f t zero e h = record {
+counted_sends : (tick : ℕ) (mail : Option Mail) (f : Lane → Lane) (t : Turn) (left : ℕ) → t.left ≡ left → IsPlainMail mail → Steady 1 mail t.lane (f t.lane) → Sends tick t (limited_by tick mail f t left)
+counted_sends tick mail f t zero e p h = record {
   number = refl;
   now = refl;
   view = refl;
-  paced = λ n p. record { next = p.next; few = p.few; sent = p.sent };
+  paced = λ n q. record { next = q.next; few = q.few; sent = q.sent };
   tasks = omega arith;
   letters = omega arith;
   mail = None;
@@ -59,12 +106,14 @@ counted_sends tick mail f t zero e h = record {
   posted = refl;
   seen = λ c l. refl;
   holds = refl;
+  given = refl;
+  plain = tt;
 }
-counted_sends tick mail f t (suc left) e h = record {
+counted_sends tick mail f t (suc left) e p h = record {
   number = h.number;
   now = h.tick;
   view = h.view;
-  paced = λ n p. record { next = omega (arith, e, h.next, p.next); few = omega (arith, e, h.few, p.few); sent = omega (arith, e, sent_most mail t.sent, p.sent) };
+  paced = λ n q. record { next = omega (arith, e, h.next, q.next); few = omega (arith, e, h.few, q.few); sent = omega (arith, e, sent_most mail t.sent, q.sent) };
   tasks = omega (arith, e, h.next);
   letters = omega (arith, e, sent_most mail t.sent);
   mail = mail;
@@ -72,6 +121,8 @@ counted_sends tick mail f t (suc left) e h = record {
   posted = refl;
   seen = h.seen;
   holds = h.holds;
+  given = h.given;
+  plain = p;
 }
 
 -- what is not
@@ -88,27 +139,29 @@ freely_sends tick t after iterated h = record {
   posted = refl;
   seen = h.seen;
   holds = h.holds;
+  given = h.given;
+  plain = tt;
 }
 
 taken_too : (mail : Option Mail) (lane after : Lane) → Steady 1 mail (taken lane) after → Steady 1 mail lane after
-taken_too mail lane after h = steady_trans 1 mail lane (taken lane) after (still 0 lane (taken lane) refl refl refl refl) h
+taken_too mail lane after h = steady_trans 1 mail lane (taken lane) after (still 0 lane (taken lane) refl refl refl refl refl) h
 
 popped_too : (lane after : Lane) → Steady 0 None (popped lane) after → Steady 0 None lane after
-popped_too lane after h = steady_trans 0 None lane (popped lane) after (still 0 lane (popped lane) refl refl refl refl) h
+popped_too lane after h = steady_trans 0 None lane (popped lane) after (still 0 lane (popped lane) refl refl refl refl refl) h
 
 call_sends : (script : Plan) (tick : ℕ) (t : Turn) (call : Call) (a : Option Action) → Sends tick t (step_call script tick t call a)
-call_sends script tick t call (Some a) = counted_sends tick (sends a (taken t.lane)) (λ lane. acted script tick a (taken lane)) t t.left refl (taken_too (sends a (taken t.lane)) t.lane _ (steady_acted script tick a (taken t.lane)))
+call_sends script tick t call (Some a) = counted_sends tick (sends script a (taken t.lane)) (λ lane. acted script tick a (taken lane)) t t.left refl (sends_plain script a (taken t.lane)) (taken_too (sends script a (taken t.lane)) t.lane _ (steady_acted script tick a (taken t.lane)))
 call_sends script tick t call None = freely_sends tick t _ t.iterated (popped_too t.lane _ (steady_returned script tick call.body call.origin (popped t.lane)))
 
 id_sends : (tick : ℕ) (t : Turn) (context : ℕ) (r : Option Row) → Sends tick t (step_id tick t context r)
-id_sends tick t context None = freely_sends tick t (taken t.lane) t.iterated (still 0 t.lane _ refl refl refl refl)
-id_sends tick t context (Some row) = counted_sends tick None (dispatching tick context row) t t.left refl (steady_dispatching tick context row t.lane)
+id_sends tick t context None = freely_sends tick t (taken t.lane) t.iterated (still 0 t.lane _ refl refl refl refl refl)
+id_sends tick t context (Some row) = counted_sends tick None (dispatching tick context row) t t.left refl tt (steady_dispatching tick context row t.lane)
 
 loop_sends : (script : Plan) (tick : ℕ) (t : Turn) (number context : ℕ) (runs iterated : Bool) (u : Turn)
     → cond runs (cond iterated None (Some (record t { lane = iterating script tick context askers.Loop t.lane; iterated = true }))) (Some (with_lane (λ lane. written tick (events.LoopEnd number) (popped lane)) t)) ≡ Some u → Sends tick t u
 loop_sends script tick t number context true true u e = cc
-loop_sends script tick t number context true false u e = subst (Sends tick t) (some_same _ _ e) (freely_sends tick t (iterating script tick context askers.Loop t.lane) true (still 0 t.lane _ refl refl refl refl))
-loop_sends script tick t number context false iterated u e = subst (Sends tick t) (some_same _ _ e) (freely_sends tick t (written tick (events.LoopEnd number) (popped t.lane)) t.iterated (still 0 t.lane _ refl refl refl refl))
+loop_sends script tick t number context true false u e = subst (Sends tick t) (some_same _ _ e) (freely_sends tick t (iterating script tick context askers.Loop t.lane) true (still 0 t.lane _ refl refl refl refl refl))
+loop_sends script tick t number context false iterated u e = subst (Sends tick t) (some_same _ _ e) (freely_sends tick t (written tick (events.LoopEnd number) (popped t.lane)) t.iterated (still 0 t.lane _ refl refl refl refl refl))
 
 abbrev turn : Turn → List Frame → Status → Turn
 turn t frames status = record t { lane = record t.lane { frames = frames; status = status }; unpolled = [] }
@@ -140,6 +193,10 @@ told_none : (o : Option Reply) (c : ℕ) (b : Bool) → b ≡ (told_by c (mail_o
 told_none None c b = refl
 told_none (Some reply) c b = refl
 
+reply_plain : (o : Option Reply) → IsPlainMail (mail_of o)
+reply_plain None = tt
+reply_plain (Some reply) = tt
+
 polled_sends : (tick : ℕ) (t : Turn) (task : Started) (tasks : List Started) → Sends tick (record t { unpolled = task ∷ tasks }) (polled tick task (record t { unpolled = tasks }))
 polled_sends tick t task tasks =
     let mail : Option Mail = mail_of (reply_at tick t.lane.tasks task) in
@@ -160,6 +217,8 @@ polled_sends tick t task tasks =
       posted = refl;
       seen = λ c l. told_none (reply_at tick t.lane.tasks task) c (has c t.lane.view);
       holds = refl;
+      given = refl;
+      plain = reply_plain (reply_at tick t.lane.tasks task);
     }
 
 polling_sends : (script : Plan) (tick : ℕ) (t : Turn) (tasks : List Started) (u : Turn) → step_polling script tick (record t { unpolled = tasks }) tasks ≡ Some u → Sends tick (record t { unpolled = tasks }) u

@@ -135,7 +135,7 @@ call_goes : (rest : Turn) (script : Plan) (n tick : ℕ) (base : Lane) (below : 
     → let t : Turn = turn rest (going base (CallOf call ∷ below)) left iterated in Goes n t (step_call script tick t call a)
 call_goes rest script n tick base below left iterated call (Some a) =
     let lane : Lane = going base (CallOf call ∷ below) in
-    counted_goes rest n tick (sends a (taken lane)) (λ lane. acted script tick a (taken lane)) lane left iterated refl (mild_taken lane _ (mild_acted script tick a (taken lane)))
+    counted_goes rest n tick (sends script a (taken lane)) (λ lane. acted script tick a (taken lane)) lane left iterated refl (mild_taken lane _ (mild_acted script tick a (taken lane)))
 call_goes rest script n tick base below left iterated call None =
     less_goes rest n (going base (CallOf call ∷ below)) _ left iterated refl (returned_less script tick base below call call.body call.origin)
 

@@ -10,8 +10,8 @@ use Rattle.loop_script.specs.Parts.{home_of}
 use Rattle.loop_script.specs.References.{sizes}
 use Rattle.post_office.specs.declared.letter.Letter.{Letter}
 use Rattle.post_office.specs.declared.letter.Body.{Body}
-use Rattle.post_office.specs.declared.letter.Body.TheVariants.{Attach, Complete, Cancelled}
-use Rattle.lane_turn.specs.Lane.{Lane, context_at}
+use Rattle.post_office.specs.declared.letter.Body.TheVariants.{Attach, Complete, Cancelled, Give}
+use Rattle.lane_turn.specs.Lane.{Lane, context_at, is_own}
 use Rattle.lane_turn.specs.Turn.{opening, turned, out_of}
 use Rattle.lane_turn.specs.Tick.{lanes_at, posted_at}
 use Rattle.lane_turn.specs.Arrivals.{held_of}
@@ -21,7 +21,7 @@ use Rattle.lane_turn.specs.Taken.{accounted, brings, brought, brought_before}
 use Rattle.lane_turn.proofs.Turns.{out_numbered, turned_number}
 use Rattle.lane_turn.proofs.Delivered.{received_number}
 use Rattle.lane_turn.proofs.Views.{beyond}
-use Rattle.lane_turn.proofs.Arrivals.{own_held, held_turned, held_received, length_held, open_at}
+use Rattle.lane_turn.proofs.Arrivals.{own_held, has_own, held_turned, held_received, length_held, open_at}
 use Rattle.lane_turn.proofs.Owed.{posted_once, run_under}
 use Rattle.lane_turn.proofs.Brought.{never, never_both, brought_cons, taken_at}
 
@@ -59,10 +59,10 @@ pub held_under : (script : Plan) (mail : ℕ → List Letter) (lane k : ℕ) →
 held_under script mail lane zero = refl
 held_under script mail lane (suc k) = held_received script k (mail k) (turned script k (lane_under script mail lane k)) ∙ (held_turned script k (lane_under script mail lane k) ∙ held_under script mail lane k)
 
-pub own_home : (script : Plan) (mail : ℕ → List Letter) (lane k c : ℕ) → is_some (context_at c (lane_under script mail lane k)) ≡ true → lane ≡ home_of script c
+pub own_home : (script : Plan) (mail : ℕ → List Letter) (lane k c : ℕ) → is_own c (lane_under script mail lane k) ≡ true → lane ≡ home_of script c
 own_home script mail lane k c h =
     let same = own_held (lane_under script mail lane k).contexts c ∙ (ap (λ bs. slice_index_or bs c false) (held_under script mail lane k) ∙ sym (own_held (opening script lane).contexts c)) in
-    open_home script lane c (nat_lt c (sizes script).contexts) refl (sym same ∙ h)
+    open_home script lane c (nat_lt c (sizes script).contexts) refl (sym same ∙ has_own c (lane_under script mail lane k) h)
 
 -- ---- what letters bring to all lanes together
 
@@ -91,11 +91,12 @@ most_of false y b = omega arith
 one_brought : (s n : ℕ) (script : Plan) (mail : ℕ → List Letter) (k a m sender : ℕ) (body : Body)
     → over (λ i. one_for ((sender == s) && brings n (lane_under script mail i k) body)) (range_with_len a m) ≤ one_for ((sender == s) && is_reply n body)
 one_brought s n script mail k a m sender (Attach context spec) = over_one (λ i. one_for ((sender == s) && false)) 0 _ (λ l p. never (sender == s)) (omega arith) a m
+one_brought s n script mail k a m sender (Give context to) = over_one (λ i. one_for ((sender == s) && false)) 0 _ (λ l p. never (sender == s)) (omega arith) a m
 one_brought s n script mail k a m sender (Cancelled c) = over_one (λ i. one_for ((sender == s) && false)) 0 _ (λ l p. never (sender == s)) (omega arith) a m
 one_brought s n script mail k a m sender (Complete reply) =
-    over_one (λ i. one_for ((sender == s) && ((reply.task == n) && is_some (context_at reply.ctx (lane_under script mail i k))))) (home_of script reply.ctx) _
-    (λ l p. never_both (sender == s) (reply.task == n) _ (false_from_ne_true (is_some (context_at reply.ctx (lane_under script mail l k))) (λ e. p (own_home script mail l k reply.ctx e))))
-    (most_of (sender == s) (reply.task == n) (is_some (context_at reply.ctx (lane_under script mail (home_of script reply.ctx) k))))
+    over_one (λ i. one_for ((sender == s) && ((reply.task == n) && is_own reply.ctx (lane_under script mail i k)))) (home_of script reply.ctx) _
+    (λ l p. never_both (sender == s) (reply.task == n) _ (false_from_ne_true (is_own reply.ctx (lane_under script mail l k)) (λ e. p (own_home script mail l k reply.ctx e))))
+    (most_of (sender == s) (reply.task == n) (is_own reply.ctx (lane_under script mail (home_of script reply.ctx) k)))
     a m
 
 all_brought : (s n : ℕ) (script : Plan) (mail : ℕ → List Letter) (k a m : ℕ) (ls : List Letter) → over (λ i. brought s n (lane_under script mail i k) ls) (range_with_len a m) ≤ sent s n ls

@@ -11,9 +11,10 @@ use Rattle.post_office.specs.declared.letter.Body.TheVariants as mails
 use Rattle.lane_turn.specs.declared.line.Line.{Line}
 use Rattle.lane_turn.specs.declared.line.Event.{Event}
 use Rattle.lane_turn.specs.declared.line.Event.TheVariants as events
-use Rattle.lane_turn.specs.Lane.{Lane, Turn, context_at, next_id, edited, written}
+use Rattle.lane_turn.specs.Lane.{Lane, Turn, context_at, next_id, edited, written, is_own}
 use Rattle.lane_turn.specs.Step.{step}
 use Rattle.lane_turn.specs.Turn.{begun, turned}
+use Rattle.lane_turn.specs.Handover.{taken_over}
 use Rattle.lane_turn.specs.Deliver.{reply_spec, holding, received_body, received, received_all}
 use Rattle.lane_turn.specs.Tick.{lanes_at, lane_within}
 use Rattle.lane_turn.specs.Traces.{Grows, IsOf, NoTickFalls, IsBefore}
@@ -40,20 +41,21 @@ brings_body : (script : Plan) (tick sender : ℕ) (body : Mail) (lane : Lane) �
 brings_body script tick sender (mails.Attach context spec) lane =
     let there : Lane = edited context (attached spec (time_of script tick)) lane in
     let id : ℕ = next_id (context_at context lane) in
-    b_either tick lane (written tick (events.Arrive context id) there) lane (is_some (context_at context lane))
+    b_either tick lane (written tick (events.Arrive context id) there) lane (is_own context lane)
     (b_trans tick lane there _ (b_edit tick lane context (attached spec (time_of script tick)) (edits_attached spec (time_of script tick))) (b_line tick there (events.Arrive context id) tt))
     (b_none tick lane)
 brings_body script tick sender (mails.Complete reply) lane =
     let there : Lane = edited reply.ctx (attached (reply_spec reply) (time_of script tick)) lane in
     let id : ℕ = next_id (context_at reply.ctx lane) in
     let held : Lane = holding reply.ctx id sender reply there in
-    b_either tick lane (written tick (events.Arrive reply.ctx id) held) lane (is_some (context_at reply.ctx lane))
+    b_either tick lane (written tick (events.Arrive reply.ctx id) held) lane (is_own reply.ctx lane)
     (b_trans tick lane held _
     (b_trans tick lane there held (b_edit tick lane reply.ctx (attached (reply_spec reply) (time_of script tick)) (edits_attached (reply_spec reply) (time_of script tick)))
     (record { adds = same (BroughtAt tick) there held refl refl; status = refl; frames = refl }))
     (b_line tick held (events.Arrive reply.ctx id) tt))
     (b_none tick lane)
 brings_body script tick sender (mails.Cancelled c) lane = b_cancel script tick c lane
+brings_body script tick sender (mails.Give context to) lane = b_none tick lane
 
 pub brings_all : (script : Plan) (tick : ℕ) (letters : List Letter) (lane : Lane) → Brings tick lane (received_all script tick letters lane)
 brings_all script tick [] lane = b_none tick lane
@@ -81,11 +83,17 @@ before_next tick xs ys g h =
       rising = rising_on tick xs g.more h.past h.rising g.each;
     })
 
+-- what goes over adds one line of the tick
+hold_grows : (tick number : ℕ) (lane after : Lane) → after.trace ≡ lane.trace ++ (record { tick = tick; event = events.Hold number }) ∷ [] → Grows (IsOf tick) lane.trace after.trace
+hold_grows tick number lane after e = record { more = (record { tick = tick; event = events.Hold number }) ∷ []; lines = e; each = (refl, tt) }
+
 pub run_before : (script : Plan) (tick : ℕ) → AllByRecursion (λ lane. IsBefore tick lane.trace) (lanes_at script tick)
 run_before script tick =
-    each_lane script (λ k lane. IsBefore k lane.trace) (λ n. record { past = tt; rising = tt })
-    (λ k letters lane h. before_next k lane.trace (received_all script k letters (turned script k lane)).trace
-    (grows_trans (IsOf k) lane.trace (turned script k lane).trace (received_all script k letters (turned script k lane)).trace (turn_grows script k lane) (delivery_grows script k letters (turned script k lane))) h) tick
+    each_lane script (λ k lane. IsBefore k lane.trace) (λ k lane. (more : List Line) × (IsBefore k more × Grows (IsOf k) more lane.trace)) (λ k kept. Unit {0}) (λ n. record { past = tt; rising = tt })
+    (λ k lane h. (lane.trace, (h, turn_grows script k lane))) (λ k lane r context kept e. tt)
+    (λ k lane r kept u. (r.0, (r.1.0, grows_trans (IsOf k) r.0 lane.trace (taken_over k kept lane).trace r.1.1 (hold_grows k kept.number lane (taken_over k kept lane) refl))))
+    (λ k lane r context. r)
+    (λ k letters lane r. before_next k r.0 (received_all script k letters lane).trace (grows_trans (IsOf k) r.0 lane.trace (received_all script k letters lane).trace r.1.1 (delivery_grows script k letters lane)) r.1.0) tick
 
 -- ---- depths
 
@@ -108,14 +116,16 @@ brought_shallow : (event : Event) → IsBrought event → IsShallow event
 brought_shallow (events.Dispatch context id priority depth) h = absurd h
 brought_shallow _ h = tt
 
-tick_shallow : (script : Plan) (tick : ℕ) (letters : List Letter) (lane : Lane) → AllShallow lane → AllShallow (received_all script tick letters (turned script tick lane))
-tick_shallow script tick letters lane h =
-    let turn : Lane = turned script tick lane in
-    let after : Lane = received_all script tick letters turn in
-    grown_shallow turn.trace after.trace (grows_as (BroughtAt tick) (λ l. IsShallow l.event) (λ l p. brought_shallow l.event p.1) turn.trace after.trace (brings_all script tick letters turn).adds.lines)
-    (kept_finished script tick (λ t. AllShallow t.lane) (step_shallow script tick) (begun tick lane) h)
+turn_shallow : (script : Plan) (tick : ℕ) (lane : Lane) → AllShallow lane → AllShallow (turned script tick lane)
+turn_shallow script tick lane h = kept_finished script tick (λ t. AllShallow t.lane) (step_shallow script tick) (begun tick lane) h
+
+sent_shallow : (script : Plan) (tick : ℕ) (letters : List Letter) (lane : Lane) → AllShallow lane → AllShallow (received_all script tick letters lane)
+sent_shallow script tick letters lane h =
+    let after : Lane = received_all script tick letters lane in
+    grown_shallow lane.trace after.trace (grows_as (BroughtAt tick) (λ l. IsShallow l.event) (λ l p. brought_shallow l.event p.1) lane.trace after.trace (brings_all script tick letters lane).adds.lines) h
 
 pub run_shallow : (script : Plan) (tick steps : ℕ) → AllByRecursion (λ lane. AllByRecursion (λ line. IsShallow line.event) (lane_within script tick steps lane).trace) (lanes_at script tick)
 run_shallow script tick steps =
     each_as AllShallow (λ lane. AllShallow (lane_within script tick steps lane)) (λ lane h. kept_finish script tick steps (λ t. AllShallow t.lane) (step_shallow script tick) (begun tick lane) h) (lanes_at script tick)
-    (each_lane script (λ k lane. AllShallow lane) (λ n. tt) (λ k letters lane h. tick_shallow script k letters lane h) tick)
+    (each_lane script (λ k lane. AllShallow lane) (λ k lane. AllShallow lane) (λ k kept. Unit {0}) (λ n. tt) (turn_shallow script) (λ k lane r context kept e. tt)
+    (λ k lane r kept u. each_joined (λ line. IsShallow line.event) lane.trace ((record { tick = k; event = events.Hold kept.number }) ∷ []) r (tt, tt)) (λ k lane r context. r) (sent_shallow script) tick)

@@ -4,12 +4,14 @@ use Rattle.std.specs.Prelude.{slice_index_or, nat_lt, replicate}
 use Rattle.std.specs.List.{AllByRecursion, flat_map, range_with_len}
 use Rattle.std.proofs.lemmas.List.{length-replicate}
 use Rattle.loop_script.specs.declared.plan.Plan.{Plan}
-use Rattle.cancel_view.specs.Seen.{has}
+use Rattle.cancel_view.specs.Seen.{Seen, has}
 use Rattle.post_office.specs.declared.letter.Letter.{Letter}
 use Rattle.post_office.specs.declared.letter.Body.{Body as Mail}
 use Rattle.lane_turn.specs.Lane.{Lane, Turn}
 use Rattle.lane_turn.specs.Step.{posted_with, letter}
 use Rattle.lane_turn.specs.Turn.{opening, begun, finished, turned, out_of}
+use Rattle.lane_turn.specs.Handover.{Handing, all_handed, handings}
+use Rattle.lane_turn.proofs.GoingOver.{handed_part}
 use Rattle.lane_turn.specs.Deliver.{received, received_all}
 use Rattle.lane_turn.specs.Tick.{lanes_at, posted_at}
 use Rattle.lane_turn.specs.Views.{tells_of, tells, AreAlike}
@@ -102,25 +104,32 @@ beyond [] c h = refl
 beyond (m ∷ ms) zero h = absurd (omega (arith, h))
 beyond (m ∷ ms) (suc c) h = beyond ms c (omega (arith, h))
 
-tick_one : (script : Plan) (tick n c : ℕ) (b : Bool) (letters : List Letter) (lane : Lane) → c < n → (tells c (out_of script tick lane) ≡ true → tells c letters ≡ true) → (length lane.view.members ≡ n) × (has c lane.view ≡ b)
-    → has c (received_all script tick letters (turned script tick lane)).view ≡ (tells c letters || b)
-tick_one script tick n c b letters lane l f h =
-    seen_received script tick letters (turned script tick lane) c (omega (arith, l, h.0, (turn_seen script tick lane).size))
-    ∙ (ap (λ x. tells c letters || x) (seen_turned script tick lane c (omega (arith, l, h.0)) ∙ ap (λ x. tells c (out_of script tick lane) || x) h.1)
+-- what goes over leaves a view
+view_over : (tick : ℕ) (hs : List Handing) (lane : Lane) → (all_handed tick hs lane).view ≡ lane.view
+view_over tick hs lane = handed_part (λ (l : Lane). l.view) tick (λ kept l. refl) (λ context l. refl) hs lane
+
+tick_one : (script : Plan) (tick n c : ℕ) (b : Bool) (letters : List Letter) (hs : List Handing) (lane : Lane) → c < n → (tells c (out_of script tick lane) ≡ true → tells c letters ≡ true) → (length lane.view.members ≡ n) × (has c lane.view ≡ b)
+    → has c (received_all script tick letters (all_handed tick hs (turned script tick lane))).view ≡ (tells c letters || b)
+tick_one script tick n c b letters hs lane l f h =
+    let turn : Lane = turned script tick lane in
+    let same = view_over tick hs turn in
+    seen_received script tick letters (all_handed tick hs turn) c (omega (arith, l, h.0, (turn_seen script tick lane).size, ap (λ (v : Seen). length v.members) same))
+    ∙ (ap (λ x. tells c letters || x) (ap (λ (v : Seen). has c v) same ∙ (seen_turned script tick lane c (omega (arith, l, h.0)) ∙ ap (λ x. tells c (out_of script tick lane) || x) h.1))
     ∙ absorbed (tells c letters) (tells c (out_of script tick lane)) b f)
 
-size_one : (script : Plan) (tick n : ℕ) (letters : List Letter) (lane : Lane) → length lane.view.members ≡ n → length (received_all script tick letters (turned script tick lane)).view.members ≡ n
-size_one script tick n letters lane e = size_received script tick letters (turned script tick lane) ∙ ((turn_seen script tick lane).size ∙ e)
+size_one : (script : Plan) (tick n : ℕ) (letters : List Letter) (hs : List Handing) (lane : Lane) → length lane.view.members ≡ n → length (received_all script tick letters (all_handed tick hs (turned script tick lane))).view.members ≡ n
+size_one script tick n letters hs lane e =
+    size_received script tick letters (all_handed tick hs (turned script tick lane)) ∙ (ap (λ (v : Seen). length v.members) (view_over tick hs (turned script tick lane)) ∙ ((turn_seen script tick lane).size ∙ e))
 
-tick_all : (script : Plan) (tick n c : ℕ) (b : Bool) (letters : List Letter) (lanes : List Lane) → c < n → (tells c (flat_map (out_of script tick) lanes) ≡ true → tells c letters ≡ true) → Say n c b lanes
-    → Say n c (tells c letters || b) (map (received_all script tick letters) (map (turned script tick) lanes))
-tick_all script tick n c b letters [] l f h = tt
-tick_all script tick n c b letters (lane ∷ lanes) l f h =
+tick_all : (script : Plan) (tick n c : ℕ) (b : Bool) (letters : List Letter) (hs : List Handing) (lanes : List Lane) → c < n → (tells c (flat_map (out_of script tick) lanes) ≡ true → tells c letters ≡ true) → Say n c b lanes
+    → Say n c (tells c letters || b) (map (received_all script tick letters) (map (all_handed tick hs) (map (turned script tick) lanes)))
+tick_all script tick n c b letters hs [] l f h = tt
+tick_all script tick n c b letters hs (lane ∷ lanes) l f h =
     let out : List Letter = out_of script tick lane in
     let rest : List Letter = flat_map (out_of script tick) lanes in
     let both : tells c (out ++ rest) ≡ (tells c out || tells c rest) = tells_append c out rest in (
-      (size_one script tick n letters lane h.0.0, tick_one script tick n c b letters lane l (λ e. f (both ∙ left_too (tells c out) (tells c rest) e)) h.0),
-      tick_all script tick n c b letters lanes l (λ e. f (both ∙ right_too (tells c out) (tells c rest) e)) h.1,
+      (size_one script tick n letters hs lane h.0.0, tick_one script tick n c b letters hs lane l (λ e. f (both ∙ left_too (tells c out) (tells c rest) e)) h.0),
+      tick_all script tick n c b letters hs lanes l (λ e. f (both ∙ right_too (tells c out) (tells c rest) e)) h.1,
     )
 
 -- the lanes at first
@@ -140,20 +149,24 @@ open_say : (script : Plan) (c : ℕ) (numbers : List ℕ) → Say script.cancell
 open_say script c [] = tt
 open_say script c (n ∷ numbers) = ((simp length-replicate, none_seen script.cancellables c), open_say script c numbers)
 
-sizes_on : (script : Plan) (tick n : ℕ) (letters : List Letter) (lanes : List Lane) → AllOfSize n lanes → AllOfSize n (map (received_all script tick letters) (map (turned script tick) lanes))
-sizes_on script tick n letters [] h = tt
-sizes_on script tick n letters (lane ∷ lanes) h = (size_one script tick n letters lane h.0, sizes_on script tick n letters lanes h.1)
+sizes_on : (script : Plan) (tick n : ℕ) (letters : List Letter) (hs : List Handing) (lanes : List Lane) → AllOfSize n lanes → AllOfSize n (map (received_all script tick letters) (map (all_handed tick hs) (map (turned script tick) lanes)))
+sizes_on script tick n letters hs [] h = tt
+sizes_on script tick n letters hs (lane ∷ lanes) h = (size_one script tick n letters hs lane h.0, sizes_on script tick n letters hs lanes h.1)
+
+-- what letters hand over after the turns of a tick
+abbrev over_at : Plan → ℕ → List Handing
+over_at script tick = handings tick (posted_at script tick (lanes_at script tick)) (map (turned script tick) (lanes_at script tick))
 
 size_at : (script : Plan) (tick : ℕ) → AllOfSize script.cancellables (lanes_at script tick)
 size_at script zero = open_size script (range_with_len 0 (length script.lanes))
-size_at script (suc tick) = sizes_on script tick script.cancellables (posted_at script tick (lanes_at script tick)) (lanes_at script tick) (size_at script tick)
+size_at script (suc tick) = sizes_on script tick script.cancellables (posted_at script tick (lanes_at script tick)) (over_at script tick) (lanes_at script tick) (size_at script tick)
 
 say_at : (script : Plan) (tick c : ℕ) → c < script.cancellables → (b : Bool) × Say script.cancellables c b (lanes_at script tick)
 say_at script zero c l = (false, open_say script c (range_with_len 0 (length script.lanes)))
 say_at script (suc tick) c l =
     let lanes : List Lane = lanes_at script tick in
     let h = say_at script tick c l in
-    (tells c (posted_at script tick lanes) || h.0, tick_all script tick script.cancellables c h.0 (posted_at script tick lanes) lanes l (λ e. e) h.1)
+    (tells c (posted_at script tick lanes) || h.0, tick_all script tick script.cancellables c h.0 (posted_at script tick lanes) (over_at script tick) lanes l (λ e. e) h.1)
 
 said : (n c : ℕ) (b : Bool) (lanes : List Lane) → Say n c b lanes → AllByRecursion (λ lane. has c lane.view ≡ b) lanes
 said n c b [] h = tt

@@ -1,5 +1,5 @@
 -- What each action does. Each stands on a lane whose innermost call has taken it.
-use Rattle.std.specs.Prelude.{List, [], ◌∷◌, ℤ, Bool, true, false, Option, Some, None, is_some, is_none, if◌then◌else◌}
+use Rattle.std.specs.Prelude.{List, [], ◌∷◌, ℤ, Bool, true, false, Option, Some, None, ◌&&◌, is_some, is_none, if◌then◌else◌}
 use Rattle.loop_script.specs.declared.action.Action.{Action}
 use Rattle.loop_script.specs.declared.action.Action.TheVariants.{Attach, Child, Destroy, SetReady, SetPriority, Iterate, Pending, Run, Quit, Cancel, Connect, Disconnect, Task, Push, Pop, ShowDefault, Acquire, Release, Invoke, Give, Log}
 use Rattle.loop_script.specs.declared.plan.Plan.{Plan}
@@ -11,7 +11,7 @@ use Rattle.lane_turn.specs.declared.line.Event.TheVariants as events
 use Rattle.lane_turn.specs.declared.line.Word.{Word}
 use Rattle.lane_turn.specs.declared.line.Word.TheVariants as words
 use Rattle.lane_turn.specs.declared.slot.Place.{Place}
-use Rattle.lane_turn.specs.declared.slot.Held.TheVariants.{Source, Handler}
+use Rattle.lane_turn.specs.declared.slot.Named.TheVariants.{Source, Handler}
 use Rattle.cancel_view.specs.declared.handler.Fired.{Fired}
 use Rattle.cancel_view.specs.Seen.{has, fired, cancelled, connected, may_disconnect, without}
 use Rattle.loop_script.specs.declared.body.Body.TheVariants.{Procedure}
@@ -19,10 +19,11 @@ use Rattle.source_rows.specs.Rows.{RowSet, attached, child_added, child_fault, d
 use Rattle.context_core.specs.declared.context.Context.{Context}
 use Rattle.lane_turn.specs.Frames.{LoopOf}
 use Rattle.lane_turn.specs.Owned.{default_context, push, pop, show_default, acquire, release, invoke, invoke_sends}
+use Rattle.lane_turn.specs.Handover.{give, give_sends}
 use Rattle.post_office.specs.declared.letter.Body.{Body as Mail}
 use Rattle.post_office.specs.declared.letter.Body.TheVariants as mails
 use Rattle.lane_watch.specs.Watch.{starting}
-use Rattle.lane_turn.specs.Lane.{Lane, written, pushed, set_running, context_at, edited, place_at, handler_at, row_at, next_place, set_slot, viewing, noting, chosen, is_any, iterating}
+use Rattle.lane_turn.specs.Lane.{Lane, written, pushed, set_running, context_at, is_own, edited, place_at, handler_at, row_at, next_place, set_slot, viewing, noting, chosen, is_any, iterating}
 use Rattle.loop_script.specs.Units.{Tick, Microseconds, ContextNumber, LoopNumber, CancellableNumber, ProcNumber, Slot, SourceId, HandlerId, Priority}
 
 -- an action that found nothing to act on
@@ -32,7 +33,7 @@ missed tick word lane = written tick (events.Miss word) lane
 -- a slot names the source that a context gets
 abbrev pub attach : Tick → Microseconds → ContextNumber → Slot → SourceSpec → Lane → Lane
 attach tick now context slot spec lane =
-    if is_some (context_at context lane)
+    if is_own context lane
     then set_slot slot (Source (next_place context lane)) (edited context (attached spec now) lane)
     else missed tick words.Attach lane
 
@@ -47,7 +48,7 @@ can_bear_in id (Some context) = is_none (child_fault context.rows.levels (row_wi
 
 -- whether the source of a place can have a child
 abbrev pub can_bear : Place → Lane → Bool
-can_bear place lane = can_bear_in place.id (context_at place.context lane)
+can_bear place lane = is_own place.context lane && can_bear_in place.id (context_at place.context lane)
 
 -- a slot names a new child of the source of a place; a miss where that is not there or can have none
 abbrev pub child_of : Tick → Microseconds → Slot → SourceSpec → Option Place → Lane → Lane
@@ -90,22 +91,22 @@ set_priority tick slot priority lane = set_priority_of tick priority (place_at s
 -- an iteration of a context begins, whose `iterate` is told whether anything was selected; of another lane's it is told false
 abbrev pub iterate : Plan → Tick → ContextNumber → Lane → Lane
 iterate script tick context lane =
-    if is_some (context_at context lane)
+    if is_own context lane
     then iterating script tick context (askers.Iterate (is_any (chosen script tick context lane))) lane
     else written tick (events.Iterate context false) lane
 
 -- whether an iteration of a context would dispatch anything now
 abbrev pub pending : Plan → Tick → ContextNumber → Lane → Lane
-pending script tick context lane = written tick (events.Pending context (is_any (chosen script tick context lane))) lane
+pending script tick context lane = written tick (events.Pending context (is_own context lane && is_any (chosen script tick context lane))) lane
 
 -- a loop runs, in the innermost
 abbrev pub run : Tick → LoopNumber → ContextNumber → Lane → Lane
 run tick number context lane =
-    if is_some (context_at context lane) then pushed (LoopOf number context) (set_running number true lane) else missed tick words.Run lane
+    if is_own context lane then pushed (LoopOf number context) (set_running number true lane) else missed tick words.Run lane
 
 -- a loop does not run any more
 abbrev pub quit : Tick → LoopNumber → ContextNumber → Lane → Lane
-quit tick number context lane = if is_some (context_at context lane) then set_running number false lane else missed tick words.Quit lane
+quit tick number context lane = if is_own context lane then set_running number false lane else missed tick words.Quit lane
 
 -- what a handler does of an action: no handler holds others
 abbrev pub plain_acted : Plan → Tick → Action → Lane → Lane
@@ -155,7 +156,7 @@ disconnect tick slot lane = disconnect_of tick (handler_at slot lane) lane
 abbrev pub start_task : Tick → TaskSpec → Lane → Lane
 start_task tick spec lane = record lane { tasks = starting tick (default_context lane) spec lane.tasks }
 
--- the word that no script may hold yet changes nothing
+-- what each action does
 abbrev pub acted : Plan → Tick → Action → Lane → Lane
 acted script tick (Attach context slot spec) lane = attach tick (time_of script tick) context slot spec lane
 acted script tick (Child parent slot spec) lane = child tick (time_of script tick) parent slot spec lane
@@ -176,7 +177,7 @@ acted script tick ShowDefault lane = show_default tick lane
 acted script tick (Acquire context) lane = acquire tick context lane
 acted script tick (Release context) lane = release tick context lane
 acted script tick (Invoke context proc) lane = invoke tick (time_of script tick) context proc lane
-acted script tick (Give context to) lane = lane
+acted script tick (Give context to) lane = give script tick context to lane
 acted script tick (Log n) lane = written tick (events.Log n) lane
 
 -- what an action sends: a cancellable that the lane has not seen cancelled is cancelled for all, and a procedure that is
@@ -185,25 +186,25 @@ abbrev pub cancel_sends : CancellableNumber → Lane → Option Mail
 cancel_sends c lane = if has c lane.view then None else Some (mails.Cancelled c)
 
 -- what each action sends
-abbrev pub sends : Action → Lane → Option Mail
-sends (Cancel c) lane = cancel_sends c lane
-sends (Attach context slot spec) lane = None
-sends (Child parent slot spec) lane = None
-sends (Destroy slot) lane = None
-sends (SetReady slot us) lane = None
-sends (SetPriority slot priority) lane = None
-sends (Iterate context) lane = None
-sends (Pending context) lane = None
-sends (Run number) lane = None
-sends (Quit number) lane = None
-sends (Connect c slot proc) lane = None
-sends (Disconnect slot) lane = None
-sends (Task spec) lane = None
-sends (Push context) lane = None
-sends (Pop context) lane = None
-sends ShowDefault lane = None
-sends (Acquire context) lane = None
-sends (Release context) lane = None
-sends (Invoke context proc) lane = invoke_sends context proc lane
-sends (Give context to) lane = None
-sends (Log n) lane = None
+abbrev pub sends : Plan → Action → Lane → Option Mail
+sends script (Cancel c) lane = cancel_sends c lane
+sends script (Attach context slot spec) lane = None
+sends script (Child parent slot spec) lane = None
+sends script (Destroy slot) lane = None
+sends script (SetReady slot us) lane = None
+sends script (SetPriority slot priority) lane = None
+sends script (Iterate context) lane = None
+sends script (Pending context) lane = None
+sends script (Run number) lane = None
+sends script (Quit number) lane = None
+sends script (Connect c slot proc) lane = None
+sends script (Disconnect slot) lane = None
+sends script (Task spec) lane = None
+sends script (Push context) lane = None
+sends script (Pop context) lane = None
+sends script ShowDefault lane = None
+sends script (Acquire context) lane = None
+sends script (Release context) lane = None
+sends script (Invoke context proc) lane = invoke_sends context proc lane
+sends script (Give context to) lane = give_sends script context to lane
+sends script (Log n) lane = None

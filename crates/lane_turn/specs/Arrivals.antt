@@ -1,5 +1,5 @@
 -- Which lane has which context, and what its letters attach there.
-use Rattle.std.specs.Prelude.{◌≡◌, ◌<◌, ◌==◌, Bool, false, Option, Some, None, is_some, List, [], ◌∷◌, ◌+◌, ◌++◌, map, length, if◌then◌else◌}
+use Rattle.std.specs.Prelude.{◌≡◌, ◌<◌, ◌==◌, Bool, true, false, Option, Some, None, is_some, List, [], ◌∷◌, ◌+◌, ◌++◌, map, length, if◌then◌else◌}
 use Rattle.std.specs.List.{filter_map, range_with_len}
 use Rattle.loop_script.specs.declared.plan.Plan.{Plan}
 use Rattle.loop_script.specs.Parts.{home_of}
@@ -7,11 +7,11 @@ use Rattle.loop_script.specs.References.{sizes}
 use Rattle.context_core.specs.declared.context.Context.{Context}
 use Rattle.post_office.specs.declared.letter.Letter.{Letter}
 use Rattle.post_office.specs.declared.letter.Body.{Body}
-use Rattle.post_office.specs.declared.letter.Body.TheVariants.{Attach, Complete, Cancelled}
+use Rattle.post_office.specs.declared.letter.Body.TheVariants.{Attach, Complete, Cancelled, Give}
 use Rattle.lane_turn.specs.declared.line.Line.{Line}
 use Rattle.lane_turn.specs.declared.line.Event.{Event}
 use Rattle.lane_turn.specs.declared.line.Event.TheVariants as events
-use Rattle.lane_turn.specs.Lane.{Lane, context_at}
+use Rattle.lane_turn.specs.Lane.{Lane, context_at, is_own}
 use Rattle.lane_turn.specs.Deliver.{received_all}
 use Rattle.lane_turn.specs.Tick.{lanes_at}
 use Rattle.loop_script.specs.Units.{Tick, LaneNumber, ContextNumber, SourceId}
@@ -29,6 +29,7 @@ abbrev pub is_for_body : ContextNumber → Body → Bool
 is_for_body context (Attach c spec) = c == context
 is_for_body context (Complete reply) = reply.ctx == context
 is_for_body context (Cancelled k) = false
+is_for_body context (Give c to) = false
 
 -- whether a letter attaches a source to a context
 abbrev pub is_for : ContextNumber → Letter → Bool
@@ -53,8 +54,8 @@ pub record LettersArrive : Type 0 where
   -- at each tick a context is the lane's to which the script gives it, and no other's
   pub held : (script : Plan) (tick : Tick) (context : ContextNumber) → context < (sizes script).contexts → map (λ lane. is_some (context_at context lane)) (lanes_at script tick) ≡ map (is_home script context) (range_with_len 0 (length script.lanes))
   -- a letter for a context is attached once, by the lane that has it, with the next id, in the order of the letters
-  pub once : (script : Plan) (tick : Tick) (context : ContextNumber) (letters : List Letter) (lane : Lane) (c : Context) → context_at context lane ≡ Some c
+  pub once : (script : Plan) (tick : Tick) (context : ContextNumber) (letters : List Letter) (lane : Lane) (c : Context) → is_own context lane ≡ true → context_at context lane ≡ Some c
       → arrivals context (received_all script tick letters lane).trace ≡ arrivals context lane.trace ++ ids_for context c.rows.next_id letters
   -- and by no other
-  pub others : (script : Plan) (tick : Tick) (context : ContextNumber) (letters : List Letter) (lane : Lane) → context_at context lane ≡ None
+  pub others : (script : Plan) (tick : Tick) (context : ContextNumber) (letters : List Letter) (lane : Lane) → is_own context lane ≡ false
       → arrivals context (received_all script tick letters lane).trace ≡ arrivals context lane.trace

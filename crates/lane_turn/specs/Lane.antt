@@ -1,5 +1,5 @@
 -- A lane, a turn of it, and their small changes.
-use Rattle.std.specs.Prelude.{ℕ, Option, Some, None, Bool, true, false, List, [], ◌∷◌, ◌++◌, drop, slice_get, slice_set, unwrap_or, option_map}
+use Rattle.std.specs.Prelude.{ℕ, Option, Some, None, Bool, true, false, List, [], ◌∷◌, ◌++◌, ◌&&◌, not, drop, slice_get, slice_set, unwrap_or, option_map, is_some, if◌then◌else◌}
 use Rattle.loop_script.specs.declared.plan.Plan.{Plan}
 use Rattle.source_rows.specs.declared.row.Row.{Row}
 use Rattle.source_rows.specs.Rows.{RowSet, row_of as row_with}
@@ -10,8 +10,8 @@ use Rattle.lane_turn.specs.declared.line.Event.{Event}
 use Rattle.lane_turn.specs.declared.lane.Status.{Status}
 use Rattle.lane_turn.specs.declared.layer.Asker.{Asker}
 use Rattle.lane_turn.specs.declared.slot.Place.{Place}
-use Rattle.lane_turn.specs.declared.slot.Held.{Held}
-use Rattle.lane_turn.specs.declared.slot.Held.TheVariants.{Source, Handler}
+use Rattle.lane_turn.specs.declared.slot.Named.{Named}
+use Rattle.lane_turn.specs.declared.slot.Named.TheVariants.{Source, Handler}
 use Rattle.cancel_view.specs.Seen.{Seen}
 use Rattle.lane_turn.specs.Frames.{Frame, IterOf, advanced, emptied, busy}
 use Rattle.context_core.specs.declared.standing.Standing.{Standing}
@@ -21,13 +21,20 @@ use Rattle.lane_turn.specs.Replies.{Replies}
 use Rattle.lane_watch.specs.Tasks.{Started, Tasks}
 use Rattle.loop_script.specs.Units.{Tick, LaneNumber, ContextNumber, LoopNumber, CancellableNumber, Slot, SourceId, HandlerId}
 
--- a lane: its number; its contexts by number, where those of other lanes are none; what its slots name; its view of
+-- a context on its way from lane to lane: its number, its sources, and the replies that these hold
+pub record Kept : Type 0 where
+  pub number : ContextNumber
+  pub context : Context
+  pub replies : Replies
+
+-- a lane: its number; its contexts by number, where those of other lanes are none; which of them it gave in this tick; what its slots name; its view of
 -- cancellations, with its handlers; its tasks; its frames with the innermost first; the loops that run; the stack of its
 -- thread-default contexts; the replies that its sources hold, by context; what it wrote
 pub record Lane : Type 0 where
   pub number : LaneNumber
   pub contexts : List (Option Context)
-  pub slots : List (Option Held)
+  pub given : List Bool
+  pub slots : List (Option Named)
   pub view : Seen
   pub tasks : Tasks
   pub frames : List Frame
@@ -85,9 +92,17 @@ abbrev pub present : Option (Option Context) → Option Context
 present None = None
 present (Some context) = context
 
--- a context of the lane by its number; none where it is another lane's
+-- a context that the lane has, by its number, also one that it gave in this tick; none where it is another lane's
 abbrev pub context_at : ContextNumber → Lane → Option Context
 context_at context lane = present (slice_get lane.contexts context)
+
+-- whether the lane gave a context in this tick
+abbrev pub is_given : ContextNumber → Lane → Bool
+is_given context lane = unwrap_or (slice_get lane.given context) false
+
+-- whether a context is the lane's own: it has it, and did not give it
+abbrev pub is_own : ContextNumber → Lane → Bool
+is_own context lane = is_some (context_at context lane) && not (is_given context lane)
 
 -- an edit of the sources of a context
 abbrev pub with_rows : (RowSet → RowSet) → Context → Context
@@ -111,18 +126,18 @@ abbrev pub row_of : ContextNumber → SourceId → Lane → Option Row
 row_of context id lane = row_in id (context_at context lane)
 
 -- what a slot names
-abbrev pub held : Option (Option Held) → Option Held
+abbrev pub held : Option (Option Named) → Option Named
 held None = None
 held (Some thing) = thing
 
 -- the source that is held, if it is one
-abbrev pub source_of : Option Held → Option Place
+abbrev pub source_of : Option Named → Option Place
 source_of None = None
 source_of (Some (Source place)) = Some place
 source_of (Some (Handler id)) = None
 
 -- the handler that is held, if it is one
-abbrev pub handler_of : Option Held → Option HandlerId
+abbrev pub handler_of : Option Named → Option HandlerId
 handler_of None = None
 handler_of (Some (Source place)) = None
 handler_of (Some (Handler id)) = Some id
@@ -135,9 +150,9 @@ place_at slot lane = source_of (held (slice_get lane.slots slot))
 abbrev pub handler_at : Slot → Lane → Option HandlerId
 handler_at slot lane = handler_of (held (slice_get lane.slots slot))
 
--- the row of a source: none where it is destroyed
+-- the row of a source that a slot names: none where it is destroyed, or its context is not the lane's own
 abbrev pub row_at : Place → Lane → Option Row
-row_at place lane = row_of place.context place.id lane
+row_at place lane = if is_own place.context lane then row_of place.context place.id lane else None
 
 -- where the next source of a context will be
 abbrev pub next_id : Option Context → SourceId
@@ -149,7 +164,7 @@ abbrev pub next_place : ContextNumber → Lane → Place
 next_place context lane = record { context = context; id = next_id (context_at context lane) }
 
 -- a slot names something
-abbrev pub set_slot : Slot → Held → Lane → Lane
+abbrev pub set_slot : Slot → Named → Lane → Lane
 set_slot slot thing lane = record lane { slots = slice_set lane.slots slot (Some thing) }
 
 -- another view

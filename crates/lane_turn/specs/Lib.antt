@@ -6,6 +6,7 @@ pub mod Sources
 pub mod Lane
 pub mod Replies
 pub mod Owned
+pub mod Handover
 pub mod Acted
 pub mod Step
 pub mod Turn
@@ -29,6 +30,7 @@ pub mod Rest
 pub mod Blocked
 pub mod Selected
 pub mod Stays
+pub mod Holding
 pub mod Limited
 pub mod InProgress
 pub mod Stands

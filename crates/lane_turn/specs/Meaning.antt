@@ -11,6 +11,7 @@ abbrev pub lane_of : Fields → Lane
 lane_of p = record {
   number = p.number;
   contexts = p.contexts.items;
+  given = p.given.items;
   slots = p.slots.items;
   view = p.watch.view;
   tasks = p.watch.tasks;

@@ -5,7 +5,7 @@ use Rattle.loop_script.specs.declared.plan.Plan.{Plan}
 use Rattle.task_steps.specs.Once.{reply_tick}
 use Rattle.post_office.specs.declared.letter.Letter.{Letter}
 use Rattle.post_office.specs.declared.letter.Body.{Body}
-use Rattle.post_office.specs.declared.letter.Body.TheVariants.{Attach, Complete, Cancelled}
+use Rattle.post_office.specs.declared.letter.Body.TheVariants.{Attach, Complete, Cancelled, Give}
 use Rattle.lane_watch.specs.Tasks.{Started, Tasks, first_seen, end_of_task}
 use Rattle.lane_turn.specs.Lane.{Lane}
 use Rattle.lane_turn.specs.Turn.{opening, turned, out_of}
@@ -39,6 +39,7 @@ abbrev pub is_reply : TaskNumber → Body → Bool
 is_reply number (Attach context spec) = false
 is_reply number (Complete reply) = reply.task == number
 is_reply number (Cancelled c) = false
+is_reply number (Give context to) = false
 
 -- how many replies under a number are among letters
 abbrev pub replied : TaskNumber → List Letter → ℕ

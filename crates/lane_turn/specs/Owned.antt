@@ -1,5 +1,5 @@
 -- Who owns a context, and what is done where it is owned or not.
-use Rattle.std.specs.Prelude.{pos, ◌==◌, ◌||◌, Bool, true, false, Option, Some, None, is_some, nat_lt, unwrap_or, if◌then◌else◌}
+use Rattle.std.specs.Prelude.{pos, ◌==◌, ◌||◌, Bool, true, false, Option, Some, None, nat_lt, unwrap_or, if◌then◌else◌}
 use Rattle.std.specs.List.{list_any}
 use Rattle.loop_script.specs.declared.source.SourceSpec.{SourceSpec}
 use Rattle.loop_script.specs.declared.source.Kind.TheVariants.{Idle}
@@ -15,7 +15,7 @@ use Rattle.lane_turn.specs.declared.line.Word.TheVariants as words
 use Rattle.lane_turn.specs.declared.layer.Origin.TheVariants.{Invoke}
 use Rattle.lane_turn.specs.declared.lane.Status.TheVariants.{Halted}
 use Rattle.lane_turn.specs.Frames.{CallOf, owns, calls_in_progress}
-use Rattle.lane_turn.specs.Lane.{Lane, written, pushed as begun, stopped, context_at, with_context, edited}
+use Rattle.lane_turn.specs.Lane.{Lane, written, pushed as begun, stopped, context_at, is_own, with_context, edited}
 use Rattle.lane_turn.specs.Limits.{most_calls}
 use Rattle.loop_script.specs.Units.{Tick, Microseconds, ContextNumber, ProcNumber}
 
@@ -40,7 +40,7 @@ may_release (Some context) = is_acquired context
 -- a context becomes the thread-default one, where it is the lane's
 abbrev pub push : Tick → ContextNumber → Lane → Lane
 push tick context lane =
-    if is_some (context_at context lane)
+    if is_own context lane
     then record lane { defaults = pushed context lane.defaults }
     else written tick (events.Miss words.Push) lane
 
@@ -58,7 +58,7 @@ show_default tick lane = written tick (events.Default (default_context lane)) la
 -- a context is acquired, where it is the lane's
 abbrev pub acquire : Tick → ContextNumber → Lane → Lane
 acquire tick context lane =
-    if is_some (context_at context lane)
+    if is_own context lane
     then written tick (events.Acquire context true) (with_context context acquired lane)
     else written tick (events.Acquire context false) lane
 
@@ -98,8 +98,8 @@ invoke_own tick now context proc lane =
 -- the invoke of a procedure: in a context of the lane, or posted to the lane that has it
 abbrev pub invoke : Tick → Microseconds → ContextNumber → ProcNumber → Lane → Lane
 invoke tick now context proc lane =
-    if is_some (context_at context lane) then invoke_own tick now context proc lane else written tick (events.Invoke context Posted) lane
+    if is_own context lane then invoke_own tick now context proc lane else written tick (events.Invoke context Posted) lane
 
 -- what an invoke sends: to another lane's context the source
 abbrev pub invoke_sends : ContextNumber → ProcNumber → Lane → Option Mail
-invoke_sends context proc lane = if is_some (context_at context lane) then None else Some (Attach context (invoke_spec proc))
+invoke_sends context proc lane = if is_own context lane then None else Some (Attach context (invoke_spec proc))

@@ -133,7 +133,7 @@ limited tick mail f t = limited_by tick mail f t t.left
 
 -- the next action of a call, or its end
 abbrev pub step_call : Plan → Tick → Turn → Call → Option Action → Turn
-step_call script tick t call (Some action) = limited tick (sends action (taken t.lane)) (λ lane. acted script tick action (taken lane)) t
+step_call script tick t call (Some action) = limited tick (sends script action (taken t.lane)) (λ lane. acted script tick action (taken lane)) t
 step_call script tick t call None = with_lane (λ lane. returned script tick call.body call.origin (popped lane)) t
 
 -- a destroyed source is passed over, and not counted

@@ -1,16 +1,16 @@
 -- The results of tasks that lanes tell, and the replies that they still hold.
-use Rattle.std.specs.Prelude.{◌≡◌, ℕ, zero, suc, ◌+◌, ◌<◌, ◌≤◌, ◌==◌, ◌&&◌, Bool, false, is_some, List, length, count_by, sum_by}
+use Rattle.std.specs.Prelude.{◌≡◌, ℕ, zero, suc, ◌+◌, ◌<◌, ◌≤◌, ◌==◌, ◌&&◌, Bool, false, List, length, count_by, sum_by}
 use Rattle.loop_script.specs.declared.plan.Plan.{Plan}
 use Rattle.loop_script.specs.References.{sizes}
 use Rattle.post_office.specs.declared.letter.Letter.{Letter}
 use Rattle.post_office.specs.declared.letter.Body.{Body}
-use Rattle.post_office.specs.declared.letter.Body.TheVariants.{Attach, Complete, Cancelled}
+use Rattle.post_office.specs.declared.letter.Body.TheVariants.{Attach, Complete, Cancelled, Give}
 use Rattle.lane_turn.specs.declared.line.Line.{Line}
 use Rattle.lane_turn.specs.declared.line.Event.{Event}
 use Rattle.lane_turn.specs.declared.line.Event.TheVariants as events
 use Rattle.lane_turn.specs.declared.replies.Awaited.{Awaited}
 use Rattle.lane_turn.specs.Replies.{Replies}
-use Rattle.lane_turn.specs.Lane.{Lane, context_at}
+use Rattle.lane_turn.specs.Lane.{Lane, is_own}
 use Rattle.lane_turn.specs.Tick.{posted_at, lanes_at}
 use Rattle.lane_turn.specs.Owed.{lane_under, posted_before}
 use Rattle.loop_script.specs.Units.{Tick, LaneNumber, TaskNumber}
@@ -43,8 +43,9 @@ accounted sender number lane = results sender number lane.trace + awaited sender
 -- how many letters bring a lane a reply of the task: it goes to a context of the lane
 abbrev pub brings : TaskNumber → Lane → Body → Bool
 brings number lane (Attach context spec) = false
-brings number lane (Complete reply) = (reply.task == number) && is_some (context_at reply.ctx lane)
+brings number lane (Complete reply) = (reply.task == number) && is_own reply.ctx lane
 brings number lane (Cancelled c) = false
+brings number lane (Give context to) = false
 
 -- how many of its replies letters bring to the lane
 abbrev pub brought : LaneNumber → TaskNumber → Lane → List Letter → ℕ

@@ -9,7 +9,7 @@ use Rattle.lane_turn.specs.declared.lane.Status.{Status}
 use Rattle.lane_turn.specs.declared.lane.Status.TheVariants.{GoesOn, Ended, Halted}
 use Rattle.lane_turn.specs.declared.layer.Origin.TheVariants as origins
 use Rattle.lane_turn.specs.Frames.{Frame, CallOf, IterOf, LoopOf}
-use Rattle.lane_turn.specs.declared.slot.Held.{Held}
+use Rattle.lane_turn.specs.declared.slot.Named.{Named}
 use Rattle.lane_watch.specs.Watch.{nothing_seen, no_tasks}
 use Rattle.context_core.specs.declared.context.Context.{Context}
 use Rattle.lane_turn.specs.Sources.{no_sources}
@@ -109,7 +109,7 @@ abbrev pub open_contexts : Plan → LaneNumber → List (Option Context)
 open_contexts script lane = open_contexts_to script lane (sizes script).contexts
 
 -- slots that name nothing
-abbrev pub open_slots : ℕ → List (Option Held)
+abbrev pub open_slots : ℕ → List (Option Named)
 open_slots zero = []
 open_slots (suc n) = open_slots n ++ None ∷ []
 
@@ -128,6 +128,7 @@ abbrev pub opening : Plan → LaneNumber → Lane
 opening script lane = record {
   number = lane;
   contexts = open_contexts script lane;
+  given = open_loops (sizes script).contexts;
   slots = open_slots slot_count;
   view = nothing_seen script.cancellables;
   tasks = no_tasks script.cancellables script.tick_us;

@@ -5,7 +5,7 @@ use Rattle.loop_script.specs.declared.plan.Plan.{Plan}
 use Rattle.cancel_view.specs.Seen.{has}
 use Rattle.post_office.specs.declared.letter.Letter.{Letter}
 use Rattle.post_office.specs.declared.letter.Body.{Body}
-use Rattle.post_office.specs.declared.letter.Body.TheVariants.{Attach, Complete, Cancelled}
+use Rattle.post_office.specs.declared.letter.Body.TheVariants.{Attach, Complete, Cancelled, Give}
 use Rattle.lane_turn.specs.Lane.{Lane}
 use Rattle.lane_turn.specs.Turn.{turned, out_of}
 use Rattle.lane_turn.specs.Deliver.{received_all}
@@ -17,6 +17,7 @@ abbrev pub tells_of : CancellableNumber → Body → Bool
 tells_of c (Attach context spec) = false
 tells_of c (Complete reply) = false
 tells_of c (Cancelled k) = k == c
+tells_of c (Give context to) = false
 
 -- whether letters tell of a cancellable
 abbrev pub tells : CancellableNumber → List Letter → Bool

@@ -11,7 +11,7 @@ ghost use Rattle.lane_turn.specs.Limits.{most_count};
 use crate::lane::Lane;
 use crate::layer::Asker;
 use crate::line::{Event, Word};
-use crate::slot::{Held, Place};
+use crate::slot::{Named, Place};
 use loop_script::{Action, Script, SourceSpec, TaskSpec};
 use std::alloc::{AllocError, Global};
 
@@ -32,7 +32,7 @@ impl Lane {
             return self.miss(tick, Word::Attach);
         }
         let id = self.attach(context, spec, now)?;
-        self.set_slot(slot, Held::Source(Place { context, id }));
+        self.set_slot(slot, Named::Source(Place { context, id }));
         Ok(())
     }
 
@@ -51,11 +51,14 @@ impl Lane {
         let Some(place) = self.place(parent) else {
             return self.miss(tick, Word::Child);
         };
+        if !self.has(place.context) {
+            return self.miss(tick, Word::Child);
+        }
         match self.add_child(place, spec, now)? {
             None => self.miss(tick, Word::Child),
             Some(id) => {
                 let context = place.context;
-                self.set_slot(slot, Held::Source(Place { context, id }));
+                self.set_slot(slot, Named::Source(Place { context, id }));
                 Ok(())
             }
         }
@@ -67,7 +70,7 @@ impl Lane {
         let Some(place) = self.place(slot) else {
             return self.miss(tick, Word::Destroy);
         };
-        if self.destroy(place.context, place.id) {
+        if self.has(place.context) && self.destroy(place.context, place.id) {
             Ok(())
         } else {
             self.miss(tick, Word::Destroy)
@@ -85,7 +88,7 @@ impl Lane {
         let Some(place) = self.place(slot) else {
             return self.miss(tick, Word::SetReady);
         };
-        if self.set_ready(place.context, place.id, ready) {
+        if self.has(place.context) && self.set_ready(place.context, place.id, ready) {
             Ok(())
         } else {
             self.miss(tick, Word::SetReady)
@@ -99,7 +102,7 @@ impl Lane {
         let Some(place) = self.place(slot) else {
             return self.miss(tick, Word::SetPriority);
         };
-        if self.set_priority(place, priority)? {
+        if self.has(place.context) && self.set_priority(place, priority)? {
             Ok(())
         } else {
             self.miss(tick, Word::SetPriority)
@@ -135,7 +138,8 @@ impl Lane {
         ensures { OnOk result (lane_of self.new ≡ pending script.now tick context (lane_of self.old)) }
     {
         let ids = self.choose(alloc, script, tick, context)?;
-        self.write(tick, Event::Pending(context, !ids.is_empty()))
+        let any = self.has(context) && !ids.is_empty();
+        self.write(tick, Event::Pending(context, any))
     }
 
     fn act_run(&mut self, tick: u32, number: u32, context: u32) -> Result<(), AllocError>
@@ -227,8 +231,8 @@ impl Lane {
             Action::Acquire(context) => self.act_acquire(tick, *context),
             Action::Release(context) => self.act_release(tick, *context),
             Action::Invoke { context, proc } => self.act_invoke(tick, now, *context, *proc),
+            Action::Give { context, lane } => self.act_give(script, tick, *context, *lane),
             Action::Log(n) => self.write(tick, Event::Log(*n)),
-            _ => Ok(()),
         }
     }
 }

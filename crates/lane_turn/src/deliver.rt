@@ -85,6 +85,7 @@ impl Lane {
             }
             Body::Complete(reply) => self.arrive(script, tick, letter.sender, reply),
             Body::Cancelled(c) => self.act_cancel(alloc, script, tick, c),
+            Body::Give(_, _) => Ok(()),
         }
     }
 

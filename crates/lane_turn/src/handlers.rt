@@ -9,7 +9,7 @@ ghost use Rattle.lane_turn.specs.Limits.{most_count};
 
 use crate::lane::Lane;
 use crate::line::{Event, Word};
-use crate::slot::Held;
+use crate::slot::Named;
 use cancel_view::{Connected, Fired};
 use loop_script::{Action, Body, Script};
 use std::alloc::{AllocError, Global};
@@ -90,12 +90,12 @@ impl Lane {
         match self.watch.connect(c, proc) {
             Err(_) => Err(AllocError),
             Ok(Connected::Id(id)) => {
-                self.set_slot(slot, Held::Handler(id));
+                self.set_slot(slot, Named::Handler(id));
                 Ok(())
             }
             Ok(Connected::Already) => {
                 self.call_handler(script, tick, Fired { id: 0, proc })?;
-                self.set_slot(slot, Held::Handler(0));
+                self.set_slot(slot, Named::Handler(0));
                 Ok(())
             }
         }

@@ -2,7 +2,7 @@
 ghost use Rattle.std.specs.Prelude.{◌≡◌, ◌^◌, ◌≤◌, IfOk, OnOk, IfSome, OnSome, None, true, false, is_some, is_none, slice_get};
 ghost use Rattle.std.specs.Borrow.{sem};
 ghost use Rattle.std.specs.Option.{option_copied, option_copied_mut};
-ghost use Rattle.lane_turn.specs.Lane.{written, set_running, is_running, context_at, held, place_at, handler_at, set_slot, chosen, standings, stopped};
+ghost use Rattle.lane_turn.specs.Lane.{written, set_running, is_running, context_at, is_own, held, place_at, handler_at, set_slot, chosen, standings, stopped};
 ghost use Rattle.lane_turn.specs.Lending.{LendsContext};
 ghost use Rattle.lane_turn.specs.Acted.{missed};
 ghost use Rattle.lane_turn.specs.Meaning.{lane_of};
@@ -11,7 +11,7 @@ use crate::frames::Frames;
 use crate::line::{Event, Line, Word};
 use crate::replies::Replies;
 use crate::select::{select, stand};
-use crate::slot::{Held, Place};
+use crate::slot::{Named, Place};
 use context_core::{Context, DefaultStack, Standing};
 use lane_watch::Watch;
 use loop_script::Script;
@@ -33,8 +33,10 @@ pub struct Lane {
     /// The number of the lane in its script.
     pub number: u32,
     pub contexts: Vec<Option<Context>>,
+    /// Which contexts the lane gave in this tick: they are not its own any more, and stand until they are handed over.
+    pub given: Vec<bool>,
     /// What the slots name.
-    pub slots: Vec<Option<Held>>,
+    pub slots: Vec<Option<Named>>,
     /// The view of cancellations, and the tasks.
     pub watch: Watch,
     pub frames: Frames,
@@ -73,11 +75,11 @@ impl Lane {
         self.write(tick, Event::Miss(word))
     }
 
-    /// Whether a context is one of the lane's.
+    /// Whether a context is the lane's own: it has it, and did not give it in this tick.
     pub(crate) fn has(&self, context: u32) -> bool
-        ensures { result ≡ is_some (context_at context (lane_of self.now)) }
+        ensures { result ≡ is_own context (lane_of self.now) }
     {
-        self.context(context).is_some()
+        self.context(context).is_some() && !self.is_given(context)
     }
 
     /// One of the lane's contexts; none of another lane's.
@@ -95,7 +97,7 @@ impl Lane {
         ensures* writes_back { sem 𝓛 (LendsContext self.entry context result) }
         ensures context { option_copied_mut result ≡ context_at context (lane_of self.old) }
     {
-        if !self.has(context) {
+        if self.context(context).is_none() {
             return None;
         }
         match self.contexts.get_mut(context as usize) {
@@ -108,7 +110,7 @@ impl Lane {
     }
 
     /// What a slot names.
-    fn held(&self, slot: u8) -> Option<Held>
+    fn held(&self, slot: u8) -> Option<Named>
         ensures { result ≡ held (slice_get (lane_of self.now).slots slot) }
     {
         match self.slots.get(slot as usize) {
@@ -122,7 +124,7 @@ impl Lane {
         ensures { result ≡ place_at slot (lane_of self.now) }
     {
         match self.held(slot) {
-            Some(Held::Source(place)) => Some(place),
+            Some(Named::Source(place)) => Some(place),
             _ => None,
         }
     }
@@ -132,13 +134,13 @@ impl Lane {
         ensures { result ≡ handler_at slot (lane_of self.now) }
     {
         match self.held(slot) {
-            Some(Held::Handler(id)) => Some(id),
+            Some(Named::Handler(id)) => Some(id),
             _ => None,
         }
     }
 
     /// Lets a slot name something.
-    pub(crate) fn set_slot(&mut self, slot: u8, thing: Held)
+    pub(crate) fn set_slot(&mut self, slot: u8, thing: Named)
         ensures { lane_of self.new ≡ set_slot slot thing (lane_of self.old) }
     {
         if let Some(held) = self.slots.get_mut(slot as usize) {

@@ -13,6 +13,7 @@ ghost use Rattle.lane_turn.specs.Rest.{EndedLanesRest};
 ghost use Rattle.lane_turn.specs.Blocked.{BlockedWait};
 ghost use Rattle.lane_turn.specs.Selected.{IterationsHaveOrder};
 ghost use Rattle.lane_turn.specs.Stays.{SourcesStay};
+ghost use Rattle.lane_turn.specs.Holding.{ContextsMove, LettersFollow};
 ghost use Rattle.lane_turn.specs.Limited.{StepsAreLimited};
 ghost use Rattle.lane_turn.specs.Stands.{StandingsStay};
 
@@ -117,4 +118,15 @@ pub fn steps_are_limited()
 /// asked for right after the step.
 pub fn standings_stay()
     ensures { StandingsStay }
+{}
+
+/// A context is handed over as it stands, with all rows, their ready times and counts, and the replies that they hold; the
+/// lane that takes it over has it so. No other context is changed.
+pub fn contexts_move_whole()
+    ensures { ContextsMove }
+{}
+
+/// Letters for a context reach the lane that has it after the handing over of the tick: each is attached there once.
+pub fn letters_follow()
+    ensures { LettersFollow }
 {}

@@ -47,8 +47,8 @@ impl Progress {
 
 impl Lane {
     /// What an action sends.
-    fn sends(&self, action: &Action) -> Option<Body>
-        ensures { result ≡ sends action.now (lane_of self.now) }
+    fn sends(&self, script: &Script, action: &Action) -> Option<Body>
+        ensures { result ≡ sends script.now action.now (lane_of self.now) }
     {
         match action {
             Action::Cancel(c) => if self.watch.view().is_cancelled(*c) {
@@ -60,6 +60,11 @@ impl Lane {
                 None
             } else {
                 Some(Body::Attach(*context, invoke_spec(*proc)))
+            },
+            Action::Give { context, lane } => if self.may_give(script, *context, *lane) {
+                Some(Body::Give(*context, *lane))
+            } else {
+                None
             },
             _ => None,
         }
@@ -83,11 +88,11 @@ impl Lane {
         requires refers { action_refers (sizes script.now) action.now ≡ true }
         requires sent { progress.old.sent < count_end }
         ensures acted { OnOk result (turn_of self.new progress.new (P.letters post.new)
-            ≡ record (sending tick (sends action.now (lane_of self.old)) (turn_of self.old progress.old (P.letters post.old))) { lane = acted script.now tick action.now (lane_of self.old) }) }
+            ≡ record (sending tick (sends script.now action.now (lane_of self.old)) (turn_of self.old progress.old (P.letters post.old))) { lane = acted script.now tick action.now (lane_of self.old) }) }
         ensures home { P.home post.new ≡ P.home post.old }
     {
         let sender = self.number;
-        let body = self.sends(action);
+        let body = self.sends(script, action);
         self.act(alloc, script, tick, action)?;
         match body {
             None => Ok(()),

@@ -36,7 +36,7 @@ impl Lane {
     }
 
     /// Whether the lane has a context and owns it.
-    fn is_owned(&self, context: u32) -> bool
+    pub(crate) fn is_owned(&self, context: u32) -> bool
         ensures { result ≡ is_owned context (lane_of self.now) }
     {
         match self.context(context) {

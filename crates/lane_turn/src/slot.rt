@@ -9,7 +9,7 @@ pub struct Place {
 
 /// What a slot names.
 #[derive(Clone, Copy, Debug, PartialEq, Eq)]
-pub enum Held {
+pub enum Named {
     Source(Place),
     /// A handler by its id, which may be disconnected since; 0 is that of none.
     Handler(u64),

@@ -2,8 +2,8 @@
 ghost use Rattle.std.specs.Prelude.{◌≡◌, ◌≤◌, ◌+◌, ◌*◌, pos, is_some, is_none, IfOk, OnOk, IfSome, OnSome, None, true, false};
 ghost use Rattle.source_rows.specs.Rows.{attached, destroyed, ready_set, reprioritised, counted, priority_fault};
 ghost use Rattle.lane_turn.specs.Sources.{due_after, restarted};
-ghost use Rattle.lane_turn.specs.Lane.{context_at, next_id, edited, row_of, row_at};
-ghost use Rattle.lane_turn.specs.Acted.{born, can_bear};
+ghost use Rattle.lane_turn.specs.Lane.{context_at, next_id, edited, row_of};
+ghost use Rattle.lane_turn.specs.Acted.{born, can_bear_in};
 ghost use Rattle.lane_turn.specs.Sound.{IsWithin};
 ghost use Rattle.lane_turn.specs.Meaning.{lane_of};
 ghost use Rattle.loop_script.specs.Bounds.{latest};
@@ -54,7 +54,7 @@ impl Lane {
     ) -> Result<Option<u64>, AllocError>
         requires within { IsWithin most_count (lane_of self.old) }
         requires now { now ≤ latest }
-        ensures bears { IfOk result (λ child. is_some child ≡ can_bear parent (lane_of self.old)) }
+        ensures bears { IfOk result (λ child. is_some child ≡ can_bear_in parent.id (context_at parent.context (lane_of self.old))) }
         ensures id { IfOk result (λ child. IfSome child (λ id. id ≡ next_id (context_at parent.context (lane_of self.old)))) }
         ensures born { IfOk result (λ child. OnSome child (lane_of self.new ≡ edited parent.context (born spec now parent.id) (lane_of self.old))) }
         ensures none { IfOk result (λ child. child ≡ None → lane_of self.new ≡ lane_of self.old) }
@@ -72,7 +72,7 @@ impl Lane {
     /// Gives a source a priority, and answers whether it is there and no child.
     pub(crate) fn set_priority(&mut self, place: Place, priority: i32) -> Result<bool, AllocError>
         requires { IsWithin most_count (lane_of self.old) }
-        ensures moves { IfOk result (λ moves. moves ≡ is_none (priority_fault (row_at place (lane_of self.old)))) }
+        ensures moves { IfOk result (λ moves. moves ≡ is_none (priority_fault (row_of place.context place.id (lane_of self.old)))) }
         ensures moved { IfOk result (λ moves. moves ≡ true → lane_of self.new ≡ edited place.context (reprioritised place.id priority) (lane_of self.old)) }
         ensures none { IfOk result (λ moves. moves ≡ false → lane_of self.new ≡ lane_of self.old) }
     {

@@ -1,11 +1,12 @@
 //! A lane between its turns.
-ghost use Rattle.std.specs.Prelude.{◌≡◌, ℕ, ◌+◌, ◌*◌, ◌^◌, ◌<◌, ◌≤◌, ◌++◌, ◌↔◌, ◌≢◌, [], false, length, IsTrue, IsOk, OnOk, IfOk, IfSome, Ok, Err, is_some, option_map, reverse};
+ghost use Rattle.std.specs.Prelude.{◌≡◌, ℕ, ◌+◌, ◌*◌, ◌^◌, ◌<◌, ◌≤◌, ◌++◌, ◌↔◌, ◌≢◌, [], false, length, IsTrue, IsOk, OnOk, IfOk, IfSome, OnErr, Some, None, Ok, Err, is_some, option_map, reverse};
 ghost use Rattle.loop_script.specs.Bounds.{tick_end};
 ghost use Rattle.lane_turn.specs.Step.{step};
 ghost use Rattle.lane_turn.specs.Lane.{context_at, standings};
 ghost use Rattle.std.specs.Option.{option_copied};
 ghost use Rattle.lane_turn.specs.Turn.{begun_with, begun_polled, finished, stepped, turned, out_of, opening, open_context, open_contexts, open_slots, open_loops, open_replies};
 ghost use Rattle.lane_turn.specs.Deliver.{received_all};
+ghost use Rattle.lane_turn.specs.Handover.{handed_of, without_context, taken_over};
 ghost use Rattle.lane_turn.specs.Quiet.{at_tick, IsQuietUntil};
 ghost use Rattle.lane_watch.specs.Watch.{GivesNothing};
 ghost use Rattle.lane_watch.specs.Watch.{nothing_seen, no_tasks};
@@ -19,10 +20,11 @@ use crate::frames::Frames;
 use crate::in_progress::InProgress;
 use crate::lane::{Lane, Status};
 use crate::layer::{Call, Origin};
+use crate::handover::Held;
 use crate::limits::SLOTS;
 use crate::line::Line;
 use crate::replies::Replies;
-use crate::slot::Held;
+use crate::slot::Named;
 use crate::turn::Turn;
 use crate::wakes::{sooner, tick_of};
 use cancel_view::View;
@@ -55,6 +57,20 @@ impl From<AllocError> for LaneFault {
     fn from(_: AllocError) -> LaneFault {
         LaneFault::OutOfMemory
     }
+}
+
+/// Why a context was not handed over.
+#[derive(Clone, Copy, Debug, PartialEq, Eq, Error)]
+pub enum HandFault {
+    /// An earlier call was refused memory, so the lane is not that of any turn.
+    #[error("spent")]
+    Spent,
+    /// The lane gave no context of that number.
+    #[error("not given")]
+    NotGiven,
+    /// A request for memory was refused.
+    #[error("memory")]
+    OutOfMemory,
 }
 
 /// A lane of a script: its contexts, its loops, and what it is in the middle of. Contracts see the lane of the
@@ -118,7 +134,7 @@ fn tree_levels(script: &Script) -> Levels
 }
 
 /// Slots that name nothing.
-fn open_slots(alloc: Global, slots: usize) -> Result<Vec<Option<Held>>, AllocError>
+fn open_slots(alloc: Global, slots: usize) -> Result<Vec<Option<Named>>, AllocError>
     ensures { IfOk result (λ places. places.items ≡ open_slots slots) }
 {
     let mut places = Vec::new(alloc);
@@ -173,6 +189,7 @@ fn open_lane(alloc: Global, script: &Script, lane: u32) -> Result<Lane, AllocErr
     Ok(Lane {
         number: lane,
         contexts: open_contexts(alloc, script, lane)?,
+        given: open_loops(alloc, script.contexts())?,
         slots: open_slots(alloc, SLOTS)?,
         watch: open_watch(alloc, script)?,
         frames,
@@ -440,6 +457,50 @@ impl LaneState {
         ensures { result ≡ reverse self.now.lane.frames }
     {
         self.lane.frames.inwards()
+    }
+
+    /// Hands over a context that the lane gave in the tick's turn, as it stands: it is the lane's no more. `NotGiven` comes, and
+    /// nothing is changed, where the lane gave no context of that number. It takes no memory.
+    pub fn hand_over(&mut self, context: u32) -> Result<Held, HandFault>
+        ensures handed { IfOk result (λ held. handed_of context self.old.lane ≡ Some held) }
+        ensures left { OnOk result (self.new.lane ≡ without_context context self.old.lane) }
+        ensures lasts { OnOk result (self.new.spent ≡ false) }
+        ensures fault { OnErr result (self.new ≡ self.old) }
+        ensures none { result ≡ Err HandFault.NotGiven → handed_of context self.old.lane ≡ None }
+        ensures spent { (result ≡ Err HandFault.Spent) ↔ IsTrue self.old.spent }
+        ensures memory { result ≢ Err HandFault.OutOfMemory }
+    {
+        if self.spent {
+            return Err(HandFault::Spent);
+        }
+        match self.lane.hand_over(self.alloc, context) {
+            None => Err(HandFault::NotGiven),
+            Some(held) => Ok(held),
+        }
+    }
+
+    /// Takes over a context that another lane handed over in a tick, and writes so.
+    ///
+    /// After `OutOfMemory` the lane is spent, as after `turn`.
+    pub fn take_over(&mut self, tick: u32, held: Held) -> Result<(), HandFault>
+        ensures taken { OnOk result (self.new.lane ≡ taken_over tick held self.old.lane) }
+        ensures lasts { OnOk result (self.new.spent ≡ false) }
+        ensures spent { (result ≡ Err HandFault.Spent) ↔ IsTrue self.old.spent }
+        ensures memory { result ≡ Err HandFault.OutOfMemory → IsTrue self.new.spent }
+        ensures stays { result ≡ Err HandFault.Spent → self.new ≡ self.old }
+        ensures never { result ≢ Err HandFault.NotGiven }
+    {
+        if self.spent {
+            return Err(HandFault::Spent);
+        }
+        self.spent = true;
+        match self.lane.take_over(tick, held) {
+            Err(_) => Err(HandFault::OutOfMemory),
+            Ok(()) => {
+                self.spent = false;
+                Ok(())
+            }
+        }
     }
 
     /// What the lane wrote.

@@ -23,4 +23,6 @@ pub enum Body {
     Complete(Reply),
     /// A cancellable is cancelled.
     Cancelled(u32),
+    /// A context of the sender is given to a lane.
+    Give(u32, u32),
 }

@@ -6,12 +6,14 @@ use Rattle.lane_turn.specs.Lane.{Lane, Turn}
 use Rattle.lane_turn.specs.Step.{step}
 use Rattle.lane_turn.specs.Turn.{begun, finished, turned, stepped}
 use Rattle.lane_turn.specs.Deliver.{received, received_all, delivered}
+use Rattle.lane_turn.specs.Handover.{handing_of}
 use Rattle.lane_turn.specs.Quiet.{at_tick, IsQuiet}
 use Rattle.lane_turn.specs.Tick.{posted_at, ticked}
 use Rattle.lane_turn.specs.Traces.{Grows, IsOf}
 use Rattle.lane_turn.proofs.Finish.{finished_on, finished_now}
 use Rattle.lane_turn.proofs.Traced.{of_tick, delivery_grows}
-use Rattle.tick_stepper.specs.Account.{Place, Turning, Bringing, started, turned_on, moved, lanes_in, all_brought, end_of, OneChanges}
+use Rattle.tick_stepper.proofs.Lined.{first_over, none_left}
+use Rattle.tick_stepper.specs.Account.{Place, Turning, Giving, Bringing, started, turned_on, moved, lanes_in, all_brought, end_of, OneChanges, OneGoesOver}
 
 same_place : (p q : Place) → Some p ≡ Some q → p ≡ q
 same_place p q e = cc
@@ -38,7 +40,7 @@ turn_leads script tick over t waiting posted None e =
     ∙ (ap (delivered script tick (posted ++ (t.posted ++ posted_at script tick waiting))) (append_assoc over (t.lane ∷ []) (map (turned script tick) waiting))
     ∙ ap (λ (v : Turn). delivered script tick (posted ++ (v.posted ++ posted_at script tick waiting)) (over ++ v.lane ∷ map (turned script tick) waiting)) (sym same))
 
-brought_all : (script : Plan) (tick : ℕ) (letters : List Letter) (lanes : List Lane) → all_brought script tick lanes letters letters ≡ delivered script tick letters lanes
+brought_all : (script : Plan) (tick : ℕ) (letters : List Letter) (lanes : List Lane) → all_brought script tick lanes letters letters ≡ map (received_all script tick letters) lanes
 brought_all script tick letters [] = refl
 brought_all script tick letters (lane ∷ lanes) = refl
 
@@ -48,8 +50,11 @@ move_leads script tick (Turning over (Some t) waiting posted) q e =
 move_leads script tick (Turning over None (lane ∷ waiting) posted) q e = ap (end_of script tick) (sym (same_place _ q e))
 move_leads script tick (Turning over None [] posted) q e =
     ap (end_of script tick) (sym (same_place _ q e))
-    ∙ (brought_all script tick posted over
-    ∙ (ap (λ (ls : List Letter). delivered script tick ls over) (sym (append-nil posted)) ∙ ap (delivered script tick (posted ++ [])) (sym (append-nil over))))
+    ∙ (ap (λ (ls : List Letter). delivered script tick ls over) (sym (append-nil posted)) ∙ ap (delivered script tick (posted ++ [])) (sym (append-nil over)))
+move_leads script tick (Giving lanes (letter ∷ left) letters) q e =
+    ap (end_of script tick) (sym (same_place _ q e)) ∙ ap (map (received_all script tick letters)) (first_over tick (handing_of letter lanes) left lanes)
+move_leads script tick (Giving lanes [] letters) q e =
+    ap (end_of script tick) (sym (same_place _ q e)) ∙ (brought_all script tick letters lanes ∙ ap (map (received_all script tick letters)) (sym (none_left tick lanes)))
 move_leads script tick (Bringing over (lane ∷ waiting) (letter ∷ left) letters) q e = ap (end_of script tick) (sym (same_place _ q e))
 move_leads script tick (Bringing over (lane ∷ waiting) [] letters) q e =
     ap (end_of script tick) (sym (same_place _ q e))
@@ -70,6 +75,8 @@ pub ends : (script : Plan) (tick : ℕ) (p : Place) → moved script tick p ≡ 
 ends script tick (Turning over (Some t) waiting posted) e = cc
 ends script tick (Turning over None (lane ∷ waiting) posted) e = cc
 ends script tick (Turning over None [] posted) e = cc
+ends script tick (Giving lanes (letter ∷ left) letters) e = cc
+ends script tick (Giving lanes [] letters) e = cc
 ends script tick (Bringing over (lane ∷ waiting) (letter ∷ left) letters) e = cc
 ends script tick (Bringing over (lane ∷ waiting) [] letters) e = cc
 ends script tick (Bringing over [] left letters) e = refl
@@ -80,25 +87,28 @@ at_held : (tick : ℕ) (over waiting : List Lane) (t u : Turn) → Grows (IsOf t
 at_held tick over waiting t u g = record { before = over; lane = t.lane; next = u.lane; behind = waiting; was = refl; is = refl; lines = g.more; grows = g.lines; ticks = g.each }
 
 by_step : (script : Plan) (tick : ℕ) (over : List Lane) (t : Turn) (waiting : List Lane) (posted : List Letter) (o : Option Turn) → step script tick t ≡ o
-    → (lanes_in (turned_on over t waiting posted o) ≡ lanes_in (Turning over (Some t) waiting posted)) ⊎ OneChanges tick (lanes_in (Turning over (Some t) waiting posted)) (lanes_in (turned_on over t waiting posted o))
-by_step script tick over t waiting posted (Some u) e = inr (at_held tick over waiting t u (of_tick script tick t u e))
+    → (lanes_in (turned_on over t waiting posted o) ≡ lanes_in (Turning over (Some t) waiting posted)) ⊎ (OneChanges tick (lanes_in (Turning over (Some t) waiting posted)) (lanes_in (turned_on over t waiting posted o)) ⊎ OneGoesOver tick (lanes_in (Turning over (Some t) waiting posted)) (lanes_in (turned_on over t waiting posted o)))
+by_step script tick over t waiting posted (Some u) e = inr (inl (at_held tick over waiting t u (of_tick script tick t u e)))
 by_step script tick over t waiting posted None e = inl (append_assoc over (t.lane ∷ []) waiting)
 
 abbrev Tells : (tick : ℕ) (p q : Place) → Type 0
-Tells tick p q = (lanes_in q ≡ lanes_in p) ⊎ OneChanges tick (lanes_in p) (lanes_in q)
+Tells tick p q = (lanes_in q ≡ lanes_in p) ⊎ (OneChanges tick (lanes_in p) (lanes_in q) ⊎ OneGoesOver tick (lanes_in p) (lanes_in q))
 
-pub changes_one : (script : Plan) (tick : ℕ) (p q : Place) → moved script tick p ≡ Some q → (lanes_in q ≡ lanes_in p) ⊎ OneChanges tick (lanes_in p) (lanes_in q)
+pub changes_one : (script : Plan) (tick : ℕ) (p q : Place) → moved script tick p ≡ Some q → (lanes_in q ≡ lanes_in p) ⊎ (OneChanges tick (lanes_in p) (lanes_in q) ⊎ OneGoesOver tick (lanes_in p) (lanes_in q))
 changes_one script tick (Turning over (Some t) waiting posted) q e =
     subst (Tells tick (Turning over (Some t) waiting posted)) (same_place _ q e) (by_step script tick over t waiting posted (step script tick t) refl)
 changes_one script tick (Turning over None (lane ∷ waiting) posted) q e =
     subst (Tells tick (Turning over None (lane ∷ waiting) posted)) (same_place _ q e)
-    (inr (record { before = over; lane = lane; next = (begun tick lane).lane; behind = waiting; was = refl; is = refl; lines = []; grows = sym (append-nil lane.trace); ticks = tt }))
+    (inr (inl (record { before = over; lane = lane; next = (begun tick lane).lane; behind = waiting; was = refl; is = refl; lines = []; grows = sym (append-nil lane.trace); ticks = tt })))
 changes_one script tick (Turning over None [] posted) q e =
     subst (Tells tick (Turning over None [] posted)) (same_place _ q e) (inl (sym (append-nil over)))
+changes_one script tick (Giving lanes (letter ∷ left) letters) q e =
+    subst (Tells tick (Giving lanes (letter ∷ left) letters)) (same_place _ q e) (inr (inr (record { letter = letter; is = refl })))
+changes_one script tick (Giving lanes [] letters) q e = subst (Tells tick (Giving lanes [] letters)) (same_place _ q e) (inl refl)
 changes_one script tick (Bringing over (lane ∷ waiting) (letter ∷ left) letters) q e =
     let g = delivery_grows script tick (letter ∷ []) lane in
     subst (Tells tick (Bringing over (lane ∷ waiting) (letter ∷ left) letters)) (same_place _ q e)
-    (inr (record { before = over; lane = lane; next = received script tick letter lane; behind = waiting; was = refl; is = refl; lines = g.more; grows = g.lines; ticks = g.each }))
+    (inr (inl (record { before = over; lane = lane; next = received script tick letter lane; behind = waiting; was = refl; is = refl; lines = g.more; grows = g.lines; ticks = g.each })))
 changes_one script tick (Bringing over (lane ∷ waiting) [] letters) q e =
     subst (Tells tick (Bringing over (lane ∷ waiting) [] letters)) (same_place _ q e) (inl (append_assoc over (lane ∷ []) waiting))
 changes_one script tick (Bringing over [] left letters) q e = let no : None ≡ Some q = e in cc

@@ -7,6 +7,8 @@ use Rattle.loop_script.specs.declared.plan.Plan.{Plan}
 use Rattle.post_office.specs.declared.letter.Letter.{Letter}
 use Rattle.lane_turn.specs.Lane.{Lane}
 use Rattle.lane_turn.specs.Turn.{opening, turned}
+use Rattle.lane_turn.specs.Handover.{Handing, all_handed, handings}
+use Rattle.lane_turn.proofs.GoingOver.{handed_part}
 use Rattle.lane_turn.specs.Deliver.{received_all}
 use Rattle.lane_turn.specs.Tick.{posted_at, lanes_at}
 use Rattle.lane_turn.proofs.Turns.{turned_number}
@@ -26,13 +28,20 @@ counted_step : (step : Lane → Lane) → ((lane : Lane) → (step lane).number 
 counted_step step same n [] h = tt
 counted_step step same n (lane ∷ lanes) h = (same lane ∙ h.0, counted_step step same (n + 1) lanes h.1)
 
+-- what goes over leaves each lane its number
+pub number_over : (tick : ℕ) (hs : List Handing) (lane : Lane) → (all_handed tick hs lane).number ≡ lane.number
+number_over tick hs lane = handed_part (λ (l : Lane). l.number) tick (λ kept l. refl) (λ context l. refl) hs lane
+
 pub counted_at : (script : Plan) (tick : ℕ) → Counted 0 (lanes_at script tick)
 counted_at script zero = counted_openings script 0 (length script.lanes)
 counted_at script (suc tick) =
     let lanes : List Lane = lanes_at script tick in
     let letters : List Letter = posted_at script tick lanes in
-    counted_step (received_all script tick letters) (received_number script tick letters) 0 (map (turned script tick) lanes)
-    (counted_step (turned script tick) (turned_number script tick) 0 lanes (counted_at script tick))
+    let turns : List Lane = map (turned script tick) lanes in
+    let hs : List Handing = handings tick letters turns in
+    counted_step (received_all script tick letters) (received_number script tick letters) 0 (map (all_handed tick hs) turns)
+    (counted_step (all_handed tick hs) (number_over tick hs) 0 turns
+    (counted_step (turned script tick) (turned_number script tick) 0 lanes (counted_at script tick)))
 
 pub lane_count : (script : Plan) (tick : ℕ) → length (lanes_at script tick) ≡ length script.lanes
 lane_count script zero = simp (length-map, length-range_with_len)

@@ -27,7 +27,7 @@ use Rattle.lane_turn.proofs.nest.Nest.TheLaws.TheKnot.{crosses as nests}
 use Rattle.lane_turn.specs.contracts.nest.Nest as Nest
 use Rattle.context_core.specs.contracts.context.Context as Context
 use Rattle.lane_turn.proofs.line.Line.TheSendSync as line
-use Rattle.lane_turn.proofs.slot.Held.TheSendSync as held
+use Rattle.lane_turn.proofs.slot.Named.TheSendSync as held
 use Rattle.lane_turn.proofs.replies.Awaited.TheSendSync as awaited
 use Rattle.lane_turn.proofs.lane.Status.TheSendSync as status
 use Rattle.std.proofs.option.Option.TheSendSync as option

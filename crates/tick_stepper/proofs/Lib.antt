@@ -2,6 +2,7 @@ pub mod Along
 pub mod Handed
 pub mod Theirs
 pub mod Counted
+pub mod Lined
 pub mod Crossing
 pub mod Crews
 pub mod Rounds

@@ -12,7 +12,8 @@ use Rattle.task_steps.specs.Run.{IsAfter}
 use Rattle.lane_watch.specs.Watch.{GivesNothing}
 use Rattle.lane_turn.specs.Lane.{Lane}
 use Rattle.lane_turn.specs.Turn.{turned, out_of}
-use Rattle.lane_turn.specs.Deliver.{received_all}
+use Rattle.lane_turn.specs.Handover.{handed_over}
+use Rattle.lane_turn.specs.Deliver.{received_all, delivered}
 use Rattle.lane_turn.specs.Tick.{posted_at, lanes_at}
 use Rattle.lane_turn.specs.Quiet.{at_tick, IsQuiet, IsQuietUntil}
 use Rattle.lane_turn.proofs.Turns.{turned_number}
@@ -21,12 +22,13 @@ use Rattle.lane_turn.proofs.Runs.{most_at, AllReady, ready_at}
 use Rattle.tick_stepper.specs.Order.{RisesBy}
 use Rattle.tick_stepper.specs.declared.share.Numbered.{Numbered}
 use Rattle.tick_stepper.specs.declared.rest.Resting.{Resting}
-use Rattle.tick_stepper.specs.Share.{unspent, numbered, numbered_one, stepped_one, turned_one, out_of_one, IsReadyOne, IsRound}
+use Rattle.tick_stepper.specs.Share.{unspent, numbered, numbered_one, stepped_one, turned_one, out_of_one, IsReadyOne, IsRound, lanes_in}
 use Rattle.tick_stepper.specs.Rest.{lane_at, all_at, comes_by, is_due, woken, all_woken, HasPassed, Rests, IsSettled, AreAt, IsParted, AreTurned}
+use Rattle.tick_stepper.proofs.Lined.{lanes_numbered}
 use Rattle.tick_stepper.proofs.Handed.{rec_of, of_rec, front_of}
 use Rattle.tick_stepper.proofs.Sorted.{sorted_is}
 use Rattle.tick_stepper.proofs.Turns.{turned_in_order}
-use Rattle.tick_stepper.proofs.Counted.{counted_at, below_count, lane_count, by_number_at}
+use Rattle.tick_stepper.proofs.Counted.{number_over, counted_at, below_count, lane_count, by_number_at}
 use Rattle.tick_stepper.proofs.Rounds.{numbered_step, numbered_rise, ready_turns, ready_delivery}
 use Rattle.tick_stepper.proofs.Deals.{all_map}
 
@@ -258,6 +260,13 @@ none_received : (script : Plan) (tick : ℕ) (lanes : List Lane) → map (receiv
 none_received script tick [] = refl
 none_received script tick (lane ∷ lanes) = ap (λ (ls : List Lane). lane ∷ ls) (none_received script tick lanes)
 
+none_handed : (tick : ℕ) (lanes : List Lane) → handed_over tick [] lanes ≡ lanes
+none_handed tick [] = refl
+none_handed tick (lane ∷ lanes) = ap (λ (ls : List Lane). lane ∷ ls) (none_handed tick lanes)
+
+none_delivered : (script : Plan) (tick : ℕ) (lanes : List Lane) → delivered script tick [] lanes ≡ lanes
+none_delivered script tick lanes = none_received script tick (handed_over tick [] lanes) ∙ none_handed tick lanes
+
 pub put_back_at : (script : Plan) (tick : ℕ) (done : List Numbered) (rest settled sorted : List Resting) → length script.lanes ≤ 64 → tick < 4096
     → AllByRecursion (Rests script (tick + 1)) rest
     → IsPermutation (numbered (map (turned script tick) (lanes_at script tick))) (done ++ all_woken (tick + 1) rest)
@@ -279,7 +288,7 @@ put_back_at script tick done rest settled sorted few low rests perm none s p up 
     let order = order_seen (lane_at next) (λ (one : Resting). one.lane.number) (λ (lane : Lane). lane.number) sorted (all_named script next sorted all) up in
     let is : all_at next sorted ≡ turns = sorted_is (λ (lane : Lane). lane.number) turns (all_at next sorted) moved order (turned_in_order script tick (lanes_at script tick) (by_number_at script tick)) in
     record {
-      lanes = is ∙ (sym (ap (λ (letters : List Letter). map (received_all script tick letters) turns) none ∙ none_received script tick turns) ∙ ap (lanes_at script) (sym (add-one tick)));
+      lanes = is ∙ (sym (ap (λ (letters : List Letter). delivered script tick letters turns) none ∙ none_delivered script tick turns) ∙ ap (lanes_at script) (sym (add-one tick)));
       rest = all;
     }
 
@@ -318,7 +327,7 @@ idle_tick script tick ones left h none =
     let turns : map (turned script tick) (lanes_at script tick) ≡ all_at (tick + 1) ones = ap (map (turned script tick)) (sym h.lanes) ∙ quiet.0 in
     let letters : posted_at script tick (lanes_at script tick) ≡ [] = ap (posted_at script tick) (sym h.lanes) ∙ quiet.1 in
     record {
-      lanes = sym ((λ i. map (received_all script tick (letters i)) (turns i)) ∙ none_received script tick (all_at (tick + 1) ones)) ∙ ap (lanes_at script) (sym (add-one tick));
+      lanes = sym ((λ i. delivered script tick (letters i) (turns i)) ∙ none_delivered script tick (all_at (tick + 1) ones)) ∙ ap (lanes_at script) (sym (add-one tick));
       rest = subst (AllByRecursion (Rests script (tick + 1))) (none_due script tick ones none) (others_rest script tick ones left h.rest);
     }
 
@@ -363,12 +372,20 @@ rests_until script tick lane next r q = record {
 
 -- ---- what is delivered to leads to the next tick
 
-pub delivered_at : (script : Plan) (tick : ℕ) (shown now : List Numbered) (letters : List Letter) → shown ≡ numbered (map (turned script tick) (lanes_at script tick)) → letters ≡ posted_at script tick (lanes_at script tick)
+-- what goes over, between lanes after their turns
+pub handed_at : (script : Plan) (tick : ℕ) (shown now : List Numbered) (letters : List Letter) → shown ≡ numbered (map (turned script tick) (lanes_at script tick)) → letters ≡ posted_at script tick (lanes_at script tick)
+    → now ≡ numbered (handed_over tick letters (lanes_in shown)) → now ≡ numbered (handed_over tick (posted_at script tick (lanes_at script tick)) (map (turned script tick) (lanes_at script tick)))
+handed_at script tick shown now letters turns sent went =
+    let same : lanes_in shown ≡ map (turned script tick) (lanes_at script tick) = ap lanes_in turns ∙ lanes_numbered (map (turned script tick) (lanes_at script tick)) in
+    went ∙ (λ i. numbered (handed_over tick (sent i) (same i)))
+
+pub delivered_at : (script : Plan) (tick : ℕ) (shown now : List Numbered) (letters : List Letter) → shown ≡ numbered (handed_over tick (posted_at script tick (lanes_at script tick)) (map (turned script tick) (lanes_at script tick))) → letters ≡ posted_at script tick (lanes_at script tick)
     → now ≡ map (stepped_one (received_all script tick letters)) shown → now ≡ numbered (lanes_at script (tick + 1))
-delivered_at script tick shown now letters turns sent took =
+delivered_at script tick shown now letters went sent took =
     let all : List Letter = posted_at script tick (lanes_at script tick) in
-    took ∙ (λ i. map (stepped_one (received_all script tick (sent i))) (turns i))
-    ∙ (numbered_step (received_all script tick all) (received_number script tick all) (map (turned script tick) (lanes_at script tick)) ∙ ap (λ k. numbered (lanes_at script k)) (sym (add-one tick)))
+    let over : List Lane = handed_over tick all (map (turned script tick) (lanes_at script tick)) in
+    took ∙ (λ i. map (stepped_one (received_all script tick (sent i))) (went i))
+    ∙ (numbered_step (received_all script tick all) (received_number script tick all) over ∙ ap (λ k. numbered (lanes_at script k)) (sym (add-one tick)))
 
 -- ---- a tick after its turns, whoever took them
 

@@ -10,6 +10,8 @@ use Rattle.post_office.specs.Order.{InOrder}
 use Rattle.post_office.proofs.Sorted.{order_is_one}
 use Rattle.lane_turn.specs.Lane.{Lane}
 use Rattle.lane_turn.specs.Turn.{turned, out_of}
+use Rattle.lane_turn.specs.Handover.{handed_over}
+use Rattle.lane_turn.proofs.GoingOver.{ready_over}
 use Rattle.lane_turn.specs.Tick.{posted_at, lanes_at}
 use Rattle.lane_turn.proofs.Turns.{ready-turned}
 use Rattle.lane_turn.proofs.Delivered.{ready_weaker}
@@ -59,6 +61,13 @@ pub ready_delivery : (script : Plan) (tick : ℕ) → length script.lanes ≤ 64
 ready_delivery script tick few low =
     ready_each script (tick + 1) (most_at tick + 20001) (map (turned script tick) (lanes_at script tick)) (omega (arith, posted_fits script tick few (omega arith)))
     (after_turns script tick (most_at tick) (lanes_at script tick) (ready_at script tick few (omega arith)))
+
+pub ready_over_at : (script : Plan) (tick : ℕ) → length script.lanes ≤ 64 → tick < 4096 → AllByRecursion (IsReadyOne script (tick + 1)) (numbered (handed_over tick (posted_at script tick (lanes_at script tick)) (map (turned script tick) (lanes_at script tick))))
+ready_over_at script tick few low =
+    let letters : List Letter = posted_at script tick (lanes_at script tick) in
+    let turns : List Lane = map (turned script tick) (lanes_at script tick) in
+    ready_each script (tick + 1) (most_at tick + 20001) (handed_over tick letters turns) (omega (arith, posted_fits script tick few (omega arith)))
+    (ready_over script tick (tick + 1) (most_at tick + 20001) letters turns (after_turns script tick (most_at tick) (lanes_at script tick) (ready_at script tick few (omega arith))))
 
 pub few_posted : (script : Plan) (tick : ℕ) (letters : List Letter) → length script.lanes ≤ 64 → tick < 4096 → letters ≡ posted_at script tick (lanes_at script tick) → length letters ≤ 2 ^ 60
 few_posted script tick letters few low e = omega (arith, posted_fits script tick few (omega arith), ap length e)

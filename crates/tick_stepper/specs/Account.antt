@@ -8,15 +8,17 @@ use Rattle.lane_turn.specs.Lane.{Lane, Turn}
 use Rattle.lane_turn.specs.Step.{step}
 use Rattle.lane_turn.specs.Turn.{begun, finished, turned}
 use Rattle.lane_turn.specs.Deliver.{received, received_all, delivered}
+use Rattle.lane_turn.specs.Handover.{moved as gone_over, handing_of, handed_over}
 use Rattle.lane_turn.specs.Quiet.{at_tick, IsQuiet}
 use Rattle.lane_turn.specs.Tick.{posted_at, ticked}
 use Rattle.loop_script.specs.Units.{Tick}
 
 -- where one thread is in a tick. At first: the lanes that are through with their turns, the turn that is in progress, the lanes that wait, and
--- what those that are through have posted. Then: the lanes that have all letters, those that wait, of which the first has some letters left,
--- and all letters
+-- what those that are through have posted. Then: all lanes, the letters whose contexts are still to go over, and all letters. Then: the
+-- lanes that have all letters, those that wait, of which the first has some letters left, and all letters
 pub data Place : Type 0 where
   Turning : (over : List Lane) (held : Option Turn) (waiting : List Lane) (posted : List Letter) → Place
+  Giving : (lanes : List Lane) (left letters : List Letter) → Place
   Bringing : (over : List Lane) (waiting : List Lane) (left letters : List Letter) → Place
 
 -- a tick in which nothing is done yet
@@ -28,11 +30,14 @@ abbrev pub turned_on : List Lane → Turn → List Lane → List Letter → Opti
 turned_on over t waiting posted (Some u) = Turning over (Some u) waiting posted
 turned_on over t waiting posted None = Turning (over ++ t.lane ∷ []) None waiting (posted ++ t.posted)
 
--- one move: a step of the turn in progress, or its end; a turn begins; a letter is brought, or a lane has them all. None where the tick is over
+-- one move: a step of the turn in progress, or its end; a turn begins; the context that a letter gives goes over; a letter is brought, or a lane
+-- has them all. None where the tick is over
 abbrev pub moved : Plan → Tick → Place → Option Place
 moved script tick (Turning over (Some t) waiting posted) = Some (turned_on over t waiting posted (step script tick t))
 moved script tick (Turning over None (lane ∷ waiting) posted) = Some (Turning over (Some (begun tick lane)) waiting posted)
-moved script tick (Turning over None [] posted) = Some (Bringing [] over posted posted)
+moved script tick (Turning over None [] posted) = Some (Giving over posted posted)
+moved script tick (Giving lanes (letter ∷ left) letters) = Some (Giving (gone_over tick (handing_of letter lanes) lanes) left letters)
+moved script tick (Giving lanes [] letters) = Some (Bringing [] lanes letters letters)
 moved script tick (Bringing over (lane ∷ waiting) (letter ∷ left) letters) = Some (Bringing over (received script tick letter lane ∷ waiting) left letters)
 moved script tick (Bringing over (lane ∷ waiting) [] letters) = Some (Bringing (over ++ lane ∷ []) waiting letters letters)
 moved script tick (Bringing over [] left letters) = None
@@ -45,6 +50,7 @@ held_lanes (Some t) = t.lane ∷ []
 -- the lanes as they are
 abbrev pub lanes_in : Place → List Lane
 lanes_in (Turning over held waiting posted) = over ++ (held_lanes held ++ waiting)
+lanes_in (Giving lanes left letters) = lanes
 lanes_in (Bringing over waiting left letters) = over ++ waiting
 
 -- the turn in progress, when it is over
@@ -67,6 +73,7 @@ abbrev pub end_of : Plan → Tick → Place → List Lane
 end_of script tick (Turning over held waiting posted) =
     delivered script tick (posted ++ (held_posted (held_end script tick held) ++ posted_at script tick waiting))
     (over ++ (held_lanes (held_end script tick held) ++ map (turned script tick) waiting))
+end_of script tick (Giving lanes left letters) = map (received_all script tick letters) (handed_over tick left lanes)
 end_of script tick (Bringing over waiting left letters) = over ++ all_brought script tick waiting left letters
 
 -- lanes of which one changes at most, and writes only lines of the tick behind its others
@@ -93,6 +100,12 @@ pub record MovesLead : Type 0 where
   -- and when no move is left the lanes are there
   pub ends : (script : Plan) (tick : Tick) (p : Place) → moved script tick p ≡ None → lanes_in p ≡ end_of script tick p
 
--- each move changes one lane at most, whose new lines are those of the move
+-- lanes between which the context that a letter gives goes over
+pub record OneGoesOver (tick : Tick) (lanes now : List Lane) : Type 0 where
+  pub letter : Letter
+  pub is : now ≡ gone_over tick (handing_of letter lanes) lanes
+
+-- each move changes one lane at most, whose new lines are those of the move, or hands one context over
 abbrev pub MovesChangeOne : Type 0
-MovesChangeOne = (script : Plan) (tick : Tick) (p q : Place) → moved script tick p ≡ Some q → (lanes_in q ≡ lanes_in p) ⊎ OneChanges tick (lanes_in p) (lanes_in q)
+MovesChangeOne = (script : Plan) (tick : Tick) (p q : Place) → moved script tick p ≡ Some q
+    → (lanes_in q ≡ lanes_in p) ⊎ (OneChanges tick (lanes_in p) (lanes_in q) ⊎ OneGoesOver tick (lanes_in p) (lanes_in q))

@@ -1,6 +1,6 @@
 -- What a worker is handed, and what it gives back.
-use Rattle.std.specs.Prelude.{◌≡◌, ℕ, ◌+◌, ◌<◌, ◌==◌, Bool, false, nat_lt, length, Result, Ok, List, [], ◌∷◌, map}
-use Rattle.std.specs.List.{AllByRecursion, filter, flat_map}
+use Rattle.std.specs.Prelude.{◌≡◌, ℕ, ◌+◌, ◌<◌, ◌==◌, Bool, false, nat_lt, length, Result, Ok, List, [], ◌∷◌, map, if◌then◌else◌}
+use Rattle.std.specs.List.{AllByRecursion, filter, flat_map, range_with_len}
 use Rattle.loop_script.specs.declared.plan.Plan.{Plan}
 use Rattle.post_office.specs.declared.letter.Letter.{Letter}
 use Rattle.lane_turn.specs.Limits.{half_count}
@@ -13,7 +13,7 @@ use Rattle.tick_stepper.specs.declared.crew.Crew.{Crew}
 use Rattle.tick_stepper.specs.declared.share.Numbered.{Numbered}
 use Rattle.tick_stepper.specs.declared.share.Share.{Share}
 use Rattle.lane_turn.specs.declared.state.LaneFault.{LaneFault}
-use Rattle.loop_script.specs.Units.{Tick}
+use Rattle.loop_script.specs.Units.{Tick, LaneNumber}
 
 -- a lane of which no call was refused memory
 abbrev pub unspent : Lane → State
@@ -26,6 +26,19 @@ numbered_one lane = record { number = lane.number; state = unspent lane }
 -- lanes with their numbers
 abbrev pub numbered : List Lane → List Numbered
 numbered lanes = map numbered_one lanes
+
+-- the lanes, without their numbers
+abbrev pub lanes_in : List Numbered → List Lane
+lanes_in ones = map (λ (one : Numbered). one.state.lane) ones
+
+-- lanes of which no call was refused memory, each in the place of its number
+pub record AreLined (ones : List Numbered) : Type 0 where
+  pub numbered : ones ≡ numbered (lanes_in ones)
+  pub places : map (λ lane. lane.number) (lanes_in ones) ≡ range_with_len 0 (length ones)
+
+-- the lane of a number after a step
+abbrev pub at_number : LaneNumber → (Lane → Lane) → Lane → Lane
+at_number number step lane = if lane.number == number then step lane else lane
 
 -- a lane after a step, its turn among them, and what it posts in its turn
 abbrev pub stepped_one : (Lane → Lane) → Numbered → Numbered

@@ -1,5 +1,5 @@
 //! Why a call of a stepper was refused.
-use lane_turn::LaneFault;
+use lane_turn::{HandFault, LaneFault};
 use std::alloc::AllocError;
 use thiserror::Error;
 
@@ -44,6 +44,13 @@ impl From<AllocError> for OutOfMemory {
 /// A lane that was not spent is refused a turn or a delivery only where memory runs out.
 impl From<LaneFault> for OutOfMemory {
     fn from(_: LaneFault) -> Self {
+        OutOfMemory
+    }
+}
+
+/// And so is a handing over of it.
+impl From<HandFault> for OutOfMemory {
+    fn from(_: HandFault) -> Self {
         OutOfMemory
     }
 }

@@ -22,7 +22,8 @@ pub fn quiet_turns_need_not_be_taken()
 {}
 
 /// A tick of one thread, one move at a time, comes to the lanes after it: no move changes where it comes to, and when none is left
-/// the lanes are there. Each move changes one lane at most, which keeps its lines and writes those of the move behind them.
+/// the lanes are there. Each move changes one lane at most, which keeps its lines and writes those of the move behind them, or hands one
+/// context over.
 pub fn moves_lead()
     ensures leads { MovesLead }
     ensures one { MovesChangeOne }

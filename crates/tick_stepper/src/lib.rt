@@ -7,6 +7,7 @@ mod deal;
 mod deliver;
 mod fault;
 mod gate;
+mod hand;
 pub mod laws;
 mod open;
 mod queue;

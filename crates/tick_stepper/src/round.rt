@@ -10,9 +10,9 @@ ghost use Rattle.tick_stepper.specs.Share.{numbered, turned_one, out_of_one, IsF
 
 use crate::crew::{Crew, Sharing};
 use crate::deal::{deal, gather};
-use crate::deliver::deliver_all;
 use crate::fault::OutOfMemory;
 use crate::gate::{Gate, OpenGate};
+use crate::hand::bring;
 use crate::queue::turn_by_queue;
 use crate::rest::{Resting, by_number, part, settle, wake_all};
 use crate::share::{Numbered, Share, in_order, take_turns, turn_share};
@@ -115,7 +115,7 @@ fn deliver_to_all(
 {
     let lanes = wake_all(tick + 1, done, resting)?;
     let mut lanes = in_order(lanes)?;
-    deliver_all(script, tick, lanes.as_mut_slice(), letters)?;
+    bring(script, tick, lanes.as_mut_slice(), letters)?;
     Ok(settle(alloc, script, tick, lanes)?)
 }
 

@@ -33,9 +33,9 @@ returns-in_ok-act_and_send-in-Some-clause-next g c =
     let t = turn_of c.args.self.now c.args.progress.now (g.P.Post.letters c.args.post.now) in
     let call = c.in-Call.call in
     let action = c.in-Some.action.now in
-    let done : List Frame → Turn = λ fs. let l : Lane = record lane { frames = fs } in record (sending tick (sends action l) t) { lane = acted script tick action l; left = t.left - 1 } in
+    let done : List Frame → Turn = λ fs. let l : Lane = record lane { frames = fs } in record (sending tick (sends script action l) t) { lane = acted script tick action l; left = t.left - 1 } in
     c.in_ok-act_and_send-in-Some.ensures.acted ∙ (ap done (c.in-Call.ensures.taken.0 c.if-prove.false)
-    ∙ (counted_one tick (sends action (taken lane)) (λ (l : Lane). acted script tick action (taken l)) t c.requires.left
+    ∙ (counted_one tick (sends script action (taken lane)) (λ (l : Lane). acted script tick action (taken l)) t c.requires.left
     ∙ call_stepped script tick t call (Some action) refl c.requires.goes c.in-Call.ensures.top (sym (slice_get_read c.actions.result.now _ call.place action refl (ltb-true _ _ (sym (c.in-Some.ensures.lookup.0))) (c.in-Some.ensures.lookup.1)) ∙ ap (λ (xs : List Action). slice_get xs call.place) c.actions.ensures.actions)))
 
 pub returns-in-Loop-clause-more : goal.returns-in-Loop-clause-more

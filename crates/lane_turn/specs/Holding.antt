@@ -1,0 +1,49 @@
+-- Who holds which context, and what goes over with it.
+use Rattle.std.specs.Prelude.{◌≡◌, ◌≢◌, ◌++◌, ℕ, zero, suc, ◌+◌, ◌<◌, ◌==◌, ◌&&◌, Bool, true, false, Option, Some, None, is_some, List, [], ◌∷◌, map, length, if◌then◌else◌}
+use Rattle.std.specs.List.{AllByRecursion, list_all, list_any, range_with_len}
+use Rattle.loop_script.specs.declared.plan.Plan.{Plan}
+use Rattle.loop_script.specs.declared.plan.Proc.{Proc}
+use Rattle.loop_script.specs.declared.plan.LaneSpec.{LaneSpec}
+use Rattle.loop_script.specs.declared.action.Action.{Action}
+use Rattle.loop_script.specs.declared.action.Action.TheVariants.{Give}
+use Rattle.loop_script.specs.Parts.{home_of}
+use Rattle.loop_script.specs.References.{sizes}
+use Rattle.context_core.specs.declared.context.Context.{Context}
+use Rattle.post_office.specs.declared.letter.Letter.{Letter}
+use Rattle.post_office.specs.declared.letter.Body.{Body as Mail}
+use Rattle.post_office.specs.declared.letter.Body.TheVariants as mails
+use Rattle.lane_turn.specs.Replies.{replies_at}
+use Rattle.lane_turn.specs.Frames.{owns}
+use Rattle.lane_turn.specs.Lane.{Lane, Turn, Kept, context_at, is_given, is_own}
+use Rattle.lane_turn.specs.Step.{step}
+use Rattle.lane_turn.specs.Turn.{turned, out_of}
+use Rattle.lane_turn.specs.Handover.{Handing, handings, handed_of, without_context, taken_over, all_handed, handed_over}
+use Rattle.lane_turn.specs.Deliver.{received_all}
+use Rattle.lane_turn.specs.Tick.{posted_at, opened, lanes_at}
+use Rattle.lane_turn.specs.Blocked.{OfEachStep}
+use Rattle.lane_turn.specs.Arrivals.{arrivals, ids_for}
+use Rattle.loop_script.specs.Units.{Tick, LaneNumber, ContextNumber}
+
+-- ---- what goes over
+
+-- a context with its replies
+pub record Stands (context : ContextNumber) (before now : Lane) : Type 0 where
+  pub rows : context_at context now ≡ context_at context before
+  pub replies : replies_at context now.replies ≡ replies_at context before.replies
+
+-- a context goes over whole, and no other is changed
+pub record ContextsMove : Type 0 where
+  -- what is handed over is the context as it stands, with its replies
+  pub whole : (context : ContextNumber) (lane : Lane) (kept : Kept) → handed_of context lane ≡ Some kept → (context_at context lane ≡ Some kept.context) × (replies_at context lane.replies ≡ kept.replies)
+  -- the lane that takes it over has it so, and its others as before
+  pub taken : (tick : Tick) (kept : Kept) (lane : Lane) → kept.number < length lane.contexts → context_at kept.number (taken_over tick kept lane) ≡ Some kept.context
+  pub others : (tick : Tick) (kept : Kept) (lane : Lane) (context : ContextNumber) → context ≢ kept.number → Stands context lane (taken_over tick kept lane)
+  -- the lane that hands it over has its others as before
+  pub left : (lane : Lane) (given context : ContextNumber) → context ≢ given → Stands context lane (without_context given lane)
+
+-- letters of a tick for a context reach the lane that has it after the handing over, once
+pub record LettersFollow : Type 0 where
+  pub run : (script : Plan) (tick : Tick) (context : ContextNumber) → context < (sizes script).contexts
+      → AllByRecursion (λ lane. (c : Context) → is_own context lane ≡ true → context_at context lane ≡ Some c
+      → arrivals context (received_all script tick (posted_at script tick (lanes_at script tick)) lane).trace ≡ arrivals context lane.trace ++ ids_for context c.rows.next_id (posted_at script tick (lanes_at script tick)))
+      (handed_over tick (posted_at script tick (lanes_at script tick)) (map (turned script tick) (lanes_at script tick)))

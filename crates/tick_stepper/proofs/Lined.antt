@@ -1,0 +1,249 @@
+-- Lanes that stand by number: what one of them does, and what goes from one to another.
+use Rattle.std.proofs.Common.{◌≡◌, ◌≢◌, ◌⊎◌, inl, inr, ℕ, zero, suc, ◌+◌, ◌<◌, ◌≤◌, ◌==◌, Bool, true, false, cond, Option, Some, None, is_some, List, [], ◌∷◌, map, length, get_or, set, option_map, refl, ap, sym, ◌∙◌, arith, ltb-true, ltb-false}
+use Rattle.std.specs.Prelude.{nat_lt}
+use Rattle.context_core.specs.declared.context.Context.{Context}
+use Rattle.std.specs.Option.{option_and_then}
+use Rattle.std.specs.List.{cons_option, range_with_len}
+use Rattle.std.proofs.lemmas.List.{length-map}
+use Rattle.std.proofs.lemmas.Bool.{eq-eqb, ne_eqb}
+use Rattle.lane_turn.specs.Lane.{Lane, State, Kept, context_at, is_given}
+use Rattle.lane_turn.specs.Handover.{Handing, kept_of, handed_of, left_by, without_context, taken_over, handed, all_handed, lane_of_number, moved, handings, handed_over}
+use Rattle.post_office.specs.declared.letter.Letter.{Letter}
+use Rattle.tick_stepper.specs.Share.{unspent, numbered_one, numbered, lanes_in, at_number, AreLined}
+use Rattle.tick_stepper.specs.declared.share.Numbered.{Numbered}
+use Rattle.tick_stepper.proofs.Counted.{Counted, counted_step, number_over}
+
+-- ---- one lane by its number
+
+abbrev IsOutside : (k a n : ℕ) → Type 0
+IsOutside k a n = (k < a) ⊎ (a + n ≤ k)
+
+tail_outside : (k a n : ℕ) → IsOutside k a (suc n) → IsOutside k (a + 1) n
+tail_outside k a n (inl h) = inl (omega (arith, h))
+tail_outside k a n (inr h) = inr (omega (arith, h))
+
+is_other : (k a n : ℕ) → IsOutside k a (suc n) → a ≢ k
+is_other k a n (inl h) e = absurd (omega (arith, h, e))
+is_other k a n (inr h) e = absurd (omega (arith, h, e))
+
+other_number : (k a : ℕ) (lane : Lane) → lane.number ≡ a → a ≢ k → (lane.number == k) ≡ false
+other_number k a lane c h = ne_eqb lane.number k (λ e. h (sym c ∙ e))
+
+stays : (step : Lane → Lane) (lane : Lane) (b : Bool) → b ≡ false → cond b (step lane) lane ≡ lane
+stays step lane b e = ap (λ (x : Bool). cond x (step lane) lane) e
+
+pub at_none : (step : Lane → Lane) (k a : ℕ) (lanes : List Lane) → Counted a lanes → IsOutside k a (length lanes) → map (at_number k step) lanes ≡ lanes
+at_none step k a [] c h = refl
+at_none step k a (lane ∷ lanes) c h =
+    ap (λ (l : Lane). l ∷ map (at_number k step) lanes) (stays step lane (lane.number == k) (other_number k a lane c.0 (is_other k a (length lanes) h)))
+    ∙ ap (λ (ls : List Lane). lane ∷ ls) (at_none step k (a + 1) lanes c.1 (tail_outside k a (length lanes) h))
+
+pub at_index : (step : Lane → Lane) (k a i : ℕ) (lanes : List Lane) (d : Lane) → k ≡ a + i → Counted a lanes → i < length lanes → map (at_number k step) lanes ≡ set lanes i (step (get_or lanes i d))
+at_index step k a i [] d e c h = absurd (omega (arith, h))
+at_index step k a zero (lane ∷ lanes) d e c h =
+    ap (λ (b : Bool). cond b (step lane) lane ∷ map (at_number k step) lanes) (eq-eqb lane.number k (omega (arith, c.0, e)))
+    ∙ ap (λ (ls : List Lane). step lane ∷ ls) (at_none step k (a + 1) lanes c.1 (inl (omega (arith, e))))
+at_index step k a (suc i) (lane ∷ lanes) d e c h =
+    ap (λ (l : Lane). l ∷ map (at_number k step) lanes) (stays step lane (lane.number == k) (other_number k a lane c.0 (λ p. absurd (omega (arith, p, e)))))
+    ∙ ap (λ (ls : List Lane). lane ∷ ls) (at_index step k (a + 1) i lanes d (omega (arith, e)) c.1 (omega (arith, h)))
+
+found_none : (k a : ℕ) (lanes : List Lane) → Counted a lanes → IsOutside k a (length lanes) → lane_of_number k lanes ≡ None
+found_none k a [] c h = refl
+found_none k a (lane ∷ lanes) c h =
+    ap (λ (b : Bool). cond b (Some lane) (lane_of_number k lanes)) (other_number k a lane c.0 (is_other k a (length lanes) h))
+    ∙ found_none k (a + 1) lanes c.1 (tail_outside k a (length lanes) h)
+
+found_at : (k a i : ℕ) (lanes : List Lane) (d : Lane) → k ≡ a + i → Counted a lanes → i < length lanes → lane_of_number k lanes ≡ Some (get_or lanes i d)
+found_at k a i [] d e c h = absurd (omega (arith, h))
+found_at k a zero (lane ∷ lanes) d e c h = ap (λ (b : Bool). cond b (Some lane) (lane_of_number k lanes)) (eq-eqb lane.number k (omega (arith, c.0, e)))
+found_at k a (suc i) (lane ∷ lanes) d e c h =
+    ap (λ (b : Bool). cond b (Some lane) (lane_of_number k lanes)) (other_number k a lane c.0 (λ p. absurd (omega (arith, p, e))))
+    ∙ found_at k (a + 1) i lanes d (omega (arith, e)) c.1 (omega (arith, h))
+
+-- ---- lanes in a row
+
+pub lanes_numbered : (lanes : List Lane) → lanes_in (numbered lanes) ≡ lanes
+lanes_numbered [] = refl
+lanes_numbered (lane ∷ lanes) = ap (λ (ls : List Lane). lane ∷ ls) (lanes_numbered lanes)
+
+places_of : (a : ℕ) (lanes : List Lane) → Counted a lanes → map (λ (l : Lane). l.number) lanes ≡ range_with_len a (length lanes)
+places_of a [] c = refl
+places_of a (lane ∷ lanes) c = ap (λ (n : ℕ). n ∷ map (λ (l : Lane). l.number) lanes) c.0 ∙ ap (λ (ns : List ℕ). a ∷ ns) (places_of (a + 1) lanes c.1)
+
+pub lined : (lanes : List Lane) → Counted 0 lanes → AreLined (numbered lanes)
+lined lanes c =
+    let same : length (numbered lanes) ≡ length lanes = simp length-map in
+    record {
+      numbered = sym (ap numbered (lanes_numbered lanes));
+      places = ap (map (λ (l : Lane). l.number)) (lanes_numbered lanes) ∙ (places_of 0 lanes c ∙ ap (range_with_len 0) (sym same));
+    }
+
+counted_of : (a n : ℕ) (lanes : List Lane) → map (λ (l : Lane). l.number) lanes ≡ range_with_len a n → Counted a lanes
+counted_of a n [] e = tt
+counted_of a zero (lane ∷ lanes) e = cc
+counted_of a (suc n) (lane ∷ lanes) e = (first_same lane.number a _ _ e, counted_of (a + 1) n lanes (rest_same lane.number a _ _ e))
+  where
+    first_same : (x y : ℕ) (xs ys : List ℕ) → x ∷ xs ≡ y ∷ ys → x ≡ y
+    first_same x y xs ys p = cc
+
+    rest_same : (x y : ℕ) (xs ys : List ℕ) → x ∷ xs ≡ y ∷ ys → xs ≡ ys
+    rest_same x y xs ys p = cc
+
+pub counted_in : (ones : List Numbered) → AreLined ones → Counted 0 (lanes_in ones)
+counted_in ones l = counted_of 0 (length ones) (lanes_in ones) l.places
+
+in_length : (ones : List Numbered) → length (lanes_in ones) ≡ length ones
+in_length ones = simp length-map
+
+set_numbered : (lanes : List Lane) (i : ℕ) (lane : Lane) → set (numbered lanes) i (numbered_one lane) ≡ numbered (set lanes i lane)
+set_numbered [] i lane = refl
+set_numbered (x ∷ lanes) zero lane = refl
+set_numbered (x ∷ lanes) (suc i) lane = ap (λ (ones : List Numbered). numbered_one x ∷ ones) (set_numbered lanes i lane)
+
+get_numbered : (lanes : List Lane) (i : ℕ) (one : Numbered) → i < length lanes → get_or (numbered lanes) i one ≡ numbered_one (get_or lanes i one.state.lane)
+get_numbered [] i one h = absurd (omega (arith, h))
+get_numbered (x ∷ lanes) zero one h = refl
+get_numbered (x ∷ lanes) (suc i) one h = get_numbered lanes i one (omega (arith, h))
+
+-- the one in a place is in it
+pub one_there : (ones : List Numbered) (i : ℕ) (one : Numbered) → AreLined ones → i < length ones → get_or ones i one ≡ numbered_one (get_or (lanes_in ones) i one.state.lane)
+one_there ones i one l h = ap (λ (all : List Numbered). get_or all i one) l.numbered ∙ get_numbered (lanes_in ones) i one (omega (arith, h, in_length ones))
+
+-- it takes a step that leaves its number
+pub steps_there : (step : Lane → Lane) (ones : List Numbered) (i : ℕ) (d : Numbered) (now : State) → ((lane : Lane) → (step lane).number ≡ lane.number) → AreLined ones → i < length ones
+    → now ≡ unspent (step (get_or ones i d).state.lane) → set ones i (record { number = (get_or ones i d).number; state = now }) ≡ numbered (map (at_number i step) (lanes_in ones))
+steps_there step ones i d now same l h took =
+    let lanes : List Lane = lanes_in ones in
+    let lane : Lane = get_or lanes i d.state.lane in
+    let there : get_or ones i d ≡ numbered_one lane = one_there ones i d l h in
+    let next : (record { number = (get_or ones i d).number; state = now }) ≡ numbered_one (step lane) =
+    ap (λ (s : State). record { number = (get_or ones i d).number; state = s }) took
+    ∙ (ap (λ (one : Numbered). record { number = one.number; state = unspent (step one.state.lane) }) there
+    ∙ ap (λ (n : ℕ). record { number = n; state = unspent (step lane) }) (sym (same lane))) in
+    ap (λ (one : Numbered). set ones i one) next
+    ∙ (ap (λ (all : List Numbered). set all i (numbered_one (step lane))) l.numbered
+    ∙ (set_numbered lanes i (step lane)
+    ∙ ap numbered (sym (at_index step i 0 i lanes d.state.lane refl (counted_in ones l) (omega (arith, h, in_length ones))))))
+
+pub none_there : (step : Lane → Lane) (ones : List Numbered) (i : ℕ) → AreLined ones → length ones ≤ i → ones ≡ numbered (map (at_number i step) (lanes_in ones))
+none_there step ones i l h = l.numbered ∙ ap numbered (sym (at_none step i 0 (lanes_in ones) (counted_in ones l) (inr (omega (arith, h, in_length ones)))))
+
+pub found_there : (ones : List Numbered) (i : ℕ) (d : Numbered) → AreLined ones → i < length ones → lane_of_number i (lanes_in ones) ≡ Some (get_or ones i d).state.lane
+found_there ones i d l h =
+    found_at i 0 i (lanes_in ones) d.state.lane refl (counted_in ones l) (omega (arith, h, in_length ones))
+    ∙ ap (λ (one : Numbered). Some one.state.lane) (sym (one_there ones i d l h))
+
+pub nowhere : (ones : List Numbered) (i : ℕ) → AreLined ones → length ones ≤ i → lane_of_number i (lanes_in ones) ≡ None
+nowhere ones i l h = found_none i 0 (lanes_in ones) (counted_in ones l) (inr (omega (arith, h, in_length ones)))
+
+-- ---- a context that goes from one lane to another
+
+set_same : (lanes : List Lane) (i : ℕ) (d : Lane) → set lanes i (get_or lanes i d) ≡ lanes
+set_same [] i d = refl
+set_same (lane ∷ lanes) zero d = refl
+set_same (lane ∷ lanes) (suc i) d = ap (λ (ls : List Lane). lane ∷ ls) (set_same lanes i d)
+
+-- a lane that hands nothing over is left
+left_none : (context : ℕ) (lane : Lane) (o : Option Kept) → o ≡ None → cond (is_some o) (without_context context lane) lane ≡ lane
+left_none context lane o e = ap (λ (x : Option Kept). cond (is_some x) (without_context context lane) lane) e
+
+left_some : (context : ℕ) (lane : Lane) (o : Option Kept) (kept : Kept) → o ≡ Some kept → cond (is_some o) (without_context context lane) lane ≡ without_context context lane
+left_some context lane o kept e = ap (λ (x : Option Kept). cond (is_some x) (without_context context lane) lane) e
+
+is_below : (k n : ℕ) (b : Bool) → nat_lt k n ≡ b → (k < n) ⊎ (n ≤ k)
+is_below k n true e = inl (ltb-true k n e)
+is_below k n false e = inr (ltb-false k n e)
+
+abbrev gives : (sender context : ℕ) (lanes : List Lane) → Option Kept
+gives sender context lanes = option_and_then (handed_of context) (lane_of_number sender lanes)
+
+-- what the lane in a place hands over
+gives_at : (sender context : ℕ) (lanes : List Lane) (d : Lane) → Counted 0 lanes → sender < length lanes → gives sender context lanes ≡ handed_of context (get_or lanes sender d)
+gives_at sender context lanes d c h = ap (λ (o : Option Lane). option_and_then (handed_of context) o) (found_at sender 0 sender lanes d refl c h)
+
+pub over_none : (sender context : ℕ) (lanes : List Lane) → Counted 0 lanes → gives sender context lanes ≡ None → map (at_number sender (left_by context)) lanes ≡ lanes
+over_none sender context [] c e = refl
+over_none sender context (d ∷ ds) c e = by (is_below sender (length lanes) (nat_lt sender (length lanes)) refl)
+  where
+    lanes : List Lane
+    lanes = d ∷ ds
+
+    by : (sender < length lanes) ⊎ (length lanes ≤ sender) → map (at_number sender (left_by context)) lanes ≡ lanes
+    by (inl h) =
+        let lane : Lane = get_or lanes sender d in
+        at_index (left_by context) sender 0 sender lanes d refl c h
+        ∙ (ap (λ (l : Lane). set lanes sender l) (left_none context lane (handed_of context lane) (sym (gives_at sender context lanes d c h) ∙ e)) ∙ set_same lanes sender d)
+    by (inr h) = at_none (left_by context) sender 0 lanes c (inr h)
+
+number_or : ℕ → Option Kept → ℕ
+number_or n None = n
+number_or n (Some k) = k.number
+
+kept_number : (context : ℕ) (lane : Lane) (kept : Kept) → handed_of context lane ≡ Some kept → kept.number ≡ context
+kept_number context lane kept e = by (is_given context lane) (context_at context lane) e
+  where
+    by : (b : Bool) (o : Option Context) → cond b (option_map (kept_of context lane) o) None ≡ Some kept → kept.number ≡ context
+    by true None p = let no : false ≡ true = ap (λ (x : Option Kept). is_some x) p in cc
+    by true (Some c) p = sym (ap (λ (x : Option Kept). number_or context x) p)
+    by false o p = let no : false ≡ true = ap (λ (x : Option Kept). is_some x) p in cc
+
+map_map : (f g : Lane → Lane) (lanes : List Lane) → map f (map g lanes) ≡ map (λ lane. f (g lane)) lanes
+map_map f g [] = refl
+map_map f g (lane ∷ lanes) = ap (λ (ls : List Lane). f (g lane) ∷ ls) (map_map f g lanes)
+
+pub over_some : (tick sender context to : ℕ) (lanes : List Lane) (kept : Kept) → Counted 0 lanes → gives sender context lanes ≡ Some kept
+    → map (at_number to (taken_over tick kept)) (map (at_number sender (left_by context)) lanes) ≡ map (handed tick (record { sender = sender; to = to; kept = kept })) lanes
+over_some tick sender context to [] kept c e = refl
+over_some tick sender context to (d ∷ ds) kept c e = by (is_below sender (length lanes) (nat_lt sender (length lanes)) refl)
+  where
+    lanes : List Lane
+    lanes = d ∷ ds
+
+    by : (sender < length lanes) ⊎ (length lanes ≤ sender) → map (at_number to (taken_over tick kept)) (map (at_number sender (left_by context)) lanes) ≡ map (handed tick (record { sender = sender; to = to; kept = kept })) lanes
+    by (inl h) =
+        let lane : Lane = get_or lanes sender d in
+        let given : handed_of context lane ≡ Some kept = sym (gives_at sender context lanes d c h) ∙ e in
+        let goes : left_by context lane ≡ without_context kept.number lane = left_some context lane (handed_of context lane) kept given ∙ ap (λ (n : ℕ). without_context n lane) (sym (kept_number context lane kept given)) in
+        let lets : map (at_number sender (left_by context)) lanes ≡ map (at_number sender (without_context kept.number)) lanes =
+        at_index (left_by context) sender 0 sender lanes d refl c h
+        ∙ (ap (λ (l : Lane). set lanes sender l) goes ∙ sym (at_index (without_context kept.number) sender 0 sender lanes d refl c h)) in
+        ap (map (at_number to (taken_over tick kept))) lets ∙ map_map (at_number to (taken_over tick kept)) (at_number sender (without_context kept.number)) lanes
+    by (inr h) = let no : None ≡ Some kept = sym (ap (λ (o : Option Lane). option_and_then (handed_of context) o) (found_none sender 0 lanes c (inr h))) ∙ e in cc
+
+counted_at_number : (k : ℕ) (step : Lane → Lane) → ((lane : Lane) → (step lane).number ≡ lane.number) → (n : ℕ) (lanes : List Lane) → Counted n lanes → Counted n (map (at_number k step) lanes)
+counted_at_number k step same n lanes c = counted_step (at_number k step) (λ lane. by lane (lane.number == k)) n lanes c
+  where
+    by : (lane : Lane) (b : Bool) → (cond b (step lane) lane).number ≡ lane.number
+    by lane true = same lane
+    by lane false = refl
+
+pub left_number : (context : ℕ) (lane : Lane) → (left_by context lane).number ≡ lane.number
+left_number context lane = by (is_some (handed_of context lane))
+  where
+    by : (b : Bool) → (cond b (without_context context lane) lane).number ≡ lane.number
+    by true = refl
+    by false = refl
+
+pub counted_left : (sender context : ℕ) (lanes : List Lane) → Counted 0 lanes → Counted 0 (map (at_number sender (left_by context)) lanes)
+counted_left sender context lanes c = counted_at_number sender (left_by context) (left_number context) 0 lanes c
+
+pub counted_moved : (tick : ℕ) (o : Option Handing) (lanes : List Lane) → Counted 0 lanes → Counted 0 (moved tick o lanes)
+counted_moved tick None lanes c = c
+counted_moved tick (Some h) lanes c = counted_step (handed tick h) (λ lane. number_over tick (h ∷ []) lane) 0 lanes c
+
+pub counted_over : (tick : ℕ) (hs : List Handing) (lanes : List Lane) → Counted 0 lanes → Counted 0 (map (all_handed tick hs) lanes)
+counted_over tick hs lanes c = counted_step (all_handed tick hs) (number_over tick hs) 0 lanes c
+
+-- ---- what the first letter gives goes over, and then the rest
+
+map_after : (tick : ℕ) (h : Handing) (hs : List Handing) (lanes : List Lane) → map (all_handed tick hs) (map (handed tick h) lanes) ≡ map (all_handed tick (h ∷ hs)) lanes
+map_after tick h hs lanes = map_map (all_handed tick hs) (handed tick h) lanes
+
+pub first_over : (tick : ℕ) (o : Option Handing) (letters : List Letter) (lanes : List Lane)
+    → handed_over tick letters (moved tick o lanes) ≡ map (all_handed tick (cons_option o (handings tick letters (moved tick o lanes)))) lanes
+first_over tick None letters lanes = refl
+first_over tick (Some h) letters lanes = map_after tick h (handings tick letters (moved tick (Some h) lanes)) lanes
+
+pub none_left : (tick : ℕ) (lanes : List Lane) → handed_over tick [] lanes ≡ lanes
+none_left tick [] = refl
+none_left tick (lane ∷ lanes) = ap (λ (ls : List Lane). lane ∷ ls) (none_left tick lanes)

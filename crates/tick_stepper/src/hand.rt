@@ -1,0 +1,104 @@
+//! Contexts go from lane to lane at the end of a tick, and then letters are delivered.
+ghost use Rattle.std.specs.Prelude.{◌≡◌, ◌+◌, ◌<◌, ◌≤◌, Some, map, length, OnOk, IfOk};
+ghost use Rattle.std.specs.Option.{option_and_then};
+ghost use Rattle.loop_script.specs.Bounds.{most_lanes, most_ticks};
+ghost use Rattle.post_office.specs.declared.letter.Body.TheVariants.{Give as GiveBody};
+ghost use Rattle.lane_turn.specs.Turn.{turned};
+ghost use Rattle.lane_turn.specs.Tick.{posted_at, lanes_at};
+ghost use Rattle.lane_turn.specs.Handover.{handed_of, left_by, taken_over, lane_of_number, handing_by, moved, handed_over};
+ghost use Rattle.tick_stepper.specs.Share.{numbered, lanes_in, at_number, AreLined};
+
+use crate::deliver::deliver_all;
+use crate::fault::OutOfMemory;
+use crate::share::Numbered;
+use lane_turn::{HandFault, Held};
+use loop_script::Script;
+use post_office::{Body, Letter};
+
+/// What the lane of a number gave of a context, which is that lane's no more; none, and nothing is changed, where it gave none.
+fn hand_over(
+    lanes: &mut [Numbered],
+    sender: u32,
+    context: u32,
+) -> Result<Option<Held>, HandFault>
+    requires lined { AreLined lanes.old }
+    ensures held { IfOk result (λ held. held ≡ option_and_then (handed_of context) (lane_of_number sender (lanes_in lanes.old))) }
+    ensures left { OnOk result (lanes.new ≡ numbered (map (at_number sender (left_by context)) (lanes_in lanes.old))) }
+{
+    match lanes.get_mut(sender as usize) {
+        None => Ok(None),
+        Some(lane) => match lane.state.hand_over(context) {
+            Ok(held) => Ok(Some(held)),
+            Err(HandFault::NotGiven) => Ok(None),
+            Err(fault) => Err(fault),
+        },
+    }
+}
+
+/// The lane of a number takes a context over.
+fn take_over(
+    tick: u32,
+    lanes: &mut [Numbered],
+    to: u32,
+    held: Held,
+) -> Result<(), HandFault>
+    requires lined { AreLined lanes.old }
+    ensures { OnOk result (lanes.new ≡ numbered (map (at_number to (taken_over tick held)) (lanes_in lanes.old))) }
+{
+    match lanes.get_mut(to as usize) {
+        None => Ok(()),
+        Some(lane) => lane.state.take_over(tick, held),
+    }
+}
+
+/// A context goes from the lane that gave it to another; nothing does where that lane gave none of its number.
+fn hand(
+    tick: u32,
+    lanes: &mut [Numbered],
+    sender: u32,
+    context: u32,
+    to: u32,
+) -> Result<(), HandFault>
+    requires lined { AreLined lanes.old }
+    ensures { OnOk result (lanes.new ≡ numbered (moved tick (handing_by sender (GiveBody context to) (lanes_in lanes.old)) (lanes_in lanes.old))) }
+{
+    match hand_over(lanes, sender, context)? {
+        None => Ok(()),
+        Some(held) => take_over(tick, lanes, to, held),
+    }
+}
+
+/// All contexts that letters give go over, in the order of the letters.
+fn hand_all(
+    tick: u32,
+    lanes: &mut [Numbered],
+    letters: &[Letter],
+) -> Result<(), HandFault>
+    requires lined { AreLined lanes.old }
+    ensures { OnOk result (lanes.new ≡ numbered (handed_over tick letters.now (lanes_in lanes.old))) }
+{
+    'letters: for letter in letters {
+        if let Body::Give(context, to) = letter.body {
+            hand(tick, lanes, letter.sender, context, to)?;
+        }
+    }
+    Ok(())
+}
+
+/// Ends a tick of lanes that took their turns: the contexts that letters give go over, and then all letters are delivered.
+pub(crate) fn bring(
+    script: &Script,
+    tick: u32,
+    lanes: &mut [Numbered],
+    letters: &[Letter],
+) -> Result<(), OutOfMemory>
+    requires tick { tick < most_ticks }
+    requires lanes { lanes.old ≡ numbered (map (turned script.now tick) (lanes_at script.now tick)) }
+    requires letters { letters.now ≡ posted_at script.now tick (lanes_at script.now tick) }
+    requires few { length script.now.lanes ≤ most_lanes }
+    ensures { OnOk result (lanes.new ≡ numbered (lanes_at script.now (tick + 1))) }
+{
+    hand_all(tick, lanes, letters)?;
+    deliver_all(script, tick, lanes, letters)?;
+    Ok(())
+}
