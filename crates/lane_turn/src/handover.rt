@@ -50,7 +50,11 @@ impl Lane {
     pub(crate) fn may_give(&self, script: &Script, context: u32, to: u32) -> bool
         ensures { result ≡ may_give script.now context to (lane_of self.now) }
     {
-        GIVES && self.has(context) && !self.is_owned(context) && to < script.lanes() && to != self.number
+        GIVES
+            && self.has(context)
+            && !self.is_owned(context)
+            && to < script.lanes()
+            && to != self.number
     }
 
     pub(crate) fn act_give(

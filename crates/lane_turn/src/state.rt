@@ -17,10 +17,10 @@ ghost use Rattle.lane_turn.specs.Sound.{IsReady, IsGoing};
 ghost use Rattle.lane_turn.specs.Limits.{half_count, most_letters, most_steps, turn_growth};
 
 use crate::frames::Frames;
+use crate::handover::Held;
 use crate::in_progress::InProgress;
 use crate::lane::{Lane, Status};
 use crate::layer::{Call, Origin};
-use crate::handover::Held;
 use crate::limits::SLOTS;
 use crate::line::Line;
 use crate::replies::Replies;

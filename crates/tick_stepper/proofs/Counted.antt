@@ -24,7 +24,7 @@ counted_openings : (script : Plan) (a n : ℕ) → Counted a (map (opening scrip
 counted_openings script a zero = tt
 counted_openings script a (suc n) = (refl, counted_openings script (a + 1) n)
 
-counted_step : (step : Lane → Lane) → ((lane : Lane) → (step lane).number ≡ lane.number) → (n : ℕ) (lanes : List Lane) → Counted n lanes → Counted n (map step lanes)
+pub counted_step : (step : Lane → Lane) → ((lane : Lane) → (step lane).number ≡ lane.number) → (n : ℕ) (lanes : List Lane) → Counted n lanes → Counted n (map step lanes)
 counted_step step same n [] h = tt
 counted_step step same n (lane ∷ lanes) h = (same lane ∙ h.0, counted_step step same (n + 1) lanes h.1)
 
@@ -42,6 +42,10 @@ counted_at script (suc tick) =
     counted_step (received_all script tick letters) (received_number script tick letters) 0 (map (all_handed tick hs) turns)
     (counted_step (all_handed tick hs) (number_over tick hs) 0 turns
     (counted_step (turned script tick) (turned_number script tick) 0 lanes (counted_at script tick)))
+
+-- after their turns too
+pub counted_turned : (script : Plan) (tick : ℕ) → Counted 0 (map (turned script tick) (lanes_at script tick))
+counted_turned script tick = counted_step (turned script tick) (turned_number script tick) 0 (lanes_at script tick) (counted_at script tick)
 
 pub lane_count : (script : Plan) (tick : ℕ) → length (lanes_at script tick) ≡ length script.lanes
 lane_count script zero = simp (length-map, length-range_with_len)

@@ -1,16 +1,18 @@
 -- Lanes that stand by number: what one of them does, and what goes from one to another.
-use Rattle.std.proofs.Common.{◌≡◌, ◌≢◌, ◌⊎◌, inl, inr, ℕ, zero, suc, ◌+◌, ◌<◌, ◌≤◌, ◌==◌, Bool, true, false, cond, Option, Some, None, is_some, List, [], ◌∷◌, map, length, get_or, set, option_map, refl, ap, sym, ◌∙◌, arith, ltb-true, ltb-false}
-use Rattle.std.specs.Prelude.{nat_lt}
+use Rattle.std.proofs.Common.{◌≡◌, ◌≢◌, ◌⊎◌, inl, inr, ℕ, zero, suc, ◌+◌, ◌<◌, ◌≤◌, ◌==◌, Bool, true, false, cond, Option, Some, None, is_some, List, [], ◌∷◌, map, length, get_or, set, option_map, refl, ap, sym, ◌∙◌, subst, arith, ltb-true, ltb-false}
+use Rattle.std.specs.Prelude.{nat_lt, OnOk, Result, Ok, Err}
+use Rattle.std.proofs.lemmas.Result.{on_ok_weaker}
 use Rattle.context_core.specs.declared.context.Context.{Context}
 use Rattle.std.specs.Option.{option_and_then}
 use Rattle.std.specs.List.{cons_option, range_with_len}
 use Rattle.std.proofs.lemmas.List.{length-map}
 use Rattle.std.proofs.lemmas.Bool.{eq-eqb, ne_eqb}
 use Rattle.lane_turn.specs.Lane.{Lane, State, Kept, context_at, is_given}
-use Rattle.lane_turn.specs.Handover.{Handing, kept_of, handed_of, left_by, without_context, taken_over, handed, all_handed, lane_of_number, moved, handings, handed_over}
+use Rattle.lane_turn.specs.Handover.{Handing, kept_of, handed_of, left_by, without_context, taken_over, handed, all_handed, lane_of_number, handing_of, moved, handings, handed_over}
 use Rattle.post_office.specs.declared.letter.Letter.{Letter}
-use Rattle.tick_stepper.specs.Share.{unspent, numbered_one, numbered, lanes_in, at_number, AreLined}
+use Rattle.tick_stepper.specs.Share.{unspent, numbered_one, numbered, lanes_in, at_number, AreLined, HasGone}
 use Rattle.tick_stepper.specs.declared.share.Numbered.{Numbered}
+use Rattle.tick_stepper.proofs.Ready.{kept_is}
 use Rattle.tick_stepper.proofs.Counted.{Counted, counted_step, number_over}
 
 -- ---- one lane by its number
@@ -109,6 +111,12 @@ get_numbered (x ∷ lanes) (suc i) one h = get_numbered lanes i one (omega (arit
 pub one_there : (ones : List Numbered) (i : ℕ) (one : Numbered) → AreLined ones → i < length ones → get_or ones i one ≡ numbered_one (get_or (lanes_in ones) i one.state.lane)
 one_there ones i one l h = ap (λ (all : List Numbered). get_or all i one) l.numbered ∙ get_numbered (lanes_in ones) i one (omega (arith, h, in_length ones))
 
+-- no call of it was refused memory
+pub unspent_there : (ones : List Numbered) (i : ℕ) (one : Numbered) → AreLined ones → i < length ones → (get_or ones i one).state ≡ unspent (get_or ones i one).state.lane
+unspent_there ones i one l h =
+    let there = one_there ones i one l h in
+    ap (λ (x : Numbered). x.state) there ∙ ap (λ (x : Numbered). unspent x.state.lane) (sym there)
+
 -- it takes a step that leaves its number
 pub steps_there : (step : Lane → Lane) (ones : List Numbered) (i : ℕ) (d : Numbered) (now : State) → ((lane : Lane) → (step lane).number ≡ lane.number) → AreLined ones → i < length ones
     → now ≡ unspent (step (get_or ones i d).state.lane) → set ones i (record { number = (get_or ones i d).number; state = now }) ≡ numbered (map (at_number i step) (lanes_in ones))
@@ -123,18 +131,26 @@ steps_there step ones i d now same l h took =
     ap (λ (one : Numbered). set ones i one) next
     ∙ (ap (λ (all : List Numbered). set all i (numbered_one (step lane))) l.numbered
     ∙ (set_numbered lanes i (step lane)
-    ∙ ap numbered (sym (at_index step i 0 i lanes d.state.lane refl (counted_in ones l) (omega (arith, h, in_length ones))))))
+    ∙ ap numbered (sym (at_index step i 0 i lanes d.state.lane (omega arith) (counted_in ones l) (omega (arith, h, in_length ones))))))
 
 pub none_there : (step : Lane → Lane) (ones : List Numbered) (i : ℕ) → AreLined ones → length ones ≤ i → ones ≡ numbered (map (at_number i step) (lanes_in ones))
 none_there step ones i l h = l.numbered ∙ ap numbered (sym (at_none step i 0 (lanes_in ones) (counted_in ones l) (inr (omega (arith, h, in_length ones)))))
 
 pub found_there : (ones : List Numbered) (i : ℕ) (d : Numbered) → AreLined ones → i < length ones → lane_of_number i (lanes_in ones) ≡ Some (get_or ones i d).state.lane
 found_there ones i d l h =
-    found_at i 0 i (lanes_in ones) d.state.lane refl (counted_in ones l) (omega (arith, h, in_length ones))
+    found_at i 0 i (lanes_in ones) d.state.lane (omega arith) (counted_in ones l) (omega (arith, h, in_length ones))
     ∙ ap (λ (one : Numbered). Some one.state.lane) (sym (one_there ones i d l h))
 
 pub nowhere : (ones : List Numbered) (i : ℕ) → AreLined ones → length ones ≤ i → lane_of_number i (lanes_in ones) ≡ None
 nowhere ones i l h = found_none i 0 (lanes_in ones) (counted_in ones l) (inr (omega (arith, h, in_length ones)))
+
+both_ok : {T E : Type 0} (P Q : Type 0) (r : Result T E) → OnOk r P → OnOk r Q → OnOk r (P × Q)
+both_ok P Q (Ok v) p q = (p, q)
+both_ok P Q (Err e) p q = tt
+
+-- what a call of it did
+pub took_there : {E : Type 0} (r : Result (Unit {0}) E) (now : State) (lane : Lane) → OnOk r (now.lane ≡ lane) → OnOk r (now.spent ≡ false) → OnOk r (now ≡ unspent lane)
+took_there r now lane l s = on_ok_weaker r (λ h. kept_is now lane h.0 h.1) (both_ok (now.lane ≡ lane) (now.spent ≡ false) r l s)
 
 -- ---- a context that goes from one lane to another
 
@@ -144,10 +160,10 @@ set_same (lane ∷ lanes) zero d = refl
 set_same (lane ∷ lanes) (suc i) d = ap (λ (ls : List Lane). lane ∷ ls) (set_same lanes i d)
 
 -- a lane that hands nothing over is left
-left_none : (context : ℕ) (lane : Lane) (o : Option Kept) → o ≡ None → cond (is_some o) (without_context context lane) lane ≡ lane
+pub left_none : (context : ℕ) (lane : Lane) (o : Option Kept) → o ≡ None → cond (is_some o) (without_context context lane) lane ≡ lane
 left_none context lane o e = ap (λ (x : Option Kept). cond (is_some x) (without_context context lane) lane) e
 
-left_some : (context : ℕ) (lane : Lane) (o : Option Kept) (kept : Kept) → o ≡ Some kept → cond (is_some o) (without_context context lane) lane ≡ without_context context lane
+pub left_some : (context : ℕ) (lane : Lane) (o : Option Kept) (kept : Kept) → o ≡ Some kept → cond (is_some o) (without_context context lane) lane ≡ without_context context lane
 left_some context lane o kept e = ap (λ (x : Option Kept). cond (is_some x) (without_context context lane) lane) e
 
 is_below : (k n : ℕ) (b : Bool) → nat_lt k n ≡ b → (k < n) ⊎ (n ≤ k)
@@ -159,7 +175,7 @@ gives sender context lanes = option_and_then (handed_of context) (lane_of_number
 
 -- what the lane in a place hands over
 gives_at : (sender context : ℕ) (lanes : List Lane) (d : Lane) → Counted 0 lanes → sender < length lanes → gives sender context lanes ≡ handed_of context (get_or lanes sender d)
-gives_at sender context lanes d c h = ap (λ (o : Option Lane). option_and_then (handed_of context) o) (found_at sender 0 sender lanes d refl c h)
+gives_at sender context lanes d c h = ap (λ (o : Option Lane). option_and_then (handed_of context) o) (found_at sender 0 sender lanes d (omega arith) c h)
 
 pub over_none : (sender context : ℕ) (lanes : List Lane) → Counted 0 lanes → gives sender context lanes ≡ None → map (at_number sender (left_by context)) lanes ≡ lanes
 over_none sender context [] c e = refl
@@ -171,11 +187,11 @@ over_none sender context (d ∷ ds) c e = by (is_below sender (length lanes) (na
     by : (sender < length lanes) ⊎ (length lanes ≤ sender) → map (at_number sender (left_by context)) lanes ≡ lanes
     by (inl h) =
         let lane : Lane = get_or lanes sender d in
-        at_index (left_by context) sender 0 sender lanes d refl c h
+        at_index (left_by context) sender 0 sender lanes d (omega arith) c h
         ∙ (ap (λ (l : Lane). set lanes sender l) (left_none context lane (handed_of context lane) (sym (gives_at sender context lanes d c h) ∙ e)) ∙ set_same lanes sender d)
-    by (inr h) = at_none (left_by context) sender 0 lanes c (inr h)
+    by (inr h) = at_none (left_by context) sender 0 lanes c (inr (omega (arith, h)))
 
-number_or : ℕ → Option Kept → ℕ
+abbrev number_or : ℕ → Option Kept → ℕ
 number_or n None = n
 number_or n (Some k) = k.number
 
@@ -205,10 +221,10 @@ over_some tick sender context to (d ∷ ds) kept c e = by (is_below sender (leng
         let given : handed_of context lane ≡ Some kept = sym (gives_at sender context lanes d c h) ∙ e in
         let goes : left_by context lane ≡ without_context kept.number lane = left_some context lane (handed_of context lane) kept given ∙ ap (λ (n : ℕ). without_context n lane) (sym (kept_number context lane kept given)) in
         let lets : map (at_number sender (left_by context)) lanes ≡ map (at_number sender (without_context kept.number)) lanes =
-        at_index (left_by context) sender 0 sender lanes d refl c h
-        ∙ (ap (λ (l : Lane). set lanes sender l) goes ∙ sym (at_index (without_context kept.number) sender 0 sender lanes d refl c h)) in
+        at_index (left_by context) sender 0 sender lanes d (omega arith) c h
+        ∙ (ap (λ (l : Lane). set lanes sender l) goes ∙ sym (at_index (without_context kept.number) sender 0 sender lanes d (omega arith) c h)) in
         ap (map (at_number to (taken_over tick kept))) lets ∙ map_map (at_number to (taken_over tick kept)) (at_number sender (without_context kept.number)) lanes
-    by (inr h) = let no : None ≡ Some kept = sym (ap (λ (o : Option Lane). option_and_then (handed_of context) o) (found_none sender 0 lanes c (inr h))) ∙ e in cc
+    by (inr h) = let no : None ≡ Some kept = sym (ap (λ (o : Option Lane). option_and_then (handed_of context) o) (found_none sender 0 lanes c (inr (omega (arith, h))))) ∙ e in cc
 
 counted_at_number : (k : ℕ) (step : Lane → Lane) → ((lane : Lane) → (step lane).number ≡ lane.number) → (n : ℕ) (lanes : List Lane) → Counted n lanes → Counted n (map (at_number k step) lanes)
 counted_at_number k step same n lanes c = counted_step (at_number k step) (λ lane. by lane (lane.number == k)) n lanes c
@@ -247,3 +263,16 @@ first_over tick (Some h) letters lanes = map_after tick h (handings tick letters
 pub none_left : (tick : ℕ) (lanes : List Lane) → handed_over tick [] lanes ≡ lanes
 none_left tick [] = refl
 none_left tick (lane ∷ lanes) = ap (λ (ls : List Lane). lane ∷ ls) (none_left tick lanes)
+
+-- after a letter lanes stand in a row as before
+pub next_lined : (tick : ℕ) (l : Letter) (ones next : List Numbered) → AreLined ones → HasGone tick l ones next → AreLined next
+next_lined tick l ones next h e =
+    let o = handing_of l (lanes_in ones) in
+    subst AreLined (sym e.over) (lined (moved tick o (lanes_in ones)) (counted_moved tick o (lanes_in ones) (counted_in ones h)))
+
+-- and what the other letters give goes over as it did
+pub rest_over : (tick : ℕ) (l : Letter) (rest : List Letter) (ones next : List Numbered) → HasGone tick l ones next → handed_over tick rest (lanes_in next) ≡ handed_over tick (l ∷ rest) (lanes_in ones)
+rest_over tick l rest ones next e =
+    let o = handing_of l (lanes_in ones) in
+    ap (λ (all : List Numbered). handed_over tick rest (lanes_in all)) e.over
+    ∙ (ap (handed_over tick rest) (lanes_numbered (moved tick o (lanes_in ones))) ∙ first_over tick o rest (lanes_in ones))

@@ -7,6 +7,7 @@ use Rattle.lane_turn.specs.Limits.{half_count}
 use Rattle.lane_turn.specs.Lane.{Lane, State}
 use Rattle.lane_turn.specs.Turn.{turned, out_of}
 use Rattle.lane_turn.specs.Sound.{IsReady}
+use Rattle.lane_turn.specs.Handover.{handing_of, moved}
 use Rattle.tick_stepper.specs.Crew.{worker_of}
 use Rattle.tick_stepper.specs.Order.{RisesBy}
 use Rattle.tick_stepper.specs.declared.crew.Crew.{Crew}
@@ -35,6 +36,10 @@ lanes_in ones = map (λ (one : Numbered). one.state.lane) ones
 pub record AreLined (ones : List Numbered) : Type 0 where
   pub numbered : ones ≡ numbered (lanes_in ones)
   pub places : map (λ lane. lane.number) (lanes_in ones) ≡ range_with_len 0 (length ones)
+
+-- what a letter gives has gone over, between lanes in the places of their numbers
+pub record HasGone (tick : Tick) (letter : Letter) (ones now : List Numbered) : Type 0 where
+  pub over : now ≡ numbered (moved tick (handing_of letter (lanes_in ones)) (lanes_in ones))
 
 -- the lane of a number after a step
 abbrev pub at_number : LaneNumber → (Lane → Lane) → Lane → Lane

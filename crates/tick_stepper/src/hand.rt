@@ -6,7 +6,7 @@ ghost use Rattle.post_office.specs.declared.letter.Body.TheVariants.{Give as Giv
 ghost use Rattle.lane_turn.specs.Turn.{turned};
 ghost use Rattle.lane_turn.specs.Tick.{posted_at, lanes_at};
 ghost use Rattle.lane_turn.specs.Handover.{handed_of, left_by, taken_over, lane_of_number, handing_by, moved, handed_over};
-ghost use Rattle.tick_stepper.specs.Share.{numbered, lanes_in, at_number, AreLined};
+ghost use Rattle.tick_stepper.specs.Share.{numbered, lanes_in, at_number, AreLined, HasGone};
 
 use crate::deliver::deliver_all;
 use crate::fault::OutOfMemory;
@@ -16,39 +16,30 @@ use loop_script::Script;
 use post_office::{Body, Letter};
 
 /// What the lane of a number gave of a context, which is that lane's no more; none, and nothing is changed, where it gave none.
-fn hand_over(
-    lanes: &mut [Numbered],
-    sender: u32,
-    context: u32,
-) -> Result<Option<Held>, HandFault>
+fn hand_over(lanes: &mut [Numbered], sender: u32, context: u32) -> Result<Option<Held>, HandFault>
     requires lined { AreLined lanes.old }
     ensures held { IfOk result (λ held. held ≡ option_and_then (handed_of context) (lane_of_number sender (lanes_in lanes.old))) }
     ensures left { OnOk result (lanes.new ≡ numbered (map (at_number sender (left_by context)) (lanes_in lanes.old))) }
 {
-    match lanes.get_mut(sender as usize) {
-        None => Ok(None),
-        Some(lane) => match lane.state.hand_over(context) {
-            Ok(held) => Ok(Some(held)),
-            Err(HandFault::NotGiven) => Ok(None),
-            Err(fault) => Err(fault),
-        },
+    if sender as usize >= lanes.len() {
+        return Ok(None);
+    }
+    match lanes[sender as usize].state.hand_over(context) {
+        Ok(held) => Ok(Some(held)),
+        Err(HandFault::NotGiven) => Ok(None),
+        Err(fault) => Err(fault),
     }
 }
 
 /// The lane of a number takes a context over.
-fn take_over(
-    tick: u32,
-    lanes: &mut [Numbered],
-    to: u32,
-    held: Held,
-) -> Result<(), HandFault>
+fn take_over(tick: u32, lanes: &mut [Numbered], to: u32, held: Held) -> Result<(), HandFault>
     requires lined { AreLined lanes.old }
     ensures { OnOk result (lanes.new ≡ numbered (map (at_number to (taken_over tick held)) (lanes_in lanes.old))) }
 {
-    match lanes.get_mut(to as usize) {
-        None => Ok(()),
-        Some(lane) => lane.state.take_over(tick, held),
+    if to as usize >= lanes.len() {
+        return Ok(());
     }
+    lanes[to as usize].state.take_over(tick, held)
 }
 
 /// A context goes from the lane that gave it to another; nothing does where that lane gave none of its number.
@@ -68,19 +59,24 @@ fn hand(
     }
 }
 
+/// The context that a letter gives goes over; a letter that gives none changes nothing.
+fn hand_by(tick: u32, lanes: &mut [Numbered], letter: &Letter) -> Result<(), HandFault>
+    requires lined { AreLined lanes.old }
+    ensures { OnOk result (HasGone tick letter.now lanes.old lanes.new) }
+{
+    match letter.body {
+        Body::Give(context, to) => hand(tick, lanes, letter.sender, context, to),
+        Body::Attach(_, _) | Body::Complete(_) | Body::Cancelled(_) => Ok(()),
+    }
+}
+
 /// All contexts that letters give go over, in the order of the letters.
-fn hand_all(
-    tick: u32,
-    lanes: &mut [Numbered],
-    letters: &[Letter],
-) -> Result<(), HandFault>
+fn hand_all(tick: u32, lanes: &mut [Numbered], letters: &[Letter]) -> Result<(), HandFault>
     requires lined { AreLined lanes.old }
     ensures { OnOk result (lanes.new ≡ numbered (handed_over tick letters.now (lanes_in lanes.old))) }
 {
     'letters: for letter in letters {
-        if let Body::Give(context, to) = letter.body {
-            hand(tick, lanes, letter.sender, context, to)?;
-        }
+        hand_by(tick, lanes, letter)?;
     }
     Ok(())
 }

@@ -7,34 +7,28 @@ use Rattle.tick_stepper.specs.Share.{numbered, IsReadyOne}
 use Rattle.tick_stepper.specs.Rest.{IsSettled}
 use Rattle.tick_stepper.specs.declared.share.Numbered.{Numbered}
 use Rattle.tick_stepper.proofs.Handed.{of_rec}
-use Rattle.tick_stepper.proofs.Rounds.{ready_delivery, ready_next}
-use Rattle.tick_stepper.proofs.Resting.{sorted_turns, delivered_at, settled_at}
+use Rattle.tick_stepper.proofs.Rounds.{ready_next}
+use Rattle.tick_stepper.proofs.Resting.{sorted_turns, settled_at}
 use Rattle.tick_stepper.proofs.round.deliver_to_all.Goals as goal
 
-pub deliver_all-requires-clause-ready : goal.deliver_all-requires-clause-ready
-deliver_all-requires-clause-ready c =
+pub bring-requires-clause-lanes : goal.bring-requires-clause-lanes
+bring-requires-clause-lanes c =
     let script = c.args.script.now in
     let turns = numbered (map (turned script c.args.tick) (lanes_at script c.args.tick)) in
     let sorted = sorted_turns script c.args.tick c.in_ok-lanes.lanes.items c.in_ok-lanes-2.lanes.items (subst (IsPermutation turns) (sym c.in_ok-lanes.ensures) c.requires.lanes) c.in_ok-lanes-2.ensures.same c.in_ok-lanes-2.ensures.order in
-    subst (λ (l : List Numbered). AllByRecursion (IsReadyOne script (c.args.tick + 1)) l) (sym (c.as_mut_slice.ensures.value ∙ sorted)) (ready_delivery script c.args.tick c.requires.few c.requires.tick)
+    c.as_mut_slice.ensures.value ∙ sorted
 
 pub settle-requires-clause-ready : goal.settle-requires-clause-ready
 settle-requires-clause-ready c =
     let script = c.args.script.now in
     let tick = c.args.tick in
-    let turns = numbered (map (turned script tick) (lanes_at script tick)) in
-    let sorted = sorted_turns script tick c.in_ok-lanes.lanes.items c.in_ok-lanes-2.lanes.items (subst (IsPermutation turns) (sym c.in_ok-lanes.ensures) c.requires.lanes) c.in_ok-lanes-2.ensures.same c.in_ok-lanes-2.ensures.order in
-    let took = delivered_at script tick c.as_mut_slice.result.now c.deliver_all.new.lanes c.args.letters.now (c.as_mut_slice.ensures.value ∙ sorted) c.requires.letters c.in_ok-deliver_all.ensures in
     let P : Numbered → Type 0 = IsReadyOne script (tick + 1) in
-    let all = take_at c.deliver_all.new.lanes _ c.in_ok-lanes-2.lanes.len (omega (arith, c.deliver_all.auto.lanes, c.as_mut_slice.ensures.len)) ∙ took in
+    let all = take_at c.bring.new.lanes _ c.in_ok-lanes-2.lanes.len (omega (arith, c.bring.auto.lanes, c.as_mut_slice.ensures.len)) ∙ c.in_ok-bring.ensures in
     of_rec P _ (subst (AllByRecursion P) (sym all) (ready_next script tick c.requires.few c.requires.tick))
 
 pub returns : goal.returns
 returns c =
     let script = c.args.script.now in
     let tick = c.args.tick in
-    let turns = numbered (map (turned script tick) (lanes_at script tick)) in
-    let sorted = sorted_turns script tick c.in_ok-lanes.lanes.items c.in_ok-lanes-2.lanes.items (subst (IsPermutation turns) (sym c.in_ok-lanes.ensures) c.requires.lanes) c.in_ok-lanes-2.ensures.same c.in_ok-lanes-2.ensures.order in
-    let took = delivered_at script tick c.as_mut_slice.result.now c.deliver_all.new.lanes c.args.letters.now (c.as_mut_slice.ensures.value ∙ sorted) c.requires.letters c.in_ok-deliver_all.ensures in
-    let all = take_at c.deliver_all.new.lanes _ c.in_ok-lanes-2.lanes.len (omega (arith, c.deliver_all.auto.lanes, c.as_mut_slice.ensures.len)) ∙ took in
+    let all = take_at c.bring.new.lanes _ c.in_ok-lanes-2.lanes.len (omega (arith, c.bring.auto.lanes, c.as_mut_slice.ensures.len)) ∙ c.in_ok-bring.ensures in
     settled_at script tick c.in_ok-settle.field-0.items c.requires.few c.requires.tick (subst (λ (l : List Numbered). IsSettled script tick l c.in_ok-settle.field-0.items) all c.in_ok-settle.ensures)
