@@ -27,16 +27,16 @@ use Rattle.lane_turn.specs.declared.line.Word.{Word}
 use Rattle.lane_turn.specs.declared.line.Word.TheVariants as words
 use Rattle.lane_turn.specs.declared.slot.Place.{Place}
 use Rattle.lane_turn.specs.Sources.{no_sources}
-use Rattle.lane_turn.specs.Lane.{Lane, present, context_at, next_id, with_rows, edited, written, place_at, row_at, set_running, viewing, noting, is_own, is_given}
+use Rattle.lane_turn.specs.Lane.{Lane, present, context_at, next_id, with_rows, edited, written, place_at, row_at, set_running, viewing, noting, taken, is_own, is_given}
 use Rattle.lane_turn.specs.Acted.{missed, on_source, plain_acted, all_acted, handled, all_handled, cancel}
 use Rattle.lane_turn.specs.Deliver.{reply_spec, holding, received_body, received, received_all}
 use Rattle.lane_turn.specs.Turn.{opening, open_context, open_contexts_to, begun, turned}
 use Rattle.lane_turn.specs.Tick.{lanes_at, posted_at}
 use Rattle.lane_turn.specs.Arrivals.{held_of, is_home, is_for_body, is_for, arrival_of, arrivals, ids_for}
 use Rattle.lane_turn.proofs.Sends.{step_tells}
-use Rattle.lane_turn.proofs.Delivered.{received_steady}
+use Rattle.lane_turn.proofs.Delivered.{got_given, received_steady}
 use Rattle.lane_turn.proofs.Turns.{kept_finished}
-use Rattle.lane_turn.proofs.Ungiven.{next_at}
+use Rattle.lane_turn.proofs.Ungiven.{given_kept, next_at}
 
 -- ---- whose contexts are
 
@@ -57,11 +57,11 @@ held_received script tick (l ∷ letters) lane = held_received script tick lette
 -- what is given stays so
 pub given_turned : (script : Plan) (tick : ℕ) (lane : Lane) → (turned script tick lane).given ≡ lane.given
 given_turned script tick lane =
-    kept_finished script tick (λ t. t.lane.given ≡ lane.given) (λ t u e h. (step_tells script tick t u e).given ∙ h) (begun tick lane) refl
+    kept_finished script tick (λ t. t.lane.given ≡ lane.given) (λ t u e h. let s = step_tells script tick t u e in s.given ∙ (given_kept script (taken t.lane) s.mail t.lane.given s.allowed ∙ h)) (begun tick lane) refl
 
 pub given_received : (script : Plan) (tick : ℕ) (letters : List Letter) (lane : Lane) → (received_all script tick letters lane).given ≡ lane.given
 given_received script tick [] lane = refl
-given_received script tick (l ∷ letters) lane = given_received script tick letters (received script tick l lane) ∙ (received_steady script tick l.sender l.body lane).given
+given_received script tick (l ∷ letters) lane = given_received script tick letters (received script tick l lane) ∙ ((received_steady script tick l.sender l.body lane).given ∙ got_given l.body lane.given)
 
 -- lanes that have the same contexts, and gave the same, own the same
 pub own_same : (context : ℕ) (lane home : Lane) → held_of lane.contexts ≡ held_of home.contexts → lane.given ≡ home.given → is_own context lane ≡ is_own context home

@@ -1,5 +1,5 @@
 -- What letters do to a lane.
-use Rattle.std.proofs.Common.{◌≡◌, ◌||◌, false, ap, Some, None, ℕ, suc, ◌+◌, ◌*◌, ◌≤◌, List, [], ◌∷◌, length, refl, sym, ◌∙◌, arith, subst}
+use Rattle.std.proofs.Common.{◌≡◌, ◌||◌, false, ap, Some, None, ℕ, suc, ◌+◌, ◌*◌, ◌≤◌, List, [], ◌∷◌, length, refl, sym, ◌∙◌, arith, subst, Bool, Option}
 use Rattle.std.specs.List.{AllByRecursion}
 use Rattle.cancel_view.specs.Seen.{Seen, has}
 use Rattle.loop_script.specs.declared.plan.Plan.{Plan}
@@ -16,7 +16,7 @@ use Rattle.lane_turn.specs.Deliver.{reply_spec, holding, arrived, received_body,
 use Rattle.lane_turn.specs.Turn.{nest_work, row_count}
 use Rattle.lane_turn.specs.Sound.{Bounded, IsReady}
 use Rattle.lane_turn.proofs.Mild.{Mild, quiet, either, mild_edit, mild_attached, mild_plain, plain_cancel, within_weaker}
-use Rattle.lane_turn.proofs.Steady.{Steady, still, kept_held, steady_either, steady_told_cancel}
+use Rattle.lane_turn.proofs.Steady.{told_by, given_by, given_with, Steady, still, kept_held, steady_either, steady_told_cancel}
 use Rattle.lane_turn.specs.Views.{tells_of}
 
 -- what is written or held beside
@@ -53,15 +53,45 @@ received_mild script tick sender (Complete reply) lane = arrived_mild script tic
 received_mild script tick sender (Cancelled c) lane = mild_plain lane _ (plain_cancel script tick c lane)
 received_mild script tick sender (Give context to) lane = quiet lane lane refl refl (omega arith)
 
--- a letter that tells of no cancellable
-untold : (body : Body) (lane after : Lane) → ((c : ℕ) → tells_of c body ≡ false) → Steady 0 None lane after → Steady 0 (Some body) lane after
-untold body lane after f h = record { number = h.number; tick = h.tick; view = h.view; next = h.next; few = h.few; seen = λ c l. h.seen c l ∙ sym (ap (λ x. x || has c lane.view) (f c)); holds = h.holds; given = h.given }
+-- a letter that a lane gets gives nothing of its own
+abbrev pub got_mail : Body → Option Body
+got_mail (Attach context spec) = Some (Attach context spec)
+got_mail (Complete reply) = Some (Complete reply)
+got_mail (Cancelled c) = Some (Cancelled c)
+got_mail (Give context to) = None
 
-pub received_steady : (script : Plan) (tick sender : ℕ) (body : Body) (lane : Lane) → Steady 0 (Some body) lane (received_body script tick sender body lane)
-received_steady script tick sender (Attach context spec) lane = untold (Attach context spec) lane _ (λ c. refl) (steady_either 0 None lane _ _ _ (still 0 lane _ refl refl refl refl (kept_held (with_rows (attached spec (time_of script tick))) lane.contexts context)) (still 0 lane _ refl refl refl refl refl))
-received_steady script tick sender (Complete reply) lane = untold (Complete reply) lane _ (λ c. refl) (steady_either 0 None lane _ _ _ (still 0 lane _ refl refl refl refl (kept_held (with_rows (attached (reply_spec reply) (time_of script tick))) lane.contexts reply.ctx)) (still 0 lane _ refl refl refl refl refl))
+pub got_tells : (c : ℕ) (body : Body) → told_by c (got_mail body) ≡ tells_of c body
+got_tells c (Attach context spec) = refl
+got_tells c (Complete reply) = refl
+got_tells c (Cancelled d) = refl
+got_tells c (Give context to) = refl
+
+pub got_given : (body : Body) (given : List Bool) → given_with (got_mail body) given ≡ given
+got_given (Attach context spec) given = refl
+got_given (Complete reply) given = refl
+got_given (Cancelled c) given = refl
+got_given (Give context to) given = refl
+
+-- a letter that tells of no cancellable, and gives no context
+untold : (body : Body) (lane after : Lane) → ((c : ℕ) → tells_of c body ≡ false) → ((given : List Bool) → given_by body given ≡ given) → Steady 0 None lane after → Steady 0 (Some body) lane after
+untold body lane after f g h = record {
+  number = h.number;
+  tick = h.tick;
+  view = h.view;
+  next = h.next;
+  few = h.few;
+  seen = λ c l. h.seen c l ∙ sym (ap (λ x. x || has c lane.view) (f c));
+  holds = h.holds;
+  given = h.given ∙ sym (g lane.given);
+}
+
+pub received_steady : (script : Plan) (tick sender : ℕ) (body : Body) (lane : Lane) → Steady 0 (got_mail body) lane (received_body script tick sender body lane)
+received_steady script tick sender (Attach context spec) lane =
+    untold (Attach context spec) lane _ (λ c. refl) (λ g. refl) (steady_either 0 None lane _ _ _ (still 0 lane _ refl refl refl refl (kept_held (with_rows (attached spec (time_of script tick))) lane.contexts context)) (still 0 lane _ refl refl refl refl refl))
+received_steady script tick sender (Complete reply) lane =
+    untold (Complete reply) lane _ (λ c. refl) (λ g. refl) (steady_either 0 None lane _ _ _ (still 0 lane _ refl refl refl refl (kept_held (with_rows (attached (reply_spec reply) (time_of script tick))) lane.contexts reply.ctx)) (still 0 lane _ refl refl refl refl refl))
 received_steady script tick sender (Cancelled c) lane = steady_told_cancel script tick c lane
-received_steady script tick sender (Give context to) lane = untold (Give context to) lane _ (λ c. refl) (still 0 lane _ refl refl refl refl refl)
+received_steady script tick sender (Give context to) lane = still 0 lane _ refl refl refl refl refl
 
 ready_body : (script : Plan) (tick next m sender : ℕ) (body : Body) (lane : Lane) → IsReady script next m lane → IsReady script next (m + 2) (received_body script tick sender body lane)
 ready_body script tick next m sender body lane r =

@@ -55,5 +55,9 @@ pub mod Traced
 pub mod Rested
 pub mod Stands
 pub mod Whole
+pub mod Places
+pub mod Giving
+pub mod Between
+pub mod Holds
 pub mod Ungiven
 pub mod GoingOver

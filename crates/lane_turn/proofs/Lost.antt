@@ -79,14 +79,14 @@ home_by : (number : ℕ) (lane : LaneSpec) (lanes : List LaneSpec) (c : ℕ) (b 
 home_by number lane lanes c true e f = omega arith
 home_by number lane lanes c false e f = omega (arith, f (ltb-false c lane.contexts e))
 
-home_within : (number : ℕ) (lanes : List LaneSpec) (c : ℕ) → c < sum_by (λ l. l.contexts) lanes → home_in number lanes c < number + length lanes
+pub home_within : (number : ℕ) (lanes : List LaneSpec) (c : ℕ) → c < sum_by (λ l. l.contexts) lanes → home_in number lanes c < number + length lanes
 home_within number [] c h = absurd (omega (arith, h))
 home_within number (lane ∷ lanes) c h =
     let sum = sum_by-cons (λ (l : LaneSpec). l.contexts) lane lanes in
     home_by number lane lanes c (nat_lt c lane.contexts) refl (λ le. home_within (number + 1) lanes (c - lane.contexts) (omega (arith, h, sum, le)))
 
 -- at first nothing is given
-none_open : (n c : ℕ) → unwrap_or (slice_get (open_loops n) c) false ≡ false
+pub none_open : (n c : ℕ) → unwrap_or (slice_get (open_loops n) c) false ≡ false
 none_open zero c = refl
 none_open (suc n) c = none_pushed (open_loops n) c (λ i. none_open n i)
   where

@@ -24,53 +24,59 @@ use Rattle.task_steps.specs.declared.entry.Reply.{Reply}
 use Rattle.cancel_view.specs.Seen.{has}
 use Rattle.lane_turn.specs.Arrivals.{held_of}
 use Rattle.lane_turn.specs.Letters.{AreNumbered}
-use Rattle.lane_turn.proofs.Steady.{Steady, told_by, still, steady_trans, steady_acted, steady_dispatching, steady_returned, steady_answered}
+use Rattle.lane_turn.specs.Handover.{may_give}
+use Rattle.lane_turn.proofs.Steady.{Steady, told_by, given_with, still, steady_trans, steady_acted, steady_dispatching, steady_returned, steady_answered}
 use Rattle.lane_turn.specs.declared.layer.Asker.TheVariants as askers
 
--- what gives no context
-abbrev pub IsPlain : Mail → Type 0
-IsPlain (mails.Attach context spec) = Unit {0}
-IsPlain (mails.Complete reply) = Unit {0}
-IsPlain (mails.Cancelled c) = Unit {0}
-IsPlain (mails.Give context to) = ⊥
+-- a letter of the script that gives a context may give it
+abbrev pub IsAllowedBody : Plan → Lane → Mail → Type 0
+IsAllowedBody script lane (mails.Attach context spec) = Unit {0}
+IsAllowedBody script lane (mails.Complete reply) = Unit {0}
+IsAllowedBody script lane (mails.Cancelled c) = Unit {0}
+IsAllowedBody script lane (mails.Give context to) = may_give script context to lane ≡ true
 
-abbrev pub IsPlainMail : Option Mail → Type 0
-IsPlainMail None = Unit {0}
-IsPlainMail (Some body) = IsPlain body
+-- the same of a letter that may be sent
+abbrev pub IsAllowed : Plan → Lane → Option Mail → Type 0
+IsAllowed script lane None = Unit {0}
+IsAllowed script lane (Some body) = IsAllowedBody script lane body
 
-sends_plain : (script : Plan) (action : Action) (lane : Lane) → IsPlainMail (sends script action lane)
-sends_plain script (actions.Cancel c) lane = by (has c lane.view)
+sends_allowed : (script : Plan) (action : Action) (lane : Lane) → IsAllowed script lane (sends script action lane)
+sends_allowed script (actions.Cancel c) lane = by (has c lane.view)
   where
-    by : (b : Bool) → IsPlainMail (cond b None (Some (mails.Cancelled c)))
+    by : (b : Bool) → IsAllowed script lane (cond b None (Some (mails.Cancelled c)))
     by true = tt
     by false = tt
-sends_plain script (actions.Invoke context proc) lane = by (is_own context lane)
+sends_allowed script (actions.Invoke context proc) lane = by (is_own context lane)
   where
-    by : (b : Bool) → IsPlainMail (cond b None (Some (mails.Attach context (invoke_spec proc))))
+    by : (b : Bool) → IsAllowed script lane (cond b None (Some (mails.Attach context (invoke_spec proc))))
     by true = tt
     by false = tt
-sends_plain script (actions.Attach context slot spec) lane = tt
-sends_plain script (actions.Child parent slot spec) lane = tt
-sends_plain script (actions.Destroy slot) lane = tt
-sends_plain script (actions.SetReady slot us) lane = tt
-sends_plain script (actions.SetPriority slot priority) lane = tt
-sends_plain script (actions.Iterate context) lane = tt
-sends_plain script (actions.Pending context) lane = tt
-sends_plain script (actions.Run number) lane = tt
-sends_plain script (actions.Quit number) lane = tt
-sends_plain script (actions.Connect c slot proc) lane = tt
-sends_plain script (actions.Disconnect slot) lane = tt
-sends_plain script (actions.Task spec) lane = tt
-sends_plain script (actions.Push context) lane = tt
-sends_plain script (actions.Pop context) lane = tt
-sends_plain script actions.ShowDefault lane = tt
-sends_plain script (actions.Acquire context) lane = tt
-sends_plain script (actions.Release context) lane = tt
-sends_plain script (actions.Give context to) lane = tt
-sends_plain script (actions.Log n) lane = tt
+sends_allowed script (actions.Give context to) lane = by (may_give script context to lane) refl
+  where
+    by : (b : Bool) → may_give script context to lane ≡ b → IsAllowed script lane (cond b (Some (mails.Give context to)) None)
+    by true e = e
+    by false e = tt
+sends_allowed script (actions.Attach context slot spec) lane = tt
+sends_allowed script (actions.Child parent slot spec) lane = tt
+sends_allowed script (actions.Destroy slot) lane = tt
+sends_allowed script (actions.SetReady slot us) lane = tt
+sends_allowed script (actions.SetPriority slot priority) lane = tt
+sends_allowed script (actions.Iterate context) lane = tt
+sends_allowed script (actions.Pending context) lane = tt
+sends_allowed script (actions.Run number) lane = tt
+sends_allowed script (actions.Quit number) lane = tt
+sends_allowed script (actions.Connect c slot proc) lane = tt
+sends_allowed script (actions.Disconnect slot) lane = tt
+sends_allowed script (actions.Task spec) lane = tt
+sends_allowed script (actions.Push context) lane = tt
+sends_allowed script (actions.Pop context) lane = tt
+sends_allowed script actions.ShowDefault lane = tt
+sends_allowed script (actions.Acquire context) lane = tt
+sends_allowed script (actions.Release context) lane = tt
+sends_allowed script (actions.Log n) lane = tt
 
 -- a step sends one letter at most, the next of the turn, and starts one task at most where it counts one
-pub record Sends (tick : ℕ) (t u : Turn) : Type 0 where
+pub record Sends (script : Plan) (tick : ℕ) (t u : Turn) : Type 0 where
   pub number : u.lane.number ≡ t.lane.number
   pub now : u.lane.tasks.tick ≡ t.lane.tasks.tick
   pub view : length u.lane.view.members ≡ length t.lane.view.members
@@ -82,8 +88,8 @@ pub record Sends (tick : ℕ) (t u : Turn) : Type 0 where
   pub posted : u.posted ≡ posted_with tick t.lane.number t.sent t.posted mail
   pub seen : (c : ℕ) → c < length t.lane.view.members → has c u.lane.view ≡ (told_by c mail || has c t.lane.view)
   pub holds : held_of u.lane.contexts ≡ held_of t.lane.contexts
-  pub given : u.lane.given ≡ t.lane.given
-  pub plain : IsPlainMail mail
+  pub given : u.lane.given ≡ given_with mail t.lane.given
+  pub allowed : IsAllowed script (taken t.lane) mail
 
 some_same : (t u : Turn) → Some t ≡ Some u → t ≡ u
 some_same t u e = cc
@@ -93,8 +99,8 @@ sent_most None n = omega arith
 sent_most (Some body) n = omega arith
 
 -- what is counted
-counted_sends : (tick : ℕ) (mail : Option Mail) (f : Lane → Lane) (t : Turn) (left : ℕ) → t.left ≡ left → IsPlainMail mail → Steady 1 mail t.lane (f t.lane) → Sends tick t (limited_by tick mail f t left)
-counted_sends tick mail f t zero e p h = record {
+counted_sends : (script : Plan) (tick : ℕ) (mail : Option Mail) (f : Lane → Lane) (t : Turn) (left : ℕ) → t.left ≡ left → IsAllowed script (taken t.lane) mail → Steady 1 mail t.lane (f t.lane) → Sends script tick t (limited_by tick mail f t left)
+counted_sends script tick mail f t zero e p h = record {
   number = refl;
   now = refl;
   view = refl;
@@ -107,9 +113,9 @@ counted_sends tick mail f t zero e p h = record {
   seen = λ c l. refl;
   holds = refl;
   given = refl;
-  plain = tt;
+  allowed = tt;
 }
-counted_sends tick mail f t (suc left) e p h = record {
+counted_sends script tick mail f t (suc left) e p h = record {
   number = h.number;
   now = h.tick;
   view = h.view;
@@ -122,12 +128,12 @@ counted_sends tick mail f t (suc left) e p h = record {
   seen = h.seen;
   holds = h.holds;
   given = h.given;
-  plain = p;
+  allowed = p;
 }
 
 -- what is not
-freely_sends : (tick : ℕ) (t : Turn) (after : Lane) (iterated : Bool) → Steady 0 None t.lane after → Sends tick t (record t { lane = after; iterated = iterated })
-freely_sends tick t after iterated h = record {
+freely_sends : (script : Plan) (tick : ℕ) (t : Turn) (after : Lane) (iterated : Bool) → Steady 0 None t.lane after → Sends script tick t (record t { lane = after; iterated = iterated })
+freely_sends script tick t after iterated h = record {
   number = h.number;
   now = h.tick;
   view = h.view;
@@ -140,7 +146,7 @@ freely_sends tick t after iterated h = record {
   seen = h.seen;
   holds = h.holds;
   given = h.given;
-  plain = tt;
+  allowed = tt;
 }
 
 taken_too : (mail : Option Mail) (lane after : Lane) → Steady 1 mail (taken lane) after → Steady 1 mail lane after
@@ -149,34 +155,34 @@ taken_too mail lane after h = steady_trans 1 mail lane (taken lane) after (still
 popped_too : (lane after : Lane) → Steady 0 None (popped lane) after → Steady 0 None lane after
 popped_too lane after h = steady_trans 0 None lane (popped lane) after (still 0 lane (popped lane) refl refl refl refl refl) h
 
-call_sends : (script : Plan) (tick : ℕ) (t : Turn) (call : Call) (a : Option Action) → Sends tick t (step_call script tick t call a)
-call_sends script tick t call (Some a) = counted_sends tick (sends script a (taken t.lane)) (λ lane. acted script tick a (taken lane)) t t.left refl (sends_plain script a (taken t.lane)) (taken_too (sends script a (taken t.lane)) t.lane _ (steady_acted script tick a (taken t.lane)))
-call_sends script tick t call None = freely_sends tick t _ t.iterated (popped_too t.lane _ (steady_returned script tick call.body call.origin (popped t.lane)))
+call_sends : (script : Plan) (tick : ℕ) (t : Turn) (call : Call) (a : Option Action) → Sends script tick t (step_call script tick t call a)
+call_sends script tick t call (Some a) = counted_sends script tick (sends script a (taken t.lane)) (λ lane. acted script tick a (taken lane)) t t.left refl (sends_allowed script a (taken t.lane)) (taken_too (sends script a (taken t.lane)) t.lane _ (steady_acted script tick a (taken t.lane)))
+call_sends script tick t call None = freely_sends script tick t _ t.iterated (popped_too t.lane _ (steady_returned script tick call.body call.origin (popped t.lane)))
 
-id_sends : (tick : ℕ) (t : Turn) (context : ℕ) (r : Option Row) → Sends tick t (step_id tick t context r)
-id_sends tick t context None = freely_sends tick t (taken t.lane) t.iterated (still 0 t.lane _ refl refl refl refl refl)
-id_sends tick t context (Some row) = counted_sends tick None (dispatching tick context row) t t.left refl tt (steady_dispatching tick context row t.lane)
+id_sends : (script : Plan) (tick : ℕ) (t : Turn) (context : ℕ) (r : Option Row) → Sends script tick t (step_id tick t context r)
+id_sends script tick t context None = freely_sends script tick t (taken t.lane) t.iterated (still 0 t.lane _ refl refl refl refl refl)
+id_sends script tick t context (Some row) = counted_sends script tick None (dispatching tick context row) t t.left refl tt (steady_dispatching tick context row t.lane)
 
 loop_sends : (script : Plan) (tick : ℕ) (t : Turn) (number context : ℕ) (runs iterated : Bool) (u : Turn)
-    → cond runs (cond iterated None (Some (record t { lane = iterating script tick context askers.Loop t.lane; iterated = true }))) (Some (with_lane (λ lane. written tick (events.LoopEnd number) (popped lane)) t)) ≡ Some u → Sends tick t u
+    → cond runs (cond iterated None (Some (record t { lane = iterating script tick context askers.Loop t.lane; iterated = true }))) (Some (with_lane (λ lane. written tick (events.LoopEnd number) (popped lane)) t)) ≡ Some u → Sends script tick t u
 loop_sends script tick t number context true true u e = cc
-loop_sends script tick t number context true false u e = subst (Sends tick t) (some_same _ _ e) (freely_sends tick t (iterating script tick context askers.Loop t.lane) true (still 0 t.lane _ refl refl refl refl refl))
-loop_sends script tick t number context false iterated u e = subst (Sends tick t) (some_same _ _ e) (freely_sends tick t (written tick (events.LoopEnd number) (popped t.lane)) t.iterated (still 0 t.lane _ refl refl refl refl refl))
+loop_sends script tick t number context true false u e = subst (Sends script tick t) (some_same _ _ e) (freely_sends script tick t (iterating script tick context askers.Loop t.lane) true (still 0 t.lane _ refl refl refl refl refl))
+loop_sends script tick t number context false iterated u e = subst (Sends script tick t) (some_same _ _ e) (freely_sends script tick t (written tick (events.LoopEnd number) (popped t.lane)) t.iterated (still 0 t.lane _ refl refl refl refl refl))
 
 abbrev turn : Turn → List Frame → Status → Turn
 turn t frames status = record t { lane = record t.lane { frames = frames; status = status }; unpolled = [] }
 
-step_sends : (script : Plan) (tick : ℕ) (t : Turn) (frames : List Frame) (status : Status) (u : Turn) → step script tick (turn t frames status) ≡ Some u → Sends tick (turn t frames status) u
+step_sends : (script : Plan) (tick : ℕ) (t : Turn) (frames : List Frame) (status : Status) (u : Turn) → step script tick (turn t frames status) ≡ Some u → Sends script tick (turn t frames status) u
 step_sends script tick t [] GoesOn u e = cc
 step_sends script tick t (CallOf call ∷ below) GoesOn u e =
     let now : Turn = turn t (CallOf call ∷ below) GoesOn in
-    subst (Sends tick now) (some_same _ _ e) (call_sends script tick now call (slice_get (actions_of script call.body) call.place))
+    subst (Sends script tick now) (some_same _ _ e) (call_sends script tick now call (slice_get (actions_of script call.body) call.place))
 step_sends script tick t (IterOf context [] asker ∷ below) GoesOn u e =
     let now : Turn = turn t (IterOf context [] asker ∷ below) GoesOn in
-    subst (Sends tick now) (some_same _ _ e) (freely_sends tick now _ now.iterated (popped_too now.lane _ (steady_answered tick context asker (popped now.lane))))
+    subst (Sends script tick now) (some_same _ _ e) (freely_sends script tick now _ now.iterated (popped_too now.lane _ (steady_answered tick context asker (popped now.lane))))
 step_sends script tick t (IterOf context (id ∷ ids) asker ∷ below) GoesOn u e =
     let now : Turn = turn t (IterOf context (id ∷ ids) asker ∷ below) GoesOn in
-    subst (Sends tick now) (some_same _ _ e) (id_sends tick now context (row_of context id now.lane))
+    subst (Sends script tick now) (some_same _ _ e) (id_sends script tick now context (row_of context id now.lane))
 step_sends script tick t (LoopOf number context ∷ below) GoesOn u e =
     let now : Turn = turn t (LoopOf number context ∷ below) GoesOn in
     loop_sends script tick now number context (is_running number now.lane) now.iterated u e
@@ -193,12 +199,16 @@ told_none : (o : Option Reply) (c : ℕ) (b : Bool) → b ≡ (told_by c (mail_o
 told_none None c b = refl
 told_none (Some reply) c b = refl
 
-reply_plain : (o : Option Reply) → IsPlainMail (mail_of o)
-reply_plain None = tt
-reply_plain (Some reply) = tt
+reply_gives : (given : List Bool) (o : Option Reply) → given ≡ given_with (mail_of o) given
+reply_gives given None = refl
+reply_gives given (Some reply) = refl
 
-polled_sends : (tick : ℕ) (t : Turn) (task : Started) (tasks : List Started) → Sends tick (record t { unpolled = task ∷ tasks }) (polled tick task (record t { unpolled = tasks }))
-polled_sends tick t task tasks =
+reply_allowed : (script : Plan) (lane : Lane) (o : Option Reply) → IsAllowed script lane (mail_of o)
+reply_allowed script lane None = tt
+reply_allowed script lane (Some reply) = tt
+
+polled_sends : (script : Plan) (tick : ℕ) (t : Turn) (task : Started) (tasks : List Started) → Sends script tick (record t { unpolled = task ∷ tasks }) (polled tick task (record t { unpolled = tasks }))
+polled_sends script tick t task tasks =
     let mail : Option Mail = mail_of (reply_at tick t.lane.tasks task) in
     let stays : Bool = stays_at tick t.lane.tasks task in
     record {
@@ -217,15 +227,15 @@ polled_sends tick t task tasks =
       posted = refl;
       seen = λ c l. told_none (reply_at tick t.lane.tasks task) c (has c t.lane.view);
       holds = refl;
-      given = refl;
-      plain = reply_plain (reply_at tick t.lane.tasks task);
+      given = reply_gives t.lane.given (reply_at tick t.lane.tasks task);
+      allowed = reply_allowed script (taken t.lane) (reply_at tick t.lane.tasks task);
     }
 
-polling_sends : (script : Plan) (tick : ℕ) (t : Turn) (tasks : List Started) (u : Turn) → step_polling script tick (record t { unpolled = tasks }) tasks ≡ Some u → Sends tick (record t { unpolled = tasks }) u
+polling_sends : (script : Plan) (tick : ℕ) (t : Turn) (tasks : List Started) (u : Turn) → step_polling script tick (record t { unpolled = tasks }) tasks ≡ Some u → Sends script tick (record t { unpolled = tasks }) u
 polling_sends script tick t [] u e = step_sends script tick t t.lane.frames t.lane.status u e
-polling_sends script tick t (task ∷ tasks) u e = subst (Sends tick (record t { unpolled = task ∷ tasks })) (some_same _ _ e) (polled_sends tick t task tasks)
+polling_sends script tick t (task ∷ tasks) u e = subst (Sends script tick (record t { unpolled = task ∷ tasks })) (some_same _ _ e) (polled_sends script tick t task tasks)
 
-pub step_tells : (script : Plan) (tick : ℕ) (t u : Turn) → step script tick t ≡ Some u → Sends tick t u
+pub step_tells : (script : Plan) (tick : ℕ) (t u : Turn) → step script tick t ≡ Some u → Sends script tick t u
 step_tells script tick t u e = polling_sends script tick t t.unpolled u e
 
 -- ---- the letters of a turn
@@ -245,8 +255,8 @@ posted_numbers tick sender t None h = (h.numbered, h.sent)
 posted_numbers tick sender t (Some body) h =
     (numbered_push tick sender 0 t.posted (letter tick t.lane.number t.sent body) h.numbered refl h.number (omega (arith, h.sent)), omega (arith, h.sent, length-append t.posted (letter tick t.lane.number t.sent body ∷ [])))
 
-pub numbers_on : (tick sender : ℕ) (t u : Turn) → Sends tick t u → Numbers tick sender t → Numbers tick sender u
-numbers_on tick sender t u s h =
+pub numbers_on : (script : Plan) (tick sender : ℕ) (t u : Turn) → Sends script tick t u → Numbers tick sender t → Numbers tick sender u
+numbers_on script tick sender t u s h =
     let p = posted_numbers tick sender t s.mail h in
     record {
       number = s.number ∙ h.number;

@@ -27,6 +27,7 @@ use Rattle.lane_turn.specs.declared.layer.Origin.{Origin}
 use Rattle.lane_turn.specs.declared.layer.Origin.TheVariants.{Start, Source, Invoke as Invoked}
 use Rattle.lane_turn.specs.declared.slot.Place.{Place}
 use Rattle.lane_turn.specs.Lane.{Lane, present, context_at, with_rows, stopped, place_at, handler_at, written, viewing, noting, is_own}
+use Rattle.lane_turn.specs.Handover.{may_give, with_given}
 use Rattle.std.specs.Prelude.{nat_lt, is_some, slice_index_or, slice_get, option_map}
 use Rattle.lane_turn.specs.declared.line.Invoked.TheVariants.{Posted}
 use Rattle.lane_turn.specs.declared.lane.Status.TheVariants.{Halted}
@@ -42,6 +43,18 @@ abbrev pub told_by : ℕ → Option Mail → Bool
 told_by c None = false
 told_by c (Some body) = tells_of c body
 
+-- which contexts are given, once a letter gives one
+abbrev pub given_by : Mail → List Bool → List Bool
+given_by (mails.Attach context spec) given = given
+given_by (mails.Complete reply) given = given
+given_by (mails.Cancelled c) given = given
+given_by (mails.Give context to) given = slice_set given context true
+
+-- the same of a letter that may be sent
+abbrev pub given_with : Option Mail → List Bool → List Bool
+given_with None given = given
+given_with (Some body) given = given_by body given
+
 -- at most k tasks are started, and none ends; what is seen cancelled is told by the letter that is sent, if it is one of it; the
 -- lane has the contexts that it had
 pub record Steady (k : ℕ) (mail : Option Mail) (lane after : Lane) : Type 0 where
@@ -52,7 +65,7 @@ pub record Steady (k : ℕ) (mail : Option Mail) (lane after : Lane) : Type 0 wh
   pub few : length after.tasks.started ≤ length lane.tasks.started + k
   pub seen : (c : ℕ) → c < length lane.view.members → has c after.view ≡ (told_by c mail || has c lane.view)
   pub holds : held_of after.contexts ≡ held_of lane.contexts
-  pub given : after.given ≡ lane.given
+  pub given : after.given ≡ given_with mail lane.given
 
 -- a change of one context changes not whose they are
 pub kept_held : (change : Context → Context) (contexts : List (Option Context)) (i : ℕ) → held_of (slice_set contexts i (option_map change (present (slice_get contexts i)))) ≡ held_of contexts
@@ -88,7 +101,7 @@ steady_trans k mail a b c h g = record {
   few = omega (arith, g.few, h.few);
   seen = λ i l. g.seen i (omega (arith, l, h.view)) ∙ ap (λ x. told_by i mail || x) (h.seen i l);
   holds = g.holds ∙ h.holds;
-  given = g.given ∙ h.given;
+  given = g.given ∙ ap (given_with mail) h.given;
 }
 
 steady_then : (k : ℕ) (mail : Option Mail) (a b c : Lane) → Steady 0 mail a b → Steady k None b c → Steady k mail a c
@@ -318,7 +331,11 @@ steady_acted script tick ShowDefault lane = still 1 lane _ refl refl refl refl r
 steady_acted script tick (Acquire context) lane = steady_either 1 None lane _ _ _ (still 1 lane _ refl refl refl refl (kept_held acquired lane.contexts context)) (still 1 lane _ refl refl refl refl refl)
 steady_acted script tick (Release context) lane = steady_either 1 None lane _ _ _ (still 1 lane _ refl refl refl refl (kept_held released lane.contexts context)) (still 1 lane _ refl refl refl refl refl)
 steady_acted script tick (Invoke context proc) lane = steady_invoke tick (time_of script tick) context proc lane
-steady_acted script tick (Give context to) lane = still 1 lane _ refl refl refl refl refl
+steady_acted script tick (Give context to) lane = by (may_give script context to lane)
+  where
+    by : (b : Bool) → Steady 1 (cond b (Some (mails.Give context to)) None) lane (cond b (written tick (events.Give context to) (with_given context true lane)) (written tick (events.Miss words.Give) lane))
+    by true = record { number = refl; tick = refl; view = refl; next = omega arith; few = omega arith; seen = λ c h. refl; holds = refl; given = refl }
+    by false = still 1 lane _ refl refl refl refl refl
 steady_acted script tick (Log n) lane = still 1 lane _ refl refl refl refl refl
 
 pub steady_dispatching : (tick context : ℕ) (row : Row) (lane : Lane) → Steady 1 None lane (dispatching tick context row lane)

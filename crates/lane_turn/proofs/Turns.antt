@@ -66,7 +66,7 @@ ready-turned script tick m lane r = tidy_ready script tick (m + 20001) (finished
 -- the letters carry the lane's number, and their own
 turn_numbers : (script : Plan) (tick : ℕ) (lane : Lane) → Numbers tick lane.number (finished script tick (begun tick lane))
 turn_numbers script tick lane =
-    kept_finished script tick (Numbers tick lane.number) (λ t u e h. numbers_on tick lane.number t u (step_tells script tick t u e) h) (begun tick lane) (record { number = refl; numbered = tt; sent = refl })
+    kept_finished script tick (Numbers tick lane.number) (λ t u e h. numbers_on script tick lane.number t u (step_tells script tick t u e) h) (begun tick lane) (record { number = refl; numbered = tt; sent = refl })
 
 pub few-letters : (script : Plan) (tick m : ℕ) (lane : Lane) → IsReady script tick m lane → length (out_of script tick lane) ≤ 10000 * (tick + 1)
 few-letters script tick m lane r = omega (arith, (turn_tidy script tick m lane r).paced.sent, (turn_numbers script tick lane).sent)

@@ -1,33 +1,54 @@
 -- As long as no action gives a context, none goes over.
-use Rattle.std.proofs.Common.{◌≡◌, ℕ, zero, suc, cond, Option, Some, None, List, [], ◌∷◌, ◌++◌, map, length, refl, ap, sym, ◌∙◌, subst}
+use Rattle.std.proofs.Common.{◌≡◌, ℕ, Bool, zero, suc, cond, Option, Some, None, List, [], ◌∷◌, ◌++◌, map, length, refl, ap, sym, ◌∙◌, subst}
 use Rattle.std.specs.List.{AllByRecursion, cons_option, flat_map, range_with_len}
 use Rattle.loop_script.specs.declared.plan.Plan.{Plan}
 use Rattle.post_office.specs.declared.letter.Letter.{Letter}
 use Rattle.post_office.specs.declared.letter.Body.{Body as Mail}
 use Rattle.post_office.specs.declared.letter.Body.TheVariants as mails
-use Rattle.lane_turn.specs.Lane.{Lane}
+use Rattle.lane_turn.specs.Lane.{Lane, taken}
 use Rattle.lane_turn.specs.Step.{posted_with, letter}
 use Rattle.lane_turn.specs.Turn.{begun, opening, turned, out_of}
 use Rattle.lane_turn.specs.Handover.{Handing, all_handed, handing_by, handing_of, moved, handings, handed_over}
 use Rattle.lane_turn.specs.Deliver.{received_all}
 use Rattle.lane_turn.specs.Tick.{posted_at, lanes_at}
 use Rattle.lane_turn.proofs.Lists.{each-push}
-use Rattle.lane_turn.proofs.Sends.{IsPlain, IsPlainMail, step_tells}
+use Rattle.lane_turn.proofs.Sends.{IsAllowedBody, IsAllowed, step_tells}
+use Rattle.lane_turn.proofs.Steady.{given_with}
 use Rattle.lane_turn.proofs.Turns.{kept_finished}
 
 -- ---- no letter gives one
 
+abbrev IsPlain : Mail → Type 0
+IsPlain (mails.Attach context spec) = Unit {0}
+IsPlain (mails.Complete reply) = Unit {0}
+IsPlain (mails.Cancelled c) = Unit {0}
+IsPlain (mails.Give context to) = ⊥
+
+allowed_plain : (script : Plan) (lane : Lane) (body : Mail) → IsAllowedBody script lane body → IsPlain body
+allowed_plain script lane (mails.Attach context spec) a = tt
+allowed_plain script lane (mails.Complete reply) a = tt
+allowed_plain script lane (mails.Cancelled c) a = tt
+allowed_plain script lane (mails.Give context to) a = cc
+
+-- so what a lane gave stays as it is
+pub given_kept : (script : Plan) (lane : Lane) (mail : Option Mail) (given : List Bool) → IsAllowed script lane mail → given_with mail given ≡ given
+given_kept script lane None given a = refl
+given_kept script lane (Some (mails.Attach context spec)) given a = refl
+given_kept script lane (Some (mails.Complete reply)) given a = refl
+given_kept script lane (Some (mails.Cancelled c)) given a = refl
+given_kept script lane (Some (mails.Give context to)) given a = cc
+
 abbrev ArePlain : List Letter → Type 0
 ArePlain letters = AllByRecursion (λ l. IsPlain l.body) letters
 
-posted_plain : (tick sender number : ℕ) (ls : List Letter) (mail : Option Mail) → ArePlain ls → IsPlainMail mail → ArePlain (posted_with tick sender number ls mail)
-posted_plain tick sender number ls None h g = h
-posted_plain tick sender number ls (Some body) h g = each-push (λ (l : Letter). IsPlain l.body) ls (letter tick sender number body) h g
+posted_plain : (script : Plan) (lane : Lane) (tick sender number : ℕ) (ls : List Letter) (mail : Option Mail) → ArePlain ls → IsAllowed script lane mail → ArePlain (posted_with tick sender number ls mail)
+posted_plain script lane tick sender number ls None h a = h
+posted_plain script lane tick sender number ls (Some body) h a = each-push (λ (l : Letter). IsPlain l.body) ls (letter tick sender number body) h (allowed_plain script lane body a)
 
 out_plain : (script : Plan) (tick : ℕ) (lane : Lane) → ArePlain (out_of script tick lane)
 out_plain script tick lane =
     kept_finished script tick (λ t. ArePlain t.posted)
-    (λ t u e h. let s = step_tells script tick t u e in subst ArePlain (sym s.posted) (posted_plain tick t.lane.number t.sent t.posted s.mail h s.plain)) (begun tick lane) tt
+    (λ t u e h. let s = step_tells script tick t u e in subst ArePlain (sym s.posted) (posted_plain script (taken t.lane) tick t.lane.number t.sent t.posted s.mail h s.allowed)) (begun tick lane) tt
 
 both_plain : (xs ys : List Letter) → ArePlain xs → ArePlain ys → ArePlain (xs ++ ys)
 both_plain [] ys h g = g

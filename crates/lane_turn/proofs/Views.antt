@@ -17,7 +17,7 @@ use Rattle.lane_turn.specs.Tick.{lanes_at, posted_at}
 use Rattle.lane_turn.specs.Views.{tells_of, tells, AreAlike}
 use Rattle.lane_turn.proofs.Steady.{told_by}
 use Rattle.lane_turn.proofs.Sends.{Sends, step_tells}
-use Rattle.lane_turn.proofs.Delivered.{received_steady}
+use Rattle.lane_turn.proofs.Delivered.{got_tells, received_steady}
 use Rattle.lane_turn.proofs.Turns.{kept_finished}
 
 -- one letter more
@@ -49,8 +49,8 @@ record HasSeen (before : Lane) (t : Turn) : Type 0 where
   pub size : length t.lane.view.members ≡ length before.view.members
   pub seen : (c : ℕ) → c < length before.view.members → has c t.lane.view ≡ (tells c t.posted || has c before.view)
 
-seen_on : (tick : ℕ) (before : Lane) (t u : Turn) → Sends tick t u → HasSeen before t → HasSeen before u
-seen_on tick before t u s h = record {
+seen_on : (script : Plan) (tick : ℕ) (before : Lane) (t u : Turn) → Sends script tick t u → HasSeen before t → HasSeen before u
+seen_on script tick before t u s h = record {
   size = s.view ∙ h.size;
   seen = λ c l.
       s.seen c (omega (arith, l, h.size))
@@ -61,7 +61,7 @@ seen_on tick before t u s h = record {
 
 turn_seen : (script : Plan) (tick : ℕ) (lane : Lane) → HasSeen lane (finished script tick (begun tick lane))
 turn_seen script tick lane =
-    kept_finished script tick (HasSeen lane) (λ t u e h. seen_on tick lane t u (step_tells script tick t u e) h) (begun tick lane) (record { size = refl; seen = λ c l. refl })
+    kept_finished script tick (HasSeen lane) (λ t u e h. seen_on script tick lane t u (step_tells script tick t u e) h) (begun tick lane) (record { size = refl; seen = λ c l. refl })
 
 pub seen_turned : (script : Plan) (tick : ℕ) (lane : Lane) (c : ℕ) → c < length lane.view.members → has c (turned script tick lane).view ≡ (tells c (out_of script tick lane) || has c lane.view)
 seen_turned script tick lane c l = (turn_seen script tick lane).seen c l
@@ -76,7 +76,7 @@ seen_received script tick [] lane c h = refl
 seen_received script tick (l ∷ letters) lane c h =
     let s = received_steady script tick l.sender l.body lane in
     seen_received script tick letters (received script tick l lane) c (omega (arith, h, s.view))
-    ∙ (ap (λ b. tells c letters || b) (s.seen c h)
+    ∙ (ap (λ b. tells c letters || b) (s.seen c h ∙ ap (λ b. b || has c lane.view) (got_tells c l.body))
     ∙ (swapped (tells c letters) (tells_of c l.body) (has c lane.view) ∙ grouped (tells_of c l.body) (tells c letters) (has c lane.view)))
 
 -- ---- the run

@@ -7,12 +7,12 @@ use Rattle.lane_turn.specs.Lane.{Lane, Kept, present, context_at, is_given}
 use Rattle.lane_turn.specs.Handover.{kept_of, handed_of, without_context, taken_over}
 use Rattle.lane_turn.specs.Holding.{Stands, ContextsMove}
 
-set_here : {X : Type 0} (xs : List X) (i : ℕ) (v : X) → i < length xs → slice_get (slice_set xs i v) i ≡ Some v
+pub set_here : {X : Type 0} (xs : List X) (i : ℕ) (v : X) → i < length xs → slice_get (slice_set xs i v) i ≡ Some v
 set_here [] i v h = absurd (omega (arith, h))
 set_here (x ∷ xs) zero v h = refl
 set_here (x ∷ xs) (suc i) v h = set_here xs i v (omega (arith, h))
 
-set_other : {X : Type 0} (xs : List X) (i j : ℕ) (v : X) → j ≢ i → slice_get (slice_set xs i v) j ≡ slice_get xs j
+pub set_other : {X : Type 0} (xs : List X) (i j : ℕ) (v : X) → j ≢ i → slice_get (slice_set xs i v) j ≡ slice_get xs j
 set_other [] i j v h = refl
 set_other (x ∷ xs) zero zero v h = absurd (h refl)
 set_other (x ∷ xs) zero (suc j) v h = refl

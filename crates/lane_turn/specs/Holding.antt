@@ -24,6 +24,42 @@ use Rattle.lane_turn.specs.Blocked.{OfEachStep}
 use Rattle.lane_turn.specs.Arrivals.{arrivals, ids_for}
 use Rattle.loop_script.specs.Units.{Tick, LaneNumber, ContextNumber}
 
+-- ---- which lane has a context
+
+-- whether a letter gives a context
+abbrev pub gives_context : ContextNumber → Mail → Bool
+gives_context context (mails.Give c to) = c == context
+gives_context context (mails.Attach c spec) = false
+gives_context context (mails.Complete reply) = false
+gives_context context (mails.Cancelled c) = false
+
+-- the lane that has a context after a letter, and after several
+abbrev pub given_by : ContextNumber → Mail → LaneNumber → LaneNumber
+given_by context (mails.Give c to) holder = if c == context then to else holder
+given_by context (mails.Attach c spec) holder = holder
+given_by context (mails.Complete reply) holder = holder
+given_by context (mails.Cancelled c) holder = holder
+
+-- the same after several
+abbrev pub given_to : ContextNumber → List Letter → LaneNumber → LaneNumber
+given_to context [] holder = holder
+given_to context (letter ∷ letters) holder = given_to context letters (given_by context letter.body holder)
+
+-- at first the lane to which the script gives it; then the one to which it was given last
+abbrev pub holder_at : Plan → ContextNumber → Tick → LaneNumber
+holder_at script context zero = home_of script context
+holder_at script context (suc k) = given_to context (posted_at script k (lanes_at script k)) (holder_at script context k)
+
+-- each context is one lane's
+pub record ContextsAreHeld : Type 0 where
+  -- at the beginning of each tick a context is the lane's to which it was given last, and no other's
+  pub held : (script : Plan) (tick : Tick) (context : ContextNumber) → context < (sizes script).contexts
+      → map (is_own context) (lanes_at script tick) ≡ map (λ n. n == holder_at script context tick) (range_with_len 0 (length script.lanes))
+  -- that is a lane of the script
+  pub lane : (script : Plan) (tick : Tick) (context : ContextNumber) → context < (sizes script).contexts → holder_at script context tick < length script.lanes
+  -- none is on its way then
+  pub none : (script : Plan) (tick : Tick) → AllByRecursion (λ lane. (context : ContextNumber) → is_given context lane ≡ false) (lanes_at script tick)
+
 -- ---- what goes over
 
 -- a context with its replies

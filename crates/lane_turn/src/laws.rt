@@ -13,7 +13,7 @@ ghost use Rattle.lane_turn.specs.Rest.{EndedLanesRest};
 ghost use Rattle.lane_turn.specs.Blocked.{BlockedWait};
 ghost use Rattle.lane_turn.specs.Selected.{IterationsHaveOrder};
 ghost use Rattle.lane_turn.specs.Stays.{SourcesStay};
-ghost use Rattle.lane_turn.specs.Holding.{ContextsMove, LettersFollow};
+ghost use Rattle.lane_turn.specs.Holding.{ContextsAreHeld, ContextsMove, LettersFollow};
 ghost use Rattle.lane_turn.specs.Limited.{StepsAreLimited};
 ghost use Rattle.lane_turn.specs.Stands.{StandingsStay};
 
@@ -118,6 +118,12 @@ pub fn steps_are_limited()
 /// asked for right after the step.
 pub fn standings_stay()
     ensures { StandingsStay }
+{}
+
+/// At the beginning of each tick each context is the lane's to which it was given last, at first the one to which the script gives
+/// it, and no other's; none is on its way then.
+pub fn contexts_are_held()
+    ensures { ContextsAreHeld }
 {}
 
 /// A context is handed over as it stands, with all rows, their ready times and counts, and the replies that they hold; the

@@ -1,0 +1,5 @@
+use Rattle.lane_turn.proofs.Holds.{held_law, lane_law, none_law}
+use Rattle.lane_turn.proofs.laws.contexts_are_held.Goals as goal
+
+pub returns : goal.returns
+returns c = record { held = held_law; lane = lane_law; none = none_law }
