@@ -54,3 +54,7 @@ pub mod EachLane
 pub mod Traced
 pub mod Rested
 pub mod Stands
+pub mod Slots
+pub mod Handling
+pub mod Awaits
+pub mod Came
