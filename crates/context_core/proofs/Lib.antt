@@ -8,3 +8,4 @@ pub mod AtTwo
 pub mod InClasses
 pub mod Candidates
 pub mod Standings
+pub mod AtFour

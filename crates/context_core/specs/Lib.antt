@@ -6,3 +6,4 @@ pub mod Lending
 pub mod Lent
 pub mod Defaults
 pub mod TwoLevels
+pub mod FourLevels

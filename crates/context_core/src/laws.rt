@@ -1,5 +1,6 @@
 //! Laws of the definitions, as functions that do nothing.
 ghost use Rattle.context_core.specs.TwoLevels.{LevelLaws};
+ghost use Rattle.context_core.specs.FourLevels.{ParentLaws};
 ghost use Rattle.context_core.specs.Standing.{StandingsTell, StandingsNameWhatIsSo};
 
 /// What calls in progress and sources below a source do to it goes by parents: a call of it or of any source above it
@@ -7,6 +8,13 @@ ghost use Rattle.context_core.specs.Standing.{StandingsTell, StandingsNameWhatIs
 /// blocked lends its readiness to its parent, and what is dispatched next is what these rules say.
 pub fn blocking_goes_by_parents()
     ensures { LevelLaws }
+{}
+
+/// What is dispatched next goes by parents alone, at each of the four levels at which sources may stand: a call of a source or of
+/// any above it blocks it, a source is ready where no call blocks it and it is so by itself or a child of it is ready, and the most
+/// urgent of these come by the numbers from the root down, each behind those under it.
+pub fn selection_goes_by_parents()
+    ensures { ParentLaws }
 {}
 
 /// What a standing tells. A source's standing is `Selected` exactly where an iteration begun now would dispatch it, and `Blocked`

@@ -29,7 +29,7 @@ use Rattle.lane_turn.proofs.Arrivals.{own_same, has_own, length_held, held_turne
 
 -- ---- one letter
 
-abbrev Gains : (s n : ℕ) → Bool → Lane → Lane → Type 0
+abbrev pub Gains : (s n : ℕ) → Bool → Lane → Lane → Type 0
 Gains s n b lane after = IsFresh after × (results s n after.trace + awaited s n after.replies ≡ results s n lane.trace + awaited s n lane.replies + one_for b)
 
 pub never : (x : Bool) → one_for (x && false) ≡ 0
@@ -71,7 +71,7 @@ leaves_arrived s n tick now context spec lane =
     (leaves_trans s n lane there _ (edit s n lane context (attached spec now) (λ rows. omega arith)) (line s n there tick (events.Arrive context (next_id (context_at context lane))) refl))
     (same s n lane lane refl refl refl refl refl)
 
-letter_gains : (s n : ℕ) (script : Plan) (tick sender : ℕ) (body : Body) (lane : Lane) → IsFresh lane → Gains s n ((sender == s) && brings n lane body) lane (received_body script tick sender body lane)
+pub letter_gains : (s n : ℕ) (script : Plan) (tick sender : ℕ) (body : Body) (lane : Lane) → IsFresh lane → Gains s n ((sender == s) && brings n lane body) lane (received_body script tick sender body lane)
 letter_gains s n script tick sender (Attach context spec) lane f = gains_none s n (sender == s) lane _ (leaves_arrived s n tick (time_of script tick) context spec lane) f
 letter_gains s n script tick sender (Complete reply) lane f = reply_gains s n tick (time_of script tick) sender reply lane (is_own reply.ctx lane) refl f
 letter_gains s n script tick sender (Cancelled c) lane f = gains_none s n (sender == s) lane _ (leaves_cancel s n script tick c lane) f
@@ -127,7 +127,7 @@ open_awaited : (s n m : ℕ) → awaited s n (open_replies m) ≡ 0
 open_awaited s n zero = refl
 open_awaited s n (suc m) = sum_by_push (awaited_in s n) (open_replies m) [] ∙ omega (arith, open_awaited s n m)
 
-open_fresh : (script : Plan) (lane : ℕ) → IsFresh (opening script lane)
+pub open_fresh : (script : Plan) (lane : ℕ) → IsFresh (opening script lane)
 open_fresh script lane =
     let m : ℕ = (sizes script).contexts in
     let size : length (held_of (opening script lane).contexts) ≡ length (opening script lane).contexts = simp length-map in

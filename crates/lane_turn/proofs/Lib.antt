@@ -61,3 +61,7 @@ pub mod Between
 pub mod Holds
 pub mod Ungiven
 pub mod GoingOver
+pub mod Slots
+pub mod Handling
+pub mod Awaits
+pub mod Came

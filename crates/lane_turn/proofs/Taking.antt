@@ -72,7 +72,7 @@ awaited_more s n context id a all l h =
 -- ---- the ids of what is held were given
 
 -- what the sources of a context hold, where its next id is given: of one that is not there nothing
-abbrev AreGiven : ℕ → Replies → Type 0
+abbrev pub AreGiven : ℕ → Replies → Type 0
 AreGiven next es = AllByRecursion (λ e. e.0 < next) es
 
 given_still : (before after : ℕ) → before ≤ after → (es : Replies) → AreGiven before es → AreGiven after es
