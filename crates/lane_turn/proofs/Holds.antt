@@ -249,7 +249,7 @@ over_stands script tick h lanes a =
 
 -- ---- a run
 
-counted_openings : (script : Plan) (a n : ℕ) → Counted a (map (opening script) (range_with_len a n))
+pub counted_openings : (script : Plan) (a n : ℕ) → Counted a (map (opening script) (range_with_len a n))
 counted_openings script a zero = tt
 counted_openings script a (suc n) = (refl, counted_openings script (a + 1) n)
 

@@ -36,7 +36,7 @@ module _ (script : Plan) (tick : ℕ) where
             let posted : posted_of (gone_on s w v t (Some u)) ≡ set (posted_of s) w (v.posted ++ one.0 ∷ []) = map-set (λ v. v.posted) s.workers w (goes_on v t u) ∙ ap (λ (l : List Letter). set (posted_of s) w (v.posted ++ l)) one.1 in
             let mail : mail_of (gone_on s w v t (Some u)) ≡ post_of w one.0 (mail_of s) (Some v.posted) = (λ i. record { posted = posted i; office = s.office ++ one.1 i }) in
             inr (one.0, mail ∙ ap (post_of w one.0 (mail_of s)) (sym (read_worker (λ v. v.posted) s.workers w v at))))
-            (posts_one tick t u (step_tells script tick t u e)),
+            (posts_one script tick t u (step_tells script tick t u e)),
       )
 
   ended_changes : (s : TickState) (w : ℕ) (v : Worker) (t : Turn) (o : Option Turn) → slice_get s.workers w ≡ Some v → Changes (Done w) s (ended s w v t o)

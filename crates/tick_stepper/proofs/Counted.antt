@@ -13,20 +13,9 @@ use Rattle.lane_turn.specs.Deliver.{received_all}
 use Rattle.lane_turn.specs.Tick.{posted_at, lanes_at}
 use Rattle.lane_turn.proofs.Turns.{turned_number}
 use Rattle.lane_turn.proofs.Delivered.{received_number}
+use Rattle.lane_turn.proofs.Places.{Counted, counted_step}
+use Rattle.lane_turn.proofs.Holds.{counted_openings}
 use Rattle.tick_stepper.specs.Order.{ByNumber}
-
--- numbers from n on
-abbrev pub Counted : ℕ → List Lane → Type 0
-Counted n [] = Unit {0}
-Counted n (lane ∷ lanes) = (lane.number ≡ n) × Counted (n + 1) lanes
-
-counted_openings : (script : Plan) (a n : ℕ) → Counted a (map (opening script) (range_with_len a n))
-counted_openings script a zero = tt
-counted_openings script a (suc n) = (refl, counted_openings script (a + 1) n)
-
-pub counted_step : (step : Lane → Lane) → ((lane : Lane) → (step lane).number ≡ lane.number) → (n : ℕ) (lanes : List Lane) → Counted n lanes → Counted n (map step lanes)
-counted_step step same n [] h = tt
-counted_step step same n (lane ∷ lanes) h = (same lane ∙ h.0, counted_step step same (n + 1) lanes h.1)
 
 -- what goes over leaves each lane its number
 pub number_over : (tick : ℕ) (hs : List Handing) (lane : Lane) → (all_handed tick hs lane).number ≡ lane.number

@@ -13,23 +13,10 @@ use Rattle.post_office.specs.declared.letter.Letter.{Letter}
 use Rattle.tick_stepper.specs.Share.{unspent, numbered_one, numbered, lanes_in, at_number, AreLined, HasGone}
 use Rattle.tick_stepper.specs.declared.share.Numbered.{Numbered}
 use Rattle.tick_stepper.proofs.Ready.{kept_is}
-use Rattle.tick_stepper.proofs.Counted.{Counted, counted_step, number_over}
+use Rattle.lane_turn.proofs.Places.{Counted, counted_step, IsOutside, tail_outside, is_other, other_number, found_none, found_at}
+use Rattle.tick_stepper.proofs.Counted.{number_over}
 
 -- ---- one lane by its number
-
-abbrev IsOutside : (k a n : ℕ) → Type 0
-IsOutside k a n = (k < a) ⊎ (a + n ≤ k)
-
-tail_outside : (k a n : ℕ) → IsOutside k a (suc n) → IsOutside k (a + 1) n
-tail_outside k a n (inl h) = inl (omega (arith, h))
-tail_outside k a n (inr h) = inr (omega (arith, h))
-
-is_other : (k a n : ℕ) → IsOutside k a (suc n) → a ≢ k
-is_other k a n (inl h) e = absurd (omega (arith, h, e))
-is_other k a n (inr h) e = absurd (omega (arith, h, e))
-
-other_number : (k a : ℕ) (lane : Lane) → lane.number ≡ a → a ≢ k → (lane.number == k) ≡ false
-other_number k a lane c h = ne_eqb lane.number k (λ e. h (sym c ∙ e))
 
 stays : (step : Lane → Lane) (lane : Lane) (b : Bool) → b ≡ false → cond b (step lane) lane ≡ lane
 stays step lane b e = ap (λ (x : Bool). cond x (step lane) lane) e
@@ -48,19 +35,6 @@ at_index step k a zero (lane ∷ lanes) d e c h =
 at_index step k a (suc i) (lane ∷ lanes) d e c h =
     ap (λ (l : Lane). l ∷ map (at_number k step) lanes) (stays step lane (lane.number == k) (other_number k a lane c.0 (λ p. absurd (omega (arith, p, e)))))
     ∙ ap (λ (ls : List Lane). lane ∷ ls) (at_index step k (a + 1) i lanes d (omega (arith, e)) c.1 (omega (arith, h)))
-
-found_none : (k a : ℕ) (lanes : List Lane) → Counted a lanes → IsOutside k a (length lanes) → lane_of_number k lanes ≡ None
-found_none k a [] c h = refl
-found_none k a (lane ∷ lanes) c h =
-    ap (λ (b : Bool). cond b (Some lane) (lane_of_number k lanes)) (other_number k a lane c.0 (is_other k a (length lanes) h))
-    ∙ found_none k (a + 1) lanes c.1 (tail_outside k a (length lanes) h)
-
-found_at : (k a i : ℕ) (lanes : List Lane) (d : Lane) → k ≡ a + i → Counted a lanes → i < length lanes → lane_of_number k lanes ≡ Some (get_or lanes i d)
-found_at k a i [] d e c h = absurd (omega (arith, h))
-found_at k a zero (lane ∷ lanes) d e c h = ap (λ (b : Bool). cond b (Some lane) (lane_of_number k lanes)) (eq-eqb lane.number k (omega (arith, c.0, e)))
-found_at k a (suc i) (lane ∷ lanes) d e c h =
-    ap (λ (b : Bool). cond b (Some lane) (lane_of_number k lanes)) (other_number k a lane c.0 (λ p. absurd (omega (arith, p, e))))
-    ∙ found_at k (a + 1) i lanes d (omega (arith, e)) c.1 (omega (arith, h))
 
 -- ---- lanes in a row
 

@@ -53,17 +53,17 @@ unfolding behind
 goes_behind tick sender number before None = ap (λ (l : List Letter). before ++ l) (drop-length before) ∙ append-nil before
 goes_behind tick sender number before (Some body) = ap (λ (l : List Letter). before ++ l) (drop-append_seam before (letter tick sender number body ∷ []))
 
-posted_behind : (tick : ℕ) (t u : Turn) (s : Sends tick t u) → posted_by t u ≡ behind tick t.lane.number t.sent t.posted s.mail
+posted_behind : (script : Plan) (tick : ℕ) (t u : Turn) (s : Sends script tick t u) → posted_by t u ≡ behind tick t.lane.number t.sent t.posted s.mail
 unfolding behind
-posted_behind tick t u s = ap (drop (length t.posted)) s.posted
+posted_behind script tick t u s = ap (drop (length t.posted)) s.posted
 
-pub posts_one : (tick : ℕ) (t u : Turn) → Sends tick t u → (posted_by t u ≡ []) ⊎ ((x : Letter) × (posted_by t u ≡ x ∷ []))
-posts_one tick t u s =
-    let is = posted_behind tick t u s in
+pub posts_one : (script : Plan) (tick : ℕ) (t u : Turn) → Sends script tick t u → (posted_by t u ≡ []) ⊎ ((x : Letter) × (posted_by t u ≡ x ∷ []))
+posts_one script tick t u s =
+    let is = posted_behind script tick t u s in
     ⊎_elim
     (λ (none : behind tick t.lane.number t.sent t.posted s.mail ≡ []). inl (is ∙ none))
     (λ (one : (x : Letter) × (behind tick t.lane.number t.sent t.posted s.mail ≡ x ∷ [])). inr (one.0, is ∙ one.1))
     (none_or_one tick t.lane.number t.sent t.posted s.mail)
 
-pub posts_on : (tick : ℕ) (t u : Turn) → Sends tick t u → t.posted ++ posted_by t u ≡ u.posted
-posts_on tick t u s = ap (λ (l : List Letter). t.posted ++ l) (posted_behind tick t u s) ∙ goes_behind tick t.lane.number t.sent t.posted s.mail ∙ sym s.posted
+pub posts_on : (script : Plan) (tick : ℕ) (t u : Turn) → Sends script tick t u → t.posted ++ posted_by t u ≡ u.posted
+posts_on script tick t u s = ap (λ (l : List Letter). t.posted ++ l) (posted_behind script tick t u s) ∙ goes_behind tick t.lane.number t.sent t.posted s.mail ∙ sym s.posted

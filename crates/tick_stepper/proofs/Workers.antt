@@ -38,7 +38,7 @@ module _ (script : Plan) (tick : ℕ) where
     h.1,
     h.2,
     h.3,
-    ap (λ (l : List Letter). l ++ posted_by t u) h.4 ∙ append_assoc (posted_at script tick h.0) t.posted (posted_by t u) ∙ ap (λ (l : List Letter). posted_at script tick h.0 ++ l) (posts_on tick t u (step_tells script tick t u e)),
+    ap (λ (l : List Letter). l ++ posted_by t u) h.4 ∙ append_assoc (posted_at script tick h.0) t.posted (posted_by t u) ∙ ap (λ (l : List Letter). posted_at script tick h.0 ++ l) (posts_on script tick t u (step_tells script tick t u e)),
     goes_to script tick t u e ∙ h.5,
   )
 

@@ -5,7 +5,7 @@ use Rattle.lane_turn.specs.Turn.{turned}
 use Rattle.lane_turn.specs.Tick.{lanes_at}
 use Rattle.tick_stepper.specs.Share.{numbered, AreLined, IsReadyOne}
 use Rattle.tick_stepper.specs.declared.share.Numbered.{Numbered}
-use Rattle.tick_stepper.proofs.Counted.{Counted, counted_turned}
+use Rattle.tick_stepper.proofs.Counted.{counted_turned}
 use Rattle.tick_stepper.proofs.Lined.{lined}
 use Rattle.tick_stepper.proofs.Rounds.{ready_over_at}
 use Rattle.tick_stepper.proofs.Resting.{handed_at, delivered_at}
