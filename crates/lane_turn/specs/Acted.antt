@@ -76,7 +76,7 @@ destroy tick slot lane = on_source tick words.Destroy destroyed (place_at slot l
 abbrev pub set_ready : Tick → Slot → ℤ → Lane → Lane
 set_ready tick slot us lane = on_source tick words.SetReady (λ id. ready_set id us) (place_at slot lane) lane
 
--- a priority of a source that is there and no child
+-- a source that is there and no child gets a priority, as all under it; else a miss
 abbrev pub set_priority_of : Tick → Priority → Option Place → Lane → Lane
 set_priority_of tick priority None lane = missed tick words.SetPriority lane
 set_priority_of tick priority (Some place) lane =
@@ -95,7 +95,7 @@ iterate script tick context lane =
     then iterating script tick context (askers.Iterate (is_any (chosen script tick context lane))) lane
     else written tick (events.Iterate context false) lane
 
--- whether an iteration of a context would dispatch anything now
+-- it is told whether an iteration of a context would dispatch anything now
 abbrev pub pending : Plan → Tick → ContextNumber → Lane → Lane
 pending script tick context lane = written tick (events.Pending context (is_own context lane && is_any (chosen script tick context lane))) lane
 
@@ -180,8 +180,7 @@ acted script tick (Invoke context proc) lane = invoke tick (time_of script tick)
 acted script tick (Give context to) lane = give script tick context to lane
 acted script tick (Log n) lane = written tick (events.Log n) lane
 
--- what an action sends: a cancellable that the lane has not seen cancelled is cancelled for all, and a procedure that is
--- invoked in a context of another lane is attached there
+-- what a cancel sends: a cancellable that the lane has not seen cancelled is cancelled for all
 abbrev pub cancel_sends : CancellableNumber → Lane → Option Mail
 cancel_sends c lane = if has c lane.view then None else Some (mails.Cancelled c)
 

@@ -33,7 +33,7 @@ held_of contexts = map is_some contexts
 abbrev pub is_home : Plan → ContextNumber → LaneNumber → Bool
 is_home script context lane = home_of script context == lane
 
--- whether a letter attaches a source to a context
+-- whether what a letter tells attaches a source to a context
 abbrev pub is_for_body : ContextNumber → Body → Bool
 is_for_body context (Attach c spec) = c == context
 is_for_body context (Complete reply) = reply.ctx == context
@@ -44,7 +44,7 @@ is_for_body context (Give c to) = false
 abbrev pub is_for : ContextNumber → Letter → Bool
 is_for context letter = is_for_body context letter.body
 
--- the ids that lines tell to have arrived in a context
+-- the id of the source that a line tells to have come to a context
 abbrev pub arrival_of : ContextNumber → Event → Option SourceId
 arrival_of context (events.Arrive c id) = if c == context then Some id else None
 arrival_of context _ = None

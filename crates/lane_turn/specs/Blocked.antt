@@ -18,7 +18,7 @@ use Rattle.loop_script.specs.Units.{Tick, ContextNumber, SourceId}
 abbrev pub MayRecur : List Frame → ContextNumber → SourceId → Type 0
 MayRecur frames context id = AllByRecursion (λ caller. caller.context ≡ context → caller.id ≡ id → caller.recurse ≡ true) (callers frames)
 
--- so is each of a source and of those above it, whose ids are its line
+-- so is each of a source and of those above it, whose ids are its lineage
 abbrev pub IsFree : List Frame → ContextNumber → Row → Type 0
 IsFree frames context row = AllByRecursion (MayRecur frames context) row.lineage
 

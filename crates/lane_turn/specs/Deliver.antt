@@ -39,7 +39,8 @@ arrived_source tick now context spec lane =
     then written tick (events.Arrive context (next_id (context_at context lane))) (edited context (attached spec now) lane)
     else lane
 
--- a cancellation that the lane has not seen is seen; no letter is sent for it
+-- what a letter tells is done: a source is attached, or a reply; a cancellation that the lane has not seen is seen, and no letter is sent
+-- for it
 abbrev pub received_body : Plan → Tick → LaneNumber → Body → Lane → Lane
 received_body script tick sender (Attach context spec) lane = arrived_source tick (time_of script tick) context spec lane
 received_body script tick sender (Complete reply) lane = arrived script tick sender reply lane

@@ -40,7 +40,7 @@ abbrev pub TellsDepth : List Frame → Event → Type 0
 TellsDepth frames (events.Dispatch context id priority depth) = depth ≡ length (callers frames)
 TellsDepth frames _ = Unit {0}
 
--- the calls in progress, of dispatches and of invokes: all but that of a start list
+-- where a call of a dispatch or of an invoke came from; none of that of a start list
 abbrev pub begun_of : Origin → Option Origin
 begun_of Start = None
 begun_of (Source caller) = Some (Source caller)

@@ -23,24 +23,24 @@ top_of (CallOf call ∷ below) = tops.Call call
 top_of (IterOf context ids asker ∷ below) = tops.Iteration context (slice_get ids 0) asker
 top_of (LoopOf number context ∷ below) = tops.Loop number context
 
--- the frames when the innermost has taken its next action or id
+-- a frame that has taken its next action or id
 abbrev pub advanced_one : Frame → Frame
 advanced_one (CallOf call) = CallOf (record call { place = call.place + 1 })
 advanced_one (IterOf context ids asker) = IterOf context (drop 1 ids) asker
 advanced_one (LoopOf number context) = LoopOf number context
 
--- the same of the innermost alone
+-- the frames when the innermost has taken its next action or id
 abbrev pub advanced : List Frame → List Frame
 advanced [] = []
 advanced (frame ∷ below) = advanced_one frame ∷ below
 
--- the older iterations of a context have no id left
+-- a frame, which has no id left where it is an iteration of a context
 abbrev pub emptied_one : ContextNumber → Frame → Frame
 emptied_one context (CallOf call) = CallOf call
 emptied_one context (IterOf c ids asker) = IterOf c (if c == context then [] else ids) asker
 emptied_one context (LoopOf number c) = LoopOf number c
 
--- the same of all frames
+-- the frames when no iteration of a context has an id left
 abbrev pub emptied : ContextNumber → List Frame → List Frame
 emptied context frames = map (emptied_one context) frames
 
@@ -76,7 +76,7 @@ calls_in_progress frames = count_by is_call frames
 abbrev pub depth : List Frame → ℕ
 depth frames = count_by is_dispatch frames
 
--- the sources of a context that a call in progress blocks
+-- the source of a context that a call in progress blocks
 abbrev pub blocked_by : ContextNumber → Origin → Option SourceId
 blocked_by context Start = None
 blocked_by context (Invoke acquired) = None
@@ -88,18 +88,18 @@ blocked_in context (CallOf call) = blocked_by context call.origin
 blocked_in context (IterOf c ids asker) = None
 blocked_in context (LoopOf number c) = None
 
--- the outermost first
+-- the sources of a context that calls in progress block, the outermost first
 abbrev pub busy : ContextNumber → List Frame → List SourceId
 busy context frames = reverse (filter_map (blocked_in context) frames)
 
--- the frames that own a context: an iteration of it, a run of a loop of it, a call of a direct invoke that acquired it
+-- whether a call is one of a direct invoke that acquired a context
 abbrev pub is_acquired_by : ContextNumber → Origin → Bool
 is_acquired_by context Start = false
 is_acquired_by context (Source caller) = false
 is_acquired_by context (Invoke None) = false
 is_acquired_by context (Invoke (Some c)) = c == context
 
--- whether a frame owns a context
+-- whether a frame owns a context: an iteration of it, a run of a loop of it, a call of a direct invoke that acquired it
 abbrev pub owns : ContextNumber → Frame → Bool
 owns context (CallOf call) = is_acquired_by context call.origin
 owns context (IterOf c ids asker) = c == context

@@ -154,7 +154,7 @@ handler_at slot lane = handler_of (held (slice_get lane.slots slot))
 abbrev pub row_at : Place → Lane → Option Row
 row_at place lane = if is_own place.context lane then row_of place.context place.id lane else None
 
--- where the next source of a context will be
+-- the id of the next source of a context
 abbrev pub next_id : Option Context → SourceId
 next_id None = 0
 next_id (Some context) = context.rows.next_id

@@ -55,8 +55,9 @@ pub record StepsAreLimited : Type 0 where
       → t.lane.frames ≡ IterOf context (id ∷ ids) asker ∷ below → row_of context id t.lane ≡ Some row → step script tick t ≡ Some u → TakesOne tick t u
   -- any other step takes none
   pub others : (script : Plan) (tick : Tick) (t u : Turn) → is_counted script t ≡ false → step script tick t ≡ Some u → u.left ≡ t.left
-  -- so a turn starts 10,000 tasks at most, and sends at most as many letters as it polls tasks, and 10,000
+  -- so a turn starts 10,000 tasks at most
   pub tasks : (script : Plan) (tick : Tick) (lane : Lane) → (turned script tick lane).tasks.next ≤ lane.tasks.next + 10000
+  -- and sends at most as many letters as it polls tasks, and 10,000
   pub letters : (script : Plan) (tick : Tick) (lane : Lane) → length (out_of script tick lane) ≤ length lane.tasks.started + 10000
   -- no step gives one back
   pub falls : (script : Plan) (tick : Tick) (t u : Turn) → step script tick t ≡ Some u → u.left ≤ t.left

@@ -16,7 +16,7 @@ use Rattle.loop_script.specs.Units.{ContextNumber, SourceId}
 abbrev pub Height : Type 0
 Height = ℕ
 
--- the height of the live iteration of a context
+-- the height that a context names, where it names one
 abbrev pub named_height : Option (Option Height) → Option Height
 named_height None = None
 named_height (Some height) = height
@@ -25,7 +25,7 @@ named_height (Some height) = height
 abbrev pub height_at : List (Option Height) → ContextNumber → Option Height
 height_at live context = named_height (slice_get live context)
 
--- an iteration is live at the height that its context names
+-- whether a height is the one that is named
 abbrev pub is_height : Option Height → Height → Bool
 is_height None height = false
 is_height (Some k) height = k == height
@@ -76,7 +76,7 @@ is_call_layer (layers.Call call) = is_dispatch_or_invoke call.origin
 is_call_layer (layers.Iteration i) = false
 is_call_layer (layers.Loop number context) = false
 
--- the calls that block their source
+-- whether a call blocks its source
 abbrev pub is_blocking : Origin → Bool
 is_blocking Start = false
 is_blocking (Source caller) = if caller.recurse then false else true
@@ -98,13 +98,13 @@ blocked_by_layer context (layers.Loop number c) = None
 abbrev pub busy_layers : ContextNumber → List Layer → List SourceId
 busy_layers context layers = filter_map (blocked_by_layer context) layers
 
--- what owns a context
+-- whether a layer owns a context
 abbrev pub owns_layer : ContextNumber → Layer → Bool
 owns_layer context (layers.Call call) = is_acquired_by context call.origin
 owns_layer context (layers.Iteration i) = i.context == context
 owns_layer context (layers.Loop number c) = c == context
 
--- when the next action or id was taken
+-- a layer that has taken its next action or id
 abbrev pub advanced_layer : Layer → Layer
 advanced_layer (layers.Call call) = layers.Call (record call { place = call.place + 1 })
 advanced_layer (layers.Iteration i) = layers.Iteration (record i { place = if nat_lt i.place (length i.ids.items) then i.place + 1 else i.place })

@@ -34,7 +34,7 @@ owed_by tick number tasks (t ∷ ts) = one_for (owes tick number tasks t) + owed
 abbrev pub owed : Tick → TaskNumber → Tasks → ℕ
 owed tick number tasks = owed_by tick number tasks tasks.started + one_for (nat_le tasks.next number)
 
--- how many letters are replies of a number
+-- whether a letter is a reply of a number
 abbrev pub is_reply : TaskNumber → Body → Bool
 is_reply number (Attach context spec) = false
 is_reply number (Complete reply) = reply.task == number
@@ -46,12 +46,12 @@ abbrev pub replied : TaskNumber → List Letter → ℕ
 replied number [] = 0
 replied number (l ∷ letters) = one_for (is_reply number l.body) + replied number letters
 
--- a lane of a script at the beginning of a tick, whatever letters are delivered to it; and the replies of a number that it posted before
+-- a lane of a script at the beginning of a tick, whatever letters are delivered to it
 abbrev pub lane_under : Plan → (Tick → List Letter) → LaneNumber → Tick → Lane
 lane_under script mail number zero = opening script number
 lane_under script mail number (suc k) = received_all script k (mail k) (turned script k (lane_under script mail number k))
 
--- how many a lane posted before a tick
+-- how many replies of a number it posted before a tick
 abbrev pub posted_before : Plan → (Tick → List Letter) → LaneNumber → TaskNumber → Tick → ℕ
 posted_before script mail lane number zero = 0
 posted_before script mail lane number (suc k) = posted_before script mail lane number k + replied number (out_of script k (lane_under script mail lane k))

@@ -44,7 +44,7 @@ push tick context lane =
     then record lane { defaults = pushed context lane.defaults }
     else written tick (events.Miss words.Push) lane
 
--- the one before it does, where it is on top
+-- the context on top is popped, where it is this one
 abbrev pub pop : Tick → ContextNumber → Lane → Lane
 pop tick context lane =
     if is_on_top context lane.defaults

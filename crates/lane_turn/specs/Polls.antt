@@ -15,7 +15,7 @@ letters_of tick sender number [] = []
 letters_of tick sender number (reply ∷ replies) =
     record { tick = tick; sender = sender; number = number; body = mails.Complete reply } ∷ letters_of tick sender (number + 1) replies
 
--- the replies, the late numbers and the tasks that go on, of a poll of some tasks
+-- the replies that a poll of some tasks gives
 abbrev pub replies_among : Tick → Tasks → List Started → List Reply
 replies_among tick tasks ts = filter_map (reply_at tick tasks) ts
 
@@ -27,7 +27,7 @@ late_among tick tasks ts = map (λ t. t.number) (filter (is_late_at tick tasks) 
 abbrev pub staying_among : Tick → Tasks → List Started → List Started
 staying_among tick tasks ts = filter (stays_at tick tasks) ts
 
--- the turn once all its tasks are polled
+-- the lane once all its tasks are polled
 abbrev pub polled_lane : Tick → List Started → Lane → Lane
 polled_lane tick ts lane = record lane {
   tasks = record lane.tasks { started = lane.tasks.started ++ staying_among tick lane.tasks ts };

@@ -31,12 +31,12 @@ abbrev pub StaysTo : Option ℕ → ℕ → Type 0
 StaysTo None n = Unit {0}
 StaysTo (Some keep) n = n ≤ keep
 
--- the same by a procedure; none keeps nothing
+-- the same of a procedure; where there is none no source stays
 abbrev pub StaysBy : Option Proc → ℕ → Type 0
 StaysBy None n = ⊥
 StaysBy (Some proc) n = StaysTo proc.keep n
 
--- a dummy, which calls nothing, stays
+-- by what it called, a source stays after its n-th dispatch: by the `keep` of a procedure; a dummy, which calls nothing, always
 abbrev pub Stays : Plan → Body → ℕ → Type 0
 Stays script (Procedure proc) n = StaysBy (slice_get script.procs proc) n
 Stays script Nothing n = Unit {0}
@@ -51,7 +51,7 @@ pub record IsAtEnd (script : Plan) (caller : Caller) (body : Body) (t : Turn) : 
   pub frames : t.lane.frames ≡ CallOf (record { origin = Source caller; body = body; place = place }) ∷ below
   pub over : slice_get (actions_of script body) place ≡ None
 
--- how many lines tell a dispatch of a source
+-- whether a line tells a dispatch of a source
 abbrev pub is_dispatch_of : ContextNumber → SourceId → Event → Bool
 is_dispatch_of context id (events.Dispatch c i priority depth) = (c == context) && (i == id)
 is_dispatch_of context id _ = false

@@ -55,7 +55,7 @@ result_lines tick (Some awaited) view = record { tick = tick; event = events.Tas
 abbrev pub taking : Tick → Option Awaited → Lane → Lane
 taking tick awaited lane = record lane { trace = lane.trace ++ result_lines tick awaited lane.view }
 
--- a row's dispatch: the count, the line, the result of a reply, and its call; where the most calls are in progress the lane is halted
+-- the call of a row's dispatch is begun; `once` says that the source goes after it, as that of a reply does
 abbrev pub called : ContextNumber → Row → Bool → Lane → Lane
 called context row once lane = pushed (CallOf (record {
   origin = Source (record { context = context; id = row.id; recurse = row.recurse; number = row.count + 1; once = once });
@@ -63,12 +63,12 @@ called context row once lane = pushed (CallOf (record {
   place = 0;
 })) lane
 
--- the call of a dispatch is begun, once the reply that its source held is taken
+-- the same once the reply that its source held is taken
 abbrev pub begun_call : Tick → ContextNumber → Row → Option Awaited → Lane → Lane
 begun_call tick context row awaited lane =
     called context row (is_some awaited) (taking tick awaited (record lane { replies = without_reply context row.id lane.replies }))
 
--- the same of a lane that took the id already, at a depth
+-- a row's dispatch at a depth, of a lane that took the id already: the count, the line, the result of a reply, and its call
 abbrev pub dispatched_at : Tick → ContextNumber → Row → ℕ → Lane → Lane
 dispatched_at tick context row n lane =
     begun_call tick context row (reply_held context row.id lane.replies) (written tick (events.Dispatch context row.id row.priority (n + 1)) (edited context (counted_once row.id) lane))

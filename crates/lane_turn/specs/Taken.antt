@@ -15,7 +15,7 @@ use Rattle.lane_turn.specs.Tick.{posted_at, lanes_at}
 use Rattle.lane_turn.specs.Owed.{lane_under, posted_before}
 use Rattle.loop_script.specs.Units.{Tick, LaneNumber, TaskNumber}
 
--- how many lines tell the result of a task, which goes by its lane, the sender of its reply, and its number there
+-- whether a line tells the result of a task, which goes by its lane, the sender of its reply, and its number there
 abbrev pub is_result : LaneNumber → TaskNumber → Event → Bool
 is_result sender number (events.Task lane task outcome) = (lane == sender) && (task == number)
 is_result sender number _ = false
@@ -40,7 +40,7 @@ awaited sender number all = sum_by (awaited_in sender number) all
 abbrev pub accounted : LaneNumber → TaskNumber → Lane → ℕ
 accounted sender number lane = results sender number lane.trace + awaited sender number lane.replies
 
--- how many letters bring a lane a reply of the task: it goes to a context of the lane
+-- whether a letter brings a lane a reply of the task: it goes to a context of the lane
 abbrev pub brings : TaskNumber → Lane → Body → Bool
 brings number lane (Attach context spec) = false
 brings number lane (Complete reply) = (reply.task == number) && is_own reply.ctx lane

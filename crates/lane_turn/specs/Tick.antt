@@ -16,7 +16,7 @@ posted_at script tick lanes = flat_map (out_of script tick) lanes
 abbrev pub ticked : Plan → Tick → List Lane → List Lane
 ticked script tick lanes = delivered script tick (posted_at script tick lanes) (map (turned script tick) lanes)
 
--- the lanes of a script, by number, at first and at the beginning of a tick
+-- the lanes of a script, by number, at first
 abbrev pub opened : Plan → List Lane
 opened script = map (opening script) (range_with_len 0 (length script.lanes))
 

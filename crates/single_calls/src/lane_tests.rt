@@ -3,7 +3,7 @@ ghost use Rattle.std.specs.Prelude.{◌≡◌, ℕ, ◌^◌, false, Err, IsTrue}
 ghost use Rattle.lane_turn.specs.Sound.{IsReady};
 
 use crate::expected::expect;
-use lane_turn::{Event, LaneFault, LaneState, Line};
+use lane_turn::{Event, HandFault, LaneFault, LaneState, Line};
 use loop_script::{Outcome, Script};
 use post_office::Tray;
 use std::alloc::Global;
@@ -51,6 +51,16 @@ fn first_run(rt: HostRuntime) -> Result<(), Fail> {
     Ok(())
 }
 
+/// A lane that gave no context hands none over, whether it has it or not.
+#[test]
+fn hands_over_nothing_at_first(rt: HostRuntime) -> Result<(), Fail> {
+    let script = Script::read(rt.alloc(), first_run_script().as_bytes())?;
+    let mut lane = LaneState::new(rt.alloc(), &script, 0)?;
+    expect(&rt, lane.hand_over(0).err() == Some(HandFault::NotGiven));
+    expect(&rt, lane.hand_over(1).err() == Some(HandFault::NotGiven));
+    Ok(())
+}
+
 pub(crate) fn expect_lines(rt: &impl Abort, lane: &LaneState, lines: &[Line]) {
     assert_eq!(rt; lane.trace(), lines);
 }
@@ -63,6 +73,7 @@ fn answers_spent(alloc: Global, script: &Script, lane: &mut LaneState) -> bool
     lane.turn(script, 2, &mut Tray::new(alloc)) == Err(LaneFault::Spent)
         && lane.deliver(script, 2, &[]) == Err(LaneFault::Spent)
         && lane.pass_to(3) == Err(LaneFault::Spent)
+        && lane.hand_over(0).err() == Some(HandFault::Spent)
 }
 
 /// The same a second time too.

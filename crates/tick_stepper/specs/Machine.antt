@@ -32,7 +32,7 @@ pub data Move : Type 0 where
 abbrev pub posted_by : Turn → Turn → List Letter
 posted_by t u = drop (length t.posted) u.posted
 
--- a worker takes a lane, whose turn begins; the turn goes on from t to u; it is over, and the lane let go
+-- a worker takes a lane, whose turn begins
 abbrev pub takes : Tick → Worker → Lane → Worker
 takes tick worker lane = record worker { held = Some (begun tick lane); taken = worker.taken ++ lane ∷ [] }
 
@@ -44,7 +44,7 @@ goes_on worker t u = record worker { held = Some u; posted = worker.posted ++ po
 abbrev pub lets_go : Worker → Turn → Worker
 lets_go worker t = record worker { held = None; over = worker.over ++ t.lane ∷ [] }
 
--- the same within the tick, where worker is the one of number w; a move that cannot be made changes nothing
+-- the tick after that, where worker is the one of number w; without a lane nothing is changed
 abbrev pub claimed : Tick → TickState → (w n : ℕ) → Worker → Option Lane → TickState
 claimed tick s w n worker None = s
 claimed tick s w n worker (Some lane) = record { waiting = without n s.waiting; workers = set s.workers w (takes tick worker lane); office = s.office }
@@ -87,7 +87,7 @@ worker_of (Claim w n) = w
 worker_of (Step w) = w
 worker_of (Done w) = w
 
--- a move is made; moves are made, one after another
+-- the tick after a move; one that cannot be made changes nothing
 abbrev pub moved : Plan → Tick → TickState → Move → TickState
 moved script tick s move = by_worker script tick s move (slice_get s.workers (worker_of move))
 
@@ -96,7 +96,7 @@ abbrev pub after : Plan → Tick → List Move → TickState → TickState
 after script tick [] s = s
 after script tick (move ∷ moves) s = after script tick moves (moved script tick s move)
 
--- no worker has done anything, and all lanes wait
+-- a worker that has done nothing
 abbrev pub idle : Worker
 idle = record { held = None; taken = []; over = []; posted = [] }
 
@@ -104,7 +104,7 @@ idle = record { held = None; taken = []; over = []; posted = [] }
 abbrev pub opening : ℕ → List Lane → TickState
 opening workers lanes = record { waiting = lanes; workers = replicate workers idle; office = [] }
 
--- no worker is in the middle of a turn; and then no lane waits either
+-- no worker is in the middle of a turn
 abbrev pub AreFree : List Worker → Type 0
 AreFree workers = AllByRecursion (λ worker. worker.held ≡ None) workers
 
@@ -125,7 +125,7 @@ over_of s = map (λ worker. worker.over) s.workers
 abbrev pub posted_of : TickState → List (List Letter)
 posted_of s = map (λ worker. worker.posted) s.workers
 
--- its two parts
+-- what waits, and what each worker took
 abbrev pub work_of : TickState → Work Lane
 work_of s = record { waiting = s.waiting; taken = taken_of s }
 

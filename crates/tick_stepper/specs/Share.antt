@@ -83,7 +83,7 @@ pub record IsTurned (script : Plan) (tick : Tick) (old new : Share) : Type 0 whe
 abbrev pub has_lanes : Share → Bool
 has_lanes share = nat_lt 0 (length share.lanes.items)
 
--- the lanes of all shares, and their letters
+-- the lanes of all shares
 abbrev pub handed : List Share → List Numbered
 handed shares = flat_map (λ share. share.lanes.items) shares
 

@@ -23,7 +23,7 @@ lane_of one = one.state.lane
 abbrev pub lanes_of : Work Numbered → Work Lane
 lanes_of work = record { waiting = map lane_of work.waiting; taken = map (map lane_of) work.taken }
 
--- a worker of the machine holds no lane, or is in the middle of a turn
+-- a worker of the machine holds no lane
 abbrev pub IsFree : TickState → ℕ → Type 0
 IsFree s w = (worker : Worker) × (slice_get s.workers w ≡ Some worker) × (worker.held ≡ None)
 
