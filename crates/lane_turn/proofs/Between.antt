@@ -155,6 +155,10 @@ map_after : (tick : ℕ) (h : Handing) (hs : List Handing) (lanes : List Lane) �
 map_after tick h hs [] = refl
 map_after tick h hs (lane ∷ lanes) = ap (λ (ls : List Lane). all_handed tick (h ∷ hs) lane ∷ ls) (map_after tick h hs lanes)
 
+pub none_left : (tick : ℕ) (lanes : List Lane) → handed_over tick [] lanes ≡ lanes
+none_left tick [] = refl
+none_left tick (lane ∷ lanes) = ap (λ (ls : List Lane). lane ∷ ls) (none_left tick lanes)
+
 -- ---- all that letters give
 
 -- letters that do not give a context are fair whosever it is
@@ -180,88 +184,118 @@ given_over count left h g [] e f = tt
 given_over count left h g (lane ∷ all) e f =
     (record { size = (f.0).size; has = λ c k. (f.0).has c k ∙ ap (λ (n : ℕ). lane.number == n) (sym (e c)); flags = (f.0).flags }, given_over count left h g all e f.1)
 
--- what letters lead to
-abbrev LeadOn : (count tick : ℕ) → List Letter → Type 0
-LeadOn count tick ls = (g : ℕ → ℕ) (some : List Lane) → AreLanes count g ls some → AllByRecursion (Fits count (λ c. given_to c ls (g c)) []) (map (all_handed tick (handings tick ls some)) some)
+-- after a letter that gives none all is as before
+pub record IsPlain (count tick : ℕ) (l : Letter) (ls : List Letter) (h : ℕ → ℕ) (all : List Lane) : Type 0 where
+  pub none : handing_of l all ≡ None
+  pub lanes : AreLanes count h ls all
+  pub same : (c : ℕ) → given_by c l.body (h c) ≡ h c
 
-pub over_lanes : (count tick : ℕ) (left : List Letter) (h : ℕ → ℕ) (all : List Lane) → AreLanes count h left all
-    → AllByRecursion (Fits count (λ c. given_to c left (h c)) []) (map (all_handed tick (handings tick left all)) all)
-over_lanes count tick [] h all a = stay all a.each
+-- a letter that gives a context: it goes over from the lane that has it to one that has it not
+pub record Goes (count tick : ℕ) (l : Letter) (ls : List Letter) (h : ℕ → ℕ) (all : List Lane) : Type 0 where
+  pub context : ℕ
+  pub to : ℕ
+  pub kept : Kept
+  pub some : handing_of l all ≡ Some (record { sender = l.sender; to = to; kept = kept })
+  pub lanes : AreLanes count (after_give context to h) ls (map (handed tick (record { sender = l.sender; to = to; kept = kept })) all)
+  pub same : (c : ℕ) → given_by c l.body (h c) ≡ after_give context to h c
+  pub number : kept.number ≡ context
+  pub here : context < count
+  pub below : l.sender < length all
+  pub within : to < length all
+  pub other : to ≢ l.sender
+  pub holder : l.sender ≡ h context
+  pub giver : (d : Lane) → handed_of context (get_or all l.sender d) ≡ Some kept
+
+goes_by : (count tick : ℕ) (l : Letter) (ls : List Letter) (h : ℕ → ℕ) (d : Lane) (ds : List Lane) (c to : ℕ) → AreLanes count h (l ∷ ls) (d ∷ ds) → l.body ≡ mails.Give c to → IsFair count (length (d ∷ ds)) h l.sender (mails.Give c to) ls → Goes count tick l ls h (d ∷ ds)
+goes_by count tick l ls h d ds c to a e p =
+    let all : List Lane = d ∷ ds in
+    let below : l.sender < length all = ((((p.1).1).1).1).0 in
+    let giver : Lane = get_or all l.sender d in
+    let fits : Fits count h (l ∷ ls) giver = each_at (Fits count h (l ∷ ls)) l.sender all d a.each below in
+    let number : giver.number ≡ l.sender = number_at 0 l.sender all d a.counted below ∙ omega arith in
+    let flag : is_given c giver ≡ true =
+    fits.flags c ∙ ap (λ (b : Bool). b || list_any (gives_from giver.number c) ls) (ap (λ (b : Mail). (l.sender == giver.number) && gives_context c b) e ∙ (ap (λ b. b && (c == c)) (eq-eqb l.sender giver.number (sym number)) ∙ eq-eqb c c refl)) in
+    let there : is_some (context_at c giver) ≡ true = fits.has c p.0 ∙ eq-eqb giver.number (h c) (number ∙ (((p.1).1).1).0) in
+    let k = kept_here c giver (is_given c giver) (context_at c giver) flag there in
+    let hd : Handing = record { sender = l.sender; to = to; kept = k.0 } in
+    let same : length (map (handed tick hd) all) ≡ length all = simp length-map in
+    record {
+      context = c;
+      to = to;
+      kept = k.0;
+      some = ap (λ (b : Mail). handing_by l.sender b all) e
+          ∙ (ap (λ (o : Option Lane). handing l.sender to (option_and_then (handed_of c) o)) (found_at l.sender 0 l.sender all d (omega arith) a.counted below) ∙ ap (handing l.sender to) k.1);
+      lanes = record {
+        counted = counted_step (handed tick hd) (handed_number tick hd) 0 all a.counted;
+        each = goes_each count (length all) tick c to l.sender h k.0 ls l refl e p.0 ((p.1).1).0 (((p.1).1).1).0 k.2 ((((p.1).1).1).1).1 all a.each;
+        fair = subst (λ (n : ℕ). AreFair count n (after_give c to h) ls) (sym same) (fair_after count (length all) c to h ls ((((p.1).1).1).1).1 (a.fair).1);
+      };
+      same = λ x. ap (λ (b : Mail). given_by x b (h x)) e;
+      number = k.2;
+      here = p.0;
+      below = below;
+      within = (p.1).0;
+      other = ((p.1).1).0;
+      holder = (((p.1).1).1).0;
+      giver = λ other. ap (handed_of c) (same_at all l.sender other d below) ∙ k.1;
+    }
   where
-    stay : (all : List Lane) → AllByRecursion (Fits count h []) all → AllByRecursion (Fits count h []) (map (all_handed tick []) all)
-    stay [] f = tt
-    stay (lane ∷ all) f = (f.0, stay all f.1)
-over_lanes count tick (l ∷ ls) h all a = by (over_lanes count tick ls) l.body refl
+    same_at : (xs : List Lane) (i : ℕ) (x y : Lane) → i < length xs → get_or xs i x ≡ get_or xs i y
+    same_at [] i x y l = absurd (omega (arith, l))
+    same_at (lane ∷ xs) zero x y l = refl
+    same_at (lane ∷ xs) (suc i) x y l = same_at xs i x y (omega (arith, l))
+
+plain_by : (count tick : ℕ) (l : Letter) (ls : List Letter) (h : ℕ → ℕ) (all : List Lane) → AreLanes count h (l ∷ ls) all → handing_of l all ≡ None → ((c : ℕ) → gives_one c l ≡ false) → ((c : ℕ) → given_by c l.body (h c) ≡ h c) → IsPlain count tick l ls h all
+plain_by count tick l ls h all a none gives same = record { none = none; lanes = record { counted = a.counted; each = less all a.each; fair = (a.fair).1 }; same = same }
   where
-    -- a letter that gives none
-    plain : LeadOn count tick ls → (o : Option Handing) → o ≡ None → ((c : ℕ) → gives_one c l ≡ false) → ((c : ℕ) → given_by c l.body (h c) ≡ h c)
-        → AllByRecursion (Fits count (λ c. given_to c ls (given_by c l.body (h c))) []) (map (all_handed tick (cons_option o (handings tick ls (moved tick o all)))) all)
-    plain behind o e none same =
-        let next : AreLanes count h ls all = record { counted = a.counted; each = less all a.each; fair = (a.fair).1 } in
-        let rest = behind h all next in
-        given_over count [] (λ c. given_to c ls (h c)) (λ c. given_to c ls (given_by c l.body (h c))) (map (all_handed tick (cons_option o (handings tick ls (moved tick o all)))) all) (λ c. ap (given_to c ls) (same c))
-        (subst (λ (x : Option Handing). AllByRecursion (Fits count (λ c. given_to c ls (h c)) []) (map (all_handed tick (cons_option x (handings tick ls (moved tick x all)))) all)) (sym e) rest)
-      where
-        less : (all : List Lane) → AllByRecursion (Fits count h (l ∷ ls)) all → AllByRecursion (Fits count h ls) all
-        less [] f = tt
-        less (lane ∷ all) f = (record { size = (f.0).size; has = (f.0).has; flags = λ c. (f.0).flags c ∙ ungiven count lane.number c h l ls (none c) }, less all f.1)
+    less : (all : List Lane) → AllByRecursion (Fits count h (l ∷ ls)) all → AllByRecursion (Fits count h ls) all
+    less [] f = tt
+    less (lane ∷ all) f = (record { size = (f.0).size; has = (f.0).has; flags = λ c. (f.0).flags c ∙ ungiven count lane.number c h l ls (gives c) }, less all f.1)
 
-    by : LeadOn count tick ls → (body : Mail) → l.body ≡ body → AllByRecursion (Fits count (λ c. given_to c ls (given_by c l.body (h c))) []) (map (all_handed tick (cons_option (handing_of l all) (handings tick ls (moved tick (handing_of l all) all)))) all)
-    by behind (mails.Attach context spec) e = plain behind (handing_of l all) (ap (λ (b : Mail). handing_by l.sender b all) e) (λ c. ap (gives_context c) e) (λ c. ap (λ (b : Mail). given_by c b (h c)) e)
-    by behind (mails.Complete reply) e = plain behind (handing_of l all) (ap (λ (b : Mail). handing_by l.sender b all) e) (λ c. ap (gives_context c) e) (λ c. ap (λ (b : Mail). given_by c b (h c)) e)
-    by behind (mails.Cancelled k) e = plain behind (handing_of l all) (ap (λ (b : Mail). handing_by l.sender b all) e) (λ c. ap (gives_context c) e) (λ c. ap (λ (b : Mail). given_by c b (h c)) e)
-    by behind (mails.Give c to) e = gives_by all refl
-      where
-        p : IsFair count (length all) h l.sender (mails.Give c to) ls
-        p = subst (λ (b : Mail). IsFair count (length all) h l.sender b ls) e (a.fair).0
+-- each letter does one or the other
+pub by_letter : (count tick : ℕ) (l : Letter) (ls : List Letter) (h : ℕ → ℕ) (all : List Lane) → AreLanes count h (l ∷ ls) all → IsPlain count tick l ls h all ⊎ Goes count tick l ls h all
+by_letter count tick l ls h all a = by all l.body refl a
+  where
+    plain : (all : List Lane) (body : Mail) → l.body ≡ body → AreLanes count h (l ∷ ls) all → handing_by l.sender body all ≡ None → ((c : ℕ) → gives_context c body ≡ false) → ((c : ℕ) → given_by c body (h c) ≡ h c) → IsPlain count tick l ls h all
+    plain all body e a none gives same =
+        plain_by count tick l ls h all a (ap (λ (b : Mail). handing_by l.sender b all) e ∙ none) (λ c. ap (gives_context c) e ∙ gives c) (λ c. ap (λ (b : Mail). given_by c b (h c)) e ∙ same c)
 
-        gives_by : (some : List Lane) → some ≡ all → AllByRecursion (Fits count (λ c. given_to c ls (given_by c l.body (h c))) []) (map (all_handed tick (cons_option (handing_of l all) (handings tick ls (moved tick (handing_of l all) all)))) all)
-        gives_by [] q = let r : 0 ≡ length all = ap (λ (ls : List Lane). length ls) q in absurd (omega (arith, r, ((((p.1).1).1).1).0))
-        gives_by (d ∷ ds) q = goes_on
-          where
-            giver : Lane
-            giver = get_or all l.sender d
+    by : (all : List Lane) (body : Mail) → l.body ≡ body → AreLanes count h (l ∷ ls) all → IsPlain count tick l ls h all ⊎ Goes count tick l ls h all
+    by all (mails.Attach context spec) e a = inl (plain all (mails.Attach context spec) e a refl (λ c. refl) (λ c. refl))
+    by all (mails.Complete reply) e a = inl (plain all (mails.Complete reply) e a refl (λ c. refl) (λ c. refl))
+    by all (mails.Cancelled k) e a = inl (plain all (mails.Cancelled k) e a refl (λ c. refl) (λ c. refl))
+    by [] (mails.Give c to) e a = let p = subst (λ (b : Mail). IsFair count 0 h l.sender b ls) e (a.fair).0 in absurd (omega (arith, ((((p.1).1).1).1).0))
+    by (d ∷ ds) (mails.Give c to) e a = inr (goes_by count tick l ls h d ds c to a e (subst (λ (b : Mail). IsFair count (length (d ∷ ds)) h l.sender b ls) e (a.fair).0))
 
-            fits : Fits count h (l ∷ ls) giver
-            fits = each_at (Fits count h (l ∷ ls)) l.sender all d a.each ((((p.1).1).1).1).0
+-- the first letter, and then the rest
+over_by : (tick : ℕ) (l : Letter) (ls : List Letter) (all : List Lane) (o : Option Handing) → handing_of l all ≡ o → handed_over tick ls (moved tick o all) ≡ handed_over tick (l ∷ ls) all
+over_by tick l ls all None e = ap (λ (o : Option Handing). map (all_handed tick (cons_option o (handings tick ls (moved tick o all)))) all) (sym e)
+over_by tick l ls all (Some hd) e =
+    map_after tick hd (handings tick ls (map (handed tick hd) all)) all ∙ ap (λ (o : Option Handing). map (all_handed tick (cons_option o (handings tick ls (moved tick o all)))) all) (sym e)
 
-            number : giver.number ≡ l.sender
-            number = number_at 0 l.sender all d a.counted ((((p.1).1).1).1).0 ∙ omega arith
+-- what is so of all lanes, and stays so where one context goes over, is so when all went
+pub over_all : (count tick : ℕ) (Q : List Lane → Type 0) → ((l : Letter) (ls : List Letter) (h : ℕ → ℕ) (all : List Lane) → AreLanes count h (l ∷ ls) all → (g : Goes count tick l ls h all) → Q all → Q (map (handed tick (record { sender = l.sender; to = g.to; kept = g.kept })) all))
+    → (left : List Letter) (h : ℕ → ℕ) (all : List Lane) → AreLanes count h left all → Q all → Q (handed_over tick left all)
+over_all count tick Q f [] h all a q = subst Q (sym (none_left tick all)) q
+over_all count tick Q f (l ∷ ls) h all a q = by (over_all count tick Q f ls) (by_letter count tick l ls h all a)
+  where
+    by : ((h : ℕ → ℕ) (all : List Lane) → AreLanes count h ls all → Q all → Q (handed_over tick ls all)) → IsPlain count tick l ls h all ⊎ Goes count tick l ls h all → Q (handed_over tick (l ∷ ls) all)
+    by rest (inl p) = subst Q (over_by tick l ls all None p.none) (rest h all p.lanes q)
+    by rest (inr g) =
+        subst Q (over_by tick l ls all (Some (record { sender = l.sender; to = g.to; kept = g.kept })) g.some)
+        (rest (after_give g.context g.to h) (map (handed tick (record { sender = l.sender; to = g.to; kept = g.kept })) all) g.lanes (f l ls h all a g q))
 
-            flag : is_given c giver ≡ true
-            flag = fits.flags c ∙ ap (λ (b : Bool). b || list_any (gives_from giver.number c) ls) (ap (λ (b : Mail). (l.sender == giver.number) && gives_context c b) e ∙ (ap (λ b. b && (c == c)) (eq-eqb l.sender giver.number (sym number)) ∙ eq-eqb c c refl))
-
-            there : is_some (context_at c giver) ≡ true
-            there = fits.has c p.0 ∙ eq-eqb giver.number (h c) (number ∙ (((p.1).1).1).0)
-
-            k : (kept : Kept) × (handed_of c giver ≡ Some kept) × (kept.number ≡ c)
-            k = kept_here c giver (is_given c giver) (context_at c giver) flag there
-
-            hd : Handing
-            hd = record { sender = l.sender; to = to; kept = k.0 }
-
-            is_hd : handing_of l all ≡ Some hd
-            is_hd =
-                ap (λ (b : Mail). handing_by l.sender b all) e
-                ∙ (ap (λ (o : Option Lane). handing l.sender to (option_and_then (handed_of c) o)) (found_at l.sender 0 l.sender all d (omega arith) a.counted ((((p.1).1).1).1).0)
-                ∙ ap (handing l.sender to) k.1)
-
-            went : List Lane
-            went = map (handed tick hd) all
-
-            next : AreLanes count (after_give c to h) ls went
-            next = record {
-              counted = counted_step (handed tick hd) (handed_number tick hd) 0 all a.counted;
-              each = goes_each count (length all) tick c to l.sender h k.0 ls l refl e p.0 ((p.1).1).0 (((p.1).1).1).0 k.2 ((((p.1).1).1).1).1 all a.each;
-              fair = subst (λ (n : ℕ). AreFair count n (after_give c to h) ls) (let same : length went ≡ length all = simp length-map in sym same) (fair_after count (length all) c to h ls ((((p.1).1).1).1).1 (a.fair).1);
-            }
-
-            rest : AllByRecursion (Fits count (λ x. given_to x ls (after_give c to h x)) []) (map (all_handed tick (handings tick ls went)) went)
-            rest = behind (after_give c to h) went next
-
-            goes_on : AllByRecursion (Fits count (λ c. given_to c ls (given_by c l.body (h c))) []) (map (all_handed tick (cons_option (handing_of l all) (handings tick ls (moved tick (handing_of l all) all)))) all)
-            goes_on =
-                given_over count [] (λ x. given_to x ls (after_give c to h x)) (λ x. given_to x ls (given_by x l.body (h x))) (map (all_handed tick (cons_option (handing_of l all) (handings tick ls (moved tick (handing_of l all) all)))) all)
-                (λ x. ap (given_to x ls) (ap (λ (b : Mail). given_by x b (h x)) e))
-                (subst (λ (o : Option Handing). AllByRecursion (Fits count (λ x. given_to x ls (after_give c to h x)) []) (map (all_handed tick (cons_option o (handings tick ls (moved tick o all)))) all)) (sym is_hd)
-                (subst (AllByRecursion (Fits count (λ x. given_to x ls (after_give c to h x)) [])) (map_after tick hd (handings tick ls went) all) rest))
+-- and each context is then the lane's to which letters gave it
+pub over_lanes : (count tick : ℕ) (left : List Letter) (h : ℕ → ℕ) (all : List Lane) → AreLanes count h left all → AllByRecursion (Fits count (λ c. given_to c left (h c)) []) (handed_over tick left all)
+over_lanes count tick [] h all a = subst (AllByRecursion (Fits count h [])) (sym (none_left tick all)) a.each
+over_lanes count tick (l ∷ ls) h all a = by (over_lanes count tick ls) (by_letter count tick l ls h all a)
+  where
+    by : ((h : ℕ → ℕ) (all : List Lane) → AreLanes count h ls all → AllByRecursion (Fits count (λ c. given_to c ls (h c)) []) (handed_over tick ls all)) → IsPlain count tick l ls h all ⊎ Goes count tick l ls h all
+        → AllByRecursion (Fits count (λ c. given_to c ls (given_by c l.body (h c))) []) (handed_over tick (l ∷ ls) all)
+    by rest (inl p) =
+        given_over count [] (λ c. given_to c ls (h c)) (λ c. given_to c ls (given_by c l.body (h c))) (handed_over tick (l ∷ ls) all) (λ c. ap (given_to c ls) (p.same c))
+        (subst (AllByRecursion (Fits count (λ c. given_to c ls (h c)) [])) (over_by tick l ls all None p.none) (rest h all p.lanes))
+    by rest (inr g) =
+        let hd : Handing = record { sender = l.sender; to = g.to; kept = g.kept } in
+        given_over count [] (λ c. given_to c ls (after_give g.context g.to h c)) (λ c. given_to c ls (given_by c l.body (h c))) (handed_over tick (l ∷ ls) all) (λ c. ap (given_to c ls) (g.same c))
+        (subst (AllByRecursion (Fits count (λ c. given_to c ls (after_give g.context g.to h c)) [])) (over_by tick l ls all (Some hd) g.some) (rest (after_give g.context g.to h) (map (handed tick hd) all) g.lanes))

@@ -19,7 +19,7 @@ use Rattle.lane_turn.specs.Replies.{Replies, replies_at}
 use Rattle.lane_turn.specs.Turn.{opening, open_replies, turned}
 use Rattle.lane_turn.specs.declared.replies.Awaited.{Awaited}
 use Rattle.lane_turn.specs.Deliver.{reply_spec, holding, arrived_source, received_body, received, received_all}
-use Rattle.lane_turn.specs.Owed.{one_for, lane_under}
+use Rattle.lane_turn.specs.Owed.{one_for, lane_under, none_goes}
 use Rattle.lane_turn.specs.Arrivals.{held_of}
 use Rattle.lane_turn.specs.Taken.{results, awaited_in, awaited, brings, brought, brought_before}
 use Rattle.lane_turn.proofs.Leaves.{Leaves, results_other, same, line, edit, leaves_trans, either, leaves_cancel}
@@ -92,7 +92,7 @@ brings_alike n lane home o (Complete reply) = ap (λ b. (reply.task == n) && b) 
 brings_alike n lane home o (Cancelled c) = refl
 brings_alike n lane home o (Give context to) = refl
 
-received_gains : (s n : ℕ) (script : Plan) (tick : ℕ) (home : Lane) (letters : List Letter) (lane : Lane) → OwnAlike lane home → IsFresh lane →
+pub received_gains : (s n : ℕ) (script : Plan) (tick : ℕ) (home : Lane) (letters : List Letter) (lane : Lane) → OwnAlike lane home → IsFresh lane →
     IsFresh (received_all script tick letters lane)
     × (results s n (received_all script tick letters lane).trace + awaited s n (received_all script tick letters lane).replies ≡ results s n lane.trace + awaited s n lane.replies + brought s n home letters)
 received_gains s n script tick home [] lane o f = (f, omega arith)
@@ -104,9 +104,6 @@ received_gains s n script tick home (l ∷ ls) lane o f =
     (rest.0, omega (arith, one.1, rest.1, alike, brought_cons s n home l ls))
 
 -- ---- a lane at each tick
-
-own_turned : (script : Plan) (tick : ℕ) (lane : Lane) → OwnAlike (turned script tick lane) lane
-own_turned script tick lane c = own_same c (turned script tick lane) lane (held_turned script tick lane) (given_turned script tick lane)
 
 -- at first nothing is held
 open_size : (n : ℕ) → length (open_replies n) ≡ n
@@ -123,7 +120,7 @@ open_at (suc n) c = none_pushed (open_replies n) c (λ i. open_at n i)
     none_pushed (es ∷ all) zero h = h zero
     none_pushed (es ∷ all) (suc c) h = none_pushed all c (λ i. h (suc i))
 
-open_awaited : (s n m : ℕ) → awaited s n (open_replies m) ≡ 0
+pub open_awaited : (s n m : ℕ) → awaited s n (open_replies m) ≡ 0
 open_awaited s n zero = refl
 open_awaited s n (suc m) = sum_by_push (awaited_in s n) (open_replies m) [] ∙ omega (arith, open_awaited s n m)
 
@@ -137,15 +134,15 @@ open_fresh script lane =
     }
 
 under_taken : (script : Plan) (mail : ℕ → List Letter) (lane s n tick : ℕ) →
-    IsFresh (lane_under script mail lane tick)
-    × (results s n (lane_under script mail lane tick).trace + awaited s n (lane_under script mail lane tick).replies ≡ brought_before script mail lane s n tick)
+    IsFresh (lane_under script mail none_goes lane tick)
+    × (results s n (lane_under script mail none_goes lane tick).trace + awaited s n (lane_under script mail none_goes lane tick).replies ≡ brought_before script mail lane s n tick)
 under_taken script mail lane s n zero = (open_fresh script lane, omega (arith, open_awaited s n (sizes script).contexts))
 under_taken script mail lane s n (suc k) =
-    let before : Lane = lane_under script mail lane k in
+    let before : Lane = lane_under script mail none_goes lane k in
     let r = under_taken script mail lane s n k in
     let m = turned_moves s n script k before in
-    let d = received_gains s n script k before (mail k) (turned script k before) (own_turned script k before) (m.fresh r.0) in
+    let d = received_gains s n script k (turned script k before) (mail k) (turned script k before) (λ c. refl) (m.fresh r.0) in
     (d.0, omega (arith, r.1, m.sum, d.1))
 
-pub taken_at : (script : Plan) (mail : ℕ → List Letter) (lane s n tick : ℕ) → results s n (lane_under script mail lane tick).trace + awaited s n (lane_under script mail lane tick).replies ≡ brought_before script mail lane s n tick
+pub taken_at : (script : Plan) (mail : ℕ → List Letter) (lane s n tick : ℕ) → results s n (lane_under script mail none_goes lane tick).trace + awaited s n (lane_under script mail none_goes lane tick).replies ≡ brought_before script mail lane s n tick
 taken_at script mail lane s n tick = (under_taken script mail lane s n tick).1

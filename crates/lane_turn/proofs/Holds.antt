@@ -27,7 +27,7 @@ use Rattle.lane_turn.proofs.GoingOver.{handed_part}
 use Rattle.lane_turn.proofs.Places.{Counted, counted_step, number_at, each_at}
 use Rattle.lane_turn.proofs.Giving.{gives_one, AreOnce, CanGive, Gave, turn_gave, or_left, or_right, or_false}
 use Rattle.lane_turn.proofs.Between.{gives_from, IsFair, AreFair, Fits, AreLanes, over_lanes}
-use Rattle.lane_turn.proofs.Lost.{none_open, home_within}
+use Rattle.lane_turn.proofs.Homes.{none_open, home_within}
 
 eqb_sym : (a b : ℕ) → (a == b) ≡ (b == a)
 eqb_sym a b = by (eqb_tells a b)
@@ -184,7 +184,7 @@ each_is P Q g [] a = tt
 each_is P Q g (lane ∷ lanes) a = (g lane a.0, each_is P Q g lanes a.1)
 
 -- after their turns
-turns_fit : (script : Plan) (tick : ℕ) (h : ℕ → ℕ) (lanes : List Lane) → AreHeld script h lanes → AreLanes (sizes script).contexts h (posted_at script tick lanes) (map (turned script tick) lanes)
+pub turns_fit : (script : Plan) (tick : ℕ) (h : ℕ → ℕ) (lanes : List Lane) → AreHeld script h lanes → AreLanes (sizes script).contexts h (posted_at script tick lanes) (map (turned script tick) lanes)
 turns_fit script tick h lanes a =
     let given : AllByRecursion (HasGiven script tick h) lanes = each_is (Stands script h) (HasGiven script tick h) (has_given script tick h) lanes a.each in
     let same : length (map (turned script tick) lanes) ≡ length lanes = simp length-map in
@@ -231,7 +231,7 @@ zip_each tick hs script h (lane ∷ ls) f s =
     (record { fits = f.0; size = handed_part (λ (l : Lane). length l.given) tick (λ kept l. refl) (λ c l. simp length-set) hs lane ∙ s.0 }, zip_each tick hs script h ls f.1 s.1)
 
 -- what goes over leaves them in the hands that letters name
-over_stands : (script : Plan) (tick : ℕ) (h : ℕ → ℕ) (lanes : List Lane) → AreHeld script h lanes
+pub over_stands : (script : Plan) (tick : ℕ) (h : ℕ → ℕ) (lanes : List Lane) → AreHeld script h lanes
     → AllByRecursion (Stands script (λ c. given_to c (posted_at script tick lanes) (h c))) (handed_over tick (posted_at script tick lanes) (map (turned script tick) lanes))
 over_stands script tick h lanes a =
     both (map (turned script tick) lanes) (over_lanes (sizes script).contexts tick (posted_at script tick lanes) h (map (turned script tick) lanes) (turns_fit script tick h lanes a))
@@ -246,6 +246,9 @@ over_stands script tick h lanes a =
     both : (ls : List Lane) → AllByRecursion (Fits (sizes script).contexts (λ c. given_to c (posted_at script tick lanes) (h c)) []) (map (all_handed tick hs) ls) → AllByRecursion (λ lane. length lane.given ≡ (sizes script).contexts) ls
         → AllByRecursion (Stands script (λ c. given_to c (posted_at script tick lanes) (h c))) (map (all_handed tick hs) ls)
     both ls f s = zip_each tick hs script (λ c. given_to c (posted_at script tick lanes) (h c)) ls f s
+
+pub counted_over : (tick : ℕ) (letters : List Letter) (lanes : List Lane) → Counted 0 lanes → Counted 0 (handed_over tick letters lanes)
+counted_over tick letters lanes c = counted_step (all_handed tick (handings tick letters lanes)) (λ lane. handed_part (λ (l : Lane). l.number) tick (λ kept l. refl) (λ c l. refl) (handings tick letters lanes) lane) 0 lanes c
 
 -- ---- a run
 

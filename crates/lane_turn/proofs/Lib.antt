@@ -58,7 +58,9 @@ pub mod Whole
 pub mod Places
 pub mod Giving
 pub mod Between
+pub mod Homes
 pub mod Holds
+pub mod Sums
 pub mod Ungiven
 pub mod GoingOver
 pub mod Slots

@@ -21,15 +21,19 @@ use Rattle.lane_turn.specs.Deliver.{reply_spec, holding, received_body, received
 use Rattle.lane_turn.specs.Tick.{lanes_at, posted_at}
 use Rattle.lane_turn.specs.Arrivals.{held_of}
 use Rattle.lane_turn.specs.Letters.{AreNumbered}
-use Rattle.lane_turn.specs.Owed.{one_for, is_reply, replied, lane_under, posted_before}
-use Rattle.lane_turn.specs.Taken.{accounted, brings, brought, brought_before}
+use Rattle.lane_turn.specs.Owed.{one_for, is_reply, replied, lane_under, posted_before, mail_of_run, over_of_run}
+use Rattle.lane_turn.specs.Taken.{accounted, came_before}
 use Rattle.lane_turn.proofs.Turns.{out_numbered}
-use Rattle.lane_turn.proofs.Arrivals.{own_held, own_same, given_turned, given_received, length_held, open_at}
+use Rattle.lane_turn.proofs.Arrivals.{length_held}
 use Rattle.lane_turn.proofs.Owed.{run_under}
 use Rattle.lane_turn.proofs.Leaves.{IsPlaced, place_same, leaves_cancel}
 use Rattle.lane_turn.proofs.Moving.{IsHomed, AreHomed, turned_homes}
-use Rattle.lane_turn.proofs.Brought.{never, never_both, with_true, leaves_arrived}
-use Rattle.lane_turn.proofs.Taken.{over, over_none, over_cons, over_nil, over_add, over_zero, held_under, own_home, sent, sent_cons, sent_elsewhere, sent_by, under_number, run_mail, numbers, run_accounted}
+use Rattle.lane_turn.proofs.Brought.{leaves_arrived}
+use Rattle.lane_turn.proofs.GoingOver.{handed_part}
+use Rattle.lane_turn.proofs.Sums.{sent, sent_cons, came_at, each_comes, holders_over}
+use Rattle.lane_turn.proofs.Taken.{over, over_none, sent_elsewhere, sent_by, under_number, numbers}
+use Rattle.lane_turn.specs.Holding.{holder_at}
+use Rattle.lane_turn.specs.Handover.{Handing, all_handed, handed_over}
 
 -- ---- where replies of a run go
 
@@ -50,68 +54,36 @@ all_placed : (m : ℕ) (script : Plan) (tick : ℕ) (letters : List Letter) (lan
 all_placed m script tick [] lane z p = p
 all_placed m script tick (l ∷ ls) lane z p = all_placed m script tick ls (received script tick l lane) z (received_placed m script tick l.sender l.body lane z p)
 
-under_placed : (script : Plan) (mail : ℕ → List Letter) (lane k : ℕ) → 0 < (sizes script).contexts → IsPlaced (sizes script).contexts (lane_under script mail lane k)
-under_placed script mail lane zero z =
+-- what goes over leaves where tasks and defaults are
+placed_over : (m k : ℕ) (hs : List Handing) (lane : Lane) → IsPlaced m lane → IsPlaced m (all_handed k hs lane)
+placed_over m k hs lane p =
+    place_same m lane (all_handed k hs lane) (handed_part (λ (l : Lane). length l.contexts) k (λ kept l. simp length-set) (λ c l. simp length-set) hs lane)
+    (handed_part (λ (l : Lane). l.defaults) k (λ kept l. refl) (λ c l. refl) hs lane) (handed_part (λ (l : Lane). l.tasks.started) k (λ kept l. refl) (λ c l. refl) hs lane) p
+
+under_placed : (script : Plan) (mail : ℕ → List Letter) (goes : ℕ → List Handing) (lane k : ℕ) → 0 < (sizes script).contexts → IsPlaced (sizes script).contexts (lane_under script mail goes lane k)
+under_placed script mail goes lane zero z =
     let size : length (held_of (opening script lane).contexts) ≡ length (opening script lane).contexts = simp length-map in
     record { all = sym size ∙ length_held script lane (sizes script).contexts; defaults = tt; tasks = tt }
-under_placed script mail lane (suc k) z =
-    let before : Lane = lane_under script mail lane k in
-    all_placed (sizes script).contexts script k (mail k) (turned script k before) z (turned_homes (sizes script).contexts script k before z (under_placed script mail lane k z)).0
+under_placed script mail goes lane (suc k) z =
+    let before : Lane = lane_under script mail goes lane k in
+    let m : ℕ = (sizes script).contexts in
+    all_placed m script k (mail k) (all_handed k (goes k) (turned script k before)) z (placed_over m k (goes k) (turned script k before) (turned_homes m script k before z (under_placed script mail goes lane k z)).0)
 
 homed_append : (m : ℕ) (xs ys : List Letter) → AreHomed m xs → AreHomed m ys → AreHomed m (xs ++ ys)
 homed_append m [] ys h g = g
 homed_append m (x ∷ xs) ys h g = (h.0, homed_append m xs ys h.1 g)
 
-posted_homed : (script : Plan) (mail : ℕ → List Letter) (k : ℕ) (ns : List ℕ) → 0 < (sizes script).contexts → AreHomed (sizes script).contexts (flat_map (out_of script k) (map (λ i. lane_under script mail i k) ns))
-posted_homed script mail k [] z = tt
-posted_homed script mail k (i ∷ ns) z =
-    homed_append (sizes script).contexts (out_of script k (lane_under script mail i k)) _
-    (turned_homes (sizes script).contexts script k (lane_under script mail i k) z (under_placed script mail i k z)).1
-    (posted_homed script mail k ns z)
+posted_homed : (script : Plan) (mail : ℕ → List Letter) (goes : ℕ → List Handing) (k : ℕ) (ns : List ℕ) → 0 < (sizes script).contexts → AreHomed (sizes script).contexts (flat_map (out_of script k) (map (λ i. lane_under script mail goes i k) ns))
+posted_homed script mail goes k [] z = tt
+posted_homed script mail goes k (i ∷ ns) z =
+    homed_append (sizes script).contexts (out_of script k (lane_under script mail goes i k)) _
+    (turned_homes (sizes script).contexts script k (lane_under script mail goes i k) z (under_placed script mail goes i k z)).1
+    (posted_homed script mail goes k ns z)
 
-mail_homed : (script : Plan) (k : ℕ) → 0 < (sizes script).contexts → AreHomed (sizes script).contexts (run_mail script k)
-mail_homed script k z = subst (λ (lanes : List Lane). AreHomed (sizes script).contexts (posted_at script k lanes)) (sym (run_under script k)) (posted_homed script (run_mail script) k (numbers script) z)
+mail_homed : (script : Plan) (k : ℕ) → 0 < (sizes script).contexts → AreHomed (sizes script).contexts (mail_of_run script k)
+mail_homed script k z = subst (λ (lanes : List Lane). AreHomed (sizes script).contexts (posted_at script k lanes)) (sym (run_under script k)) (posted_homed script (mail_of_run script) (over_of_run script) k (numbers script) z)
 
--- ---- the lane that has a context
-
-home_by : (number : ℕ) (lane : LaneSpec) (lanes : List LaneSpec) (c : ℕ) (b : Bool) → nat_lt c lane.contexts ≡ b → (lane.contexts ≤ c → home_in (number + 1) lanes (c - lane.contexts) < number + 1 + length lanes)
-    → cond b number (home_in (number + 1) lanes (c - lane.contexts)) < number + length (lane ∷ lanes)
-home_by number lane lanes c true e f = omega arith
-home_by number lane lanes c false e f = omega (arith, f (ltb-false c lane.contexts e))
-
-pub home_within : (number : ℕ) (lanes : List LaneSpec) (c : ℕ) → c < sum_by (λ l. l.contexts) lanes → home_in number lanes c < number + length lanes
-home_within number [] c h = absurd (omega (arith, h))
-home_within number (lane ∷ lanes) c h =
-    let sum = sum_by-cons (λ (l : LaneSpec). l.contexts) lane lanes in
-    home_by number lane lanes c (nat_lt c lane.contexts) refl (λ le. home_within (number + 1) lanes (c - lane.contexts) (omega (arith, h, sum, le)))
-
--- at first nothing is given
-pub none_open : (n c : ℕ) → unwrap_or (slice_get (open_loops n) c) false ≡ false
-none_open zero c = refl
-none_open (suc n) c = none_pushed (open_loops n) c (λ i. none_open n i)
-  where
-    none_pushed : (bs : List Bool) (c : ℕ) → ((i : ℕ) → unwrap_or (slice_get bs i) false ≡ false) → unwrap_or (slice_get (bs ++ false ∷ []) c) false ≡ false
-    none_pushed [] zero h = refl
-    none_pushed [] (suc c) h = refl
-    none_pushed (b ∷ bs) zero h = h zero
-    none_pushed (b ∷ bs) (suc c) h = none_pushed bs c (λ i. h (suc i))
-
-given_under : (script : Plan) (mail : ℕ → List Letter) (lane k : ℕ) → (lane_under script mail lane k).given ≡ (opening script lane).given
-given_under script mail lane zero = refl
-given_under script mail lane (suc k) = given_received script k (mail k) (turned script k (lane_under script mail lane k)) ∙ (given_turned script k (lane_under script mail lane k) ∙ given_under script mail lane k)
-
-has_home : (script : Plan) (mail : ℕ → List Letter) (k c : ℕ) → c < (sizes script).contexts → is_own c (lane_under script mail (home_of script c) k) ≡ true
-has_home script mail k c h =
-    let home : Lane = opening script (home_of script c) in
-    let there : is_some (context_at c home) ≡ true = own_held home.contexts c ∙ (open_at script (home_of script c) (sizes script).contexts c h ∙ eq-eqb (home_of script c) (home_of script c) refl) in
-    own_same c (lane_under script mail (home_of script c) k) home (held_under script mail (home_of script c) k) (given_under script mail (home_of script c) k)
-    ∙ (ap (λ b. b && not (is_given c home)) there ∙ ap not (none_open (sizes script).contexts c))
-
--- ---- all is brought
-
-over_all : (f : ℕ → ℕ) → ((l : ℕ) → f l ≡ 0) → (ns : List ℕ) → over f ns ≡ 0
-over_all f e [] = refl
-over_all f e (i ∷ ns) = omega (arith, e i, over_all f e ns)
+-- ---- all that was sent comes
 
 -- where all but one are none, and that is among them
 over_same : (f : ℕ → ℕ) (h : ℕ) → ((l : ℕ) → l ≢ h → f l ≡ 0) → (a m : ℕ) → a ≤ h → h < a + m → over f (range_with_len a m) ≡ f h
@@ -122,44 +94,28 @@ over_same f h e a (suc m) l g = by (eqb_tells a h) (λ k. over_same f h e (a + 1
     by (inl p) r = omega (arith, ap f p.1, over_none f h e (a + 1) m (omega (arith, p.1)))
     by (inr p) r = omega (arith, e a p.1, r (omega (arith, l, p.1)))
 
-one_brought : (s n : ℕ) (script : Plan) (mail : ℕ → List Letter) (k sender : ℕ) (body : Body) → IsHomed (sizes script).contexts body
-    → over (λ i. one_for ((sender == s) && brings n (lane_under script mail i k) body)) (numbers script) ≡ one_for ((sender == s) && is_reply n body)
-one_brought s n script mail k sender (Attach context spec) h = over_all (λ i. one_for ((sender == s) && false)) (λ i. never (sender == s)) (numbers script) ∙ sym (never (sender == s))
-one_brought s n script mail k sender (Give context to) h = over_all (λ i. one_for ((sender == s) && false)) (λ i. never (sender == s)) (numbers script) ∙ sym (never (sender == s))
-one_brought s n script mail k sender (Cancelled c) h = over_all (λ i. one_for ((sender == s) && false)) (λ i. never (sender == s)) (numbers script) ∙ sym (never (sender == s))
-one_brought s n script mail k sender (Complete reply) h =
-    over_same (λ i. one_for ((sender == s) && ((reply.task == n) && is_own reply.ctx (lane_under script mail i k)))) (home_of script reply.ctx)
-    (λ l p. never_both (sender == s) (reply.task == n) _ (false_from_ne_true (is_own reply.ctx (lane_under script mail l k)) (λ e. p (own_home script mail l k reply.ctx e))))
-    0 (length script.lanes) (omega arith) (home_within 0 script.lanes reply.ctx h)
-    ∙ (ap (λ b. one_for ((sender == s) && ((reply.task == n) && b))) (has_home script mail k reply.ctx h) ∙ with_true (sender == s) (reply.task == n))
-
-all_brought : (s n : ℕ) (script : Plan) (mail : ℕ → List Letter) (k : ℕ) (ls : List Letter) → AreHomed (sizes script).contexts ls → over (λ i. brought s n (lane_under script mail i k) ls) (numbers script) ≡ sent s n ls
-all_brought s n script mail k [] h = over_nil s n (λ i. lane_under script mail i k) (numbers script)
-all_brought s n script mail k (l ∷ ls) h =
-    omega (arith, over_cons s n (λ i. lane_under script mail i k) l ls (numbers script), one_brought s n script mail k l.sender l.body h.0, all_brought s n script mail k ls h.1, sent_cons s n l ls)
-
 sent_own : (s n tick sender j : ℕ) (ls : List Letter) → AreNumbered tick sender j ls → (sender == s) ≡ true → sent s n ls ≡ replied n ls
 sent_own s n tick sender j [] h e = refl
 sent_own s n tick sender j (l ∷ ls) h e =
     let one = ap (λ b. one_for (b && is_reply n l.body)) (ap (λ (i : ℕ). i == s) (h.1).0 ∙ e) in
     omega (arith, one, sent_cons s n l ls, sent_own s n tick sender (j + 1) ls ((h.1).1).1 e)
 
-run_sent : (s n : ℕ) (script : Plan) (k : ℕ) → s < length script.lanes → sent s n (run_mail script k) ≡ replied n (out_of script k (lane_under script (run_mail script) s k))
+run_sent : (s n : ℕ) (script : Plan) (k : ℕ) → s < length script.lanes → sent s n (mail_of_run script k) ≡ replied n (out_of script k (lane_under script (mail_of_run script) (over_of_run script) s k))
 run_sent s n script k h =
-    let mail : ℕ → List Letter = run_mail script in
-    let lane : Lane = lane_under script mail s k in
+    let mail : ℕ → List Letter = mail_of_run script in
+    let goes : ℕ → List Handing = over_of_run script in
+    let lane : Lane = lane_under script mail goes s k in
     ap (λ (lanes : List Lane). sent s n (posted_at script k lanes)) (run_under script k)
-    ∙ (sent_by s n (out_of script k) (λ i. lane_under script mail i k) (numbers script)
-    ∙ (over_same (λ i. sent s n (out_of script k (lane_under script mail i k))) s (λ i p. sent_elsewhere s n script mail k i p) 0 (length script.lanes) (omega arith) (omega (arith, h))
-    ∙ sent_own s n k lane.number 0 (out_of script k lane) (out_numbered script k lane) (ap (λ (i : ℕ). i == s) (under_number script mail s k) ∙ eq-eqb s s refl)))
+    ∙ (sent_by s n (out_of script k) (λ i. lane_under script mail goes i k) (numbers script)
+    ∙ (over_same (λ i. sent s n (out_of script k (lane_under script mail goes i k))) s (λ i p. sent_elsewhere s n script mail goes k i p) 0 (length script.lanes) (omega arith) (omega (arith, h))
+    ∙ sent_own s n k lane.number 0 (out_of script k lane) (out_numbered script k lane) (ap (λ (i : ℕ). i == s) (under_number script mail goes s k) ∙ eq-eqb s s refl)))
 
-run_brought : (s n : ℕ) (script : Plan) (tick : ℕ) → 0 < (sizes script).contexts → s < length script.lanes
-    → over (λ i. brought_before script (run_mail script) i s n tick) (numbers script) ≡ posted_before script (run_mail script) s n tick
-run_brought s n script zero z h = over_zero (numbers script)
-run_brought s n script (suc k) z h =
-    let mail : ℕ → List Letter = run_mail script in
-    let parts = over_add (λ i. brought_before script mail i s n k) (λ i. brought s n (lane_under script mail i k) (mail k)) (numbers script) in
-    omega (arith, parts, run_brought s n script k z h, all_brought s n script mail k (mail k) (mail_homed script k z), run_sent s n script k h)
+came_all : (s n : ℕ) (script : Plan) (tick : ℕ) → 0 < (sizes script).contexts → s < length script.lanes → came_before script s n tick ≡ posted_before script (mail_of_run script) (over_of_run script) s n tick
+came_all s n script zero z h = refl
+came_all s n script (suc k) z h =
+    let lanes : List Lane = lanes_at script k in
+    let letters : List Letter = posted_at script k lanes in
+    omega (arith, each_comes s n (sizes script).contexts (length script.lanes) (λ c. holder_at script c (suc k)) (handed_over k letters (map (turned script k) lanes)) letters (holders_over script k) (mail_homed script k z), came_all s n script k z h, run_sent s n script k h)
 
-pub none_lost : (script : Plan) (s n tick : ℕ) → 0 < (sizes script).contexts → s < length script.lanes → sum_by (accounted s n) (lanes_at script tick) ≡ posted_before script (λ k. posted_at script k (lanes_at script k)) s n tick
-none_lost script s n tick z h = run_accounted s n script tick ∙ run_brought s n script tick z h
+pub none_lost : (script : Plan) (s n tick : ℕ) → 0 < (sizes script).contexts → s < length script.lanes → sum_by (accounted s n) (lanes_at script tick) ≡ posted_before script (mail_of_run script) (over_of_run script) s n tick
+none_lost script s n tick z h = came_at script s n tick ∙ came_all s n script tick z h

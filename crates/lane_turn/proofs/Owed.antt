@@ -7,11 +7,11 @@ use Rattle.loop_script.specs.declared.action.Action.{Action}
 use Rattle.loop_script.specs.declared.action.Action.TheVariants.{Attach, Child, Destroy, SetReady, SetPriority, Iterate, Pending, Run, Quit, Cancel, Connect, Disconnect, Task, Push, Pop, ShowDefault, Acquire, Release, Invoke, Give, Log}
 use Rattle.loop_script.specs.Parts.{actions_of}
 use Rattle.source_rows.specs.declared.row.Row.{Row}
-use Rattle.cancel_view.specs.Seen.{has}
+use Rattle.cancel_view.specs.Seen.{Seen, has}
 use Rattle.post_office.specs.declared.letter.Letter.{Letter}
 use Rattle.post_office.specs.declared.letter.Body.{Body as Mail}
 use Rattle.post_office.specs.declared.letter.Body.TheVariants as mails
-use Rattle.lane_watch.specs.Tasks.{Started, reply_at, stays_at}
+use Rattle.lane_watch.specs.Tasks.{Started, Tasks, reply_at, stays_at}
 use Rattle.lane_watch.specs.Watch.{AreDated}
 use Rattle.lane_watch.proofs.Dated.{dated_none}
 use Rattle.lane_turn.specs.declared.line.Event.TheVariants as events
@@ -20,17 +20,18 @@ use Rattle.lane_turn.specs.declared.lane.Status.TheVariants.{GoesOn, Ended, Halt
 use Rattle.lane_turn.specs.declared.layer.Call.{Call}
 use Rattle.lane_turn.specs.Frames.{Frame, CallOf, IterOf, LoopOf}
 use Rattle.lane_turn.specs.Lane.{Lane, Turn, context_at, popped, taken, row_of, iterating, is_running, written, is_own}
+use Rattle.lane_turn.specs.Handover.{Handing, all_handed, may_give}
+use Rattle.lane_turn.proofs.GoingOver.{handed_part}
 use Rattle.lane_turn.specs.Owned.{invoke_spec}
 use Rattle.lane_turn.specs.Acted.{acted, sends}
 use Rattle.lane_turn.specs.Step.{step, step_polling, step_call, step_id, limited_by, with_lane, dispatching, polled, posted_with, mail_of, one_if}
 use Rattle.lane_turn.specs.Turn.{begun, finished, turned, out_of}
 use Rattle.lane_turn.specs.Deliver.{received, received_all}
 use Rattle.lane_turn.specs.Tick.{posted_at, lanes_at}
-use Rattle.lane_turn.specs.Owed.{one_for, owed_by, owed, replied, lane_under, posted_before}
+use Rattle.lane_turn.specs.Owed.{one_for, owed_by, owed, replied, lane_under, posted_before, mail_of_run, over_of_run}
 use Rattle.lane_turn.proofs.Keeps.{Keeps, Changes, keep, acted_changes, received_changes, keeps_dispatching, keeps_returned, keeps_answered}
 use Rattle.lane_turn.proofs.Owing.{Owes, mail_count, polled_one, replied_posted, owed_push, owed_if, changes_owed, changes_dated}
 use Rattle.lane_turn.proofs.Turns.{kept_finished}
-use Rattle.lane_turn.proofs.Ungiven.{next_at}
 use Rattle.lane_turn.proofs.Finish.{no_step_left}
 use Rattle.lane_turn.specs.declared.layer.Asker.TheVariants as askers
 
@@ -68,7 +69,11 @@ sends_none n script (Pop context) lane = refl
 sends_none n script ShowDefault lane = refl
 sends_none n script (Acquire context) lane = refl
 sends_none n script (Release context) lane = refl
-sends_none n script (Give context to) lane = refl
+sends_none n script (Give context to) lane = by (may_give script context to lane)
+  where
+    by : (b : Bool) → mail_count n (cond b (Some (mails.Give context to)) None) ≡ 0
+    by true = refl
+    by false = refl
 sends_none n script (Log m) lane = refl
 
 -- the same of a lane whose innermost call has taken an action, or was left
@@ -178,32 +183,40 @@ received_owed script k n (l ∷ letters) lane d =
 
 -- ---- a run
 
-under_dated : (script : Plan) (mail : ℕ → List Letter) (lane k : ℕ) → AreDated (lane_under script mail lane k).tasks.came (lane_under script mail lane k).view.members
-under_dated script mail lane zero = dated_none script.cancellables
-under_dated script mail lane (suc k) =
-    let before : Lane = lane_under script mail lane k in
-    (received_owed script k 0 (mail k) (turned script k before) (turn_owes script k 0 before (under_dated script mail lane k)).dated).0
+-- what goes over leaves the tasks and the view
+dated_over : (k : ℕ) (hs : List Handing) (lane : Lane) → AreDated lane.tasks.came lane.view.members → AreDated (all_handed k hs lane).tasks.came (all_handed k hs lane).view.members
+dated_over k hs lane d = subst (λ (p : Tasks × Seen). AreDated (p.0).came (p.1).members) (sym (handed_part (λ (l : Lane). (l.tasks, l.view)) k (λ kept l. refl) (λ c l. refl) hs lane)) d
 
-pub posted_once : (script : Plan) (mail : ℕ → List Letter) (lane number tick : ℕ) → posted_before script mail lane number tick + owed tick number (lane_under script mail lane tick).tasks ≡ 1
-posted_once script mail lane number zero = let all : nat_le 0 number ≡ true = le-leb 0 number (omega arith) in omega (arith, ap one_for all)
-posted_once script mail lane number (suc k) =
-    let before : Lane = lane_under script mail lane k in
-    let d = under_dated script mail lane k in
-    let turn = turned_owed script k number before d in
-    let rest = received_owed script k number (mail k) (turned script k before) (turn_owes script k number before d).dated in
-    let next : owed (suc k) number (lane_under script mail lane (suc k)).tasks ≡ owed (k + 1) number (lane_under script mail lane (suc k)).tasks = ap (λ (j : ℕ). owed j number (lane_under script mail lane (suc k)).tasks) (let e : suc k ≡ k + 1 = omega arith in e) in
-    omega (arith, posted_once script mail lane number k, turn, rest.1, next)
+owed_over : (k j n : ℕ) (hs : List Handing) (lane : Lane) → owed j n (all_handed k hs lane).tasks ≡ owed j n lane.tasks
+owed_over k j n hs lane = ap (owed j n) (handed_part (λ (l : Lane). l.tasks) k (λ kept l. refl) (λ c l. refl) hs lane)
 
-mapped_on : (f g : Lane → Lane) (u v : ℕ → Lane) → ((n : ℕ) → v n ≡ f (g (u n))) → (ns : List ℕ) → map f (map g (map u ns)) ≡ map v ns
-mapped_on f g u v e [] = refl
-mapped_on f g u v e (n ∷ ns) = ap (λ x. x ∷ map f (map g (map u ns))) (sym (e n)) ∙ ap (λ xs. v n ∷ xs) (mapped_on f g u v e ns)
+under_dated : (script : Plan) (mail : ℕ → List Letter) (over : ℕ → List Handing) (lane k : ℕ) → AreDated (lane_under script mail over lane k).tasks.came (lane_under script mail over lane k).view.members
+under_dated script mail over lane zero = dated_none script.cancellables
+under_dated script mail over lane (suc k) =
+    let before : Lane = lane_under script mail over lane k in
+    let turn : Lane = turned script k before in
+    (received_owed script k 0 (mail k) (all_handed k (over k) turn) (dated_over k (over k) turn (turn_owes script k 0 before (under_dated script mail over lane k)).dated)).0
 
-pub run_under : (script : Plan) (tick : ℕ) → lanes_at script tick ≡ map (λ lane. lane_under script (λ k. posted_at script k (lanes_at script k)) lane tick) (range_with_len 0 (length script.lanes))
+pub posted_once : (script : Plan) (mail : ℕ → List Letter) (over : ℕ → List Handing) (lane number tick : ℕ) → posted_before script mail over lane number tick + owed tick number (lane_under script mail over lane tick).tasks ≡ 1
+posted_once script mail over lane number zero = let all : nat_le 0 number ≡ true = le-leb 0 number (omega arith) in omega (arith, ap one_for all)
+posted_once script mail over lane number (suc k) =
+    let before : Lane = lane_under script mail over lane k in
+    let turn : Lane = turned script k before in
+    let d = under_dated script mail over lane k in
+    let owes = turned_owed script k number before d in
+    let rest = received_owed script k number (mail k) (all_handed k (over k) turn) (dated_over k (over k) turn (turn_owes script k number before d).dated) in
+    let next : owed (suc k) number (lane_under script mail over lane (suc k)).tasks ≡ owed (k + 1) number (lane_under script mail over lane (suc k)).tasks = ap (λ (j : ℕ). owed j number (lane_under script mail over lane (suc k)).tasks) (let e : suc k ≡ k + 1 = omega arith in e) in
+    omega (arith, posted_once script mail over lane number k, owes, rest.1, owed_over k (k + 1) number (over k) turn, next)
+
+mapped_on : (f g h : Lane → Lane) (u v : ℕ → Lane) → ((n : ℕ) → v n ≡ f (g (h (u n)))) → (ns : List ℕ) → map f (map g (map h (map u ns))) ≡ map v ns
+mapped_on f g h u v e [] = refl
+mapped_on f g h u v e (n ∷ ns) = ap (λ x. x ∷ map f (map g (map h (map u ns)))) (sym (e n)) ∙ ap (λ xs. v n ∷ xs) (mapped_on f g h u v e ns)
+
+pub run_under : (script : Plan) (tick : ℕ) → lanes_at script tick ≡ map (λ lane. lane_under script (mail_of_run script) (over_of_run script) lane tick) (range_with_len 0 (length script.lanes))
 run_under script zero = refl
 run_under script (suc k) =
     let letters : List Letter = posted_at script k (lanes_at script k) in
-    let mail : ℕ → List Letter = λ j. posted_at script j (lanes_at script j) in
+    let hs : List Handing = over_of_run script k in
     let numbers : List ℕ = range_with_len 0 (length script.lanes) in
-    next_at script k
-    ∙ ap (λ (lanes : List Lane). map (received_all script k letters) (map (turned script k) lanes)) (run_under script k)
-    ∙ mapped_on (received_all script k letters) (turned script k) (λ lane. lane_under script mail lane k) (λ lane. lane_under script mail lane (suc k)) (λ n. refl) numbers
+    ap (λ (lanes : List Lane). map (received_all script k letters) (map (all_handed k hs) (map (turned script k) lanes))) (run_under script k)
+    ∙ mapped_on (received_all script k letters) (all_handed k hs) (turned script k) (λ lane. lane_under script (mail_of_run script) (over_of_run script) lane k) (λ lane. lane_under script (mail_of_run script) (over_of_run script) lane (suc k)) (λ n. refl) numbers

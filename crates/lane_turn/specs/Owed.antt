@@ -9,6 +9,7 @@ use Rattle.post_office.specs.declared.letter.Body.TheVariants.{Attach, Complete,
 use Rattle.lane_watch.specs.Tasks.{Started, Tasks, first_seen, end_of_task}
 use Rattle.lane_turn.specs.Lane.{Lane}
 use Rattle.lane_turn.specs.Turn.{opening, turned, out_of}
+use Rattle.lane_turn.specs.Handover.{Handing, all_handed, handings}
 use Rattle.lane_turn.specs.Deliver.{received_all}
 use Rattle.lane_turn.specs.Tick.{posted_at, lanes_at}
 use Rattle.loop_script.specs.Units.{Tick, LaneNumber, TaskNumber}
@@ -46,19 +47,31 @@ abbrev pub replied : TaskNumber → List Letter → ℕ
 replied number [] = 0
 replied number (l ∷ letters) = one_for (is_reply number l.body) + replied number letters
 
--- a lane of a script at the beginning of a tick, whatever letters are delivered to it
-abbrev pub lane_under : Plan → (Tick → List Letter) → LaneNumber → Tick → Lane
-lane_under script mail number zero = opening script number
-lane_under script mail number (suc k) = received_all script k (mail k) (turned script k (lane_under script mail number k))
+-- a lane of a script at the beginning of a tick, whatever letters are delivered to it and whatever contexts go over
+abbrev pub lane_under : Plan → (Tick → List Letter) → (Tick → List Handing) → LaneNumber → Tick → Lane
+lane_under script mail over number zero = opening script number
+lane_under script mail over number (suc k) = received_all script k (mail k) (all_handed k (over k) (turned script k (lane_under script mail over number k)))
 
--- how many replies of a number it posted before a tick
-abbrev pub posted_before : Plan → (Tick → List Letter) → LaneNumber → TaskNumber → Tick → ℕ
-posted_before script mail lane number zero = 0
-posted_before script mail lane number (suc k) = posted_before script mail lane number k + replied number (out_of script k (lane_under script mail lane k))
+-- no context goes over
+abbrev pub none_goes : Tick → List Handing
+none_goes k = []
+
+-- the letters of a run
+abbrev pub mail_of_run : Plan → Tick → List Letter
+mail_of_run script k = posted_at script k (lanes_at script k)
+
+-- what goes over in a run
+abbrev pub over_of_run : Plan → Tick → List Handing
+over_of_run script k = handings k (posted_at script k (lanes_at script k)) (map (turned script k) (lanes_at script k))
+
+-- how many replies of a number a lane posted before a tick
+abbrev pub posted_before : Plan → (Tick → List Letter) → (Tick → List Handing) → LaneNumber → TaskNumber → Tick → ℕ
+posted_before script mail over lane number zero = 0
+posted_before script mail over lane number (suc k) = posted_before script mail over lane number k + replied number (out_of script k (lane_under script mail over lane k))
 
 -- each task's reply is posted once, and owed until then
 pub record RepliesComeOnce : Type 0 where
   -- of each number of a lane's tasks there is one reply: it is owed still, or it was posted, once
-  pub posted : (script : Plan) (mail : Tick → List Letter) (lane : LaneNumber) (number : TaskNumber) (tick : Tick) → posted_before script mail lane number tick + owed tick number (lane_under script mail lane tick).tasks ≡ 1
+  pub posted : (script : Plan) (mail : Tick → List Letter) (over : Tick → List Handing) (lane : LaneNumber) (number : TaskNumber) (tick : Tick) → posted_before script mail over lane number tick + owed tick number (lane_under script mail over lane tick).tasks ≡ 1
   -- the lanes of a run are such lanes
-  pub run : (script : Plan) (tick : Tick) → lanes_at script tick ≡ map (λ lane. lane_under script (λ k. posted_at script k (lanes_at script k)) lane tick) (range_with_len 0 (length script.lanes))
+  pub run : (script : Plan) (tick : Tick) → lanes_at script tick ≡ map (λ lane. lane_under script (mail_of_run script) (over_of_run script) lane tick) (range_with_len 0 (length script.lanes))
