@@ -6,7 +6,7 @@ use Rattle.loop_script.specs.Form.{Form, script, an}
 use Rattle.loop_script.specs.Place.{SomeOf, StandsIn}
 use Rattle.loop_script.specs.Misfit.{IsMisshapen, IsBeyond}
 use Rattle.script_check.specs.declared.fault.Cause.{Cause}
-use Rattle.script_check.specs.declared.fault.Cause.TheVariants.{OtherType, OtherWord, OtherLength, OtherKey, NoKey, Range, Count, Contexts, Depth}
+use Rattle.script_check.specs.declared.fault.Cause.TheVariants.{OtherType, OtherWord, OtherLength, OtherKey, NoKey, Range, Count, Contexts, Depth, Missing, NotAbove, NotPlain, Stays, Unchecked}
 use Rattle.script_check.specs.Found.{Step, at_place, Found}
 use Rattle.script_check.specs.Own.{own}
 use Rattle.script_check.specs.Parts.{Part, parts}
@@ -16,7 +16,7 @@ use Rattle.script_check.specs.Faults.{levels, form_faults}
 abbrev pub In : {A : Type 0} → A → List A → Type 0
 In x xs = SomeOf (λ y. y ≡ x) xs
 
--- a cause of the class shape; the others are of the class limit
+-- a cause of the class shape
 abbrev pub is_shape : Cause → Bool
 is_shape OtherType = true
 is_shape OtherWord = true
@@ -27,9 +27,32 @@ is_shape Range = false
 is_shape Count = false
 is_shape Contexts = false
 is_shape Depth = false
+is_shape (Missing n) = false
+is_shape (NotAbove tick) = false
+is_shape (NotPlain n) = false
+is_shape Stays = false
+is_shape Unchecked = false
 
+-- of the class limit
 abbrev pub is_limit : Cause → Bool
-is_limit c = not (is_shape c)
+is_limit Range = true
+is_limit Count = true
+is_limit Contexts = true
+is_limit Depth = true
+is_limit _ = false
+
+-- of the class reference
+abbrev pub is_reference : Cause → Bool
+is_reference (Missing n) = true
+is_reference _ = false
+
+-- of the class rule
+abbrev pub is_rule : Cause → Bool
+is_rule (NotAbove tick) = true
+is_rule (NotPlain n) = true
+is_rule Stays = true
+is_rule Unchecked = true
+is_rule _ = false
 
 -- some fault is of a class
 abbrev pub has : (Cause → Bool) → List Found → Bool

@@ -56,6 +56,7 @@ form_of wanted.CancellableOrNull = tables.index_or_null
 form_of wanted.Proc = tables.index
 form_of wanted.ProcOrNull = tables.index_or_null
 form_of wanted.Descriptor = tables.index
+form_of wanted.LaneNumber = tables.index
 form_of wanted.Lanes = lanes 1 64 256
 form_of wanted.Actions = tables.actions
 form_of wanted.Descriptors = list 0 256 (list 0 4096 pair)

@@ -2,6 +2,7 @@
 ghost use Rattle.std.specs.Prelude.{◌≡◌, ◌++◌, map, IfOk, OnOk};
 ghost use Rattle.serde_json.specs.View.{view};
 ghost use Rattle.script_check.specs.Faults.{faults_in, found_at, form_faults};
+ghost use Rattle.script_check.specs.ScriptFaults.{script_faults};
 ghost use Rattle.script_check.specs.Own.{own};
 ghost use Rattle.script_check.specs.Seen.{found_of};
 ghost use Rattle.script_check.specs.Views.{form_of};
@@ -10,7 +11,9 @@ use crate::fault::Fault;
 use crate::own::own_causes;
 use crate::parts::parts_in;
 use crate::place::Place;
+use crate::plan_check::plan_faults;
 use crate::wanted::{Object, Wanted};
+use loop_script::Plan;
 use serde_json::Value;
 use std::alloc::{AllocError, Global};
 
@@ -33,6 +36,20 @@ pub fn form_faults(alloc: Global, value: &Value) -> Result<Vec<Fault>, AllocErro
         &mut faults,
     )?;
     Ok(faults)
+}
+
+/// All faults of a script: those of shape and of limits, and where there are none, those of references and of rules.
+pub fn script_faults(alloc: Global, value: &Value) -> Result<Vec<Fault>, AllocError>
+    ensures { IfOk result (λ faults. map found_of faults.items ≡ script_faults (view value.now)) }
+{
+    let faults = form_faults(alloc, value)?;
+    if !faults.is_empty() {
+        return Ok(faults);
+    }
+    match Plan::of_value(alloc, value)? {
+        Some(plan) => plan_faults(alloc, &plan),
+        None => Ok(faults),
+    }
 }
 
 /// Adds the faults of a value at a place.

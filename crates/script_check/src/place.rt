@@ -41,6 +41,15 @@ impl Place {
         }
     }
 
+    /// The place at the end of steps.
+    pub(crate) fn of(alloc: Global, steps: &[Step]) -> Result<Place, AllocError>
+        ensures { IfOk result (λ place. place ≡ map step_of steps.now) }
+    {
+        Ok(Place {
+            steps: Vec::from_slice(alloc, steps)?,
+        })
+    }
+
     /// The steps, from the whole on.
     pub fn steps(&self) -> &[Step]
         ensures { map step_of result.now ≡ self.now }

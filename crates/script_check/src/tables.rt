@@ -295,3 +295,43 @@ fn parts_of_tree(word: &str) -> Option<&'static [Wanted]>
         _ => None,
     }
 }
+
+/// The words of a choice.
+pub fn words_of(choice: Choice) -> &'static [&'static str]
+    ensures { map (λ word. word.now) result.now ≡ map (λ word. word.word) (words (choice_of choice)) }
+{
+    match choice {
+        Choice::Kind => &KINDS,
+        Choice::Action => &ACTIONS,
+        Choice::Tree => &TREES,
+    }
+}
+
+const KINDS: [&str; 5] = ["idle", "timeout", "ready", "fd", "cancel"];
+
+const ACTIONS: [&str; 20] = [
+    "attach",
+    "child",
+    "destroy",
+    "set_ready",
+    "set_priority",
+    "iterate",
+    "pending",
+    "run",
+    "quit",
+    "cancel",
+    "connect",
+    "disconnect",
+    "task",
+    "push",
+    "pop",
+    "show_default",
+    "acquire",
+    "release",
+    "invoke",
+    "log",
+];
+
+const TREES: [&str; 8] = [
+    "value", "fail", "sleep", "check", "seq", "both", "first", "within",
+];

@@ -60,6 +60,7 @@ pub enum Wanted {
     Proc,
     ProcOrNull,
     Descriptor,
+    LaneNumber,
     /// The list of lanes.
     Lanes,
     Actions,
@@ -103,6 +104,7 @@ impl Wanted {
             Wanted::Proc => Shape::Whole(0, 4_294_967_295),
             Wanted::ProcOrNull => Shape::WholeOrNull(0, 4_294_967_295),
             Wanted::Descriptor => Shape::Whole(0, 4_294_967_295),
+            Wanted::LaneNumber => Shape::Whole(0, 4_294_967_295),
             Wanted::Lanes => Shape::Lanes(1, 64, 256),
             Wanted::Actions => Shape::List(0, 256, Wanted::OneOf(Choice::Action)),
             Wanted::Descriptors => Shape::List(0, 256, Wanted::Levels),
