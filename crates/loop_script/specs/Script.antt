@@ -1,5 +1,5 @@
 -- What the reading of bytes answers.
-use Rattle.std.specs.Prelude.{◌≡◌, ℕ, false, if◌then◌else◌, List, Some, Result, Ok, Err, IsUtf8}
+use Rattle.std.specs.Prelude.{◌≡◌, ℕ, false, if◌then◌else◌, List, Option, Some, None, Result, Ok, Err, IsUtf8}
 use Rattle.serde_json.specs.Data.{Data}
 use Rattle.serde_json.specs.Read.{read}
 use Rattle.serde_json.specs.View.{view}
@@ -31,6 +31,10 @@ none_seen = record { shape = false; limit = false }
 -- the script of the data, or the first class of fault in it
 abbrev pub script_of : Data → Result Plan ScriptFault
 script_of d = let r = plan (Some d) in verdict (r.faults none_seen) r.value
+
+-- what the data says, where its shape and its limits are right
+abbrev pub sound_plan : Data → Option Plan
+sound_plan d = let r = plan (Some d) in let faults = r.faults none_seen in if faults.shape then None else if faults.limit then None else Some r.value
 
 -- the cause of a fault stands in the bytes
 abbrev FaultAnswers : List ℕ → ScriptFault → Type 0

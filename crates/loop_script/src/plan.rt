@@ -1,9 +1,11 @@
 //! What a script says as a whole, and its reading.
-ghost use Rattle.std.specs.Prelude.{◌≡◌, ◌≤◌, length, sum_by, IfOk, OnOk};
+ghost use Rattle.std.specs.Prelude.{◌≡◌, ◌≤◌, length, sum_by, IfOk, IfSome, OnOk};
+ghost use Rattle.serde_json.specs.View.{view};
 ghost use Rattle.loop_script.specs.Bounds.{most_items, most_lanes};
 ghost use Rattle.loop_script.specs.Read.{after};
 ghost use Rattle.loop_script.specs.Plan.{actions, few_contexts, keep_or, lanes, plan};
 ghost use Rattle.loop_script.specs.Limits.{IsBounded};
+ghost use Rattle.loop_script.specs.Script.{sound_plan};
 ghost use Rattle.loop_script.specs.Seen.{seen};
 
 use crate::action::Action;
@@ -159,6 +161,24 @@ fn with_few_contexts(alloc: Global, lanes: Items<LaneSpec>, faults: &mut Faults)
 }
 
 impl Plan {
+    /// What a value says, where its shape and its limits are right, and else none. Whether its numbers name something of it,
+    /// and whether it keeps the rules, is not looked at.
+    pub fn of_value(alloc: Global, value: &Value) -> Result<Option<Plan>, AllocError>
+        ensures plan { IfOk result (λ found. found ≡ sound_plan (view value.now)) }
+        ensures bounded { IfOk result (λ found. IfSome found IsBounded) }
+    {
+        let mut faults = Faults {
+            shape: false,
+            limit: false,
+        };
+        let plan = Plan::read(alloc, Some(value), &mut faults)?;
+        Ok(if faults.shape || faults.limit {
+            None
+        } else {
+            Some(plan)
+        })
+    }
+
     #[tactic(auto, unfolding(crate::specs::Plan::plan))]
     pub(crate) fn read(
         alloc: Global,

@@ -1,0 +1,10 @@
+pub mod Found
+pub mod Own
+pub mod Classes
+pub mod Parts
+pub mod Faults
+pub mod Views
+pub mod Seen
+pub mod PlanFaults
+pub mod ScriptFaults
+pub mod Laws

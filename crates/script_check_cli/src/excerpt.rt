@@ -1,0 +1,94 @@
+//! The line of a fault, or what of a long line is beside it.
+use crate::cursor::{Cursor, begins_character};
+use std::alloc::{AllocError, Global};
+use std::str::from_utf8;
+
+/// How many bytes before and behind the fault are shown at most.
+const BEFORE: usize = 60;
+
+const BEHIND: usize = 40;
+
+/// Adds the line with the place, and below it the marks.
+pub(crate) fn push_excerpt(
+    out: &mut String,
+    bytes: &[u8],
+    at: Cursor,
+    end: usize,
+) -> Result<(), AllocError> {
+    let from = beginning(bytes, at);
+    let to = ending(bytes, at.byte);
+    let marked = end.min(to).max(at.byte);
+    let (Some(before), Some(here), Some(behind)) = (
+        text_of(bytes, from, at.byte),
+        text_of(bytes, at.byte, marked),
+        text_of(bytes, marked, to),
+    ) else {
+        return Ok(());
+    };
+    let dots = if from > at.line_start { ".." } else { "" };
+    let line = at.line;
+    write!(out, "{line:>4} | {dots}")?;
+    push_plain(out, before)?;
+    push_plain(out, here)?;
+    push_plain(out, behind)?;
+    if is_cut(bytes, to) {
+        out.push_str("..")?;
+    }
+    out.push_str("\n       ")?;
+    out.push_str(if from > at.line_start { "  " } else { "" })?;
+    push_many(out, " ", before.chars().count())?;
+    push_many(out, "^", here.chars().count().max(1))?;
+    out.push_str("\n")
+}
+
+/// Where the excerpt begins: at the beginning of a character, on the line.
+fn beginning(bytes: &[u8], at: Cursor) -> usize {
+    let first = at.byte.saturating_sub(BEFORE).max(at.line_start);
+    for (n, byte) in bytes.iter().enumerate().skip(first) {
+        if n >= at.byte || begins_character(*byte) {
+            return n;
+        }
+    }
+    at.byte
+}
+
+/// Where the excerpt ends: at the end of the line, or some characters on.
+fn ending(bytes: &[u8], from: usize) -> usize {
+    let far = from.saturating_add(BEHIND);
+    for (n, byte) in bytes.iter().enumerate().skip(from) {
+        if *byte == b'\n' || *byte == b'\r' || (n >= far && begins_character(*byte)) {
+            return n;
+        }
+    }
+    bytes.len()
+}
+
+/// Whether the line goes on behind.
+fn is_cut(bytes: &[u8], to: usize) -> bool {
+    match bytes.get(to) {
+        Some(byte) => *byte != b'\n' && *byte != b'\r',
+        None => false,
+    }
+}
+
+fn text_of(bytes: &[u8], from: usize, to: usize) -> Option<&str> {
+    match bytes.get(from..to) {
+        Some(part) => from_utf8(part).ok(),
+        None => None,
+    }
+}
+
+/// Adds a text, with a space for each tab.
+fn push_plain(out: &mut String, text: &str) -> Result<(), AllocError> {
+    for character in text.chars() {
+        out.push(if character < ' ' { ' ' } else { character })?;
+    }
+    Ok(())
+}
+
+fn push_many(out: &mut String, text: &str, count: usize) -> Result<(), AllocError> {
+    for _ in 0..count {
+        out.push_str(text)?;
+    }
+    Ok(())
+}

@@ -1,0 +1,32 @@
+//! What a right script has.
+use loop_script::{Action, LaneSpec, Script};
+use std::alloc::{AllocError, Global};
+
+/// One line that sums a script up.
+pub(crate) fn summary(alloc: Global, script: &Script) -> Result<String, AllocError> {
+    let lanes = script.lanes();
+    let contexts = script.contexts();
+    let ticks = script.ticks();
+    let mut sources = 0u64;
+    for n in 0..lanes {
+        sources = sources.saturating_add(attached(script.lane(n)));
+    }
+    let lane_word = if lanes == 1 { "lane" } else { "lanes" };
+    let context_word = if contexts == 1 { "context" } else { "contexts" };
+    let source_word = if sources == 1 { "source" } else { "sources" };
+    let tick_word = if ticks == 1 { "tick" } else { "ticks" };
+    format!(in alloc;
+        "no fault: {lanes} {lane_word}, {contexts} {context_word}, {sources} {source_word} attached at start, {ticks} {tick_word}\n"
+    )
+}
+
+/// How many sources the start list of a lane attaches.
+fn attached(lane: &LaneSpec) -> u64 {
+    let mut count = 0u64;
+    for action in lane.start.as_slice() {
+        if matches!(action, Action::Attach { .. } | Action::Child { .. }) {
+            count = count.saturating_add(1);
+        }
+    }
+    count
+}
