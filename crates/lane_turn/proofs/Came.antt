@@ -21,12 +21,13 @@ use Rattle.post_office.specs.declared.letter.Body.TheVariants.{Attach, Complete,
 use Rattle.lane_turn.specs.declared.line.Event.TheVariants as events
 use Rattle.lane_turn.specs.declared.replies.Awaited.{Awaited}
 use Rattle.lane_turn.specs.Replies.{replies_at, reply_held}
-use Rattle.lane_turn.specs.Lane.{Lane, context_at, with_rows, edited, next_id, written}
+use Rattle.lane_turn.specs.Lane.{Lane, Turn, context_at, with_rows, edited, next_id, written}
 use Rattle.lane_turn.specs.Acted.{cancel}
-use Rattle.lane_turn.specs.Turn.{begun, turned}
+use Rattle.lane_turn.specs.Turn.{begun, turned, out_of}
 use Rattle.lane_turn.specs.Deliver.{reply_spec, holding, received_body, received, received_all}
-use Rattle.lane_turn.specs.Tick.{lanes_at}
-use Rattle.lane_turn.specs.Arrivals.{Coming, coming_by, comings, rows_from, AreHeld, rows_in, next_order, IsAmong, CallsNone, AreAttached}
+use Rattle.lane_turn.specs.Step.{step, posted_with, letter as sent_letter}
+use Rattle.lane_turn.specs.Tick.{posted_at, lanes_at}
+use Rattle.lane_turn.specs.Arrivals.{Coming, coming_by, comings, rows_from, AreHeld, rows_in, next_order, IsAmong, CallsNone, IsOfInvoke, AreAttached}
 use Rattle.lane_turn.proofs.Arrivals.{still_has}
 use Rattle.lane_turn.proofs.Adds.{each_as, each_joined}
 use Rattle.lane_turn.proofs.Taking.{IsFresh}
@@ -34,6 +35,8 @@ use Rattle.lane_turn.proofs.Moving.{turned_moves}
 use Rattle.lane_turn.proofs.Brought.{open_fresh, letter_gains}
 use Rattle.lane_turn.proofs.Waits.{NumberedIn}
 use Rattle.lane_turn.proofs.Freed.{Sits, sits_step, sits_received, numbered_all}
+use Rattle.lane_turn.proofs.Lists.{each-push}
+use Rattle.lane_turn.proofs.Sends.{MayBeOfInvoke, step_tells}
 use Rattle.lane_turn.proofs.Turns.{kept_finished}
 use Rattle.lane_turn.proofs.EachLane.{each_lane}
 use Rattle.lane_turn.proofs.Slots.{ArePast, past_at, past_turned, past_delivered, past_open}
@@ -241,3 +244,24 @@ pub sources_run : (script : Plan) (tick context : ℕ) (letters : List Letter)
 sources_run script tick context letters =
     each_as Runs (λ lane. is_some (context_at context (turned script tick lane)) ≡ true → AreAttached script tick context letters (turned script tick lane) (received_all script tick letters (turned script tick lane)))
     (λ lane h k. let r = runs_turned script tick lane h in attached_in script tick context letters (turned script tick lane) k r.fresh r.past ((r.sits).numbered context)) (lanes_at script tick) (runs_at script tick)
+
+-- ---- whose sources letters tell
+
+posted_of_invoke : (tick sender number : ℕ) (letters : List Letter) (mail : Option Body) → AllByRecursion (λ l. IsOfInvoke l.body) letters → MayBeOfInvoke mail → AllByRecursion (λ l. IsOfInvoke l.body) (posted_with tick sender number letters mail)
+posted_of_invoke tick sender number letters None h i = h
+posted_of_invoke tick sender number letters (Some body) h i = each-push (λ l. IsOfInvoke l.body) letters (sent_letter tick sender number body) h i
+
+invokes_on : (script : Plan) (tick : ℕ) (t u : Turn) → step script tick t ≡ Some u → AllByRecursion (λ l. IsOfInvoke l.body) t.posted → AllByRecursion (λ l. IsOfInvoke l.body) u.posted
+invokes_on script tick t u e h =
+    let s = step_tells script tick t u e in
+    subst (AllByRecursion (λ (l : Letter). IsOfInvoke l.body)) (sym s.posted) (posted_of_invoke tick t.lane.number t.sent t.posted s.mail h s.invokes)
+
+invokes_of : (script : Plan) (tick : ℕ) (lane : Lane) → AllByRecursion (λ l. IsOfInvoke l.body) (out_of script tick lane)
+invokes_of script tick lane = kept_finished script tick (λ t. AllByRecursion (λ l. IsOfInvoke l.body) t.posted) (invokes_on script tick) (begun tick lane) tt
+
+invokes_all : (script : Plan) (tick : ℕ) (lanes : List Lane) → AllByRecursion (λ l. IsOfInvoke l.body) (posted_at script tick lanes)
+invokes_all script tick [] = tt
+invokes_all script tick (lane ∷ lanes) = each_joined (λ l. IsOfInvoke l.body) (out_of script tick lane) (posted_at script tick lanes) (invokes_of script tick lane) (invokes_all script tick lanes)
+
+pub invokes_run : (script : Plan) (tick : ℕ) → AllByRecursion (λ letter. IsOfInvoke letter.body) (posted_at script tick (lanes_at script tick))
+invokes_run script tick = invokes_all script tick (lanes_at script tick)

@@ -1,28 +1,53 @@
 -- What a step sends, and how tasks and letters are counted.
 use Rattle.std.proofs.Common.{◌≡◌, ◌||◌, ◌<◌, ℕ, zero, suc, ◌+◌, ◌≤◌, Bool, true, false, cond, Option, Some, None, List, [], ◌∷◌, ◌++◌, length, refl, ap, sym, ◌∙◌, arith, subst, length-append}
-use Rattle.std.specs.Prelude.{slice_get}
+use Rattle.std.specs.Prelude.{slice_get, is_some}
 use Rattle.loop_script.specs.declared.plan.Plan.{Plan}
 use Rattle.loop_script.specs.declared.action.Action.{Action}
+use Rattle.loop_script.specs.declared.action.Action.TheVariants.{Cancel, Invoke}
 use Rattle.loop_script.specs.Parts.{actions_of}
 use Rattle.source_rows.specs.declared.row.Row.{Row}
 use Rattle.post_office.specs.declared.letter.Letter.{Letter}
 use Rattle.post_office.specs.declared.letter.Body.{Body as Mail}
+use Rattle.post_office.specs.declared.letter.Body.TheVariants as mails
 use Rattle.lane_watch.specs.Tasks.{Started, reply_at, stays_at}
 use Rattle.lane_turn.specs.declared.line.Event.TheVariants as events
 use Rattle.lane_turn.specs.declared.lane.Status.{Status}
 use Rattle.lane_turn.specs.declared.lane.Status.TheVariants.{GoesOn, Ended, Halted}
 use Rattle.lane_turn.specs.declared.layer.Call.{Call}
 use Rattle.lane_turn.specs.Frames.{Frame, CallOf, IterOf, LoopOf}
-use Rattle.lane_turn.specs.Lane.{Lane, Turn, popped, taken, row_of, iterating, is_running, written}
+use Rattle.lane_turn.specs.Owned.{invoke_spec}
+use Rattle.lane_turn.specs.Lane.{Lane, Turn, context_at, popped, taken, row_of, iterating, is_running, written}
 use Rattle.lane_turn.specs.Acted.{acted, sends}
 use Rattle.lane_turn.specs.Step.{step, step_polling, step_call, step_id, limited_by, with_lane, dispatching, polled, letter, sent_with, posted_with, mail_of, one_if}
 use Rattle.lane_turn.specs.Sound.{IsPaced}
 use Rattle.task_steps.specs.declared.entry.Reply.{Reply}
 use Rattle.cancel_view.specs.Seen.{has}
-use Rattle.lane_turn.specs.Arrivals.{held_of}
+use Rattle.lane_turn.specs.Arrivals.{held_of, IsOfInvoke}
 use Rattle.lane_turn.specs.Letters.{AreNumbered}
 use Rattle.lane_turn.proofs.Steady.{Steady, told_by, still, steady_trans, steady_acted, steady_dispatching, steady_returned, steady_answered}
 use Rattle.lane_turn.specs.declared.layer.Asker.TheVariants as askers
+
+-- a letter that attaches a source is of an invoke
+abbrev pub MayBeOfInvoke : Option Mail → Type 0
+MayBeOfInvoke None = Unit {0}
+MayBeOfInvoke (Some body) = IsOfInvoke body
+
+sends_of_invoke : (action : Action) (lane : Lane) → MayBeOfInvoke (sends action lane)
+sends_of_invoke (Cancel c) lane = by (has c lane.view)
+  where
+    by : (b : Bool) → MayBeOfInvoke (cond b None (Some (mails.Cancelled c)))
+    by true = tt
+    by false = tt
+sends_of_invoke (Invoke context proc) lane = by (is_some (context_at context lane))
+  where
+    by : (b : Bool) → MayBeOfInvoke (cond b None (Some (mails.Attach context (invoke_spec proc))))
+    by true = tt
+    by false = (proc, refl)
+sends_of_invoke _ lane = tt
+
+reply_of_invoke : (o : Option Reply) → MayBeOfInvoke (mail_of o)
+reply_of_invoke None = tt
+reply_of_invoke (Some reply) = tt
 
 -- a step sends one letter at most, the next of the turn, and starts one task at most where it counts one
 pub record Sends (tick : ℕ) (t u : Turn) : Type 0 where
@@ -37,6 +62,7 @@ pub record Sends (tick : ℕ) (t u : Turn) : Type 0 where
   pub posted : u.posted ≡ posted_with tick t.lane.number t.sent t.posted mail
   pub seen : (c : ℕ) → c < length t.lane.view.members → has c u.lane.view ≡ (told_by c mail || has c t.lane.view)
   pub holds : held_of u.lane.contexts ≡ held_of t.lane.contexts
+  pub invokes : MayBeOfInvoke mail
 
 some_same : (t u : Turn) → Some t ≡ Some u → t ≡ u
 some_same t u e = cc
@@ -46,8 +72,8 @@ sent_most None n = omega arith
 sent_most (Some body) n = omega arith
 
 -- what is counted
-counted_sends : (tick : ℕ) (mail : Option Mail) (f : Lane → Lane) (t : Turn) (left : ℕ) → t.left ≡ left → Steady 1 mail t.lane (f t.lane) → Sends tick t (limited_by tick mail f t left)
-counted_sends tick mail f t zero e h = record {
+counted_sends : (tick : ℕ) (mail : Option Mail) (f : Lane → Lane) (t : Turn) (left : ℕ) → t.left ≡ left → Steady 1 mail t.lane (f t.lane) → MayBeOfInvoke mail → Sends tick t (limited_by tick mail f t left)
+counted_sends tick mail f t zero e h i = record {
   number = refl;
   now = refl;
   view = refl;
@@ -59,8 +85,9 @@ counted_sends tick mail f t zero e h = record {
   posted = refl;
   seen = λ c l. refl;
   holds = refl;
+  invokes = tt;
 }
-counted_sends tick mail f t (suc left) e h = record {
+counted_sends tick mail f t (suc left) e h i = record {
   number = h.number;
   now = h.tick;
   view = h.view;
@@ -72,6 +99,7 @@ counted_sends tick mail f t (suc left) e h = record {
   posted = refl;
   seen = h.seen;
   holds = h.holds;
+  invokes = i;
 }
 
 -- what is not
@@ -88,6 +116,7 @@ freely_sends tick t after iterated h = record {
   posted = refl;
   seen = h.seen;
   holds = h.holds;
+  invokes = tt;
 }
 
 taken_too : (mail : Option Mail) (lane after : Lane) → Steady 1 mail (taken lane) after → Steady 1 mail lane after
@@ -97,12 +126,12 @@ popped_too : (lane after : Lane) → Steady 0 None (popped lane) after → Stead
 popped_too lane after h = steady_trans 0 None lane (popped lane) after (still 0 lane (popped lane) refl refl refl refl) h
 
 call_sends : (script : Plan) (tick : ℕ) (t : Turn) (call : Call) (a : Option Action) → Sends tick t (step_call script tick t call a)
-call_sends script tick t call (Some a) = counted_sends tick (sends a (taken t.lane)) (λ lane. acted script tick a (taken lane)) t t.left refl (taken_too (sends a (taken t.lane)) t.lane _ (steady_acted script tick a (taken t.lane)))
+call_sends script tick t call (Some a) = counted_sends tick (sends a (taken t.lane)) (λ lane. acted script tick a (taken lane)) t t.left refl (taken_too (sends a (taken t.lane)) t.lane _ (steady_acted script tick a (taken t.lane))) (sends_of_invoke a (taken t.lane))
 call_sends script tick t call None = freely_sends tick t _ t.iterated (popped_too t.lane _ (steady_returned script tick call.body call.origin (popped t.lane)))
 
 id_sends : (tick : ℕ) (t : Turn) (context : ℕ) (r : Option Row) → Sends tick t (step_id tick t context r)
 id_sends tick t context None = freely_sends tick t (taken t.lane) t.iterated (still 0 t.lane _ refl refl refl refl)
-id_sends tick t context (Some row) = counted_sends tick None (dispatching tick context row) t t.left refl (steady_dispatching tick context row t.lane)
+id_sends tick t context (Some row) = counted_sends tick None (dispatching tick context row) t t.left refl (steady_dispatching tick context row t.lane) tt
 
 loop_sends : (script : Plan) (tick : ℕ) (t : Turn) (number context : ℕ) (runs iterated : Bool) (u : Turn)
     → cond runs (cond iterated None (Some (record t { lane = iterating script tick context askers.Loop t.lane; iterated = true }))) (Some (with_lane (λ lane. written tick (events.LoopEnd number) (popped lane)) t)) ≡ Some u → Sends tick t u
@@ -160,6 +189,7 @@ polled_sends tick t task tasks =
       posted = refl;
       seen = λ c l. told_none (reply_at tick t.lane.tasks task) c (has c t.lane.view);
       holds = refl;
+      invokes = reply_of_invoke (reply_at tick t.lane.tasks task);
     }
 
 polling_sends : (script : Plan) (tick : ℕ) (t : Turn) (tasks : List Started) (u : Turn) → step_polling script tick (record t { unpolled = tasks }) tasks ≡ Some u → Sends tick (record t { unpolled = tasks }) u

@@ -1,5 +1,5 @@
 -- Which lane has which context, and what its letters attach there.
-use Rattle.std.specs.Prelude.{◌≡◌, ◌<◌, ◌==◌, Bool, true, false, Option, Some, None, is_some, List, [], ◌∷◌, ◌+◌, ◌++◌, map, length, if◌then◌else◌}
+use Rattle.std.specs.Prelude.{◌≡◌, ◌<◌, ◌==◌, Bool, true, false, pos, Option, Some, None, is_some, List, [], ◌∷◌, ◌+◌, ◌++◌, map, length, if◌then◌else◌}
 use Rattle.std.specs.List.{AllByRecursion, filter_map, range_with_len}
 use Rattle.loop_script.specs.declared.plan.Plan.{Plan}
 use Rattle.loop_script.specs.declared.source.SourceSpec.{SourceSpec}
@@ -21,8 +21,8 @@ use Rattle.lane_turn.specs.Replies.{Replies, held_under, replies_at, reply_held}
 use Rattle.lane_turn.specs.Lane.{Lane, context_at, next_id}
 use Rattle.lane_turn.specs.Turn.{turned}
 use Rattle.lane_turn.specs.Deliver.{received_all}
-use Rattle.lane_turn.specs.Tick.{lanes_at}
-use Rattle.loop_script.specs.Units.{Tick, Microseconds, LaneNumber, ContextNumber, SourceId, Order}
+use Rattle.lane_turn.specs.Tick.{posted_at, lanes_at}
+use Rattle.loop_script.specs.Units.{Tick, Microseconds, LaneNumber, ContextNumber, ProcNumber, SourceId, Order}
 
 -- of each context of the script, whether it is the lane's
 abbrev pub held_of : List (Option Context) → List Bool
@@ -55,6 +55,12 @@ arrivals context lines = filter_map (λ line. arrival_of context line.event) lin
 abbrev pub ids_for : ContextNumber → SourceId → List Letter → List SourceId
 ids_for context next [] = []
 ids_for context next (letter ∷ letters) = if is_for context letter then next ∷ ids_for context (next + 1) letters else ids_for context next letters
+
+-- a letter that attaches a source of its own attaches that of an invoke: an idle one of priority 0 that calls a procedure, without a recurse flag
+abbrev pub IsOfInvoke : Body → Type 0
+IsOfInvoke (Attach c spec) = (proc : ProcNumber) × (spec ≡ record { kind = Idle; priority = pos 0; recurse = false; call = Some proc })
+IsOfInvoke (Complete reply) = Unit {0}
+IsOfInvoke (Cancelled k) = Unit {0}
 
 -- what a letter attaches: a source, and the reply that it holds. The source of an invoke holds none
 pub record Coming : Type 0 where
@@ -128,3 +134,5 @@ pub record LettersArrive : Type 0 where
   -- what it attaches: in a run, after its turn, a lane that has a context gains there the row of each letter's source, which holds the reply
   pub sources : (script : Plan) (tick : Tick) (context : ContextNumber) (letters : List Letter)
       → AllByRecursion (λ lane. is_some (context_at context (turned script tick lane)) ≡ true → AreAttached script tick context letters (turned script tick lane) (received_all script tick letters (turned script tick lane))) (lanes_at script tick)
+  -- and in a run a letter that tells a source tells that of an invoke
+  pub invokes : (script : Plan) (tick : Tick) → AllByRecursion (λ letter. IsOfInvoke letter.body) (posted_at script tick (lanes_at script tick))
