@@ -21,19 +21,23 @@ use Rattle.post_office.specs.declared.letter.Body.TheVariants.{Attach, Complete,
 use Rattle.lane_turn.specs.declared.line.Event.TheVariants as events
 use Rattle.lane_turn.specs.declared.replies.Awaited.{Awaited}
 use Rattle.lane_turn.specs.Replies.{replies_at, reply_held}
-use Rattle.lane_turn.specs.Lane.{Lane, is_own, context_at, with_rows, edited, next_id, written}
+use Rattle.lane_turn.specs.Lane.{Lane, Turn, is_own, taken, context_at, with_rows, edited, next_id, written}
 use Rattle.lane_turn.specs.Acted.{cancel}
-use Rattle.lane_turn.specs.Turn.{begun, turned}
+use Rattle.lane_turn.specs.Turn.{begun, turned, out_of}
 use Rattle.lane_turn.specs.Deliver.{reply_spec, holding, received_body, received, received_all}
+use Rattle.lane_turn.specs.Step.{step, posted_with, letter as sent_letter}
 use Rattle.lane_turn.specs.Tick.{posted_at, lanes_at}
-use Rattle.lane_turn.specs.Arrivals.{Coming, coming_by, comings, rows_from, AreHeld, rows_in, next_order, IsAmong, CallsNone, AreAttached}
+use Rattle.lane_turn.specs.Arrivals.{Coming, coming_by, comings, rows_from, AreHeld, rows_in, next_order, IsAmong, CallsNone, IsOfInvoke, AreAttached}
 use Rattle.lane_turn.proofs.Arrivals.{has_own, still_has}
 use Rattle.lane_turn.proofs.Adds.{each_as, each_joined}
 use Rattle.lane_turn.proofs.Taking.{IsFresh}
 use Rattle.lane_turn.proofs.Moving.{turned_moves}
+use Rattle.lane_turn.proofs.Sums.{fresh_delivered}
 use Rattle.lane_turn.proofs.Brought.{open_fresh, letter_gains}
 use Rattle.lane_turn.proofs.Waits.{NumberedIn}
 use Rattle.lane_turn.proofs.Freed.{Sits, sits_step, sits_received, numbered_all}
+use Rattle.lane_turn.proofs.Lists.{each-push}
+use Rattle.lane_turn.proofs.Sends.{IsAllowed, of_invoke, step_tells}
 use Rattle.lane_turn.proofs.Turns.{kept_finished}
 use Rattle.lane_turn.proofs.Ungiven.{none_over, each_lane_alone}
 use Rattle.lane_turn.specs.Handover.{handed_over}
@@ -217,10 +221,6 @@ record Runs (lane : Lane) : Type 0 where
   past : ArePast lane.contexts lane.slots
   sits : Sits lane
 
-fresh_delivered : (script : Plan) (tick : ℕ) (letters : List Letter) (lane : Lane) → IsFresh lane → IsFresh (received_all script tick letters lane)
-fresh_delivered script tick [] lane f = f
-fresh_delivered script tick (l ∷ letters) lane f = fresh_delivered script tick letters (received script tick l lane) (letter_gains 0 0 script tick l.sender l.body lane f).0
-
 runs_turned : (script : Plan) (tick : ℕ) (lane : Lane) → Runs lane → Runs (turned script tick lane)
 runs_turned script tick lane h = record {
   fresh = (turned_moves 0 0 script tick lane).fresh h.fresh;
@@ -252,3 +252,24 @@ sources_run script tick context letters =
       where
         by : AllByRecursion (GainsAll script tick context letters) (map (turned script tick) lanes) → AllByRecursion (GainsAll script tick context letters) (map (turned script tick) (lane ∷ lanes))
         by rest = ((λ k. let r = runs_turned script tick lane h.0 in attached_in script tick context letters (turned script tick lane) k r.fresh r.past ((r.sits).numbered context)), rest)
+
+-- ---- whose sources letters tell
+
+posted_of_invoke : (script : Plan) (lane : Lane) (tick sender number : ℕ) (letters : List Letter) (mail : Option Body) → AllByRecursion (λ l. IsOfInvoke l.body) letters → IsAllowed script lane mail → AllByRecursion (λ l. IsOfInvoke l.body) (posted_with tick sender number letters mail)
+posted_of_invoke script lane tick sender number letters None h i = h
+posted_of_invoke script lane tick sender number letters (Some body) h i = each-push (λ l. IsOfInvoke l.body) letters (sent_letter tick sender number body) h (of_invoke script lane body i)
+
+invokes_on : (script : Plan) (tick : ℕ) (t u : Turn) → step script tick t ≡ Some u → AllByRecursion (λ l. IsOfInvoke l.body) t.posted → AllByRecursion (λ l. IsOfInvoke l.body) u.posted
+invokes_on script tick t u e h =
+    let s = step_tells script tick t u e in
+    subst (AllByRecursion (λ (l : Letter). IsOfInvoke l.body)) (sym s.posted) (posted_of_invoke script (taken t.lane) tick t.lane.number t.sent t.posted s.mail h s.allowed)
+
+invokes_of : (script : Plan) (tick : ℕ) (lane : Lane) → AllByRecursion (λ l. IsOfInvoke l.body) (out_of script tick lane)
+invokes_of script tick lane = kept_finished script tick (λ t. AllByRecursion (λ l. IsOfInvoke l.body) t.posted) (invokes_on script tick) (begun tick lane) tt
+
+invokes_all : (script : Plan) (tick : ℕ) (lanes : List Lane) → AllByRecursion (λ l. IsOfInvoke l.body) (posted_at script tick lanes)
+invokes_all script tick [] = tt
+invokes_all script tick (lane ∷ lanes) = each_joined (λ l. IsOfInvoke l.body) (out_of script tick lane) (posted_at script tick lanes) (invokes_of script tick lane) (invokes_all script tick lanes)
+
+pub invokes_run : (script : Plan) (tick : ℕ) → AllByRecursion (λ letter. IsOfInvoke letter.body) (posted_at script tick (lanes_at script tick))
+invokes_run script tick = invokes_all script tick (lanes_at script tick)

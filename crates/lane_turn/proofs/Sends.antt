@@ -1,6 +1,6 @@
 -- What a step sends, and how tasks and letters are counted.
 use Rattle.std.proofs.Common.{◌≡◌, ◌||◌, ◌<◌, ℕ, zero, suc, ◌+◌, ◌≤◌, Bool, true, false, cond, Option, Some, None, List, [], ◌∷◌, ◌++◌, length, refl, ap, sym, ◌∙◌, arith, subst, length-append}
-use Rattle.std.specs.Prelude.{slice_get}
+use Rattle.std.specs.Prelude.{slice_get, is_some}
 use Rattle.loop_script.specs.declared.plan.Plan.{Plan}
 use Rattle.loop_script.specs.declared.action.Action.{Action}
 use Rattle.loop_script.specs.declared.action.Action.TheVariants as actions
@@ -22,15 +22,15 @@ use Rattle.lane_turn.specs.Step.{step, step_polling, step_call, step_id, limited
 use Rattle.lane_turn.specs.Sound.{IsPaced}
 use Rattle.task_steps.specs.declared.entry.Reply.{Reply}
 use Rattle.cancel_view.specs.Seen.{has}
-use Rattle.lane_turn.specs.Arrivals.{held_of}
+use Rattle.lane_turn.specs.Arrivals.{held_of, IsOfInvoke}
 use Rattle.lane_turn.specs.Letters.{AreNumbered}
 use Rattle.lane_turn.specs.Handover.{may_give}
 use Rattle.lane_turn.proofs.Steady.{Steady, told_by, given_with, still, steady_trans, steady_acted, steady_dispatching, steady_returned, steady_answered}
 use Rattle.lane_turn.specs.declared.layer.Asker.TheVariants as askers
 
--- a letter of the script that gives a context may give it
+-- a letter of the script that tells a source tells that of an invoke, and one that gives a context may give it
 abbrev pub IsAllowedBody : Plan → Lane → Mail → Type 0
-IsAllowedBody script lane (mails.Attach context spec) = Unit {0}
+IsAllowedBody script lane (mails.Attach context spec) = IsOfInvoke (mails.Attach context spec)
 IsAllowedBody script lane (mails.Complete reply) = Unit {0}
 IsAllowedBody script lane (mails.Cancelled c) = Unit {0}
 IsAllowedBody script lane (mails.Give context to) = may_give script context to lane ≡ true
@@ -39,6 +39,12 @@ IsAllowedBody script lane (mails.Give context to) = may_give script context to l
 abbrev pub IsAllowed : Plan → Lane → Option Mail → Type 0
 IsAllowed script lane None = Unit {0}
 IsAllowed script lane (Some body) = IsAllowedBody script lane body
+
+pub of_invoke : (script : Plan) (lane : Lane) (body : Mail) → IsAllowedBody script lane body → IsOfInvoke body
+of_invoke script lane (mails.Attach context spec) a = a
+of_invoke script lane (mails.Complete reply) a = tt
+of_invoke script lane (mails.Cancelled c) a = tt
+of_invoke script lane (mails.Give context to) a = tt
 
 sends_allowed : (script : Plan) (action : Action) (lane : Lane) → IsAllowed script lane (sends script action lane)
 sends_allowed script (actions.Cancel c) lane = by (has c lane.view)
@@ -50,7 +56,7 @@ sends_allowed script (actions.Invoke context proc) lane = by (is_own context lan
   where
     by : (b : Bool) → IsAllowed script lane (cond b None (Some (mails.Attach context (invoke_spec proc))))
     by true = tt
-    by false = tt
+    by false = (proc, refl)
 sends_allowed script (actions.Give context to) lane = by (may_give script context to lane) refl
   where
     by : (b : Bool) → may_give script context to lane ≡ b → IsAllowed script lane (cond b (Some (mails.Give context to)) None)

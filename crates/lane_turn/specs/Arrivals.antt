@@ -1,5 +1,5 @@
 -- Which lane has which context, and what its letters attach there.
-use Rattle.std.specs.Prelude.{◌≡◌, ◌<◌, ◌==◌, Bool, true, false, Option, Some, None, is_some, List, [], ◌∷◌, ◌+◌, ◌++◌, map, length, if◌then◌else◌}
+use Rattle.std.specs.Prelude.{◌≡◌, ◌<◌, ◌==◌, Bool, true, false, pos, Option, Some, None, is_some, List, [], ◌∷◌, ◌+◌, ◌++◌, map, length, if◌then◌else◌}
 use Rattle.std.specs.List.{AllByRecursion, filter_map, range_with_len}
 use Rattle.loop_script.specs.declared.plan.Plan.{Plan}
 use Rattle.loop_script.specs.declared.source.SourceSpec.{SourceSpec}
@@ -23,7 +23,7 @@ use Rattle.lane_turn.specs.Turn.{turned}
 use Rattle.lane_turn.specs.Handover.{handed_over}
 use Rattle.lane_turn.specs.Deliver.{received_all}
 use Rattle.lane_turn.specs.Tick.{posted_at, lanes_at}
-use Rattle.loop_script.specs.Units.{Tick, Microseconds, LaneNumber, ContextNumber, SourceId, Order}
+use Rattle.loop_script.specs.Units.{Tick, Microseconds, LaneNumber, ContextNumber, ProcNumber, SourceId, Order}
 
 -- of each context of the script, whether it is the lane's
 abbrev pub held_of : List (Option Context) → List Bool
@@ -57,6 +57,13 @@ arrivals context lines = filter_map (λ line. arrival_of context line.event) lin
 abbrev pub ids_for : ContextNumber → SourceId → List Letter → List SourceId
 ids_for context next [] = []
 ids_for context next (letter ∷ letters) = if is_for context letter then next ∷ ids_for context (next + 1) letters else ids_for context next letters
+
+-- a letter that attaches a source of its own attaches that of an invoke: an idle one of priority 0 that calls a procedure, without a recurse flag
+abbrev pub IsOfInvoke : Body → Type 0
+IsOfInvoke (Attach c spec) = (proc : ProcNumber) × (spec ≡ record { kind = Idle; priority = pos 0; recurse = false; call = Some proc })
+IsOfInvoke (Complete reply) = Unit {0}
+IsOfInvoke (Cancelled k) = Unit {0}
+IsOfInvoke (Give c to) = Unit {0}
 
 -- what a letter attaches: a source, and the reply that it holds. The source of an invoke holds none
 pub record Coming : Type 0 where
@@ -132,3 +139,5 @@ pub record LettersArrive : Type 0 where
   -- what it attaches: in a run, once contexts went over, a lane gains in a context of its own the row of each letter's source, which holds the reply
   pub sources : (script : Plan) (tick : Tick) (context : ContextNumber) (letters : List Letter)
       → AllByRecursion (λ lane. is_own context lane ≡ true → AreAttached script tick context letters lane (received_all script tick letters lane)) (handed_over tick (posted_at script tick (lanes_at script tick)) (map (turned script tick) (lanes_at script tick)))
+  -- and in a run a letter that tells a source tells that of an invoke
+  pub invokes : (script : Plan) (tick : Tick) → AllByRecursion (λ letter. IsOfInvoke letter.body) (posted_at script tick (lanes_at script tick))

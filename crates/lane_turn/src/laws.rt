@@ -55,7 +55,8 @@ pub fn views_agree()
 /// Each context is, at every tick, the lane's to which the script gives it, and no other's. Each letter that attaches, a reply
 /// or an invoke, is attached once, in its tick, by the lane that has its context: with the next id, in the order of the
 /// letters, and with the line `arrive`. In a run that lane has there after the delivery the rows that it had, but for what
-/// handlers of a cancellation did to them, and then the row of each letter's source; that of a reply holds the reply.
+/// handlers of a cancellation did to them, and then the row of each letter's source; that of a reply holds the reply. A source
+/// that a letter tells is that of an invoke.
 pub fn letters_arrive()
     ensures { LettersArrive }
 {}
