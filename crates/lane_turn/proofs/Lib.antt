@@ -12,6 +12,7 @@ pub mod Bounds
 pub mod Edits
 pub mod Steps
 pub mod Steady
+pub mod Owning
 pub mod Sends
 pub mod Finish
 pub mod Turns

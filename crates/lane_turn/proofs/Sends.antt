@@ -14,17 +14,18 @@ use Rattle.lane_turn.specs.declared.line.Event.TheVariants as events
 use Rattle.lane_turn.specs.declared.lane.Status.{Status}
 use Rattle.lane_turn.specs.declared.lane.Status.TheVariants.{GoesOn, Ended, Halted}
 use Rattle.lane_turn.specs.declared.layer.Call.{Call}
-use Rattle.lane_turn.specs.Frames.{Frame, CallOf, IterOf, LoopOf}
-use Rattle.lane_turn.specs.Lane.{Lane, Turn, popped, taken, row_of, iterating, is_running, written, is_own}
+use Rattle.lane_turn.specs.Frames.{Frame, CallOf, IterOf, LoopOf, emptied}
+use Rattle.lane_turn.specs.Lane.{Lane, Turn, popped, taken, row_of, iterating, chosen, is_running, written, is_own}
 use Rattle.lane_turn.specs.Acted.{acted, sends}
 use Rattle.lane_turn.specs.Owned.{invoke_spec}
-use Rattle.lane_turn.specs.Step.{step, step_polling, step_call, step_id, limited_by, with_lane, dispatching, polled, letter, sent_with, posted_with, mail_of, one_if}
+use Rattle.lane_turn.specs.Step.{returned, answered, step, step_polling, step_call, step_id, limited_by, with_lane, dispatching, polled, letter, sent_with, posted_with, mail_of, one_if}
 use Rattle.lane_turn.specs.Sound.{IsPaced}
 use Rattle.task_steps.specs.declared.entry.Reply.{Reply}
 use Rattle.cancel_view.specs.Seen.{has}
 use Rattle.lane_turn.specs.Arrivals.{held_of, IsOfInvoke}
 use Rattle.lane_turn.specs.Letters.{AreNumbered}
 use Rattle.lane_turn.specs.Handover.{may_give}
+use Rattle.lane_turn.proofs.Owning.{OwnOn, own_same, own_after, own_advanced, own_acted, own_dispatching, own_returned, own_answered, own_looped, less_dropped, less_advanced}
 use Rattle.lane_turn.proofs.Steady.{Steady, told_by, given_with, still, steady_trans, steady_acted, steady_dispatching, steady_returned, steady_answered}
 use Rattle.lane_turn.specs.declared.layer.Asker.TheVariants as askers
 
@@ -96,6 +97,7 @@ pub record Sends (script : Plan) (tick : ℕ) (t u : Turn) : Type 0 where
   pub holds : held_of u.lane.contexts ≡ held_of t.lane.contexts
   pub given : u.lane.given ≡ given_with mail t.lane.given
   pub allowed : IsAllowed script (taken t.lane) mail
+  pub owns : OwnOn (λ c. is_own c t.lane) mail t.lane.frames u.lane.frames
 
 some_same : (t u : Turn) → Some t ≡ Some u → t ≡ u
 some_same t u e = cc
@@ -105,8 +107,8 @@ sent_most None n = omega arith
 sent_most (Some body) n = omega arith
 
 -- what is counted
-counted_sends : (script : Plan) (tick : ℕ) (mail : Option Mail) (f : Lane → Lane) (t : Turn) (left : ℕ) → t.left ≡ left → IsAllowed script (taken t.lane) mail → Steady 1 mail t.lane (f t.lane) → Sends script tick t (limited_by tick mail f t left)
-counted_sends script tick mail f t zero e p h = record {
+counted_sends : (script : Plan) (tick : ℕ) (mail : Option Mail) (f : Lane → Lane) (t : Turn) (left : ℕ) → t.left ≡ left → IsAllowed script (taken t.lane) mail → OwnOn (λ c. is_own c t.lane) mail t.lane.frames (f t.lane).frames → Steady 1 mail t.lane (f t.lane) → Sends script tick t (limited_by tick mail f t left)
+counted_sends script tick mail f t zero e p o h = record {
   number = refl;
   now = refl;
   view = refl;
@@ -120,8 +122,9 @@ counted_sends script tick mail f t zero e p h = record {
   holds = refl;
   given = refl;
   allowed = tt;
+  owns = own_same (λ c. is_own c t.lane) None t.lane.frames;
 }
-counted_sends script tick mail f t (suc left) e p h = record {
+counted_sends script tick mail f t (suc left) e p o h = record {
   number = h.number;
   now = h.tick;
   view = h.view;
@@ -135,11 +138,12 @@ counted_sends script tick mail f t (suc left) e p h = record {
   holds = h.holds;
   given = h.given;
   allowed = p;
+  owns = o;
 }
 
 -- what is not
-freely_sends : (script : Plan) (tick : ℕ) (t : Turn) (after : Lane) (iterated : Bool) → Steady 0 None t.lane after → Sends script tick t (record t { lane = after; iterated = iterated })
-freely_sends script tick t after iterated h = record {
+freely_sends : (script : Plan) (tick : ℕ) (t : Turn) (after : Lane) (iterated : Bool) → OwnOn (λ c. is_own c t.lane) None t.lane.frames after.frames → Steady 0 None t.lane after → Sends script tick t (record t { lane = after; iterated = iterated })
+freely_sends script tick t after iterated o h = record {
   number = h.number;
   now = h.tick;
   view = h.view;
@@ -153,6 +157,7 @@ freely_sends script tick t after iterated h = record {
   holds = h.holds;
   given = h.given;
   allowed = tt;
+  owns = o;
 }
 
 taken_too : (mail : Option Mail) (lane after : Lane) → Steady 1 mail (taken lane) after → Steady 1 mail lane after
@@ -162,18 +167,21 @@ popped_too : (lane after : Lane) → Steady 0 None (popped lane) after → Stead
 popped_too lane after h = steady_trans 0 None lane (popped lane) after (still 0 lane (popped lane) refl refl refl refl refl) h
 
 call_sends : (script : Plan) (tick : ℕ) (t : Turn) (call : Call) (a : Option Action) → Sends script tick t (step_call script tick t call a)
-call_sends script tick t call (Some a) = counted_sends script tick (sends script a (taken t.lane)) (λ lane. acted script tick a (taken lane)) t t.left refl (sends_allowed script a (taken t.lane)) (taken_too (sends script a (taken t.lane)) t.lane _ (steady_acted script tick a (taken t.lane)))
-call_sends script tick t call None = freely_sends script tick t _ t.iterated (popped_too t.lane _ (steady_returned script tick call.body call.origin (popped t.lane)))
+call_sends script tick t call (Some a) = counted_sends script tick (sends script a (taken t.lane)) (λ lane. acted script tick a (taken lane)) t t.left refl (sends_allowed script a (taken t.lane)) (own_after (λ c. is_own c t.lane) (sends script a (taken t.lane)) t.lane.frames (taken t.lane).frames (acted script tick a (taken t.lane)).frames (less_advanced t.lane.frames) (own_acted script tick a (taken t.lane))) (taken_too (sends script a (taken t.lane)) t.lane _ (steady_acted script tick a (taken t.lane)))
+call_sends script tick t call None = freely_sends script tick t _ t.iterated (own_after (λ c. is_own c t.lane) None t.lane.frames (popped t.lane).frames (returned script tick call.body call.origin (popped t.lane)).frames (less_dropped t.lane.frames) (own_returned (λ c. is_own c t.lane) script tick call.body call.origin (popped t.lane))) (popped_too t.lane _ (steady_returned script tick call.body call.origin (popped t.lane)))
 
 id_sends : (script : Plan) (tick : ℕ) (t : Turn) (context : ℕ) (r : Option Row) → Sends script tick t (step_id tick t context r)
-id_sends script tick t context None = freely_sends script tick t (taken t.lane) t.iterated (still 0 t.lane _ refl refl refl refl refl)
-id_sends script tick t context (Some row) = counted_sends script tick None (dispatching tick context row) t t.left refl tt (steady_dispatching tick context row t.lane)
+id_sends script tick t context None = freely_sends script tick t (taken t.lane) t.iterated (own_advanced (λ c. is_own c t.lane) None t.lane.frames) (still 0 t.lane _ refl refl refl refl refl)
+id_sends script tick t context (Some row) = counted_sends script tick None (dispatching tick context row) t t.left refl tt (own_dispatching (λ c. is_own c t.lane) tick context row t.lane) (steady_dispatching tick context row t.lane)
 
-loop_sends : (script : Plan) (tick : ℕ) (t : Turn) (number context : ℕ) (runs iterated : Bool) (u : Turn)
+loop_sends : (script : Plan) (tick : ℕ) (t : Turn) (number context : ℕ) (below : List Frame) → t.lane.frames ≡ LoopOf number context ∷ below → (runs iterated : Bool) (u : Turn)
     → cond runs (cond iterated None (Some (record t { lane = iterating script tick context askers.Loop t.lane; iterated = true }))) (Some (with_lane (λ lane. written tick (events.LoopEnd number) (popped lane)) t)) ≡ Some u → Sends script tick t u
-loop_sends script tick t number context true true u e = cc
-loop_sends script tick t number context true false u e = subst (Sends script tick t) (some_same _ _ e) (freely_sends script tick t (iterating script tick context askers.Loop t.lane) true (still 0 t.lane _ refl refl refl refl refl))
-loop_sends script tick t number context false iterated u e = subst (Sends script tick t) (some_same _ _ e) (freely_sends script tick t (written tick (events.LoopEnd number) (popped t.lane)) t.iterated (still 0 t.lane _ refl refl refl refl refl))
+loop_sends script tick t number context below fs true true u e = cc
+loop_sends script tick t number context below fs true false u e =
+    let own = subst (λ (all : List Frame). OwnOn (λ c. is_own c t.lane) None all (IterOf context (chosen script tick context t.lane) askers.Loop ∷ emptied context all)) (sym fs) (own_looped (λ c. is_own c t.lane) number context (chosen script tick context t.lane) askers.Loop below) in
+    subst (Sends script tick t) (some_same _ _ e) (freely_sends script tick t (iterating script tick context askers.Loop t.lane) true own (still 0 t.lane _ refl refl refl refl refl))
+loop_sends script tick t number context below fs false iterated u e =
+    subst (Sends script tick t) (some_same _ _ e) (freely_sends script tick t (written tick (events.LoopEnd number) (popped t.lane)) t.iterated (own_after (λ c. is_own c t.lane) None t.lane.frames (popped t.lane).frames (popped t.lane).frames (less_dropped t.lane.frames) (own_same (λ c. is_own c t.lane) None (popped t.lane).frames)) (still 0 t.lane _ refl refl refl refl refl))
 
 abbrev turn : Turn → List Frame → Status → Turn
 turn t frames status = record t { lane = record t.lane { frames = frames; status = status }; unpolled = [] }
@@ -185,13 +193,13 @@ step_sends script tick t (CallOf call ∷ below) GoesOn u e =
     subst (Sends script tick now) (some_same _ _ e) (call_sends script tick now call (slice_get (actions_of script call.body) call.place))
 step_sends script tick t (IterOf context [] asker ∷ below) GoesOn u e =
     let now : Turn = turn t (IterOf context [] asker ∷ below) GoesOn in
-    subst (Sends script tick now) (some_same _ _ e) (freely_sends script tick now _ now.iterated (popped_too now.lane _ (steady_answered tick context asker (popped now.lane))))
+    subst (Sends script tick now) (some_same _ _ e) (freely_sends script tick now _ now.iterated (own_after (λ c. is_own c now.lane) None now.lane.frames (popped now.lane).frames (answered tick context asker (popped now.lane)).frames (less_dropped now.lane.frames) (own_answered (λ c. is_own c now.lane) tick context asker (popped now.lane))) (popped_too now.lane _ (steady_answered tick context asker (popped now.lane))))
 step_sends script tick t (IterOf context (id ∷ ids) asker ∷ below) GoesOn u e =
     let now : Turn = turn t (IterOf context (id ∷ ids) asker ∷ below) GoesOn in
     subst (Sends script tick now) (some_same _ _ e) (id_sends script tick now context (row_of context id now.lane))
 step_sends script tick t (LoopOf number context ∷ below) GoesOn u e =
     let now : Turn = turn t (LoopOf number context ∷ below) GoesOn in
-    loop_sends script tick now number context (is_running number now.lane) now.iterated u e
+    loop_sends script tick now number context below refl (is_running number now.lane) now.iterated u e
 step_sends script tick t frames Ended u e = cc
 step_sends script tick t frames Halted u e = cc
 
@@ -235,6 +243,7 @@ polled_sends script tick t task tasks =
       holds = refl;
       given = reply_gives t.lane.given (reply_at tick t.lane.tasks task);
       allowed = reply_allowed script (taken t.lane) (reply_at tick t.lane.tasks task);
+      owns = own_same (λ c. is_own c t.lane) mail t.lane.frames;
     }
 
 polling_sends : (script : Plan) (tick : ℕ) (t : Turn) (tasks : List Started) (u : Turn) → step_polling script tick (record t { unpolled = tasks }) tasks ≡ Some u → Sends script tick (record t { unpolled = tasks }) u

@@ -1,0 +1,220 @@
+-- What a lane is in the middle of is in contexts of its own: what begins an iteration, a run or a call that acquires.
+use Rattle.std.proofs.Common.{◌≡◌, ◌⊎◌, inl, inr, ℕ, ℤ, ◌==◌, ◌||◌, Bool, true, false, cond, Option, Some, None, List, [], ◌∷◌, map, drop, refl, ap, sym, ◌∙◌, subst, eqb-true, ◌+◌}
+use Rattle.std.specs.Prelude.{not, ◌&&◌, is_some, is_none, nat_lt}
+use Rattle.std.specs.List.{list_any}
+use Rattle.loop_script.specs.declared.plan.Plan.{Plan}
+use Rattle.loop_script.specs.declared.source.SourceSpec.{SourceSpec}
+use Rattle.loop_script.specs.declared.action.Action.{Action}
+use Rattle.loop_script.specs.declared.action.Action.TheVariants as actions
+use Rattle.loop_script.specs.declared.body.Body.{Body}
+use Rattle.loop_script.specs.Parts.{time_of, context_of, stays}
+use Rattle.source_rows.specs.declared.row.Row.{Row}
+use Rattle.source_rows.specs.Rows.{RowSet, destroyed, ready_set, reprioritised, priority_fault}
+use Rattle.cancel_view.specs.Seen.{has, may_disconnect}
+use Rattle.post_office.specs.declared.letter.Body.{Body as Mail}
+use Rattle.post_office.specs.declared.letter.Body.TheVariants as mails
+use Rattle.context_core.specs.Defaults.{is_on_top}
+use Rattle.lane_turn.specs.declared.line.Event.TheVariants as events
+use Rattle.lane_turn.specs.declared.line.Word.{Word}
+use Rattle.lane_turn.specs.declared.line.Word.TheVariants as words
+use Rattle.lane_turn.specs.declared.lane.Status.TheVariants.{Halted}
+use Rattle.lane_turn.specs.declared.slot.Place.{Place}
+use Rattle.lane_turn.specs.declared.layer.Asker.{Asker}
+use Rattle.lane_turn.specs.declared.layer.Asker.TheVariants as askers
+use Rattle.lane_turn.specs.declared.line.Invoked.TheVariants.{Posted}
+use Rattle.loop_script.specs.declared.body.Body.TheVariants as bodies
+use Rattle.lane_turn.specs.declared.layer.Origin.{Origin}
+use Rattle.lane_turn.specs.declared.layer.Origin.TheVariants as origins
+use Rattle.lane_turn.specs.Frames.{Frame, CallOf, IterOf, LoopOf, owns, advanced, advanced_one, emptied, emptied_one, calls_in_progress}
+use Rattle.lane_turn.specs.Lane.{Lane, is_own, chosen, edited, pushed, set_running, row_at, place_at, handler_at, written, iterating, context_at, stopped}
+use Rattle.lane_turn.specs.Owned.{default_context, is_owned, may_release, called_at_once, calling, invoke_own, invoke_spec}
+use Rattle.lane_turn.specs.Handover.{may_give, with_given}
+use Rattle.lane_turn.specs.Holding.{gives_context}
+use Rattle.lane_turn.specs.Acted.{missed, acted, child_of, can_bear, on_source, set_priority_of, disconnect_of, connect, sends}
+use Rattle.lane_turn.specs.Step.{dispatching, returned, answered, body_of}
+use Rattle.lane_turn.specs.Replies.{reply_held}
+use Rattle.lane_turn.specs.Sources.{restarted}
+use Rattle.lane_turn.proofs.Mild.{plain_cancel, plain_handled}
+
+-- whether a letter that may be sent gives a context
+abbrev pub gives_maybe : ℕ → Option Mail → Bool
+gives_maybe c None = false
+gives_maybe c (Some body) = gives_context c body
+
+-- what frames own they owned before, or it is the lane's own, and not given
+abbrev pub OwnOn : (ℕ → Bool) → Option Mail → List Frame → List Frame → Type 0
+OwnOn own mail old new = (c : ℕ) → list_any (owns c) new ≡ true → (list_any (owns c) old ≡ true) ⊎ ((own c ≡ true) × (gives_maybe c mail ≡ false))
+
+pub own_same : (own : ℕ → Bool) (mail : Option Mail) (fs : List Frame) → OwnOn own mail fs fs
+own_same own mail fs c e = inl e
+
+own_either : (own : ℕ → Bool) (mail : Option Mail) (fs : List Frame) (x y : Lane) (b : Bool) → OwnOn own mail fs x.frames → OwnOn own mail fs y.frames → OwnOn own mail fs (cond b x y).frames
+own_either own mail fs x y true p q = p
+own_either own mail fs x y false p q = q
+
+-- what takes nothing of a context leaves it owned
+either_true : (x y z : Bool) → (x || y) ≡ true → (y ≡ true → z ≡ true) → (x ≡ true) ⊎ (z ≡ true)
+either_true true y z e f = inl refl
+either_true false y z e f = inr (f e)
+
+advanced_owns : (c : ℕ) (frame : Frame) → owns c (advanced_one frame) ≡ owns c frame
+advanced_owns c (CallOf call) = refl
+advanced_owns c (IterOf d ids asker) = refl
+advanced_owns c (LoopOf number d) = refl
+
+pub all_advanced : (c : ℕ) (fs : List Frame) → list_any (owns c) (advanced fs) ≡ list_any (owns c) fs
+all_advanced c [] = refl
+all_advanced c (frame ∷ fs) = ap (λ b. b || list_any (owns c) fs) (advanced_owns c frame)
+
+emptied_owns : (c d : ℕ) (frame : Frame) → owns c (emptied_one d frame) ≡ owns c frame
+emptied_owns c d (CallOf call) = refl
+emptied_owns c d (IterOf x ids asker) = refl
+emptied_owns c d (LoopOf number x) = refl
+
+all_emptied : (c d : ℕ) (fs : List Frame) → list_any (owns c) (emptied d fs) ≡ list_any (owns c) fs
+all_emptied c d [] = refl
+all_emptied c d (frame ∷ fs) = ap (λ b. b || list_any (owns c) (emptied d fs)) (emptied_owns c d frame) ∙ ap (λ b. owns c frame || b) (all_emptied c d fs)
+
+pub right_or : (x y : Bool) → y ≡ true → (x || y) ≡ true
+right_or true y e = refl
+right_or false y e = e
+
+pub own_advanced : (own : ℕ → Bool) (mail : Option Mail) (fs : List Frame) → OwnOn own mail fs (advanced fs)
+own_advanced own mail fs c e = inl (sym (all_advanced c fs) ∙ e)
+
+-- one more frame, of a context that is the lane's own, or of none
+own_pushed : (own : ℕ → Bool) (mail : Option Mail) (fs new : List Frame) (frame : Frame) → ((c : ℕ) → owns c frame ≡ true → (own c ≡ true) × (gives_maybe c mail ≡ false)) → OwnOn own mail fs new → OwnOn own mail fs (frame ∷ new)
+own_pushed own mail fs new frame f h c e = by (owns c frame) refl e
+  where
+    by : (b : Bool) → owns c frame ≡ b → (b || list_any (owns c) new) ≡ true → (list_any (owns c) fs ≡ true) ⊎ ((own c ≡ true) × (gives_maybe c mail ≡ false))
+    by true q k = inr (f c q)
+    by false q k = h c k
+
+-- an iteration of a context
+own_iterating : (own : ℕ → Bool) (mail : Option Mail) (fs : List Frame) (d : ℕ) (ids : List ℕ) (asker : Asker) → own d ≡ true → gives_maybe d mail ≡ false → OwnOn own mail fs (IterOf d ids asker ∷ emptied d fs)
+own_iterating own mail fs d ids asker o g =
+    own_pushed own mail fs (emptied d fs) (IterOf d ids asker) (λ c e. (subst (λ (n : ℕ). own n ≡ true) (eqb-true d c e) o, subst (λ (n : ℕ). gives_maybe n mail ≡ false) (eqb-true d c e) g)) (λ c e. inl (sym (all_emptied c d fs) ∙ e))
+
+-- ---- each action
+
+own_source : (own : ℕ → Bool) (tick : ℕ) (word : Word) (edit : ℕ → RowSet → RowSet) (o : Option Place) (lane : Lane) → OwnOn own None lane.frames (on_source tick word edit o lane).frames
+own_source own tick word edit None lane = own_same own None lane.frames
+own_source own tick word edit (Some place) lane = own_either own None lane.frames _ _ (is_some (row_at place lane)) (own_same own None lane.frames) (own_same own None lane.frames)
+
+own_child : (own : ℕ → Bool) (tick now slot : ℕ) (spec : SourceSpec) (o : Option Place) (lane : Lane) → OwnOn own None lane.frames (child_of tick now slot spec o lane).frames
+own_child own tick now slot spec None lane = own_same own None lane.frames
+own_child own tick now slot spec (Some place) lane = own_either own None lane.frames _ _ (can_bear place lane) (own_same own None lane.frames) (own_same own None lane.frames)
+
+own_priority : (own : ℕ → Bool) (tick : ℕ) (priority : ℤ) (o : Option Place) (lane : Lane) → OwnOn own None lane.frames (set_priority_of tick priority o lane).frames
+own_priority own tick priority None lane = own_same own None lane.frames
+own_priority own tick priority (Some place) lane = own_either own None lane.frames _ _ (is_none (priority_fault (row_at place lane))) (own_same own None lane.frames) (own_same own None lane.frames)
+
+own_disconnect : (own : ℕ → Bool) (tick : ℕ) (o : Option ℕ) (lane : Lane) → OwnOn own None lane.frames (disconnect_of tick o lane).frames
+own_disconnect own tick None lane = own_same own None lane.frames
+own_disconnect own tick (Some id) lane = own_either own None lane.frames _ _ (may_disconnect id lane.view) (own_same own None lane.frames) (own_same own None lane.frames)
+
+own_at_once : (own : ℕ → Bool) (mail : Option Mail) (tick context proc : ℕ) (acquires : Option ℕ) (lane : Lane) → ((c : ℕ) → owns c (CallOf (record { origin = origins.Invoke acquires; body = bodies.Procedure proc; place = 0 })) ≡ true → (own c ≡ true) × (gives_maybe c mail ≡ false)) → OwnOn own mail lane.frames (called_at_once tick context proc acquires lane).frames
+own_at_once own mail tick context proc acquires lane f =
+    own_either own mail lane.frames (calling tick context proc acquires lane) (stopped Halted (written tick events.HaltDepth lane)) (nat_lt (calls_in_progress lane.frames) 32) (own_pushed own mail lane.frames lane.frames (CallOf (record { origin = origins.Invoke acquires; body = bodies.Procedure proc; place = 0 })) f (own_same own mail lane.frames)) (own_same own mail lane.frames)
+
+own_invoke : (tick now context proc : ℕ) (lane : Lane) (b : Bool) → is_own context lane ≡ b
+    → OwnOn (λ c. is_own c lane) (cond b None (Some (mails.Attach context (invoke_spec proc)))) lane.frames (cond b (invoke_own tick now context proc lane) (written tick (events.Invoke context Posted) lane)).frames
+own_invoke tick now context proc lane false e = own_same (λ c. is_own c lane) (Some (mails.Attach context (invoke_spec proc))) lane.frames
+own_invoke tick now context proc lane true e =
+    own_either (λ c. is_own c lane) None lane.frames _ _ (is_owned context lane)
+    (own_at_once (λ c. is_own c lane) None tick context proc None lane (λ c k. let no : false ≡ true = k in cc))
+    (own_either (λ c. is_own c lane) None lane.frames _ _ (default_context lane == context)
+    (own_at_once (λ c. is_own c lane) None tick context proc (Some context) lane (λ c k. (subst (λ (n : ℕ). is_own n lane ≡ true) (eqb-true context c k) e, refl))) (own_same (λ c. is_own c lane) None lane.frames))
+
+own_iterate : (script : Plan) (tick context : ℕ) (lane : Lane) (b : Bool) → is_own context lane ≡ b → (asker : Asker) → OwnOn (λ c. is_own c lane) None lane.frames (cond b (iterating script tick context asker lane) (written tick (events.Iterate context false) lane)).frames
+own_iterate script tick context lane true e asker = own_iterating (λ c. is_own c lane) None lane.frames context (chosen script tick context lane) asker e refl
+own_iterate script tick context lane false e asker = own_same (λ c. is_own c lane) None lane.frames
+
+own_run : (tick number context : ℕ) (lane : Lane) (b : Bool) → is_own context lane ≡ b → OwnOn (λ c. is_own c lane) None lane.frames (cond b (pushed (LoopOf number context) (set_running number true lane)) (missed tick words.Run lane)).frames
+own_run tick number context lane true e =
+    own_pushed (λ c. is_own c lane) None lane.frames lane.frames (LoopOf number context) (λ c k. (subst (λ (n : ℕ). is_own n lane ≡ true) (eqb-true context c k) e, refl)) (own_same (λ c. is_own c lane) None lane.frames)
+own_run tick number context lane false e = own_same (λ c. is_own c lane) None lane.frames
+
+own_left : (own : ℕ → Bool) (fs after : List Frame) → after ≡ fs → OwnOn own None fs after
+own_left own fs after e c k = inl (ap (list_any (owns c)) (sym e) ∙ k)
+
+own_mail : (own : ℕ → Bool) (mail : Option Mail) (fs after : List Frame) → after ≡ fs → OwnOn own mail fs after
+own_mail own mail fs after e c k = inl (ap (list_any (owns c)) (sym e) ∙ k)
+
+pub own_acted : (script : Plan) (tick : ℕ) (action : Action) (lane : Lane) → OwnOn (λ c. is_own c lane) (sends script action lane) lane.frames (acted script tick action lane).frames
+own_acted script tick (actions.Attach context slot spec) lane = own_either (λ c. is_own c lane) None lane.frames _ _ (is_own context lane) (own_same (λ c. is_own c lane) None lane.frames) (own_same (λ c. is_own c lane) None lane.frames)
+own_acted script tick (actions.Child parent slot spec) lane = own_child (λ c. is_own c lane) tick (time_of script tick) slot spec (place_at parent lane) lane
+own_acted script tick (actions.Destroy slot) lane = own_source (λ c. is_own c lane) tick words.Destroy destroyed (place_at slot lane) lane
+own_acted script tick (actions.SetReady slot us) lane = own_source (λ c. is_own c lane) tick words.SetReady (λ id. ready_set id us) (place_at slot lane) lane
+own_acted script tick (actions.SetPriority slot priority) lane = own_priority (λ c. is_own c lane) tick priority (place_at slot lane) lane
+own_acted script tick (actions.Iterate context) lane = own_iterate script tick context lane (is_own context lane) refl _
+own_acted script tick (actions.Pending context) lane = own_same (λ c. is_own c lane) None lane.frames
+own_acted script tick (actions.Run number) lane = own_run tick number (context_of script number) lane (is_own (context_of script number) lane) refl
+own_acted script tick (actions.Quit number) lane = own_either (λ c. is_own c lane) None lane.frames _ _ (is_own (context_of script number) lane) (own_same (λ c. is_own c lane) None lane.frames) (own_same (λ c. is_own c lane) None lane.frames)
+own_acted script tick (actions.Cancel c) lane = own_mail (λ c. is_own c lane) _ lane.frames _ (plain_cancel script tick c lane).frames
+own_acted script tick (actions.Connect c slot proc) lane =
+    own_either (λ c. is_own c lane) None lane.frames _ _ (has c lane.view) (own_left (λ c. is_own c lane) lane.frames _ (plain_handled script tick (record { id = 0; proc = proc }) lane).frames) (own_same (λ c. is_own c lane) None lane.frames)
+own_acted script tick (actions.Disconnect slot) lane = own_disconnect (λ c. is_own c lane) tick (handler_at slot lane) lane
+own_acted script tick (actions.Task spec) lane = own_same (λ c. is_own c lane) None lane.frames
+own_acted script tick (actions.Push context) lane = own_either (λ c. is_own c lane) None lane.frames _ _ (is_own context lane) (own_same (λ c. is_own c lane) None lane.frames) (own_same (λ c. is_own c lane) None lane.frames)
+own_acted script tick (actions.Pop context) lane = own_either (λ c. is_own c lane) None lane.frames _ _ (is_on_top context lane.defaults) (own_same (λ c. is_own c lane) None lane.frames) (own_same (λ c. is_own c lane) None lane.frames)
+own_acted script tick actions.ShowDefault lane = own_same (λ c. is_own c lane) None lane.frames
+own_acted script tick (actions.Acquire context) lane = own_either (λ c. is_own c lane) None lane.frames _ _ (is_own context lane) (own_same (λ c. is_own c lane) None lane.frames) (own_same (λ c. is_own c lane) None lane.frames)
+own_acted script tick (actions.Release context) lane = own_either (λ c. is_own c lane) None lane.frames _ _ (may_release (context_at context lane)) (own_same (λ c. is_own c lane) None lane.frames) (own_same (λ c. is_own c lane) None lane.frames)
+own_acted script tick (actions.Invoke context proc) lane = own_invoke tick (time_of script tick) context proc lane (is_own context lane) refl
+own_acted script tick (actions.Give context to) lane = by (may_give script context to lane)
+  where
+    by : (b : Bool) → OwnOn (λ c. is_own c lane) (cond b (Some (mails.Give context to)) None) lane.frames (cond b (written tick (events.Give context to) (with_given context true lane)) (written tick (events.Miss words.Give) lane)).frames
+    by true = own_same (λ c. is_own c lane) (Some (mails.Give context to)) lane.frames
+    by false = own_same (λ c. is_own c lane) None lane.frames
+own_acted script tick (actions.Log n) lane = own_same (λ c. is_own c lane) None lane.frames
+
+-- ---- what else a step does
+
+abbrev called_frame : ℕ → Row → Lane → Frame
+called_frame context row lane = CallOf (record {
+  origin = origins.Source (record { context = context; id = row.id; recurse = row.recurse; number = row.count + 1; once = is_some (reply_held context row.id lane.replies) });
+  body = body_of row.call;
+  place = 0;
+})
+
+pub own_dispatching : (own : ℕ → Bool) (tick context : ℕ) (row : Row) (lane : Lane) → OwnOn own None lane.frames (dispatching tick context row lane).frames
+own_dispatching own tick context row lane =
+    own_either own None lane.frames _ _ (nat_lt (calls_in_progress lane.frames) 32)
+    (own_pushed own None lane.frames (advanced lane.frames) (called_frame context row lane) (λ c k. let no : false ≡ true = k in cc) (own_advanced own None lane.frames)) (own_same own None lane.frames)
+
+pub own_returned : (own : ℕ → Bool) (script : Plan) (tick : ℕ) (body : Body) (origin : Origin) (lane : Lane) → OwnOn own None lane.frames (returned script tick body origin lane).frames
+own_returned own script tick body origins.Start lane = own_same own None lane.frames
+own_returned own script tick body (origins.Invoke acquired) lane = own_same own None lane.frames
+own_returned own script tick body (origins.Source caller) lane =
+    own_either own None lane.frames (edited caller.context (restarted (time_of script tick) caller.id) lane) (edited caller.context (destroyed caller.id) lane) (not caller.once && stays script body caller.number) (own_same own None lane.frames) (own_same own None lane.frames)
+
+pub own_answered : (own : ℕ → Bool) (tick context : ℕ) (asker : Asker) (lane : Lane) → OwnOn own None lane.frames (answered tick context asker lane).frames
+own_answered own tick context askers.Loop lane = own_same own None lane.frames
+own_answered own tick context (askers.Iterate any) lane = own_same own None lane.frames
+
+-- where nothing more is owned
+abbrev pub OwnsLess : List Frame → List Frame → Type 0
+OwnsLess old new = (c : ℕ) → list_any (owns c) new ≡ true → list_any (owns c) old ≡ true
+
+pub less_dropped : (fs : List Frame) → OwnsLess fs (drop 1 fs)
+less_dropped [] c e = e
+less_dropped (frame ∷ fs) c e = right_or (owns c frame) (list_any (owns c) fs) e
+
+pub less_advanced : (fs : List Frame) → OwnsLess fs (advanced fs)
+less_advanced fs c e = sym (all_advanced c fs) ∙ e
+
+pub own_after : (own : ℕ → Bool) (mail : Option Mail) (a b c : List Frame) → OwnsLess a b → OwnOn own mail b c → OwnOn own mail a c
+own_after own mail a b c h g x e = by (g x e)
+  where
+    by : (list_any (owns x) b ≡ true) ⊎ ((own x ≡ true) × (gives_maybe x mail ≡ false)) → (list_any (owns x) a ≡ true) ⊎ ((own x ≡ true) × (gives_maybe x mail ≡ false))
+    by (inl p) = inl (h x p)
+    by (inr p) = inr p
+
+-- an iteration that a loop begins, of a context that it owns
+pub own_looped : (own : ℕ → Bool) (number d : ℕ) (ids : List ℕ) (asker : Asker) (below : List Frame) → OwnOn own None (LoopOf number d ∷ below) (IterOf d ids asker ∷ emptied d (LoopOf number d ∷ below))
+own_looped own number d ids asker below c e = inl (by (d == c) refl e)
+  where
+    by : (b : Bool) → (d == c) ≡ b → (b || ((d == c) || list_any (owns c) (emptied d below))) ≡ true → ((d == c) || list_any (owns c) below) ≡ true
+    by true q k = ap (λ b. b || list_any (owns c) below) q
+    by false q k = ap (λ b. b || list_any (owns c) below) q ∙ (sym (all_emptied c d below) ∙ (sym (ap (λ b. b || list_any (owns c) (emptied d below)) q) ∙ k))
