@@ -68,7 +68,7 @@ Told tick lane after l = (l.tick ≡ tick) × TellsDepth after.frames l.event ×
 
 pub record Does (tick : ℕ) (lane after : Lane) : Type 0 where
   pub lines : Grows (Told tick lane after) lane.trace after.trace
-  pub counted : AllNumbered lane → Counted lane → Counted after
+  pub counted : (front : List Line) → AllNumbered lane → Counted front lane → Counted front after
   pub rows : AllFollow lane.contexts after.contexts
 
 other_told : (tick : ℕ) (lane after : Lane) (t : ℕ) (event : Event) → t ≡ tick → IsOther (calls_in_progress lane.frames) event → (t ≡ tick) × TellsDepth after.frames event × IsShallow event × TellsNext lane after event × HaltsOver lane.frames event
@@ -79,7 +79,7 @@ other_told tick lane after t _ e h = (e, tt, tt, tt, tt)
 pub of_acts : (tick : ℕ) (lane after : Lane) → Acts tick (calls_in_progress lane.frames) lane after → Does tick lane after
 of_acts tick lane after h = record {
   lines = grows_as (OtherAt tick (calls_in_progress lane.frames)) (Told tick lane after) (λ l p. other_told tick lane after l.tick l.event p.0 p.1) lane.trace after.trace h.lines;
-  counted = λ n. counted_acts tick (calls_in_progress lane.frames) lane after h.lines h.rows;
+  counted = λ front n. counted_acts front tick (calls_in_progress lane.frames) lane after h.lines h.rows;
   rows = follow_all lane.contexts after.contexts h.rows;
 }
 
@@ -102,7 +102,7 @@ does_dispatched tick context row lane next h =
     let told : Told tick lane after first = (refl, omega (arith, same), (omega arith, omega (arith, h, few_dispatches lane.frames)), record { row = row; same = refl; next = next; frames = refl; number = number }, tt) in
     record {
       lines = grows_trans (Told tick lane after) lane.trace (lane.trace ++ first ∷ []) after.trace (grows_line (Told tick lane after) lane.trace first told) (result_grows tick lane after (reply_held context row.id lane.replies) lane.view (lane.trace ++ first ∷ []));
-      counted = counted_dispatched context row lane after next.there refl rise;
+      counted = λ front. counted_dispatched front context row lane after next.there refl rise;
       rows = all_changed (with_rows (counted_once row.id)) (λ c. follows_counted row.id c.rows) lane.contexts context;
     }
 

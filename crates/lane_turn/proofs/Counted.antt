@@ -36,7 +36,7 @@ none_more : (tick n c i : ℕ) (ls : List Line) → AllByRecursion (OtherAt tick
 none_more tick n c i [] h = refl
 none_more tick n c i (l ∷ ls) h = sum_by-cons (λ (l : Line). cond (is_dispatch_of c i l.event) 1 0) l ls ∙ (ap (λ b. cond b 1 0 + dispatches c i ls) (other_none n c i l.event (h.0).1) ∙ omega (arith, none_more tick n c i ls h.1))
 
-dispatches_joined : (c i : ℕ) (xs ys : List Line) → dispatches c i (xs ++ ys) ≡ dispatches c i xs + dispatches c i ys
+pub dispatches_joined : (c i : ℕ) (xs ys : List Line) → dispatches c i (xs ++ ys) ≡ dispatches c i xs + dispatches c i ys
 dispatches_joined c i xs ys = sum_by-append (λ (l : Line). cond (is_dispatch_of c i l.event) 1 0) xs ys
 
 pub same_others : (tick n c i : ℕ) (xs ys : List Line) → Grows (OtherAt tick n) xs ys → dispatches c i ys ≡ dispatches c i xs
@@ -64,8 +64,9 @@ abbrev pub CountedIn : ℕ → List Line → Option Context → Type 0
 CountedIn i lines None = Unit {0}
 CountedIn i lines (Some c) = IsCounted i lines c.rows
 
-abbrev pub Counted : Lane → Type 0
-Counted lane = (i : ℕ) → CountedIn i lane.trace (present (slice_get lane.contexts i))
+-- of a lane, behind lines of others
+abbrev pub Counted : List Line → Lane → Type 0
+Counted front lane = (i : ℕ) → CountedIn i (front ++ lane.trace) (present (slice_get lane.contexts i))
 
 abbrev pub AllNumbered : Lane → Type 0
 AllNumbered lane = (i : ℕ) → NumberedIn (present (slice_get lane.contexts i))
@@ -80,14 +81,18 @@ counted_edit i xs ys s u e same h = record {
   new = λ id l. same id ∙ h.new id (omega (arith, l, (e.follows).next));
 }
 
-counted_edited : (i : ℕ) (xs ys : List Line) (o p : Option Context) → EditsIn o p → ((id : ℕ) → dispatches i id ys ≡ dispatches i id xs) → CountedIn i xs o → CountedIn i ys p
+pub counted_edited : (i : ℕ) (xs ys : List Line) (o p : Option Context) → EditsIn o p → ((id : ℕ) → dispatches i id ys ≡ dispatches i id xs) → CountedIn i xs o → CountedIn i ys p
 counted_edited i xs ys None None e same h = tt
 counted_edited i xs ys None (Some d) e same h = absurd e
 counted_edited i xs ys (Some c) None e same h = absurd e
 counted_edited i xs ys (Some c) (Some d) e same h = counted_edit i xs ys c.rows d.rows e same h
 
-pub counted_acts : (tick n : ℕ) (lane after : Lane) → Grows (OtherAt tick n) lane.trace after.trace → AllEdit lane.contexts after.contexts → Counted lane → Counted after
-counted_acts tick n lane after g e h i = counted_edited i lane.trace after.trace (present (slice_get lane.contexts i)) (present (slice_get after.contexts i)) (e i) (λ id. same_others tick n i id lane.trace after.trace g) (h i)
+behind_same : (c i : ℕ) (front xs ys : List Line) → dispatches c i ys ≡ dispatches c i xs → dispatches c i (front ++ ys) ≡ dispatches c i (front ++ xs)
+behind_same c i front xs ys e = omega (arith, dispatches_joined c i front ys, dispatches_joined c i front xs, e)
+
+pub counted_acts : (front : List Line) (tick n : ℕ) (lane after : Lane) → Grows (OtherAt tick n) lane.trace after.trace → AllEdit lane.contexts after.contexts → Counted front lane → Counted front after
+counted_acts front tick n lane after g e h i =
+    counted_edited i (front ++ lane.trace) (front ++ after.trace) (present (slice_get lane.contexts i)) (present (slice_get after.contexts i)) (e i) (λ id. behind_same i id front lane.trace after.trace (same_others tick n i id lane.trace after.trace g)) (h i)
 
 -- ---- a dispatch
 
@@ -154,24 +159,27 @@ there_in : (context id i : ℕ) (xs ys : List Line) (o : Option Context) → Ris
 there_in context id i xs ys None rise n h = tt
 there_in context id i xs ys (Some c) rise n h = counted_there context id i xs ys c.rows rise n h
 
-pub counted_dispatched : (context : ℕ) (row : Row) (lane after : Lane) → row_of context row.id lane ≡ Some row → after.contexts ≡ slice_set lane.contexts context (option_map (with_rows (counted_once row.id)) (context_at context lane))
-    → ((i : ℕ) → Rise context row.id i lane.trace after.trace) → AllNumbered lane → Counted lane → Counted after
-counted_dispatched context row lane after f e rise n h i =
+rise_behind : (front : List Line) (context id i : ℕ) (xs ys : List Line) → Rise context id i xs ys → Rise context id i (front ++ xs) (front ++ ys)
+rise_behind front context id i xs ys r j = omega (arith, dispatches_joined i j front ys, dispatches_joined i j front xs, r j)
+
+pub counted_dispatched : (front : List Line) (context : ℕ) (row : Row) (lane after : Lane) → row_of context row.id lane ≡ Some row → after.contexts ≡ slice_set lane.contexts context (option_map (with_rows (counted_once row.id)) (context_at context lane))
+    → ((i : ℕ) → Rise context row.id i lane.trace after.trace) → AllNumbered lane → Counted front lane → Counted front after
+counted_dispatched front context row lane after f e rise n h i =
     let g : Context → Context = with_rows (counted_once row.id) in
-    subst (λ (os : List (Option Context)). CountedIn i after.trace (present (slice_get os i))) (sym e) (by (set_cases g lane.contexts context i))
+    subst (λ (os : List (Option Context)). CountedIn i (front ++ after.trace) (present (slice_get os i))) (sym e) (by (set_cases g lane.contexts context i))
   where
     by : let now : Option Context = present (slice_get (slice_set lane.contexts context (option_map (with_rows (counted_once row.id)) (context_at context lane))) i) in
-        ((i ≡ context) × (now ≡ option_map (with_rows (counted_once row.id)) (present (slice_get lane.contexts i)))) ⊎ ((i ≢ context) × (now ≡ present (slice_get lane.contexts i))) → CountedIn i after.trace now
+        ((i ≡ context) × (now ≡ option_map (with_rows (counted_once row.id)) (present (slice_get lane.contexts i)))) ⊎ ((i ≢ context) × (now ≡ present (slice_get lane.contexts i))) → CountedIn i (front ++ after.trace) now
     by (inl p) =
         let there : row_in row.id (present (slice_get lane.contexts i)) ≡ Some row = ap (λ (k : ℕ). row_in row.id (present (slice_get lane.contexts k))) p.0 ∙ f in
-        let risen : Rise i row.id i lane.trace after.trace = subst (λ (k : ℕ). Rise k row.id i lane.trace after.trace) (sym p.0) (rise i) in
-        subst (CountedIn i after.trace) (sym p.1) (here_in i row.id lane.trace after.trace (present (slice_get lane.contexts i)) row refl risen (n i) there (h i))
-    by (inr p) = subst (CountedIn i after.trace) (sym p.1) (there_in context row.id i lane.trace after.trace (present (slice_get lane.contexts i)) (rise i) p.0 (h i))
+        let risen : Rise i row.id i (front ++ lane.trace) (front ++ after.trace) = subst (λ (k : ℕ). Rise k row.id i (front ++ lane.trace) (front ++ after.trace)) (sym p.0) (rise_behind front context row.id i lane.trace after.trace (rise i)) in
+        subst (CountedIn i (front ++ after.trace)) (sym p.1) (here_in i row.id (front ++ lane.trace) (front ++ after.trace) (present (slice_get lane.contexts i)) row refl risen (n i) there (h i))
+    by (inr p) = subst (CountedIn i (front ++ after.trace)) (sym p.1) (there_in context row.id i (front ++ lane.trace) (front ++ after.trace) (present (slice_get lane.contexts i)) (rise_behind front context row.id i lane.trace after.trace (rise i)) p.0 (h i))
 
 -- the count of a source that is found
 count_found : (i id : ℕ) (lines : List Line) (o : Option Context) (row : Row) → CountedIn i lines o → row_in id o ≡ Some row → row.count ≡ dispatches i row.id lines
 count_found i id lines None row h e = let no : None ≡ Some row = e in cc
 count_found i id lines (Some c) row h e = are_same row.count (dispatches i row.id lines) (found (λ (r : Row). (r.count == dispatches i r.id lines) ≡ true) id row c.rows.rows h.rows e)
 
-pub count_of : (lane : Lane) (context id : ℕ) (row : Row) → Counted lane → row_of context id lane ≡ Some row → row.count ≡ dispatches context row.id lane.trace
-count_of lane context id row h e = count_found context id lane.trace (context_at context lane) row (h context) e
+pub count_of : (front : List Line) (lane : Lane) (context id : ℕ) (row : Row) → Counted front lane → row_of context id lane ≡ Some row → row.count ≡ dispatches context row.id (front ++ lane.trace)
+count_of front lane context id row h e = count_found context id (front ++ lane.trace) (context_at context lane) row (h context) e

@@ -165,7 +165,7 @@ fair_lanes script tick a h (lane ∷ lanes) k g l =
 
 -- ---- all lanes, tick by tick
 
-all_from : (P : Lane → Type 0) (lanes : List Lane) → ((d : Lane) (i : ℕ) → i < length lanes → P (get_or lanes i d)) → AllByRecursion P lanes
+pub all_from : (P : Lane → Type 0) (lanes : List Lane) → ((d : Lane) (i : ℕ) → i < length lanes → P (get_or lanes i d)) → AllByRecursion P lanes
 all_from P [] f = tt
 all_from P (lane ∷ lanes) f = (f lane 0 (omega arith), all_from P lanes (λ d i l. f d (suc i) (omega (arith, l))))
 
@@ -175,7 +175,7 @@ pub record AreHeld (script : Plan) (h : ℕ → ℕ) (lanes : List Lane) : Type 
   pub counted : Counted 0 lanes
   pub each : AllByRecursion (Stands script h) lanes
 
-mapped : (P Q : Lane → Type 0) (f : Lane → Lane) → ((lane : Lane) → P lane → Q (f lane)) → (lanes : List Lane) → AllByRecursion P lanes → AllByRecursion Q (map f lanes)
+pub mapped : (P Q : Lane → Type 0) (f : Lane → Lane) → ((lane : Lane) → P lane → Q (f lane)) → (lanes : List Lane) → AllByRecursion P lanes → AllByRecursion Q (map f lanes)
 mapped P Q f g [] a = tt
 mapped P Q f g (lane ∷ lanes) a = (g lane a.0, mapped P Q f g lanes a.1)
 

@@ -1,6 +1,6 @@
 -- Where a source is after a call of it.
-use Rattle.std.specs.Prelude.{◌≡◌, ℕ, ◌+◌, ◌≤◌, ◌==◌, ◌&&◌, Bool, true, false, ◌↔◌, Option, Some, None, List, [], ◌∷◌, length, count_by, is_some, slice_get}
-use Rattle.std.specs.List.{AllByRecursion}
+use Rattle.std.specs.Prelude.{◌≡◌, ℕ, ◌+◌, ◌≤◌, ◌==◌, ◌&&◌, Bool, true, false, ◌↔◌, Option, Some, None, List, [], ◌∷◌, ◌++◌, length, count_by, is_some, slice_get, if◌then◌else◌}
+use Rattle.std.specs.List.{AllByRecursion, flat_map}
 use Rattle.loop_script.specs.declared.plan.Plan.{Plan}
 use Rattle.loop_script.specs.declared.plan.Proc.{Proc}
 use Rattle.loop_script.specs.declared.body.Body.{Body}
@@ -19,8 +19,8 @@ use Rattle.lane_turn.specs.Step.{step}
 use Rattle.lane_turn.specs.Tick.{lanes_at}
 use Rattle.lane_turn.specs.Replies.{reply_held}
 use Rattle.lane_turn.specs.Traces.{Grows}
-use Rattle.lane_turn.specs.Blocked.{turn_within, OfEachStep}
-use Rattle.loop_script.specs.Units.{Tick, ContextNumber, ProcNumber, SourceId}
+use Rattle.lane_turn.specs.Blocked.{turn_within}
+use Rattle.loop_script.specs.Units.{Tick, LaneNumber, ContextNumber, ProcNumber, SourceId}
 
 -- a source that is there
 abbrev pub IsThere : ContextNumber → SourceId → Lane → Type 0
@@ -65,9 +65,9 @@ abbrev pub Calls : Option ProcNumber → Body → Type 0
 Calls None body = body ≡ Nothing
 Calls (Some proc) body = body ≡ Procedure proc
 
--- a source's dispatch began: its call is the innermost now, and knows which dispatch of the source it is, whether the source may
--- recurse, and whether it held a reply; its line is one
-pub record IsBegun (context : ContextNumber) (id : SourceId) (before now : Lane) : Type 0 where
+-- a source's dispatch began: its call is the innermost now, and knows which dispatch of the source it is, by the lines of others and its
+-- lane's, whether the source may recurse, and whether it held a reply; its line is one
+pub record IsBegun (context : ContextNumber) (id : SourceId) (others : List Line) (before now : Lane) : Type 0 where
   pub row : Row
   pub there : row_of context id before ≡ Some row
   pub caller : Caller
@@ -77,20 +77,25 @@ pub record IsBegun (context : ContextNumber) (id : SourceId) (before now : Lane)
   pub same_context : caller.context ≡ context
   pub same_id : caller.id ≡ id
   pub calls : Calls row.call body
-  pub number : caller.number ≡ dispatches context id now.trace
+  pub number : caller.number ≡ dispatches context id (others ++ now.trace)
   pub line : dispatches context id now.trace ≡ dispatches context id before.trace + 1
   pub recurse : caller.recurse ≡ row.recurse
   pub once : caller.once ≡ is_some (reply_held context id before.replies)
 
 -- what a line of a dispatch tells has begun
-abbrev pub Begins : (before now : Lane) → Event → Type 0
-Begins before now (events.Dispatch context id priority depth) = IsBegun context id before now
-Begins before now _ = Unit {0}
+abbrev pub Begins : (others : List Line) (before now : Lane) → Event → Type 0
+Begins others before now (events.Dispatch context id priority depth) = IsBegun context id others before now
+Begins others before now _ = Unit {0}
+
+-- the lines of lanes but of one, by its number
+abbrev pub lines_but : LaneNumber → List Lane → List Line
+lines_but number lanes = flat_map (λ lane. if lane.number == number then [] else lane.trace) lanes
 
 -- after its n-th dispatch a source is there exactly where `keep` says so
 pub record SourcesStay : Type 0 where
-  -- in a run each dispatch begins a call of that source, and the n-th a call that knows that it is the n-th
-  pub begins : (script : Plan) → OfEachStep script (λ t u. Grows (λ line. Begins t.lane u.lane line.event) t.lane.trace u.lane.trace)
+  -- in a run each dispatch begins a call of that source, and the n-th a call that knows that it is the n-th, whichever lanes had its context before
+  pub begins : (script : Plan) (tick : Tick) (steps : ℕ) → AllByRecursion (λ lane. (u : Turn) → step script tick (turn_within script tick steps lane) ≡ Some u
+      → Grows (λ line. Begins (lines_but lane.number (lanes_at script tick)) (turn_within script tick steps lane).lane u.lane line.event) (turn_within script tick steps lane).lane.trace u.lane.trace) (lanes_at script tick)
   -- when the call of a source's n-th dispatch ends, the source is there exactly where it was not destroyed before, it was no
   -- reply's, and `keep` lets it stay
   pub ends : (script : Plan) → length script.lanes ≤ 64 → (tick : Tick) (steps : ℕ) → tick ≤ 4096
