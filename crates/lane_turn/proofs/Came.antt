@@ -32,16 +32,16 @@ use Rattle.lane_turn.proofs.Arrivals.{has_own, still_has}
 use Rattle.lane_turn.proofs.Adds.{each_as, each_joined}
 use Rattle.lane_turn.proofs.Taking.{IsFresh}
 use Rattle.lane_turn.proofs.Moving.{turned_moves}
-use Rattle.lane_turn.proofs.Sums.{fresh_delivered}
+use Rattle.lane_turn.proofs.Sums.{went}
 use Rattle.lane_turn.proofs.Brought.{open_fresh, letter_gains}
 use Rattle.lane_turn.proofs.Waits.{NumberedIn}
-use Rattle.lane_turn.proofs.Freed.{Sits, sits_step, sits_received, numbered_all}
 use Rattle.lane_turn.proofs.Lists.{each-push}
 use Rattle.lane_turn.proofs.Sends.{IsAllowed, of_invoke, step_tells}
 use Rattle.lane_turn.proofs.Turns.{kept_finished}
-use Rattle.lane_turn.proofs.Ungiven.{none_over, each_lane_alone}
 use Rattle.lane_turn.specs.Handover.{handed_over}
-use Rattle.lane_turn.proofs.Slots.{ArePast, past_at, past_turned, past_delivered, past_open}
+use Rattle.lane_turn.proofs.Slots.{IsUnder, ArePast, past_at}
+use Rattle.lane_turn.proofs.Given.{IsBound, past_in, bound_went, bound_run}
+use Rattle.lane_turn.proofs.Freed.{Rests, rests_went, rests_run}
 use Rattle.lane_turn.proofs.Handling.{IsNew, IsLeft, root_new, set_here, set_there, Named, Stays, Told, hands_cancel}
 use Rattle.lane_turn.proofs.Awaits.{Adds, letter_adds}
 
@@ -203,55 +203,35 @@ among_self : (o : Option Context) → NumberedIn o → AllByRecursion (IsAmong (
 among_self None h = tt
 among_self (Some c) h = all_of (λ (r : Row). row_with r.id c.rows.rows ≡ Some r) (IsAmong c.rows.rows) (λ r e. (r, e, refl)) c.rows.rows (all_found c.rows.rows h.rising)
 
-attached_in : (script : Plan) (tick context : ℕ) (letters : List Letter) (lane : Lane) → is_own context lane ≡ true → IsFresh lane → ArePast lane.contexts lane.slots → NumberedIn (context_at context lane)
+named_in : (most : ℕ → ℕ) (c id : ℕ) (o : Option Context) → is_some o ≡ true → IsUnder most c o id → id < next_id o
+named_in most c id None e u = let no : false ≡ true = e in cc
+named_in most c id (Some x) e u = u
+
+attached_in : (most : ℕ → ℕ) (script : Plan) (tick context : ℕ) (letters : List Letter) (lane : Lane) → is_own context lane ≡ true → IsFresh lane → ArePast most lane.contexts lane.slots → NumberedIn (context_at context lane)
     → AreAttached script tick context letters lane (received_all script tick letters lane)
-attached_in script tick context letters lane k fresh past numbered =
+attached_in most script tick context letters lane k fresh past numbered =
     let W : Type 0 = AllByRecursion (λ letter. CallsNone letter.body) letters in
     let before : List Row = rows_in (context_at context lane) in
     let first : ℕ = next_id (context_at context lane) in
     let order : ℕ = next_order (context_at context lane) in
     let kept : IsLeft W first order before [] (context_at context lane) = record { left = before; rows = sym (append-nil before); among = among_self (context_at context lane) numbered; whole = λ w. refl; at_id = refl; at_order = refl } in
-    let named : Named context first lane = λ slot place e same. subst (λ (c : ℕ). place.id < next_id (context_at c lane)) same (past_at lane.contexts lane.slots slot place past e) in
+    let named : Named context first lane = λ slot place e same. named_in most context place.id (context_at context lane) (has_own context lane k) (subst (λ (c : ℕ). IsUnder most c (context_at c lane) place.id) same (past_at most lane.contexts lane.slots slot place past e)) in
     let ends = delivered_ends W context first first order before [] script tick letters lane (omega arith) k (λ w. w) tt fresh (record { kept = kept; named = named }) in
     record { left = ends.left; rows = ends.rows; among = ends.among; whole = ends.whole; replies = ends.replies; held = ends.held }
-
--- what is so of each lane of a run
-record Runs (lane : Lane) : Type 0 where
-  fresh : IsFresh lane
-  past : ArePast lane.contexts lane.slots
-  sits : Sits lane
-
-runs_turned : (script : Plan) (tick : ℕ) (lane : Lane) → Runs lane → Runs (turned script tick lane)
-runs_turned script tick lane h = record {
-  fresh = (turned_moves 0 0 script tick lane).fresh h.fresh;
-  past = past_turned script tick lane h.past;
-  sits = kept_finished script tick (λ t. Sits t.lane) (sits_step script tick) (begun tick lane) (record { numbered = (h.sits).numbered; waits = (h.sits).waits });
-}
-
-runs_at : (script : Plan) (tick : ℕ) → AllByRecursion Runs (lanes_at script tick)
-runs_at script tick =
-    each_lane_alone script (λ k lane. Runs lane)
-    (λ n. record { fresh = open_fresh script n; past = past_open script n; sits = record { numbered = numbered_all script n (sizes script).contexts; waits = tt } })
-    (λ k letters lane h.
-    let r = runs_turned script k lane h in
-    let turn : Lane = turned script k lane in
-    record { fresh = fresh_delivered script k letters turn r.fresh; past = past_delivered script k letters turn r.past; sits = sits_received script k letters turn r.sits })
-    tick
 
 abbrev GainsAll : (script : Plan) (tick context : ℕ) (letters : List Letter) → Lane → Type 0
 GainsAll script tick context letters lane = is_own context lane ≡ true → AreAttached script tick context letters lane (received_all script tick letters lane)
 
+gains_each : (most : ℕ → ℕ) (script : Plan) (tick context : ℕ) (letters : List Letter) (lanes : List Lane) → AllByRecursion IsFresh lanes → AllByRecursion (IsBound most) lanes → AllByRecursion Rests lanes → AllByRecursion (GainsAll script tick context letters) lanes
+gains_each most script tick context letters [] f b r = tt
+gains_each most script tick context letters (lane ∷ lanes) f b r =
+    ((λ k. attached_in most script tick context letters lane k f.0 (past_in most lane b.0) (((r.0).sits).numbered context)), gains_each most script tick context letters lanes f.1 b.1 r.1)
+
 pub sources_run : (script : Plan) (tick context : ℕ) (letters : List Letter)
     → AllByRecursion (λ lane. is_own context lane ≡ true → AreAttached script tick context letters lane (received_all script tick letters lane)) (handed_over tick (posted_at script tick (lanes_at script tick)) (map (turned script tick) (lanes_at script tick)))
 sources_run script tick context letters =
-    subst (AllByRecursion (GainsAll script tick context letters)) (sym (none_over script tick (lanes_at script tick) (map (turned script tick) (lanes_at script tick)))) (each (lanes_at script tick) (runs_at script tick))
-  where
-    each : (lanes : List Lane) → AllByRecursion Runs lanes → AllByRecursion (GainsAll script tick context letters) (map (turned script tick) lanes)
-    each [] h = tt
-    each (lane ∷ lanes) h = by (each lanes h.1)
-      where
-        by : AllByRecursion (GainsAll script tick context letters) (map (turned script tick) lanes) → AllByRecursion (GainsAll script tick context letters) (map (turned script tick) (lane ∷ lanes))
-        by rest = ((λ k. let r = runs_turned script tick lane h.0 in attached_in script tick context letters (turned script tick lane) k r.fresh r.past ((r.sits).numbered context)), rest)
+    let b = bound_went script tick (bound_run script tick) in
+    gains_each b.0 script tick context letters (handed_over tick (posted_at script tick (lanes_at script tick)) (map (turned script tick) (lanes_at script tick))) (went 0 0 script tick).0 b.1 (rests_went script tick (rests_run script tick))
 
 -- ---- whose sources letters tell
 

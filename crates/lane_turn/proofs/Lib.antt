@@ -65,6 +65,7 @@ pub mod Sums
 pub mod Ungiven
 pub mod GoingOver
 pub mod Slots
+pub mod Given
 pub mod Handling
 pub mod Awaits
 pub mod Came

@@ -49,38 +49,54 @@ use Rattle.lane_turn.proofs.Added.{does}
 use Rattle.lane_turn.proofs.Traced.{brings_all}
 use Rattle.lane_turn.proofs.Turns.{kept_finished}
 
+-- an id that was given in a context: in one that is elsewhere it is below a bound
+abbrev pub IsUnder : (ℕ → ℕ) → ℕ → Option Context → ℕ → Type 0
+IsUnder most c None id = id < most c
+IsUnder most c (Some context) id = id < context.rows.next_id
+
 -- a slot names nothing, a handler, or a source whose id was given
-abbrev pub IsPast : List (Option Context) → Option Named → Type 0
-IsPast contexts None = Unit {0}
-IsPast contexts (Some (Source place)) = place.id < next_id (present (slice_get contexts place.context))
-IsPast contexts (Some (Handler id)) = Unit {0}
+abbrev pub IsPast : (ℕ → ℕ) → List (Option Context) → Option Named → Type 0
+IsPast most contexts None = Unit {0}
+IsPast most contexts (Some (Source place)) = IsUnder most place.context (present (slice_get contexts place.context)) place.id
+IsPast most contexts (Some (Handler id)) = Unit {0}
 
-abbrev pub ArePast : List (Option Context) → List (Option Named) → Type 0
-ArePast contexts slots = AllByRecursion (IsPast contexts) slots
+abbrev pub ArePast : (ℕ → ℕ) → List (Option Context) → List (Option Named) → Type 0
+ArePast most contexts slots = AllByRecursion (IsPast most contexts) slots
 
-past_held : (before after : List (Option Context)) → Rises before after → (thing : Option Named) → IsPast before thing → IsPast after thing
-past_held before after r None h = tt
-past_held before after r (Some (Source place)) h = omega (arith, h, r place.context)
-past_held before after r (Some (Handler id)) h = tt
+under_on : (most : ℕ → ℕ) (c id : ℕ) (o p : Option Context) → FollowsIn o p → IsUnder most c o id → IsUnder most c p id
+under_on most c id None None f h = h
+under_on most c id None (Some d) f h = absurd f
+under_on most c id (Some x) None f h = absurd f
+under_on most c id (Some x) (Some d) f h = omega (arith, h, f.next)
 
-past_still : (before after : List (Option Context)) → Rises before after → (slots : List (Option Named)) → ArePast before slots → ArePast after slots
-past_still before after r [] h = tt
-past_still before after r (thing ∷ slots) h = (past_held before after r thing h.0, past_still before after r slots h.1)
+-- what is below the next id of a context was given
+under_next : (most : ℕ → ℕ) (c id : ℕ) (o : Option Context) → id < next_id o → IsUnder most c o id
+under_next most c id None h = absurd (omega (arith, h))
+under_next most c id (Some x) h = h
 
-past_set : (contexts : List (Option Context)) (thing : Option Named) → IsPast contexts thing → (slots : List (Option Named)) (slot : ℕ) → ArePast contexts slots → ArePast contexts (slice_set slots slot thing)
-past_set contexts thing p [] slot h = tt
-past_set contexts thing p (x ∷ slots) zero h = (p, h.1)
-past_set contexts thing p (x ∷ slots) (suc slot) h = (h.0, past_set contexts thing p slots slot h.1)
+past_held : (most : ℕ → ℕ) (before after : List (Option Context)) → AllFollow before after → (thing : Option Named) → IsPast most before thing → IsPast most after thing
+past_held most before after r None h = tt
+past_held most before after r (Some (Source place)) h = under_on most place.context place.id (present (slice_get before place.context)) (present (slice_get after place.context)) (r place.context) h
+past_held most before after r (Some (Handler id)) h = tt
+
+past_still : (most : ℕ → ℕ) (before after : List (Option Context)) → AllFollow before after → (slots : List (Option Named)) → ArePast most before slots → ArePast most after slots
+past_still most before after r [] h = tt
+past_still most before after r (thing ∷ slots) h = (past_held most before after r thing h.0, past_still most before after r slots h.1)
+
+past_set : (most : ℕ → ℕ) (contexts : List (Option Context)) (thing : Option Named) → IsPast most contexts thing → (slots : List (Option Named)) (slot : ℕ) → ArePast most contexts slots → ArePast most contexts (slice_set slots slot thing)
+past_set most contexts thing p [] slot h = tt
+past_set most contexts thing p (x ∷ slots) zero h = (p, h.1)
+past_set most contexts thing p (x ∷ slots) (suc slot) h = (h.0, past_set most contexts thing p slots slot h.1)
 
 some_place : (a b : Place) → Some a ≡ Some b → a ≡ b
 some_place a b e = cc
 
-pub past_at : (contexts : List (Option Context)) (slots : List (Option Named)) (slot : ℕ) (place : Place) → ArePast contexts slots → source_of (held (slice_get slots slot)) ≡ Some place → place.id < next_id (present (slice_get contexts place.context))
-past_at contexts [] slot place h e = let no : None ≡ Some place = e in cc
-past_at contexts (None ∷ slots) zero place h e = let no : None ≡ Some place = e in cc
-past_at contexts (Some (Source it) ∷ slots) zero place h e = subst (λ (p : Place). p.id < next_id (present (slice_get contexts p.context))) (some_place it place e) h.0
-past_at contexts (Some (Handler id) ∷ slots) zero place h e = let no : None ≡ Some place = e in cc
-past_at contexts (x ∷ slots) (suc slot) place h e = past_at contexts slots slot place h.1 e
+pub past_at : (most : ℕ → ℕ) (contexts : List (Option Context)) (slots : List (Option Named)) (slot : ℕ) (place : Place) → ArePast most contexts slots → source_of (held (slice_get slots slot)) ≡ Some place → IsUnder most place.context (present (slice_get contexts place.context)) place.id
+past_at most contexts [] slot place h e = let no : None ≡ Some place = e in cc
+past_at most contexts (None ∷ slots) zero place h e = let no : None ≡ Some place = e in cc
+past_at most contexts (Some (Source it) ∷ slots) zero place h e = subst (λ (p : Place). IsUnder most p.context (present (slice_get contexts p.context)) p.id) (some_place it place e) h.0
+past_at most contexts (Some (Handler id) ∷ slots) zero place h e = let no : None ≡ Some place = e in cc
+past_at most contexts (x ∷ slots) (suc slot) place h e = past_at most contexts slots slot place h.1 e
 
 -- ---- what handlers leave of slots: all
 
@@ -117,10 +133,10 @@ slots_cancel script tick c lane =
 -- ---- what actions name by slots: what was given
 
 abbrev Names : Lane → Lane → Type 0
-Names lane after = ArePast after.contexts lane.slots → ArePast after.contexts after.slots
+Names lane after = (most : ℕ → ℕ) → ArePast most after.contexts lane.slots → ArePast most after.contexts after.slots
 
 names_same : (lane after : Lane) → after.slots ≡ lane.slots → Names lane after
-names_same lane after e h = subst (ArePast after.contexts) (sym e) h
+names_same lane after e most h = subst (ArePast most after.contexts) (sym e) h
 
 names_either : (lane x y : Lane) (b : Bool) → Names lane x → Names lane y → Names lane (cond b x y)
 names_either lane x y true p q = p
@@ -128,9 +144,9 @@ names_either lane x y false p q = q
 
 names_attach : (tick now context slot : ℕ) (spec : SourceSpec) (lane : Lane) (b : Bool) → is_own context lane ≡ b
     → Names lane (cond b (set_slot slot (Source (next_place context lane)) (edited context (attached spec now) lane)) (missed tick words.Attach lane))
-names_attach tick now context slot spec lane true e h =
-    past_set _ (Some (Source (next_place context lane))) (omega (arith, next_more (with_rows (attached spec now)) (λ c. refl) lane.contexts context (has_own context lane e))) lane.slots slot h
-names_attach tick now context slot spec lane false e h = h
+names_attach tick now context slot spec lane true e most h =
+    past_set most _ (Some (Source (next_place context lane))) (under_next most context (next_id (context_at context lane)) (present (slice_get (edited context (attached spec now) lane).contexts context)) (omega (arith, next_more (with_rows (attached spec now)) (λ c. refl) lane.contexts context (has_own context lane e)))) lane.slots slot h
+names_attach tick now context slot spec lane false e most h = h
 
 child_more : (spec : SourceSpec) (now levels : ℕ) (o : Option Row) (s : RowSet) → is_none (child_fault levels o) ≡ true → (child_added spec now o s).next_id ≡ s.next_id + 1
 child_more spec now levels None s e = let no : false ≡ true = e in cc
@@ -149,20 +165,20 @@ right_of false y e = let no : false ≡ true = e in cc
 
 names_born : (tick now slot : ℕ) (spec : SourceSpec) (place : Place) (lane : Lane) (b : Bool) → can_bear place lane ≡ b
     → Names lane (cond b (set_slot slot (Source (next_place place.context lane)) (edited place.context (born spec now place.id) lane)) (missed tick words.Child lane))
-names_born tick now slot spec place lane true e h =
-    past_set _ (Some (Source (next_place place.context lane))) (omega (arith, born_more spec now place.id lane.contexts place.context (right_of (is_own place.context lane) (can_bear_in place.id (context_at place.context lane)) e))) lane.slots slot h
-names_born tick now slot spec place lane false e h = h
+names_born tick now slot spec place lane true e most h =
+    past_set most _ (Some (Source (next_place place.context lane))) (under_next most place.context (next_id (context_at place.context lane)) (present (slice_get (edited place.context (born spec now place.id) lane).contexts place.context)) (omega (arith, born_more spec now place.id lane.contexts place.context (right_of (is_own place.context lane) (can_bear_in place.id (context_at place.context lane)) e)))) lane.slots slot h
+names_born tick now slot spec place lane false e most h = h
 
 names_child : (tick now slot : ℕ) (spec : SourceSpec) (o : Option Place) (lane : Lane) → Names lane (child_of tick now slot spec o lane)
-names_child tick now slot spec None lane h = h
-names_child tick now slot spec (Some place) lane h = names_born tick now slot spec place lane (can_bear place lane) refl h
+names_child tick now slot spec None lane most h = h
+names_child tick now slot spec (Some place) lane most h = names_born tick now slot spec place lane (can_bear place lane) refl most h
 
 names_connect : (script : Plan) (tick c slot proc : ℕ) (lane : Lane) → Names lane (connect script tick c slot proc lane)
 names_connect script tick c slot proc lane =
     let f : Fired = record { id = 0; proc = proc } in
     let called : Lane = handled script tick f lane in
-    names_either lane _ _ (has c lane.view) (λ h. past_set called.contexts (Some (Handler 0)) tt called.slots slot (subst (ArePast called.contexts) (sym (slots_handled script tick f lane)) h))
-    (λ h. past_set lane.contexts (Some (Handler lane.view.next_id)) tt lane.slots slot h)
+    names_either lane _ _ (has c lane.view) (λ most h. past_set most called.contexts (Some (Handler 0)) tt called.slots slot (subst (ArePast most called.contexts) (sym (slots_handled script tick f lane)) h))
+    (λ most h. past_set most lane.contexts (Some (Handler lane.view.next_id)) tt lane.slots slot h)
 
 slots_disconnect : (tick : ℕ) (o : Option ℕ) (lane : Lane) → (disconnect_of tick o lane).slots ≡ lane.slots
 slots_disconnect tick None lane = refl
@@ -191,22 +207,22 @@ names_acted script tick (Child parent slot spec) lane = names_child tick (time_o
 names_acted script tick (Destroy slot) lane = names_same lane (destroy tick slot lane) (slots_source tick words.Destroy destroyed (place_at slot lane) lane)
 names_acted script tick (SetReady slot us) lane = names_same lane (set_ready tick slot us lane) (slots_source tick words.SetReady (λ id. ready_set id us) (place_at slot lane) lane)
 names_acted script tick (SetPriority slot priority) lane = names_same lane (set_priority tick slot priority lane) (slots_priority tick priority (place_at slot lane) lane)
-names_acted script tick (Iterate context) lane = names_either lane _ _ (is_own context lane) (λ h. h) (λ h. h)
-names_acted script tick (Pending context) lane = λ h. h
-names_acted script tick (Run number) lane = names_either lane _ _ (is_own (context_of script number) lane) (λ h. h) (λ h. h)
-names_acted script tick (Quit number) lane = names_either lane _ _ (is_own (context_of script number) lane) (λ h. h) (λ h. h)
+names_acted script tick (Iterate context) lane = names_either lane _ _ (is_own context lane) (λ most h. h) (λ most h. h)
+names_acted script tick (Pending context) lane = λ most h. h
+names_acted script tick (Run number) lane = names_either lane _ _ (is_own (context_of script number) lane) (λ most h. h) (λ most h. h)
+names_acted script tick (Quit number) lane = names_either lane _ _ (is_own (context_of script number) lane) (λ most h. h) (λ most h. h)
 names_acted script tick (Cancel c) lane = names_same lane (cancel script tick c lane) (slots_cancel script tick c lane)
 names_acted script tick (Connect c slot proc) lane = names_connect script tick c slot proc lane
 names_acted script tick (Disconnect slot) lane = names_same lane (disconnect tick slot lane) (slots_disconnect tick (handler_at slot lane) lane)
-names_acted script tick (Task spec) lane = λ h. h
-names_acted script tick (Push context) lane = names_either lane _ _ (is_own context lane) (λ h. h) (λ h. h)
-names_acted script tick (Pop context) lane = names_either lane _ _ (is_on_top context lane.defaults) (λ h. h) (λ h. h)
-names_acted script tick ShowDefault lane = λ h. h
-names_acted script tick (Acquire context) lane = names_either lane _ _ (is_own context lane) (λ h. h) (λ h. h)
-names_acted script tick (Release context) lane = names_either lane _ _ (may_release (context_at context lane)) (λ h. h) (λ h. h)
+names_acted script tick (Task spec) lane = λ most h. h
+names_acted script tick (Push context) lane = names_either lane _ _ (is_own context lane) (λ most h. h) (λ most h. h)
+names_acted script tick (Pop context) lane = names_either lane _ _ (is_on_top context lane.defaults) (λ most h. h) (λ most h. h)
+names_acted script tick ShowDefault lane = λ most h. h
+names_acted script tick (Acquire context) lane = names_either lane _ _ (is_own context lane) (λ most h. h) (λ most h. h)
+names_acted script tick (Release context) lane = names_either lane _ _ (may_release (context_at context lane)) (λ most h. h) (λ most h. h)
 names_acted script tick (Invoke context proc) lane = names_same lane (invoke tick (time_of script tick) context proc lane) (slots_invoke tick (time_of script tick) context proc lane)
-names_acted script tick (Give context to) lane = λ h. h
-names_acted script tick (Log n) lane = λ h. h
+names_acted script tick (Give context to) lane = λ most h. h
+names_acted script tick (Log n) lane = λ most h. h
 
 -- ---- a step
 
@@ -217,32 +233,32 @@ some_same : (t u : Turn) → Some t ≡ Some u → t ≡ u
 some_same t u e = cc
 
 on_counted : (tick : ℕ) (mail : Option Mail) (f : Lane → Lane) (t : Turn) (left : ℕ) → Names t.lane (f t.lane) → On t (limited_by tick mail f t left)
-on_counted tick mail f t zero h = λ p. p
+on_counted tick mail f t zero h = λ most p. p
 on_counted tick mail f t (suc left) h = h
 
 on_returned : (script : Plan) (tick : ℕ) (body : Body) (origin : Origin) (lane : Lane) → Names lane (returned script tick body origin lane)
-on_returned script tick body origins.Start lane = λ p. p
-on_returned script tick body (origins.Invoke acquired) lane = λ p. p
-on_returned script tick body (origins.Source caller) lane = names_either lane _ _ (not caller.once && stays script body caller.number) (λ p. p) (λ p. p)
+on_returned script tick body origins.Start lane = λ most p. p
+on_returned script tick body (origins.Invoke acquired) lane = λ most p. p
+on_returned script tick body (origins.Source caller) lane = names_either lane _ _ (not caller.once && stays script body caller.number) (λ most p. p) (λ most p. p)
 
 on_answered : (tick context : ℕ) (asker : Asker) (lane : Lane) → Names lane (answered tick context asker lane)
-on_answered tick context askers.Loop lane = λ p. p
-on_answered tick context (askers.Iterate any) lane = λ p. p
+on_answered tick context askers.Loop lane = λ most p. p
+on_answered tick context (askers.Iterate any) lane = λ most p. p
 
 on_call : (script : Plan) (tick : ℕ) (t : Turn) (call : Call) (a : Option Action) → On t (step_call script tick t call a)
 on_call script tick t call (Some a) = on_counted tick (sends script a (taken t.lane)) (λ lane. acted script tick a (taken lane)) t t.left (names_acted script tick a (taken t.lane))
 on_call script tick t call None = on_returned script tick call.body call.origin (popped t.lane)
 
 on_id : (tick : ℕ) (t : Turn) (context : ℕ) (r : Option Row) → On t (step_id tick t context r)
-on_id tick t context None = λ p. p
+on_id tick t context None = λ most p. p
 on_id tick t context (Some row) =
-    on_counted tick None (dispatching tick context row) t t.left (names_either t.lane (dispatched tick context row t.lane) (stopped Halted (written tick events.HaltDepth t.lane)) (nat_lt (calls_in_progress t.lane.frames) 32) (λ p. p) (λ p. p))
+    on_counted tick None (dispatching tick context row) t t.left (names_either t.lane (dispatched tick context row t.lane) (stopped Halted (written tick events.HaltDepth t.lane)) (nat_lt (calls_in_progress t.lane.frames) 32) (λ most p. p) (λ most p. p))
 
 on_loop : (script : Plan) (tick : ℕ) (t : Turn) (number context : ℕ) (runs iterated : Bool) (u : Turn)
     → cond runs (cond iterated None (Some (record t { lane = iterating script tick context askers.Loop t.lane; iterated = true }))) (Some (with_lane (λ lane. written tick (events.LoopEnd number) (popped lane)) t)) ≡ Some u → On t u
 on_loop script tick t number context true true u e = cc
-on_loop script tick t number context true false u e = subst (On t) (some_same _ _ e) (λ p. p)
-on_loop script tick t number context false iterated u e = subst (On t) (some_same _ _ e) (λ p. p)
+on_loop script tick t number context true false u e = subst (On t) (some_same _ _ e) (λ most p. p)
+on_loop script tick t number context false iterated u e = subst (On t) (some_same _ _ e) (λ most p. p)
 
 abbrev turn : Turn → List Frame → Status → Turn
 turn t frames status = record t { lane = record t.lane { frames = frames; status = status }; unpolled = [] }
@@ -266,25 +282,15 @@ on_step script tick t frames Halted u e = cc
 
 on_polling : (script : Plan) (tick : ℕ) (t : Turn) (tasks : List Started) (u : Turn) → step_polling script tick (record t { unpolled = tasks }) tasks ≡ Some u → On (record t { unpolled = tasks }) u
 on_polling script tick t [] u e = on_step script tick t t.lane.frames t.lane.status u e
-on_polling script tick t (task ∷ tasks) u e = subst (On (record t { unpolled = task ∷ tasks })) (some_same _ _ e) (λ p. p)
+on_polling script tick t (task ∷ tasks) u e = subst (On (record t { unpolled = task ∷ tasks })) (some_same _ _ e) (λ most p. p)
 
-follow_next : (o p : Option Context) → FollowsIn o p → next_id o ≤ next_id p
-follow_next None None h = omega arith
-follow_next None (Some d) h = absurd h
-follow_next (Some c) None h = absurd h
-follow_next (Some c) (Some d) h = h.next
-
-rise_by : (before after : List (Option Context)) → AllFollow before after → Rises before after
-rise_by before after h i = follow_next (present (slice_get before i)) (present (slice_get after i)) (h i)
-
-past_step : (script : Plan) (tick : ℕ) (t u : Turn) → step script tick t ≡ Some u → ArePast t.lane.contexts t.lane.slots → ArePast u.lane.contexts u.lane.slots
-past_step script tick t u e h =
-    on_polling script tick t t.unpolled u e (past_still t.lane.contexts u.lane.contexts (rise_by t.lane.contexts u.lane.contexts (does script tick t u e).rows) t.lane.slots h)
+past_step : (most : ℕ → ℕ) (script : Plan) (tick : ℕ) (t u : Turn) → step script tick t ≡ Some u → ArePast most t.lane.contexts t.lane.slots → ArePast most u.lane.contexts u.lane.slots
+past_step most script tick t u e h = on_polling script tick t t.unpolled u e most (past_still most t.lane.contexts u.lane.contexts (does script tick t u e).rows t.lane.slots h)
 
 -- ---- turns and deliveries
 
-pub past_turned : (script : Plan) (tick : ℕ) (lane : Lane) → ArePast lane.contexts lane.slots → ArePast (turned script tick lane).contexts (turned script tick lane).slots
-past_turned script tick lane h = kept_finished script tick (λ t. ArePast t.lane.contexts t.lane.slots) (past_step script tick) (begun tick lane) h
+pub past_turned : (most : ℕ → ℕ) (script : Plan) (tick : ℕ) (lane : Lane) → ArePast most lane.contexts lane.slots → ArePast most (turned script tick lane).contexts (turned script tick lane).slots
+past_turned most script tick lane h = kept_finished script tick (λ t. ArePast most t.lane.contexts t.lane.slots) (past_step most script tick) (begun tick lane) h
 
 pub slots_received : (script : Plan) (tick sender : ℕ) (body : Mail) (lane : Lane) → (received_body script tick sender body lane).slots ≡ lane.slots
 slots_received script tick sender (mails.Attach d spec) lane = slots_either lane _ lane (is_own d lane) refl refl
@@ -296,15 +302,16 @@ slots_delivered : (script : Plan) (tick : ℕ) (letters : List Letter) (lane : L
 slots_delivered script tick [] lane = refl
 slots_delivered script tick (l ∷ letters) lane = slots_delivered script tick letters (received script tick l lane) ∙ slots_received script tick l.sender l.body lane
 
-pub past_delivered : (script : Plan) (tick : ℕ) (letters : List Letter) (lane : Lane) → ArePast lane.contexts lane.slots → ArePast (received_all script tick letters lane).contexts (received_all script tick letters lane).slots
-past_delivered script tick letters lane h =
+pub past_delivered : (most : ℕ → ℕ) (script : Plan) (tick : ℕ) (letters : List Letter) (lane : Lane) → ArePast most lane.contexts lane.slots → ArePast most (received_all script tick letters lane).contexts (received_all script tick letters lane).slots
+past_delivered most script tick letters lane h =
     let after : Lane = received_all script tick letters lane in
-    names_same lane after (slots_delivered script tick letters lane)
-    (past_still lane.contexts after.contexts (rise_by lane.contexts after.contexts (follow_all lane.contexts after.contexts (brings_all script tick letters lane).adds.rows)) lane.slots h)
+    names_same lane after (slots_delivered script tick letters lane) most
+    (past_still most lane.contexts after.contexts (follow_all lane.contexts after.contexts (brings_all script tick letters lane).adds.rows) lane.slots h)
 
-pub past_open : (script : Plan) (number : ℕ) → ArePast (opening script number).contexts (opening script number).slots
-past_open script number = all_open slot_count
+-- at first slots name nothing
+pub past_open : (most : ℕ → ℕ) (contexts : List (Option Context)) → ArePast most contexts (open_slots slot_count)
+past_open most contexts = all_open slot_count
   where
-    all_open : (n : ℕ) → ArePast (opening script number).contexts (open_slots n)
+    all_open : (n : ℕ) → ArePast most contexts (open_slots n)
     all_open zero = tt
-    all_open (suc n) = each-push (IsPast (opening script number).contexts) (open_slots n) None (all_open n) tt
+    all_open (suc n) = each-push (IsPast most contexts) (open_slots n) None (all_open n) tt

@@ -289,10 +289,10 @@ sent_cons s n l ls = sum_by-cons (λ (l : Letter). cond ((l.sender == s) && is_r
 
 -- lanes of which each context is one's
 pub record Holders (count lanes : ℕ) (h : ℕ → ℕ) (all : List Lane) : Type 0 where
-  counted : Counted 0 all
-  length_is : length all ≡ lanes
-  each : AllByRecursion (Fits count h []) all
-  below : (c : ℕ) → c < count → h c < lanes
+  pub counted : Counted 0 all
+  pub length_is : length all ≡ lanes
+  pub each : AllByRecursion (Fits count h []) all
+  pub below : (c : ℕ) → c < count → h c < lanes
 
 owned_by : (x y : Bool) → y ≡ false → (x && not y) ≡ x
 owned_by true y e = ap not e
