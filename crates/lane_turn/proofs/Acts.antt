@@ -17,6 +17,7 @@ use Rattle.lane_turn.specs.declared.line.Event.{Event}
 use Rattle.lane_turn.specs.declared.line.Event.TheVariants as events
 use Rattle.lane_turn.specs.Frames.{Frame, CallOf, IterOf, LoopOf, advanced, calls_in_progress}
 use Rattle.lane_turn.specs.Lane.{Lane, context_at, with_context, edited, taken, place_at, handler_at, next_place, set_slot, viewing, stopped, pushed, set_running, written, is_own}
+use Rattle.lane_turn.specs.Handover.{may_give, with_given}
 use Rattle.lane_turn.specs.Acted.{acted, born, child_of, on_source, set_priority_of, connect, disconnect_of}
 use Rattle.lane_turn.specs.declared.line.Word.{Word}
 use Rattle.lane_turn.specs.declared.line.Word.TheVariants as words
@@ -162,7 +163,7 @@ mild_acted script tick ShowDefault lane = quiet lane _ refl refl (omega arith)
 mild_acted script tick (Acquire context) lane = mild_acquire tick context lane
 mild_acted script tick (Release context) lane = mild_release tick context lane
 mild_acted script tick (Invoke context proc) lane = mild_invoke tick (time_of script tick) context proc lane
-mild_acted script tick (Give context to) lane = mild_line lane tick (events.Miss words.Give)
+mild_acted script tick (Give context to) lane = either lane (written tick (events.Give context to) (with_given context true lane)) (written tick (events.Miss words.Give) lane) (may_give script context to lane) (quiet lane _ refl refl (omega arith)) (mild_line lane tick (events.Miss words.Give))
 mild_acted script tick (Log n) lane = quiet lane _ refl refl (omega arith)
 
 -- the innermost call or iteration goes on

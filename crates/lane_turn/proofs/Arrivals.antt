@@ -32,11 +32,10 @@ use Rattle.lane_turn.specs.Acted.{missed, on_source, plain_acted, all_acted, han
 use Rattle.lane_turn.specs.Deliver.{reply_spec, holding, received_body, received, received_all}
 use Rattle.lane_turn.specs.Turn.{opening, open_context, open_contexts_to, begun, turned}
 use Rattle.lane_turn.specs.Tick.{lanes_at, posted_at}
-use Rattle.lane_turn.specs.Arrivals.{held_of, is_home, is_for_body, is_for, arrival_of, arrivals, ids_for}
+use Rattle.lane_turn.specs.Arrivals.{held_of, is_for_body, is_for, arrival_of, arrivals, ids_for}
 use Rattle.lane_turn.proofs.Sends.{step_tells}
 use Rattle.lane_turn.proofs.Delivered.{got_given, received_steady}
 use Rattle.lane_turn.proofs.Turns.{kept_finished}
-use Rattle.lane_turn.proofs.Ungiven.{given_kept, next_at}
 
 -- ---- whose contexts are
 
@@ -54,11 +53,7 @@ pub held_received : (script : Plan) (tick : ℕ) (letters : List Letter) (lane :
 held_received script tick [] lane = refl
 held_received script tick (l ∷ letters) lane = held_received script tick letters (received script tick l lane) ∙ (received_steady script tick l.sender l.body lane).holds
 
--- what is given stays so
-pub given_turned : (script : Plan) (tick : ℕ) (lane : Lane) → (turned script tick lane).given ≡ lane.given
-given_turned script tick lane =
-    kept_finished script tick (λ t. t.lane.given ≡ lane.given) (λ t u e h. let s = step_tells script tick t u e in s.given ∙ (given_kept script (taken t.lane) s.mail t.lane.given s.allowed ∙ h)) (begun tick lane) refl
-
+-- a delivery leaves what is given
 pub given_received : (script : Plan) (tick : ℕ) (letters : List Letter) (lane : Lane) → (received_all script tick letters lane).given ≡ lane.given
 given_received script tick [] lane = refl
 given_received script tick (l ∷ letters) lane = given_received script tick letters (received script tick l lane) ∙ ((received_steady script tick l.sender l.body lane).given ∙ got_given l.body lane.given)
@@ -109,30 +104,6 @@ open_by script lane k i false e h f =
 pub open_at : (script : Plan) (lane k i : ℕ) → i < k → slice_index_or (held_of (open_contexts_to script lane k)) i false ≡ (home_of script i == lane)
 open_at script lane zero i h = absurd (omega (arith, h))
 open_at script lane (suc k) i h = open_by script lane k i (nat_lt i k) refl h (λ lt. open_at script lane k i lt)
-
-abbrev has_it : ℕ → Lane → Bool
-has_it context lane = is_some (context_at context lane)
-
-held_open : (script : Plan) (context : ℕ) (numbers : List ℕ) → context < (sizes script).contexts → map (has_it context) (map (opening script) numbers) ≡ map (is_home script context) numbers
-held_open script context [] h = refl
-held_open script context (n ∷ numbers) h =
-    let lane : Lane = opening script n in
-    let first : has_it context lane ≡ is_home script context n = own_held lane.contexts context ∙ open_at script n (sizes script).contexts context h in
-    ap (λ b. b ∷ map (has_it context) (map (opening script) numbers)) first ∙ ap (λ bs. is_home script context n ∷ bs) (held_open script context numbers h)
-
-held_tick : (script : Plan) (tick context : ℕ) (letters : List Letter) (lanes : List Lane) → map (has_it context) (map (received_all script tick letters) (map (turned script tick) lanes)) ≡ map (has_it context) lanes
-held_tick script tick context letters [] = refl
-held_tick script tick context letters (lane ∷ lanes) =
-    let after : Lane = received_all script tick letters (turned script tick lane) in
-    let same : held_of after.contexts ≡ held_of lane.contexts = held_received script tick letters (turned script tick lane) ∙ held_turned script tick lane in
-    let one : has_it context after ≡ has_it context lane = own_held after.contexts context ∙ (ap (λ bs. slice_index_or bs context false) same ∙ sym (own_held lane.contexts context)) in
-    ap (λ b. b ∷ map (has_it context) (map (received_all script tick letters) (map (turned script tick) lanes))) one
-    ∙ ap (λ bs. has_it context lane ∷ bs) (held_tick script tick context letters lanes)
-
-pub held_at : (script : Plan) (tick context : ℕ) → context < (sizes script).contexts → map (λ lane. is_some (context_at context lane)) (lanes_at script tick) ≡ map (is_home script context) (range_with_len 0 (length script.lanes))
-held_at script zero context h = held_open script context (range_with_len 0 (length script.lanes)) h
-held_at script (suc tick) context h =
-    ap (map (has_it context)) (next_at script tick) ∙ (held_tick script tick context (posted_at script tick (lanes_at script tick)) (lanes_at script tick) ∙ held_at script tick context h)
 
 -- ---- what handlers leave alone
 

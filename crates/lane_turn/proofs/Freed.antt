@@ -25,7 +25,7 @@ use Rattle.lane_turn.specs.Frames.{Frame, CallOf, IterOf, LoopOf, blocked_by, bl
 use Rattle.lane_turn.specs.Sources.{no_sources}
 use Rattle.lane_turn.specs.Lane.{Lane, Kept, Turn, present, context_at, is_given, is_own, row_in, row_of, taken}
 use Rattle.lane_turn.specs.Owned.{has_ground, is_owned}
-use Rattle.lane_turn.specs.Handover.{Handing, gives, is_another, kept_of, handed_of, without_context, taken_over, let_go, handed, handed_over}
+use Rattle.lane_turn.specs.Handover.{Handing, is_another, kept_of, handed_of, without_context, taken_over, let_go, handed, handed_over}
 use Rattle.lane_turn.specs.Holding.{holder_at}
 use Rattle.lane_turn.specs.Step.{step}
 use Rattle.lane_turn.specs.Turn.{opening, begun, turned, open_context, open_contexts_to}
@@ -175,11 +175,10 @@ not_given script lane (Some (mails.Complete reply)) c a k e = refl
 not_given script lane (Some (mails.Cancelled x)) c a k e = refl
 not_given script lane (Some (mails.Give d to)) c a k e = by (eqb_tells d c)
   where
-    parts : (g o n x : Bool) → (g && (o && (n && x))) ≡ true → n ≡ true
-    parts true true true x p = refl
-    parts true true false x p = let no : false ≡ true = p in cc
-    parts true false n x p = let no : false ≡ true = p in cc
-    parts false o n x p = let no : false ≡ true = p in cc
+    parts : (o n x : Bool) → (o && (n && x)) ≡ true → n ≡ true
+    parts true true x p = refl
+    parts true false x p = let no : false ≡ true = p in cc
+    parts false n x p = let no : false ≡ true = p in cc
 
     ground : (o : Option Context) → context_at c lane ≡ o → is_some o ≡ true → has_ground c o lane ≡ true
     ground None q r = let no : false ≡ true = r in cc
@@ -191,7 +190,7 @@ not_given script lane (Some (mails.Give d to)) c a k e = by (eqb_tells d c)
     by : ((d == c) ≡ true × d ≡ c) ⊎ ((d == c) ≡ false × d ≢ c) → (d == c) ≡ false
     by (inr p) = p.0
     by (inl p) =
-        let none : not (is_owned d lane) ≡ true = parts gives (is_own d lane) (not (is_owned d lane)) (is_another script to lane) a in
+        let none : not (is_owned d lane) ≡ true = parts (is_own d lane) (not (is_owned d lane)) (is_another script to lane) a in
         let no : false ≡ true = sym (ap not owned) ∙ (ap (λ (n : ℕ). not (is_owned n lane)) (sym p.1) ∙ none) in
         cc
 

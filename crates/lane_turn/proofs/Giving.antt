@@ -14,7 +14,7 @@ use Rattle.lane_turn.specs.Lane.{Lane, Turn, context_at, is_given, is_own, taken
 use Rattle.lane_turn.specs.Owned.{is_owned}
 use Rattle.lane_turn.specs.Step.{letter, posted_with}
 use Rattle.lane_turn.specs.Turn.{begun, finished, turned, out_of}
-use Rattle.lane_turn.specs.Handover.{gives, is_another, may_give}
+use Rattle.lane_turn.specs.Handover.{is_another, may_give}
 use Rattle.lane_turn.specs.Holding.{gives_context}
 use Rattle.lane_turn.specs.Arrivals.{held_of}
 use Rattle.lane_turn.proofs.Lists.{each-push}
@@ -110,13 +110,12 @@ adds_none script count t body g none can = record {
 }
 
 -- what is allowed, part by part
-parts_of : (g o n a b : Bool) → (g && (o && (n && (a && b)))) ≡ true → (o ≡ true) × ((a ≡ true) × (b ≡ true))
-parts_of true true true true true e = (refl, (refl, refl))
-parts_of true true true true false e = let no : false ≡ true = e in cc
-parts_of true true true false b e = let no : false ≡ true = e in cc
-parts_of true true false a b e = let no : false ≡ true = e in cc
-parts_of true false n a b e = let no : false ≡ true = e in cc
-parts_of false o n a b e = let no : false ≡ true = e in cc
+parts_of : (o n a b : Bool) → (o && (n && (a && b))) ≡ true → (o ≡ true) × ((a ≡ true) × (b ≡ true))
+parts_of true true true true e = (refl, (refl, refl))
+parts_of true true true false e = let no : false ≡ true = e in cc
+parts_of true true false b e = let no : false ≡ true = e in cc
+parts_of true false a b e = let no : false ≡ true = e in cc
+parts_of false n a b e = let no : false ≡ true = e in cc
 
 both_of : (x y : Bool) → (x && not y) ≡ true → (x ≡ true) × (y ≡ false)
 both_of true true e = let no : false ≡ true = e in cc
@@ -128,7 +127,7 @@ not_same to number e p = let no : false ≡ true = sym (ap not (eq-eqb to number
 
 adds_give : (script : Plan) (count : ℕ) (t : Turn) (d to : ℕ) → Gave script count t → may_give script d to (taken t.lane) ≡ true → Adds script count t (mails.Give d to) (slice_set t.lane.given d true)
 adds_give script count t d to g a =
-    let p = parts_of gives (is_own d t.lane) (not (is_owned d (taken t.lane))) (nat_lt to (length script.lanes)) (not (to == t.lane.number)) a in
+    let p = parts_of (is_own d t.lane) (not (is_owned d (taken t.lane))) (nat_lt to (length script.lanes)) (not (to == t.lane.number)) a in
     let own = both_of (is_some (context_at d t.lane)) (is_given d t.lane) p.0 in
     let within : d < length t.lane.contexts = own_within t.lane.contexts d own.0 in
     let place : d < length t.lane.given = omega (arith, within, g.size, g.contexts) in

@@ -34,7 +34,7 @@ use Rattle.lane_turn.specs.Sources.{tree_levels, no_sources, restarted, restarte
 use Rattle.lane_turn.specs.Lane.{Lane, Turn, present, context_at, with_rows, with_context, edited, popped, taken, place_at, handler_at, row_of, row_in, row_at, is_running, written, viewing, noting, iterating, is_own}
 use Rattle.lane_turn.proofs.Whole.{whole}
 use Rattle.lane_turn.proofs.GoingOver.{going_over, ready_over}
-use Rattle.lane_turn.specs.Handover.{handed_over}
+use Rattle.lane_turn.specs.Handover.{handed_over, may_give, with_given}
 use Rattle.context_core.specs.Defaults.{acquired, released, is_on_top}
 use Rattle.lane_turn.specs.declared.line.Invoked.TheVariants.{Posted}
 use Rattle.lane_turn.specs.Owned.{default_context, is_owned, may_release, called_at_once, attaching, invoke_own, invoke, invoke_spec}
@@ -257,7 +257,7 @@ grown_acted levels script tick ShowDefault lane b h = h
 grown_acted levels script tick (Acquire context) lane b h = either levels _ _ (is_own context lane) (λ _. grown_change levels lane context acquired (λ c. refl) h) h
 grown_acted levels script tick (Release context) lane b h = either levels _ _ (may_release (context_at context lane)) (λ _. grown_change levels lane context released (λ c. refl) h) h
 grown_acted levels script tick (Invoke context proc) lane b h = grown_invoke levels tick (time_of script tick) context proc lane b h
-grown_acted levels script tick (Give context to) lane b h = h
+grown_acted levels script tick (Give context to) lane b h = either levels (written tick (events.Give context to) (with_given context true lane)) (written tick (events.Miss words.Give) lane) (may_give script context to lane) (λ _. h) h
 grown_acted levels script tick (Log n) lane b h = h
 
 -- ---- the steps

@@ -28,6 +28,7 @@ use Rattle.lane_watch.specs.Tasks.{Started}
 use Rattle.post_office.specs.declared.letter.Body.{Body as Mail}
 use Rattle.lane_turn.specs.declared.line.Invoked.TheVariants.{Posted}
 use Rattle.lane_turn.specs.Owned.{default_context, is_owned, calling, called_at_once, attaching, invoke_own, invoke}
+use Rattle.lane_turn.specs.Handover.{may_give, with_given}
 use Rattle.lane_turn.specs.Acted.{acted, sends, missed, child_of, on_source, set_priority_of, disconnect_of}
 use Rattle.lane_turn.specs.Step.{step, step_polling, step_call, step_id, returned, answered, limited_by, with_lane, dispatched, dispatching}
 use Rattle.lane_turn.proofs.Mild.{Plain, plain_cancel, plain_handled}
@@ -175,7 +176,8 @@ acted_on ch script tick ShowDefault lane k = taken_on ch lane.frames
 acted_on ch script tick (Acquire context) lane k = by_either ch lane.frames _ _ _ (taken_on ch lane.frames) (taken_on ch lane.frames)
 acted_on ch script tick (Release context) lane k = by_either ch lane.frames _ _ _ (taken_on ch lane.frames) (taken_on ch lane.frames)
 acted_on ch script tick (Invoke context proc) lane k = invoke_on ch tick (time_of script tick) context proc lane
-acted_on ch script tick (Give context to) lane k = taken_on ch lane.frames
+acted_on ch script tick (Give context to) lane k =
+    by_either ch lane.frames (written tick (events.Give context to) (with_given context true (taken lane))) (written tick (events.Miss words.Give) (taken lane)) (may_give script context to (taken lane)) (taken_on ch lane.frames) (taken_on ch lane.frames)
 acted_on ch script tick (Log n) lane k = taken_on ch lane.frames
 
 pub some_turn : (t u : Turn) → Some t ≡ Some u → t ≡ u

@@ -29,6 +29,7 @@ use Rattle.lane_turn.specs.declared.lane.Status.TheVariants.{Halted}
 use Rattle.lane_turn.specs.Frames.{calls_in_progress}
 use Rattle.lane_turn.specs.Lane.{Lane, context_at, row_at, stopped, place_at, handler_at, written, viewing, noting, is_own}
 use Rattle.lane_turn.specs.Owned.{default_context, is_owned, may_release, calling, called_at_once, attaching, invoke_own, invoke}
+use Rattle.lane_turn.specs.Handover.{may_give, with_given}
 use Rattle.lane_turn.specs.Acted.{acted, can_bear, child_of, on_source, set_priority_of, plain_acted, all_acted, handled, all_handled, cancel, connect, disconnect_of}
 use Rattle.lane_turn.specs.Step.{dispatching, returned, answered}
 use Rattle.lane_turn.specs.Deliver.{received_body}
@@ -188,7 +189,7 @@ acted_changes script tick ShowDefault lane = inl (keep lane _ refl refl)
 acted_changes script tick (Acquire context) lane = inl (either lane _ _ (is_own context lane) (keep lane _ refl refl) (keep lane _ refl refl))
 acted_changes script tick (Release context) lane = inl (either lane _ _ (may_release (context_at context lane)) (keep lane _ refl refl) (keep lane _ refl refl))
 acted_changes script tick (Invoke context proc) lane = inl (keeps_invoke tick (time_of script tick) context proc lane)
-acted_changes script tick (Give context to) lane = inl (keep lane _ refl refl)
+acted_changes script tick (Give context to) lane = inl (either lane (written tick (events.Give context to) (with_given context true lane)) (written tick (events.Miss words.Give) lane) (may_give script context to lane) (keep lane _ refl refl) (keep lane _ refl refl))
 acted_changes script tick (Log n) lane = inl (keep lane _ refl refl)
 
 pub received_changes : (script : Plan) (tick sender : ℕ) (body : Mail) (lane : Lane) → Changes tick lane (received_body script tick sender body lane)

@@ -62,7 +62,6 @@ pub mod Between
 pub mod Homes
 pub mod Holds
 pub mod Sums
-pub mod Ungiven
 pub mod GoingOver
 pub mod Slots
 pub mod Given

@@ -35,6 +35,7 @@ use Rattle.lane_turn.specs.declared.slot.Named.TheVariants.{Source, Handler}
 use Rattle.lane_turn.specs.Frames.{Frame, CallOf, IterOf, LoopOf, calls_in_progress}
 use Rattle.lane_turn.specs.Lane.{Lane, Turn, present, is_own, context_at, with_rows, edited, next_id, next_place, place_at, handler_at, source_of, held, row_at, row_of, written, stopped, popped, taken, set_running, set_slot, viewing, noting, iterating, is_running}
 use Rattle.lane_turn.specs.Owned.{default_context, is_owned, may_release, calling, called_at_once, attaching, invoke_own, invoke}
+use Rattle.lane_turn.specs.Handover.{may_give, with_given}
 use Rattle.lane_turn.specs.Acted.{missed, born, can_bear_in, can_bear, child_of, on_source, set_ready, set_priority_of, set_priority, destroy, plain_acted, all_acted, handled, all_handled, cancel, connect, disconnect_of, disconnect, acted, sends}
 use Rattle.lane_turn.specs.Step.{step, step_polling, step_call, step_id, limited_by, with_lane, dispatched, dispatching, returned, answered}
 use Rattle.lane_turn.specs.Turn.{begun, turned, open_slots, opening}
@@ -221,7 +222,7 @@ names_acted script tick ShowDefault lane = λ most h. h
 names_acted script tick (Acquire context) lane = names_either lane _ _ (is_own context lane) (λ most h. h) (λ most h. h)
 names_acted script tick (Release context) lane = names_either lane _ _ (may_release (context_at context lane)) (λ most h. h) (λ most h. h)
 names_acted script tick (Invoke context proc) lane = names_same lane (invoke tick (time_of script tick) context proc lane) (slots_invoke tick (time_of script tick) context proc lane)
-names_acted script tick (Give context to) lane = λ most h. h
+names_acted script tick (Give context to) lane = names_either lane (written tick (events.Give context to) (with_given context true lane)) (written tick (events.Miss words.Give) lane) (may_give script context to lane) (λ most h. h) (λ most h. h)
 names_acted script tick (Log n) lane = λ most h. h
 
 -- ---- a step

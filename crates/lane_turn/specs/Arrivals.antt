@@ -29,10 +29,6 @@ use Rattle.loop_script.specs.Units.{Tick, Microseconds, LaneNumber, ContextNumbe
 abbrev pub held_of : List (Option Context) → List Bool
 held_of contexts = map is_some contexts
 
--- whether the script gives a context to a lane
-abbrev pub is_home : Plan → ContextNumber → LaneNumber → Bool
-is_home script context lane = home_of script context == lane
-
 -- whether what a letter tells attaches a source to a context
 abbrev pub is_for_body : ContextNumber → Body → Bool
 is_for_body context (Attach c spec) = c == context
@@ -128,8 +124,6 @@ pub record AreAttached (script : Plan) (tick : Tick) (context : ContextNumber) (
 
 -- each letter that attaches is attached once, by the lane that has its context
 pub record LettersArrive : Type 0 where
-  -- at each tick a context is the lane's to which the script gives it, and no other's
-  pub held : (script : Plan) (tick : Tick) (context : ContextNumber) → context < (sizes script).contexts → map (λ lane. is_some (context_at context lane)) (lanes_at script tick) ≡ map (is_home script context) (range_with_len 0 (length script.lanes))
   -- a letter for a context is attached once, by the lane that has it, with the next id, in the order of the letters
   pub once : (script : Plan) (tick : Tick) (context : ContextNumber) (letters : List Letter) (lane : Lane) (c : Context) → is_own context lane ≡ true → context_at context lane ≡ Some c
       → arrivals context (received_all script tick letters lane).trace ≡ arrivals context lane.trace ++ ids_for context c.rows.next_id letters

@@ -20,13 +20,9 @@ use Rattle.loop_script.specs.Units.{Tick, LaneNumber, ContextNumber}
 abbrev pub is_another : Plan → LaneNumber → Lane → Bool
 is_another script to lane = nat_lt to (length script.lanes) && not (to == lane.number)
 
--- whether scripts may give contexts: none can yet, since their reading does not take the word
-abbrev pub gives : Bool
-gives = false
-
 -- a context may be given where it is the lane's, which does not own it, to another lane
 abbrev pub may_give : Plan → ContextNumber → LaneNumber → Lane → Bool
-may_give script context to lane = gives && (is_own context lane && (not (is_owned context lane) && is_another script to lane))
+may_give script context to lane = is_own context lane && (not (is_owned context lane) && is_another script to lane)
 
 -- a context is given, or is not any more: it stands as it stood
 abbrev pub with_given : ContextNumber → Bool → Lane → Lane

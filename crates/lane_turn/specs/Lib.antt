@@ -31,6 +31,7 @@ pub mod Blocked
 pub mod Selected
 pub mod Stays
 pub mod Holding
+pub mod Worked
 pub mod Limited
 pub mod InProgress
 pub mod Stands

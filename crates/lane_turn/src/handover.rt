@@ -15,9 +15,6 @@ use std::alloc::{AllocError, Global};
 use std::marker::Model;
 use std::mem;
 
-/// Whether scripts may give contexts: none can yet, since their reading does not take the word.
-const GIVES: bool = false;
-
 /// A context on its way from the lane that gave it to the one that takes it over: its sources as they stood, and what
 /// those of replies hold. Contracts see its number and these.
 #[derive(Drop)]
@@ -50,11 +47,7 @@ impl Lane {
     pub(crate) fn may_give(&self, script: &Script, context: u32, to: u32) -> bool
         ensures { result ≡ may_give script.now context to (lane_of self.now) }
     {
-        GIVES
-            && self.has(context)
-            && !self.is_owned(context)
-            && to < script.lanes()
-            && to != self.number
+        self.has(context) && !self.is_owned(context) && to < script.lanes() && to != self.number
     }
 
     pub(crate) fn act_give(

@@ -13,6 +13,7 @@ ghost use Rattle.lane_turn.specs.Rest.{EndedLanesRest};
 ghost use Rattle.lane_turn.specs.Blocked.{BlockedWait};
 ghost use Rattle.lane_turn.specs.Selected.{IterationsHaveOrder};
 ghost use Rattle.lane_turn.specs.Stays.{SourcesStay};
+ghost use Rattle.lane_turn.specs.Worked.{ContextsGo};
 ghost use Rattle.lane_turn.specs.Holding.{ContextsAreHeld, ContextsMove, LettersFollow};
 ghost use Rattle.lane_turn.specs.Limited.{StepsAreLimited};
 ghost use Rattle.lane_turn.specs.Stands.{StandingsStay};
@@ -137,4 +138,10 @@ pub fn contexts_move_whole()
 /// Letters for a context reach the lane that has it after the handing over of the tick: each is attached there once.
 pub fn letters_follow()
     ensures { LettersFollow }
+{}
+
+/// Two scripts whose lanes give contexts, computed: what is handed over keeps its ready times, a letter of the same tick follows it,
+/// and each kind of give that misses.
+pub fn contexts_go()
+    ensures { ContextsGo }
 {}
