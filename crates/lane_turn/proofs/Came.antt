@@ -27,7 +27,7 @@ use Rattle.lane_turn.specs.Turn.{begun, turned, out_of}
 use Rattle.lane_turn.specs.Deliver.{reply_spec, holding, received_body, received, received_all}
 use Rattle.lane_turn.specs.Step.{step, posted_with, letter as sent_letter}
 use Rattle.lane_turn.specs.Tick.{posted_at, lanes_at}
-use Rattle.lane_turn.specs.Arrivals.{Coming, coming_by, comings, rows_from, AreHeld, rows_in, next_order, IsAmong, CallsNone, IsOfInvoke, AreAttached}
+use Rattle.lane_turn.specs.Arrivals.{Coming, coming_by, comings, rows_from, AreHeld, rows_of_context, next_order, IsAmong, CallsNone, IsOfInvoke, AreAttached}
 use Rattle.lane_turn.proofs.Arrivals.{has_own, still_has}
 use Rattle.lane_turn.proofs.Adds.{each_as, each_joined}
 use Rattle.lane_turn.proofs.Taking.{IsFresh}
@@ -141,7 +141,7 @@ got_letter W context first next order before came script tick sender (Give c to)
 
 record Ends (W : Type 0) (context next order now : ℕ) (before came : List Row) (cs : List Coming) (lane after : Lane) : Type 0 where
   left : List Row
-  rows : rows_in (context_at context after) ≡ left ++ (came ++ rows_from now next order cs)
+  rows : rows_of_context (context_at context after) ≡ left ++ (came ++ rows_from now next order cs)
   among : AllByRecursion (IsAmong before) left
   whole : W → left ≡ before
   replies : AreHeld next cs (replies_at context after.replies)
@@ -199,7 +199,7 @@ delivered_ends W context first next order before came script tick (letter ∷ le
 
 -- ---- runs
 
-among_self : (o : Option Context) → NumberedIn o → AllByRecursion (IsAmong (rows_in o)) (rows_in o)
+among_self : (o : Option Context) → NumberedIn o → AllByRecursion (IsAmong (rows_of_context o)) (rows_of_context o)
 among_self None h = tt
 among_self (Some c) h = all_of (λ (r : Row). row_with r.id c.rows.rows ≡ Some r) (IsAmong c.rows.rows) (λ r e. (r, e, refl)) c.rows.rows (all_found c.rows.rows h.rising)
 
@@ -211,7 +211,7 @@ attached_in : (most : ℕ → ℕ) (script : Plan) (tick context : ℕ) (letters
     → AreAttached script tick context letters lane (received_all script tick letters lane)
 attached_in most script tick context letters lane k fresh past numbered =
     let W : Type 0 = AllByRecursion (λ letter. CallsNone letter.body) letters in
-    let before : List Row = rows_in (context_at context lane) in
+    let before : List Row = rows_of_context (context_at context lane) in
     let first : ℕ = next_id (context_at context lane) in
     let order : ℕ = next_order (context_at context lane) in
     let kept : IsLeft W first order before [] (context_at context lane) = record { left = before; rows = sym (append-nil before); among = among_self (context_at context lane) numbered; whole = λ w. refl; at_id = refl; at_order = refl } in

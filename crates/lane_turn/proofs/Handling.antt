@@ -24,7 +24,7 @@ use Rattle.lane_turn.specs.declared.line.Word.TheVariants as words
 use Rattle.lane_turn.specs.declared.slot.Place.{Place}
 use Rattle.lane_turn.specs.Lane.{Lane, present, is_own, context_at, with_rows, edited, next_id, place_at, row_at, written, set_running, viewing, noting}
 use Rattle.lane_turn.specs.Acted.{missed, on_source, plain_acted, all_acted, handled, all_handled, cancel}
-use Rattle.lane_turn.specs.Arrivals.{rows_in, next_order, IsAmong}
+use Rattle.lane_turn.specs.Arrivals.{rows_of_context, next_order, IsAmong}
 
 -- ---- one context changed
 
@@ -48,7 +48,7 @@ IsNew first r = (id : ℕ) → id < first → (is_under id r ≡ false) × (has_
 
 pub record IsLeft (W : Type 0) (next order : ℕ) (before came : List Row) (o : Option Context) : Type 0 where
   pub left : List Row
-  pub rows : rows_in o ≡ left ++ came
+  pub rows : rows_of_context o ≡ left ++ came
   pub among : AllByRecursion (IsAmong before) left
   pub whole : W → left ≡ before
   pub at_id : next_id o ≡ next

@@ -90,9 +90,9 @@ AreHeld id [] held = Unit {0}
 AreHeld id (c ∷ cs) held = (held_under id held ≡ c.reply) × AreHeld (id + 1) cs held
 
 -- the rows of a context
-abbrev pub rows_in : Option Context → List Row
-rows_in None = []
-rows_in (Some context) = context.rows.rows
+abbrev pub rows_of_context : Option Context → List Row
+rows_of_context None = []
+rows_of_context (Some context) = context.rows.rows
 
 -- the order number that its next source gets
 abbrev pub next_order : Option Context → Order
@@ -114,10 +114,10 @@ CallsNone (Give c to) = Unit {0}
 pub record AreAttached (script : Plan) (tick : Tick) (context : ContextNumber) (letters : List Letter) (lane after : Lane) : Type 0 where
   -- the rows that handlers left of those before, and then those of the letters' sources, under the next ids, in the order of the letters
   pub left : List Row
-  pub rows : rows_in (context_at context after) ≡ left ++ rows_from (time_of script tick) (next_id (context_at context lane)) (next_order (context_at context lane)) (comings context letters)
-  pub among : AllByRecursion (IsAmong (rows_in (context_at context lane))) left
+  pub rows : rows_of_context (context_at context after) ≡ left ++ rows_from (time_of script tick) (next_id (context_at context lane)) (next_order (context_at context lane)) (comings context letters)
+  pub among : AllByRecursion (IsAmong (rows_of_context (context_at context lane))) left
   -- all of those before, where no letter is a cancellation
-  pub whole : AllByRecursion (λ letter. CallsNone letter.body) letters → left ≡ rows_in (context_at context lane)
+  pub whole : AllByRecursion (λ letter. CallsNone letter.body) letters → left ≡ rows_of_context (context_at context lane)
   -- the source of a reply holds the reply, that of an invoke none; and what was held is held
   pub replies : AreHeld (next_id (context_at context lane)) (comings context letters) (replies_at context after.replies)
   pub held : (id : SourceId) → id < next_id (context_at context lane) → reply_held context id after.replies ≡ reply_held context id lane.replies
