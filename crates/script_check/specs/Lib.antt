@@ -8,3 +8,4 @@ pub mod Seen
 pub mod PlanFaults
 pub mod ScriptFaults
 pub mod Laws
+pub mod Agreement

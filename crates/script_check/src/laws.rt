@@ -1,9 +1,16 @@
 //! What the faults of a script are, by the tables, as a function that does nothing.
 ghost use Rattle.script_check.specs.Laws.{FormFaults};
+ghost use Rattle.script_check.specs.Agreement.{ClassesAgree};
 
 /// A fault of shape is told exactly where a script is misshapen by the tables of keys, words and ranges, and one of limits exactly where some number
 /// or count is out of range; what is told is all that is wrong at each place that steps lead to, and nothing else; and
 /// steps lead to that value of the document.
 pub fn form_faults_go_by_tables()
     ensures { FormFaults }
+{}
+
+/// The faults of a script and its reading agree: there is none exactly where a script is read, and else the least class of the faults
+/// is that by which it is refused.
+pub fn classes_agree()
+    ensures { ClassesAgree }
 {}
