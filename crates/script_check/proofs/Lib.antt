@@ -7,3 +7,4 @@ pub mod Told
 pub mod Judged
 pub mod OwnClasses
 pub mod ClassesAgree
+pub mod PlacesLead

@@ -9,3 +9,4 @@ pub mod PlanFaults
 pub mod ScriptFaults
 pub mod Laws
 pub mod Agreement
+pub mod PlanPlaces
