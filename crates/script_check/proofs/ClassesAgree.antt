@@ -23,7 +23,10 @@ use Rattle.script_check.specs.Faults.{form_faults}
 use Rattle.script_check.specs.PlanFaults.{plan_faults}
 use Rattle.script_check.specs.ScriptFaults.{said_faults, or_else, script_faults}
 use Rattle.script_check.specs.Laws.{In, has, is_shape, is_limit, is_reference, is_rule, IsShallow}
-use Rattle.script_check.specs.Agreement.{ClassIs, Agrees, ClassesAgree}
+use Rattle.script_check.specs.Agreement.{ClassIs, Agrees, ClassesAgree, class_in, FirstClassIs}
+use Rattle.script_check.specs.Least.{least_class}
+use Rattle.script_check.specs.declared.fault.Class.{Class}
+use Rattle.script_check.specs.declared.fault.Class.TheVariants as classes
 use Rattle.script_check.proofs.Among.{any_in, in_any}
 use Rattle.script_check.proofs.OwnClasses.{Spares, own_classes}
 use Rattle.script_check.proofs.Judged.{Lacks, plan_refers_so, plan_rules_so, neither_so}
@@ -157,3 +160,22 @@ classes_agree d h =
     let limit : has is_shape faults ≡ false → (has is_limit faults ≡ true) ↔ (script_of d ≡ Err Limit) = λ n. (λ e. (read_by_tables.goes.limit d).1 (λ m. not_both ((form_faults_hold.shape d h).1 m) n, (form_faults_hold.limit d h).0 e), λ e. (form_faults_hold.limit d h).1 ((read_by_tables.goes.limit d).0 e).1) in
     let classed : has is_shape faults ≡ false → has is_limit faults ≡ false → faults ≡ [] = λ a b. none_left faults (or_has is_shape is_limit faults a b) (not_named d h (has named faults) refl) in
     seen seen_there.shape seen_there.limit r.value faults shape limit classed (of_plan r.value)
+
+-- ---- the first class, as a test tells it
+abbrev least_by : Bool → Bool → Bool → Bool → Option Class
+least_by a b c e = cond a (Some classes.Shape) (cond b (Some classes.Limit) (cond c (Some classes.Reference) (cond e (Some classes.Rule) None)))
+
+least_is : (fs : List Found) (a b c e : Bool) → has is_shape fs ≡ a → has is_limit fs ≡ b → has is_reference fs ≡ c → has is_rule fs ≡ e → least_class fs ≡ least_by a b c e
+least_is fs a b c e p q r s = ap (λ x. least_by x (has is_limit fs) (has is_reference fs) (has is_rule fs)) p ∙ ap (λ x. least_by a x (has is_reference fs) (has is_rule fs)) q ∙ ap (λ x. least_by a b x (has is_rule fs)) r ∙ ap (λ x. least_by a b c x) s
+
+first_class_in : (fs : List Found) (r : Result Plan ScriptFault) → Agrees fs r → least_class fs ≡ class_in r
+first_class_in fs (Ok p) h = ap least_class h
+first_class_in fs (Err Shape) h = least_is fs true (has is_limit fs) (has is_reference fs) (has is_rule fs) h refl refl refl
+first_class_in fs (Err Limit) h = least_is fs false true (has is_reference fs) (has is_rule fs) h.0 h.1 refl refl
+first_class_in fs (Err Reference) h = least_is fs false false true (has is_rule fs) h.0 h.1 h.2 refl
+first_class_in fs (Err Rule) h = least_is fs false false false true h.0 h.1 h.2 h.3
+first_class_in fs (Err NotJson) h = absurd h
+first_class_in fs (Err OutOfMemory) h = absurd h
+
+pub first_class_is : FirstClassIs
+first_class_is d h = first_class_in (script_faults d) (script_of d) (classes_agree d h)

@@ -8,3 +8,4 @@ pub mod Judged
 pub mod OwnClasses
 pub mod ClassesAgree
 pub mod PlacesLead
+pub mod Classed

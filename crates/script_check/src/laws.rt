@@ -1,6 +1,6 @@
 //! What the faults of a script are, by the tables, as a function that does nothing.
 ghost use Rattle.script_check.specs.Laws.{FormFaults};
-ghost use Rattle.script_check.specs.Agreement.{ClassesAgree};
+ghost use Rattle.script_check.specs.Agreement.{ClassesAgree, FirstClassIs};
 ghost use Rattle.script_check.specs.PlanPlaces.{PlacesLead};
 
 /// A fault of shape is told exactly where a script is misshapen by the tables of keys, words and ranges, and one of limits exactly where some number
@@ -20,4 +20,9 @@ pub fn classes_agree()
 /// number, which is too great.
 pub fn places_lead_to_values()
     ensures { PlacesLead }
+{}
+
+/// What `first_class` answers of the faults of a script is the class by which it is refused, and none where it is read.
+pub fn first_class_is_that_of_reading()
+    ensures { FirstClassIs }
 {}
