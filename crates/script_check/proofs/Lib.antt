@@ -4,3 +4,8 @@ pub mod Among
 pub mod PartsOf
 pub mod OwnByTables
 pub mod Told
+pub mod Judged
+pub mod OwnClasses
+pub mod ClassesAgree
+pub mod PlacesLead
+pub mod Classed

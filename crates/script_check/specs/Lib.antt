@@ -8,3 +8,6 @@ pub mod Seen
 pub mod PlanFaults
 pub mod ScriptFaults
 pub mod Laws
+pub mod Least
+pub mod Agreement
+pub mod PlanPlaces

@@ -1,6 +1,6 @@
 //! A fault of a script.
 ghost use Rattle.std.specs.Prelude.{◌≡◌};
-ghost use Rattle.script_check.specs.Classes.{class_of, first_of};
+ghost use Rattle.script_check.specs.Classes.{class_of};
 
 use crate::place::Place;
 use crate::wanted::Wanted;
@@ -45,20 +45,6 @@ pub enum Class {
     Limit,
     Reference,
     Rule,
-}
-
-impl Class {
-    /// The first of two.
-    pub fn first(self, other: Class) -> Class
-        ensures { result ≡ first_of self other }
-    {
-        match (self, other) {
-            (Class::Shape, _) | (_, Class::Shape) => Class::Shape,
-            (Class::Limit, _) | (_, Class::Limit) => Class::Limit,
-            (Class::Reference, _) | (_, Class::Reference) => Class::Reference,
-            (Class::Rule, Class::Rule) => Class::Rule,
-        }
-    }
 }
 
 impl Cause {

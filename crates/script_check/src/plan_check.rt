@@ -4,10 +4,11 @@ ghost use Rattle.script_check.specs.Found.{nth};
 ghost use Rattle.script_check.specs.PlanFaults.{plan_faults, action_missing, action_broken, in_lanes, in_procs, in_actions, in_loops, in_fds, not_above, not_rising};
 ghost use Rattle.script_check.specs.Seen.{found_of};
 
-use crate::action_check::{check_number, check_references, check_rules, push_at};
+use crate::action_check::{check_number, check_references, push_at};
 use crate::counts::{Counts, Sort};
 use crate::fault::{Cause, Fault};
 use crate::place::{Place, Step};
+use crate::rule_check::check_rules;
 use crate::tables::Name;
 use crate::wanted::Wanted;
 use loop_script::{Action, Items, LaneSpec, Level, Plan, Proc};

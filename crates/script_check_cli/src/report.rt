@@ -3,7 +3,7 @@ use crate::cursor::Cursor;
 use crate::excerpt::push_excerpt;
 use crate::layout::Layout;
 use crate::words::{found_text, other_key, wanted_text};
-use script_check::{Cause, Class, Fault, Step};
+use script_check::{Cause, Class, Fault, Step, first_class};
 use serde_json::{Value, json};
 use std::alloc::{AllocError, Global};
 
@@ -67,7 +67,7 @@ pub(crate) fn push_faults(
 /// The last line: how many there are, and what `mainctx` answers.
 fn push_sum(out: &mut String, faults: &[Fault]) -> Result<(), AllocError> {
     let count = faults.len();
-    let class = class_text(first_class(faults));
+    let class = first_class(faults).map_or("", class_text);
     if count == 1 {
         out.push_str("1 fault")?;
     } else {
@@ -78,15 +78,6 @@ fn push_sum(out: &mut String, faults: &[Fault]) -> Result<(), AllocError> {
         write!(out, ", of which {others} are not told here")?;
     }
     writeln!(out, "; mainctx answers 'script: {class}'")
-}
-
-/// The least class of some faults.
-fn first_class(faults: &[Fault]) -> Class {
-    let mut first = Class::Rule;
-    for fault in faults {
-        first = first.first(fault.cause.class());
-    }
-    first
 }
 
 /// The faults by where their values begin.

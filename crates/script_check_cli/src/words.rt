@@ -1,6 +1,6 @@
 //! What was wanted and what stands there, in a user's words.
 use crate::nearest::push_nearest;
-use script_check::{Cause, Choice, Fault, Object, Shape, Wanted, keys_of, words_of};
+use script_check::{Cause, Choice, Fault, Object, Shape, Wanted, keys_of, parts_of, words_of};
 use serde_json::Value;
 use std::alloc::{AllocError, Global};
 
@@ -95,7 +95,7 @@ fn length_text(alloc: Global, wanted: Wanted, value: &Value) -> Result<String, A
         Some(word) => word,
         None => "",
     };
-    let count = match script_check::parts_of(choice, word) {
+    let count = match parts_of(choice, word) {
         Some(parts) => parts.len(),
         None => 0,
     };
@@ -226,9 +226,19 @@ fn other_word_text(alloc: Global, wanted: Wanted, value: &Value) -> Result<Strin
     )?;
     push_quoted(&mut text, word)?;
     if let Wanted::OneOf(choice) = wanted {
-        push_nearest(alloc, &mut text, words_of(choice), word)?;
+        match parts_of(choice, word) {
+            Some(parts) => push_as_list(&mut text, word, !parts.is_empty())?,
+            None => push_nearest(alloc, &mut text, words_of(choice), word)?,
+        }
     }
     Ok(text)
+}
+
+/// The word as a list, which it has to be.
+fn push_as_list(out: &mut String, word: &str, goes_on: bool) -> Result<(), AllocError> {
+    out.push_str(", did you mean [\"")?;
+    out.push_str(word)?;
+    out.push_str(if goes_on { "\", ..]?" } else { "\"]?" })
 }
 
 /// How many characters of a text are shown.
