@@ -1,12 +1,11 @@
 -- What is in a list.
-use Rattle.std.proofs.Common.{◌≡◌, ◌⊎◌, ◌↔◌, inl, inr, refl, sym, subst, ap, ◌∙◌, Bool, true, false, ◌||◌, List, [], ◌∷◌, ◌++◌, map}
+use Rattle.std.proofs.Common.{◌≡◌, ◌⊎◌, inl, inr, refl, sym, subst, ap, ◌∙◌, Bool, true, false, ◌||◌, List, [], ◌∷◌, ◌++◌}
 use Rattle.std.specs.List.{list_any}
 use Rattle.loop_script.specs.Form.{Form}
-use Rattle.loop_script.specs.Place.{SomeOf}
 use Rattle.script_check.specs.declared.fault.Cause.{Cause}
 use Rattle.script_check.specs.Found.{Step, Found}
 use Rattle.script_check.specs.Faults.{together, found_at}
-use Rattle.script_check.specs.Laws.{In, has}
+use Rattle.script_check.specs.Laws.{In}
 
 pub in_first : {A : Type 0} (x : A) (xs ys : List A) → In x xs → In x (xs ++ ys)
 in_first x [] ys h = absurd h

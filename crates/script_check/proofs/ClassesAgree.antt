@@ -1,13 +1,8 @@
 -- The least class of the faults is that by which a script is refused.
-use Rattle.std.proofs.Common.{◌≡◌, ◌⊎◌, ◌↔◌, inl, inr, refl, sym, subst, ap, ◌∙◌, ℕ, suc, zero, Bool, true, false, not, cond, ◌||◌, ◌&&◌, List, [], ◌∷◌, ◌++◌, Option, Some, None, Result, Ok, Err}
-use Rattle.std.specs.Prelude.{is_none, is_some, nat_lt}
-use Rattle.std.specs.List.{list_any}
-use Rattle.std.proofs.lemmas.List.Folds.{list_any-append}
+use Rattle.std.proofs.Common.{◌≡◌, ◌↔◌, refl, sym, subst, ap, ◌∙◌, Bool, true, false, not, cond, ◌||◌, List, [], ◌∷◌, Option, Some, None, Result, Ok, Err}
 use Rattle.serde_json.specs.Data.{Data}
-use Rattle.loop_script.specs.Form.{Form, script, an}
-use Rattle.loop_script.specs.Misfit.{IsMisshapen, IsBeyond}
 use Rattle.loop_script.specs.Plan.{plan}
-use Rattle.loop_script.specs.Script.{verdict, none_seen, script_of, sound_plan}
+use Rattle.loop_script.specs.Script.{verdict, none_seen, script_of}
 use Rattle.loop_script.specs.References.{plan_refers}
 use Rattle.loop_script.specs.Rules.{plan_rules}
 use Rattle.loop_script.specs.declared.fault.ScriptFault.{ScriptFault}
@@ -22,8 +17,8 @@ use Rattle.script_check.specs.Own.{own}
 use Rattle.script_check.specs.Faults.{form_faults}
 use Rattle.script_check.specs.PlanFaults.{plan_faults}
 use Rattle.script_check.specs.ScriptFaults.{said_faults, or_else, script_faults}
-use Rattle.script_check.specs.Laws.{In, has, is_shape, is_limit, is_reference, is_rule, IsShallow}
-use Rattle.script_check.specs.Agreement.{ClassIs, Agrees, ClassesAgree, class_in, FirstClassIs}
+use Rattle.script_check.specs.Laws.{has, is_shape, is_limit, is_reference, is_rule, IsShallow}
+use Rattle.script_check.specs.Agreement.{Agrees, ClassesAgree, class_in, FirstClassIs}
 use Rattle.script_check.specs.Least.{least_class}
 use Rattle.script_check.specs.declared.fault.Class.{Class}
 use Rattle.script_check.specs.declared.fault.Class.TheVariants as classes

@@ -4,7 +4,7 @@ use Rattle.std.specs.Prelude.{option_map, is_none, ◌==◌, nat_lt}
 use Rattle.std.specs.List.{list_any}
 use Rattle.std.specs.Str.{bytes_eq}
 use Rattle.std.proofs.lemmas.Bool.Decides.{nat_tests}
-use Rattle.std.proofs.lemmas.Bool.{eq-eqb, ne_eqb, eqb-true}
+use Rattle.std.proofs.lemmas.Bool.{eq-eqb, ne_eqb}
 use Rattle.std.proofs.lemmas.Int.{ints}
 use Rattle.std.proofs.lemmas.List.Folds.{list_any-append}
 use Rattle.serde_json.specs.Data.{Data, null, boolean, number, string, array, object, unsigned, negative, float, Items, Members, no_members, member, depth}
@@ -12,12 +12,12 @@ use Rattle.serde_json.specs.Find.{get, as_bool, as_array, as_object}
 use Rattle.loop_script.specs.Form.{kind, action, tree, Form, whole, whole_or_null, signed, truth, list, lanes, pair, an, one_of, Key}
 use Rattle.loop_script.specs.Tables.{keys}
 use Rattle.loop_script.specs.Place.{count, size, asked}
-use Rattle.loop_script.specs.Misfit.{integer_of, HasOtherKey, HasNotKeysAlone, LacksKey, HasOtherParts, HasOtherShape, IsOutside, IsNumberOutside, HasMoreContexts, contexts_in, IsOutOfRange}
+use Rattle.loop_script.specs.Misfit.{HasOtherKey, HasNotKeysAlone, LacksKey, HasOtherParts, HasOtherShape, IsOutside, contexts_in, IsOutOfRange}
 use Rattle.loop_script.proofs.Alternatives.{some_inj, is_none as not_none}
 use Rattle.loop_script.proofs.Meets.{not_both}
 use Rattle.script_check.specs.declared.fault.Cause.{Cause}
-use Rattle.script_check.specs.declared.fault.Cause.TheVariants.{OtherType, OtherWord, OtherLength, OtherKey, NoKey, Range, Count, Contexts, Depth}
-use Rattle.script_check.specs.Own.{where_so, is_outside, is_integer_outside, of_whole, of_signed, of_list, of_contexts, has_size, other_keys, no_keys, of_object, of_word, own}
+use Rattle.script_check.specs.declared.fault.Cause.TheVariants.{OtherType, OtherLength, OtherKey, NoKey, Range, Count, Contexts, Depth}
+use Rattle.script_check.specs.Own.{where_so, is_outside, is_integer_outside, of_list, of_contexts, has_size, other_keys, no_keys, of_object, of_word, own}
 use Rattle.script_check.specs.Laws.{is_shape, is_limit}
 
 -- ---- tests

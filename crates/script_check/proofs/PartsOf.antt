@@ -7,7 +7,7 @@ use Rattle.std.specs.Ordering.{nat_cmp, match_ordering}
 use Rattle.std.specs.Cmp.Lexicographic.{slice_cmp}
 use Rattle.std.specs.declared.cmp.Ordering.{Ordering}
 use Rattle.std.specs.declared.cmp.Ordering.TheVariants.{Less, Equal, Greater}
-use Rattle.loop_script.specs.Form.{Form, Choice, whole, whole_or_null, signed, truth, list, lanes, pair, an, one_of, lane, Key}
+use Rattle.loop_script.specs.Form.{Form, whole, whole_or_null, signed, truth, list, lanes, pair, an, one_of, lane, Key}
 use Rattle.loop_script.specs.Tables.{keys, pair_parts}
 use Rattle.loop_script.specs.Place.{SomeOf, IsItem, IsItemOf, IsPartFrom, IsPartBehind, IsPart, asked}
 use Rattle.loop_script.proofs.Alternatives.{some_inj}

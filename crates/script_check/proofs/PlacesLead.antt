@@ -2,7 +2,7 @@
 use Rattle.std.proofs.Common.{◌≡◌, ◌≤◌, ◌⊎◌, inl, inr, refl, sym, subst, ap, ◌∙◌, ℕ, zero, suc, Bool, true, false, not, cond, ◌||◌, List, [], ◌∷◌, ◌++◌, codes, Option, Some, None, arith}
 use Rattle.std.specs.Prelude.{option_and_then, nat_lt, slice_get}
 use Rattle.std.proofs.lemmas.Bool.Decides.{nat_tests}
-use Rattle.serde_json.specs.Data.{Data, null, number, unsigned, array, Items, no_items, item}
+use Rattle.serde_json.specs.Data.{Data, number, unsigned, array, Items, no_items, item}
 use Rattle.serde_json.specs.Find.{get_item, at}
 use Rattle.loop_script.specs.Form.{Form, an, pair, task}
 use Rattle.loop_script.specs.Tables.{index}
@@ -15,9 +15,7 @@ use Rattle.loop_script.specs.declared.source.Kind.{Kind}
 use Rattle.loop_script.specs.declared.source.Kind.TheVariants as kinds
 use Rattle.loop_script.specs.declared.source.SourceSpec.{SourceSpec}
 use Rattle.loop_script.specs.declared.level.Level.{Level}
-use Rattle.loop_script.specs.declared.plan.LaneSpec.{LaneSpec}
 use Rattle.loop_script.specs.declared.plan.Proc.{Proc}
-use Rattle.loop_script.specs.declared.plan.Plan.{Plan}
 use Rattle.loop_script.specs.declared.task.TaskSpec.{TaskSpec}
 use Rattle.script_check.specs.declared.fault.Cause.{Cause}
 use Rattle.script_check.specs.declared.fault.Cause.TheVariants.{Missing, NotAbove, NotPlain, Stays, Unchecked}

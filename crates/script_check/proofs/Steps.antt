@@ -5,7 +5,7 @@ use Rattle.std.proofs.Math.Seq.{take-append_seam, drop-cons}
 use Rattle.serde_json.specs.Data.{Data}
 use Rattle.serde_json.specs.Find.{at}
 use Rattle.loop_script.specs.Form.{Form}
-use Rattle.script_check.specs.Found.{Step, nth, Found}
+use Rattle.script_check.specs.Found.{Step, nth}
 use Rattle.script_check.specs.Own.{own}
 use Rattle.script_check.specs.Parts.{Part, parts, there, from}
 use Rattle.script_check.specs.Views.{form_of}

@@ -1,14 +1,14 @@
 -- The faults that are told are those that stand, by the tables.
-use Rattle.std.proofs.Common.{◌≡◌, ◌⊎◌, ◌↔◌, ◌<◌, ◌+◌, inl, inr, refl, sym, subst, ap, ◌∙◌, ℕ, zero, suc, Bool, true, List, [], ◌∷◌, ◌++◌, Some, append_assoc, arith}
+use Rattle.std.proofs.Common.{◌≡◌, ◌⊎◌, ◌↔◌, ◌<◌, inl, inr, refl, sym, subst, ap, ◌∙◌, ℕ, zero, suc, Bool, true, List, [], ◌∷◌, ◌++◌, Some, append_assoc, arith}
 use Rattle.std.specs.Prelude.{option_and_then}
 use Rattle.std.specs.List.{list_any}
 use Rattle.std.proofs.lemmas.List.{append-nil}
 use Rattle.serde_json.specs.Data.{Data, depth}
 use Rattle.loop_script.specs.Form.{Form, script, an}
-use Rattle.loop_script.specs.Place.{IsPart, StandsIn, itself, inside}
+use Rattle.loop_script.specs.Place.{StandsIn, itself, inside}
 use Rattle.loop_script.specs.Misfit.{HasOtherShape, IsOutOfRange, Somewhere}
 use Rattle.script_check.specs.declared.fault.Cause.{Cause}
-use Rattle.script_check.specs.Found.{Step, stepped, at_place, Found}
+use Rattle.script_check.specs.Found.{Step, at_place, Found}
 use Rattle.script_check.specs.Own.{own}
 use Rattle.script_check.specs.Parts.{Part, parts}
 use Rattle.script_check.specs.Faults.{faults_in, found_at, together, levels, form_faults}

@@ -5,7 +5,7 @@ use Rattle.loop_script.specs.Form.{Form, script, an}
 use Rattle.script_check.specs.declared.fault.Cause.{Cause}
 use Rattle.script_check.specs.Found.{Step, Found}
 use Rattle.script_check.specs.Own.{own}
-use Rattle.script_check.specs.Parts.{Part, parts}
+use Rattle.script_check.specs.Parts.{parts}
 
 -- what each gives, one after the other
 abbrev pub together : {A B : Type 0} → (A → List B) → List A → List B

@@ -1,5 +1,5 @@
 -- What the faults of shape and of limits in a script are, by the tables: which of them stand, and where.
-use Rattle.std.specs.Prelude.{◌≡◌, ◌≤◌, ◌↔◌, ◌<◌, true, false, Bool, not, List, [], ◌∷◌, Some}
+use Rattle.std.specs.Prelude.{◌≡◌, ◌↔◌, ◌<◌, true, false, Bool, List, [], ◌∷◌, Some}
 use Rattle.std.specs.List.{list_any}
 use Rattle.serde_json.specs.Data.{Data, depth}
 use Rattle.loop_script.specs.Form.{Form, script, an}

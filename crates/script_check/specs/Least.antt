@@ -1,5 +1,5 @@
 -- The first class of some faults.
-use Rattle.std.specs.Prelude.{Bool, true, false, if◌then◌else◌, List, Option, Some, None}
+use Rattle.std.specs.Prelude.{Bool, if◌then◌else◌, List, Option, Some, None}
 use Rattle.script_check.specs.declared.fault.Cause.{Cause}
 use Rattle.script_check.specs.declared.fault.Class.{Class}
 use Rattle.script_check.specs.declared.fault.Class.TheVariants.{Shape, Limit, Reference, Rule}

@@ -1,5 +1,5 @@
 -- What is wrong with a value that should have a form, its parts apart.
-use Rattle.std.specs.Prelude.{ℕ, zero, suc, ℤ, pos, ◌&&◌, ◌==◌, not, nat_le, nat_lt, int_le, Bool, true, false, if◌then◌else◌, List, [], ◌∷◌, ◌++◌, length, Option, Some, None, is_some, is_none}
+use Rattle.std.specs.Prelude.{ℕ, suc, ℤ, pos, ◌&&◌, ◌==◌, not, nat_le, nat_lt, int_le, Bool, true, false, if◌then◌else◌, List, [], ◌∷◌, ◌++◌, length, Option, Some, None, is_some, is_none}
 use Rattle.std.specs.List.{list_any}
 use Rattle.std.specs.Str.{bytes_eq}
 use Rattle.serde_json.specs.Data.{Num, unsigned, negative, float, Data, Items, Members, no_members, member, depth}

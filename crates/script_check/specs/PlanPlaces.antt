@@ -4,7 +4,7 @@ use Rattle.serde_json.specs.Data.{Data, number, unsigned}
 use Rattle.loop_script.specs.Meaning.{Denotes}
 use Rattle.loop_script.specs.declared.plan.Plan.{Plan}
 use Rattle.script_check.specs.declared.fault.Cause.{Cause}
-use Rattle.script_check.specs.declared.fault.Cause.TheVariants.{OtherType, OtherWord, OtherLength, OtherKey, NoKey, Range, Count, Contexts, Depth, Missing, NotAbove, NotPlain, Stays, Unchecked}
+use Rattle.script_check.specs.declared.fault.Cause.TheVariants.{Missing}
 use Rattle.script_check.specs.Found.{at_place, Found}
 use Rattle.script_check.specs.PlanFaults.{plan_faults}
 use Rattle.script_check.specs.Laws.{In}

@@ -1,5 +1,5 @@
 -- What the program's own names of forms, keys and steps stand for in the tables of a script.
-use Rattle.std.specs.Prelude.{ℕ, ℤ, pos, negsuc, List, codes}
+use Rattle.std.specs.Prelude.{ℕ, pos, negsuc, List, codes}
 use Rattle.loop_script.specs.Form as forms
 use Rattle.loop_script.specs.Form.{Form, list, an, one_of, pair, whole, whole_or_null, signed, truth, lanes}
 use Rattle.loop_script.specs.Tables as tables
