@@ -11,6 +11,7 @@ use Rattle.loop_script.specs.References.{sizes}
 use Rattle.source_rows.specs.declared.row.Row.{Row}
 use Rattle.source_rows.specs.Row.{root_row}
 use Rattle.source_rows.specs.Rows.{row_of as row_with, attached}
+use Rattle.source_rows.specs.Tree.{IdsRise}
 use Rattle.source_rows.proofs.Lists.{all_of}
 use Rattle.source_rows.proofs.Forest.{all_found}
 use Rattle.context_core.specs.declared.context.Context.{Context}
@@ -67,6 +68,7 @@ left_more W next order now spec before came (Some c) e h = record {
       ∙ (append_assoc h.left came (root_row spec now c.rows.next_id c.rows.next_order ∷ [])
       ∙ (ap (λ (n : ℕ). h.left ++ (came ++ root_row spec now n c.rows.next_order ∷ [])) h.at_id ∙ ap (λ (q : ℕ). h.left ++ (came ++ root_row spec now next q ∷ [])) h.at_order));
   among = h.among;
+  rising = h.rising;
   whole = h.whole;
   at_id = ap (λ (n : ℕ). n + 1) h.at_id;
   at_order = ap (λ (q : ℕ). q + 1) h.at_order;
@@ -125,10 +127,10 @@ got_cancel : (W : Type 0) (context first next order : ℕ) (before came : List R
     → Stays W context first next order before came lane → Got W context first next order before came now None (cancel script tick c lane)
 got_cancel W context first next order before came now script tick c lane f n h =
     let k = h.kept in
-    let some : IsLeft ⊥ next order before came (context_at context lane) = record { left = k.left; rows = k.rows; among = k.among; whole = λ w. absurd w; at_id = k.at_id; at_order = k.at_order } in
+    let some : IsLeft ⊥ next order before came (context_at context lane) = record { left = k.left; rows = k.rows; among = k.among; rising = k.rising; whole = λ w. absurd w; at_id = k.at_id; at_order = k.at_order } in
     let g = hands_cancel context first next order before came script tick c lane n (record { kept = some; named = h.named }) in
     none_more W context first next order before came now (cancel script tick c lane)
-    (record { kept = record { left = (g.kept).left; rows = (g.kept).rows; among = (g.kept).among; whole = λ w. absurd (f w); at_id = (g.kept).at_id; at_order = (g.kept).at_order }; named = g.named })
+    (record { kept = record { left = (g.kept).left; rows = (g.kept).rows; among = (g.kept).among; rising = (g.kept).rising; whole = λ w. absurd (f w); at_id = (g.kept).at_id; at_order = (g.kept).at_order }; named = g.named })
 
 got_letter : (W : Type 0) (context first next order : ℕ) (before came : List Row) (script : Plan) (tick sender : ℕ) (body : Body) (lane : Lane) → is_own context lane ≡ true → (W → CallsNone body) → AllByRecursion (IsNew first) came
     → Stays W context first next order before came lane → Got W context first next order before came (time_of script tick) (coming_by context sender body) (received_body script tick sender body lane)
@@ -143,6 +145,7 @@ record Ends (W : Type 0) (context next order now : ℕ) (before came : List Row)
   left : List Row
   rows : rows_of_context (context_at context after) ≡ left ++ (came ++ rows_from now next order cs)
   among : AllByRecursion (IsAmong before) left
+  rising : IdsRise left
   whole : W → left ≡ before
   replies : AreHeld next cs (replies_at context after.replies)
   held : (id : ℕ) → id < next → reply_held context id after.replies ≡ reply_held context id lane.replies
@@ -173,6 +176,7 @@ delivered_ends W context first next order before came script tick [] lane l k f 
   left = (h.kept).left;
   rows = (h.kept).rows ∙ ap (λ rs. (h.kept).left ++ rs) (sym (append-nil came));
   among = (h.kept).among;
+  rising = (h.kept).rising;
   whole = (h.kept).whole;
   replies = tt;
   held = λ id m. refl;
@@ -192,6 +196,7 @@ delivered_ends W context first next order before came script tick (letter ∷ le
       left = rest.left;
       rows = rest.rows ∙ ap (λ rs. rest.left ++ rs) (rows_joined now next order came m (comings context letters));
       among = rest.among;
+      rising = rest.rising;
       whole = rest.whole;
       replies = held_joined context next m (comings context letters) lane mid (received_all script tick letters mid) adds rest.held rest.replies;
       held = λ id i. rest.held id (omega (arith, i, next_up m next)) ∙ adds.keeps id i;
@@ -207,6 +212,10 @@ named_in : (most : ℕ → ℕ) (c id : ℕ) (o : Option Context) → is_some o 
 named_in most c id None e u = let no : false ≡ true = e in cc
 named_in most c id (Some x) e u = u
 
+rising_self : (o : Option Context) → NumberedIn o → IdsRise (rows_of_context o)
+rising_self None h = tt
+rising_self (Some c) h = h.rising
+
 attached_in : (most : ℕ → ℕ) (script : Plan) (tick context : ℕ) (letters : List Letter) (lane : Lane) → is_own context lane ≡ true → IsFresh lane → ArePast most lane.contexts lane.slots → NumberedIn (context_at context lane)
     → AreAttached script tick context letters lane (received_all script tick letters lane)
 attached_in most script tick context letters lane k fresh past numbered =
@@ -214,10 +223,10 @@ attached_in most script tick context letters lane k fresh past numbered =
     let before : List Row = rows_of_context (context_at context lane) in
     let first : ℕ = next_id (context_at context lane) in
     let order : ℕ = next_order (context_at context lane) in
-    let kept : IsLeft W first order before [] (context_at context lane) = record { left = before; rows = sym (append-nil before); among = among_self (context_at context lane) numbered; whole = λ w. refl; at_id = refl; at_order = refl } in
+    let kept : IsLeft W first order before [] (context_at context lane) = record { left = before; rows = sym (append-nil before); among = among_self (context_at context lane) numbered; rising = rising_self (context_at context lane) numbered; whole = λ w. refl; at_id = refl; at_order = refl } in
     let named : Named context first lane = λ slot place e same. named_in most context place.id (context_at context lane) (has_own context lane k) (subst (λ (c : ℕ). IsUnder most c (context_at c lane) place.id) same (past_at most lane.contexts lane.slots slot place past e)) in
     let ends = delivered_ends W context first first order before [] script tick letters lane (omega arith) k (λ w. w) tt fresh (record { kept = kept; named = named }) in
-    record { left = ends.left; rows = ends.rows; among = ends.among; whole = ends.whole; replies = ends.replies; held = ends.held }
+    record { left = ends.left; rows = ends.rows; among = ends.among; rising = ends.rising; whole = ends.whole; replies = ends.replies; held = ends.held }
 
 abbrev GainsAll : (script : Plan) (tick context : ℕ) (letters : List Letter) → Lane → Type 0
 GainsAll script tick context letters lane = is_own context lane ≡ true → AreAttached script tick context letters lane (received_all script tick letters lane)

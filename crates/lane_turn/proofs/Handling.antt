@@ -14,7 +14,8 @@ use Rattle.loop_script.specs.Parts.{actions_of, context_of}
 use Rattle.source_rows.specs.declared.row.Row.{Row}
 use Rattle.source_rows.specs.Row.{root_row}
 use Rattle.source_rows.specs.Rows.{RowSet, has_id, is_under, destroyed, ready_set}
-use Rattle.source_rows.proofs.Lists.{all_map, all_filter}
+use Rattle.source_rows.specs.Tree.{IdsRise}
+use Rattle.source_rows.proofs.Lists.{all_map, all_filter, pairs_filter, pairs_map}
 use Rattle.context_core.specs.declared.context.Context.{Context}
 use Rattle.cancel_view.specs.declared.handler.Fired.{Fired}
 use Rattle.cancel_view.specs.Seen.{has, fired, cancelled}
@@ -50,6 +51,7 @@ pub record IsLeft (W : Type 0) (next order : ℕ) (before came : List Row) (o : 
   pub left : List Row
   pub rows : rows_of_context o ≡ left ++ came
   pub among : AllByRecursion (IsAmong before) left
+  pub rising : IdsRise left
   pub whole : W → left ≡ before
   pub at_id : next_id o ≡ next
   pub at_order : next_order o ≡ order
@@ -86,6 +88,7 @@ left_destroyed first next order id before came (Some c) l n h =
       left = filter stays h.left;
       rows = ap (filter stays) h.rows ∙ (filter-append stays h.left came ∙ ap (λ rs. filter stays h.left ++ rs) (filter_new first id l came n));
       among = all_filter (IsAmong before) stays h.left h.among;
+      rising = pairs_filter (λ (r : Row) (q : Row). r.id < q.id) stays h.left h.rising;
       whole = λ w. absurd w;
       at_id = h.at_id;
       at_order = h.at_order;
@@ -94,6 +97,10 @@ left_destroyed first next order id before came (Some c) l n h =
 among_set : (before : List Row) (us : ℤ) (r : Row) (b : Bool) → IsAmong before r → IsAmong before (cond b (record r { ready = us }) r)
 among_set before us r true h = (h.0, h.1, ap (λ (x : Row). record x { ready = us }) h.2)
 among_set before us r false h = h
+
+set_id : (us : ℤ) (r : Row) (b : Bool) → (cond b (record r { ready = us }) r).id ≡ r.id
+set_id us r true = refl
+set_id us r false = refl
 
 left_set : (first next order id : ℕ) (us : ℤ) (before came : List Row) (o : Option Context) → id < first → AllByRecursion (IsNew first) came
     → IsLeft ⊥ next order before came o → IsLeft ⊥ next order before came (option_map (with_rows (ready_set id us)) o)
@@ -104,6 +111,7 @@ left_set first next order id us before came (Some c) l n h =
       left = map f h.left;
       rows = ap (map f) h.rows ∙ (map-append f h.left came ∙ ap (λ rs. map f h.left ++ rs) (set_new first id us l came n));
       among = all_map (IsAmong before) (IsAmong before) f (λ r a. among_set before us r (has_id id r) a) h.left h.among;
+      rising = pairs_map (λ (r : Row) (q : Row). r.id < q.id) (λ (r : Row) (q : Row). r.id < q.id) f (λ r q k. omega (arith, k, set_id us r (has_id id r), set_id us q (has_id id q))) h.left h.rising;
       whole = λ w. absurd w;
       at_id = h.at_id;
       at_order = h.at_order;

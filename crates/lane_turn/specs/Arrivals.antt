@@ -9,6 +9,7 @@ use Rattle.loop_script.specs.References.{sizes}
 use Rattle.source_rows.specs.declared.row.Row.{Row}
 use Rattle.source_rows.specs.Row.{root_row}
 use Rattle.source_rows.specs.Rows.{row_of}
+use Rattle.source_rows.specs.Tree.{IdsRise}
 use Rattle.context_core.specs.declared.context.Context.{Context}
 use Rattle.post_office.specs.declared.letter.Letter.{Letter}
 use Rattle.post_office.specs.declared.letter.Body.{Body}
@@ -116,6 +117,7 @@ pub record AreAttached (script : Plan) (tick : Tick) (context : ContextNumber) (
   pub left : List Row
   pub rows : rows_of_context (context_at context after) ≡ left ++ rows_from (time_of script tick) (next_id (context_at context lane)) (next_order (context_at context lane)) (comings context letters)
   pub among : AllByRecursion (IsAmong (rows_of_context (context_at context lane))) left
+  pub rising : IdsRise left
   -- all of those before, where no letter is a cancellation
   pub whole : AllByRecursion (λ letter. CallsNone letter.body) letters → left ≡ rows_of_context (context_at context lane)
   -- the source of a reply holds the reply, that of an invoke none; and what was held is held
