@@ -8,7 +8,8 @@ use Rattle.loop_script.specs.declared.plan.Plan.{Plan}
 use Rattle.lane_turn.specs.declared.line.Line.{Line}
 use Rattle.lane_turn.specs.Lane.{Lane}
 use Rattle.lane_turn.specs.Tick.{lanes_at}
-use Rattle.tick_stepper.proofs.Counted.{Counted, counted_at, lane_count}
+use Rattle.lane_turn.proofs.Places.{Counted}
+use Rattle.tick_stepper.proofs.Counted.{counted_at, lane_count}
 use Rattle.mainctx.specs.Text.{part_of, lane_text, text_of}
 use Rattle.mainctx.specs.Writing.{AddsPrefix, PassesOn}
 use Rattle.mainctx.proofs.Prefixes.{all_passed, prefix_longer, prefix_passed, prefix_then}
