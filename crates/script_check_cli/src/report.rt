@@ -2,6 +2,8 @@
 use crate::cursor::Cursor;
 use crate::excerpt::push_excerpt;
 use crate::layout::Layout;
+use crate::lead::value_at;
+use crate::order::in_order;
 use crate::words::{found_text, other_key, wanted_text};
 use script_check::{Cause, Class, Fault, Step, first_class};
 use serde_json::{Value, json};
@@ -17,14 +19,6 @@ pub(crate) struct Form<'a> {
     pub json: bool,
     /// The name of the file.
     pub name: &'a str,
-}
-
-/// A fault, with the bytes of the value that it points to.
-#[derive(Drop)]
-struct Placed {
-    start: usize,
-    end: usize,
-    fault: usize,
 }
 
 /// The class as the program `mainctx` says it.
@@ -78,71 +72,6 @@ fn push_sum(out: &mut String, faults: &[Fault]) -> Result<(), AllocError> {
         write!(out, ", of which {others} are not told here")?;
     }
     writeln!(out, "; mainctx answers 'script: {class}'")
-}
-
-/// The faults by where their values begin.
-fn in_order(
-    alloc: Global,
-    value: &Value,
-    layout: &Layout,
-    faults: &[Fault],
-) -> Result<Vec<Placed>, AllocError> {
-    let mut placed = Vec::new(alloc);
-    for (n, fault) in faults.iter().enumerate() {
-        let (at, here) = walk(value, layout, fault.place.steps());
-        let target = match fault.cause {
-            Cause::OtherKey(k) => match other_key(at, k).and_then(|name| here.member(name)) {
-                Some(member) => member,
-                None => here,
-            },
-            _ => here,
-        };
-        let span = target.span();
-        let end = if target.is_scalar() {
-            span.end
-        } else {
-            span.start.saturating_add(1)
-        };
-        placed.push(Placed {
-            start: span.start,
-            end,
-            fault: n,
-        })?;
-    }
-    placed.sort_by_key(|each| each.start)?;
-    Ok(placed)
-}
-
-/// The value at a place, and its layout.
-fn walk<'v, 'l>(value: &'v Value, layout: &'l Layout, steps: &[Step]) -> (&'v Value, &'l Layout) {
-    let mut at = value;
-    let mut here = layout;
-    for step in steps {
-        let next = match step {
-            Step::Key(name) => (at.get(name.text()), here.member(name.text())),
-            Step::Item(n) => (at.get(*n), here.item(*n)),
-        };
-        if let (Some(inner), Some(there)) = next {
-            at = inner;
-            here = there;
-        }
-    }
-    (at, here)
-}
-
-/// The value at a place.
-fn value_at<'v>(value: &'v Value, steps: &[Step]) -> &'v Value {
-    let mut at = value;
-    for step in steps {
-        let next = match step {
-            Step::Key(name) => at.get(name.text()),
-            Step::Item(n) => at.get(*n),
-        };
-        if let Some(inner) = next {
-            at = inner;
-        }
-    }
-    at
 }
 
 fn push_fault(
