@@ -32,7 +32,8 @@ use Rattle.lane_turn.specs.Acted.{missed, on_source, plain_acted, all_acted, han
 use Rattle.lane_turn.specs.Deliver.{reply_spec, holding, received_body, received, received_all}
 use Rattle.lane_turn.specs.Turn.{opening, open_context, open_contexts_to, begun, turned}
 use Rattle.lane_turn.specs.Tick.{lanes_at, posted_at}
-use Rattle.lane_turn.specs.Arrivals.{held_of, is_for_body, is_for, arrival_of, arrivals, ids_for}
+use Rattle.lane_turn.specs.Arrivals.{is_for_body, is_for, arrival_of, arrivals, ids_for}
+use Rattle.lane_turn.proofs.Steady.{held_of}
 use Rattle.lane_turn.proofs.Sends.{step_tells}
 use Rattle.lane_turn.proofs.Delivered.{got_given, received_steady}
 use Rattle.lane_turn.proofs.Turns.{kept_finished}

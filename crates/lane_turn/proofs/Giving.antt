@@ -16,10 +16,9 @@ use Rattle.lane_turn.specs.Step.{letter, posted_with}
 use Rattle.lane_turn.specs.Turn.{begun, finished, turned, out_of}
 use Rattle.lane_turn.specs.Handover.{is_another, may_give}
 use Rattle.lane_turn.specs.Holding.{gives_context}
-use Rattle.lane_turn.specs.Arrivals.{held_of}
 use Rattle.lane_turn.proofs.Lists.{each-push}
 use Rattle.lane_turn.proofs.Leaves.{own_within}
-use Rattle.lane_turn.proofs.Steady.{given_by, given_with}
+use Rattle.lane_turn.proofs.Steady.{held_of, given_by, given_with}
 use Rattle.lane_turn.proofs.Sends.{IsAllowedBody, IsAllowed, Sends, step_tells}
 use Rattle.lane_turn.proofs.Turns.{kept_finished}
 use Rattle.lane_turn.proofs.Arrivals.{own_held}
@@ -42,7 +41,7 @@ CanGive count lanes sender (mails.Complete reply) = Unit {0}
 CanGive count lanes sender (mails.Cancelled c) = Unit {0}
 CanGive count lanes sender (mails.Give context to) = (context < count) × ((to < lanes) × (to ≢ sender))
 
-any_push : (p : Letter → Bool) (ls : List Letter) (l : Letter) → list_any p (ls ++ l ∷ []) ≡ (list_any p ls || p l)
+pub any_push : (p : Letter → Bool) (ls : List Letter) (l : Letter) → list_any p (ls ++ l ∷ []) ≡ (list_any p ls || p l)
 any_push p [] l = none (p l)
   where
     none : (b : Bool) → (b || false) ≡ (false || b)

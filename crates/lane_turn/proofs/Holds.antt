@@ -19,7 +19,7 @@ use Rattle.lane_turn.specs.Tick.{posted_at, opened, lanes_at}
 use Rattle.lane_turn.specs.Letters.{AreNumbered}
 use Rattle.lane_turn.specs.Handover.{Handing, all_handed, handings, handed_over}
 use Rattle.lane_turn.specs.Holding.{gives_context, given_by, given_to, holder_at}
-use Rattle.lane_turn.specs.Arrivals.{held_of}
+use Rattle.lane_turn.proofs.Steady.{held_of}
 use Rattle.lane_turn.proofs.Turns.{out_numbered, turned_number}
 use Rattle.lane_turn.proofs.Delivered.{received_number}
 use Rattle.lane_turn.proofs.Arrivals.{own_held, held_turned, held_received, given_received, length_held, open_at}

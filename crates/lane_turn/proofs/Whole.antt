@@ -19,7 +19,7 @@ set_other (x ∷ xs) zero (suc j) v h = refl
 set_other (x ∷ xs) (suc i) zero v h = refl
 set_other (x ∷ xs) (suc i) (suc j) v h = set_other xs i j v (λ e. h (ap suc e))
 
-index_other : {X : Type 0} (xs : List X) (i j : ℕ) (v d : X) → j ≢ i → slice_index_or (slice_set xs i v) j d ≡ slice_index_or xs j d
+pub index_other : {X : Type 0} (xs : List X) (i j : ℕ) (v d : X) → j ≢ i → slice_index_or (slice_set xs i v) j d ≡ slice_index_or xs j d
 index_other [] i j v d h = refl
 index_other (x ∷ xs) zero zero v d h = absurd (h refl)
 index_other (x ∷ xs) zero (suc j) v d h = refl

@@ -6,6 +6,7 @@ use Rattle.loop_script.specs.declared.plan.Proc.{Proc}
 use Rattle.loop_script.specs.declared.plan.LaneSpec.{LaneSpec}
 use Rattle.loop_script.specs.declared.action.Action.{Action}
 use Rattle.loop_script.specs.declared.action.Action.TheVariants.{Give}
+use Rattle.loop_script.specs.Gives.{GivesNone}
 use Rattle.loop_script.specs.Parts.{home_of}
 use Rattle.loop_script.specs.References.{sizes}
 use Rattle.context_core.specs.declared.context.Context.{Context}
@@ -83,3 +84,22 @@ pub record LettersFollow : Type 0 where
       → AllByRecursion (λ lane. (c : Context) → is_own context lane ≡ true → context_at context lane ≡ Some c
       → arrivals context (received_all script tick (posted_at script tick (lanes_at script tick)) lane).trace ≡ arrivals context lane.trace ++ ids_for context c.rows.next_id (posted_at script tick (lanes_at script tick)))
       (handed_over tick (posted_at script tick (lanes_at script tick)) (map (turned script tick) (lanes_at script tick)))
+
+-- a context that is given stays as it is: it is on its way still, with the rows and the replies that it had
+abbrev pub StaysGiven : Turn → Turn → Type 0
+StaysGiven t u = (context : ContextNumber) → is_given context t.lane ≡ true → (is_given context u.lane ≡ true) × Stands context t.lane u.lane
+
+-- in a run a step leaves each context that was given in this tick as it stood
+abbrev pub GivenContextsStand : Type 0
+GivenContextsStand = (script : Plan) → OfEachStep script StaysGiven
+
+-- ---- where none is given
+
+-- the lanes of a run in which no context goes over
+abbrev pub staying_at : Plan → Tick → List Lane
+staying_at script zero = opened script
+staying_at script (suc k) = map (received_all script k (posted_at script k (staying_at script k))) (map (turned script k) (staying_at script k))
+
+-- a script that gives no context runs as it would where none goes over
+abbrev pub RunsStay : Type 0
+RunsStay = (script : Plan) (tick : Tick) → GivesNone script → lanes_at script tick ≡ staying_at script tick
