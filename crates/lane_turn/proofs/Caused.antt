@@ -1,15 +1,14 @@
 -- A call of a source stands over an iteration of its context, so its context is owned.
-use Rattle.std.proofs.Common.{◌≡◌, ℕ, ◌<◌, ◌==◌, ◌||◌, ◌⊎◌, inl, inr, Bool, true, false, Some, List, [], ◌∷◌, drop, length, refl, ap, sym, ◌∙◌, subst}
+use Rattle.std.proofs.Common.{◌≡◌, ℕ, ◌==◌, ◌||◌, inl, inr, true, Some, List, [], ◌∷◌, drop, refl, ap, sym, ◌∙◌, subst}
 use Rattle.std.specs.List.{AllByRecursion, list_any}
 use Rattle.std.proofs.lemmas.Bool.{eq-eqb}
 use Rattle.loop_script.specs.declared.plan.Plan.{Plan}
-use Rattle.post_office.specs.declared.letter.Letter.{Letter}
 use Rattle.lane_turn.specs.declared.layer.Origin.{Origin}
 use Rattle.lane_turn.specs.declared.layer.Origin.TheVariants as origins
 use Rattle.lane_turn.specs.Frames.{Frame, CallOf, IterOf, LoopOf, is_acquired_by, owns}
-use Rattle.lane_turn.specs.Lane.{Lane, Turn, chosen}
+use Rattle.lane_turn.specs.Lane.{Turn, chosen}
 use Rattle.lane_turn.specs.Step.{step}
-use Rattle.lane_turn.specs.Turn.{begun, turned}
+use Rattle.lane_turn.specs.Turn.{begun}
 use Rattle.lane_turn.specs.Tick.{lanes_at}
 use Rattle.lane_turn.specs.Iterations.{Later, EachLater, IsCalledBy, MayBegin, Begun, FramesGoOn}
 use Rattle.lane_turn.proofs.Iterations.{goes_on}

@@ -1,20 +1,19 @@
 -- What a turn gives: the contexts that are given are those that its letters give, each once.
-use Rattle.std.proofs.Common.{◌≡◌, ◌≢◌, ◌⊎◌, inl, inr, ℕ, zero, suc, ◌+◌, ◌<◌, ◌==◌, ◌||◌, ◌&&◌, Bool, true, false, cond, Option, Some, None, List, [], ◌∷◌, ◌++◌, length, slice_set, refl, ap, sym, ◌∙◌, subst, arith, ltb-true, eqb-true}
+use Rattle.std.proofs.Common.{◌≡◌, ◌≢◌, ◌⊎◌, inl, inr, ℕ, ◌<◌, ◌==◌, ◌||◌, ◌&&◌, Bool, true, false, Option, Some, None, List, [], ◌∷◌, ◌++◌, length, slice_set, refl, ap, sym, ◌∙◌, subst, arith, ltb-true, eqb-true}
 use Rattle.std.specs.Prelude.{not, unwrap_or, is_some, slice_get, slice_index_or, nat_lt}
 use Rattle.std.specs.List.{AllByRecursion, list_any}
 use Rattle.std.proofs.lemmas.Bool.{eq-eqb}
 use Rattle.std.proofs.lemmas.Bool.Decides.{eqb_tells}
 use Rattle.std.proofs.lemmas.List.{length-map, length-set}
 use Rattle.loop_script.specs.declared.plan.Plan.{Plan}
-use Rattle.context_core.specs.declared.context.Context.{Context}
 use Rattle.post_office.specs.declared.letter.Letter.{Letter}
 use Rattle.post_office.specs.declared.letter.Body.{Body as Mail}
 use Rattle.post_office.specs.declared.letter.Body.TheVariants as mails
 use Rattle.lane_turn.specs.Lane.{Lane, Turn, context_at, is_given, is_own, taken}
 use Rattle.lane_turn.specs.Owned.{is_owned}
 use Rattle.lane_turn.specs.Step.{letter, posted_with}
-use Rattle.lane_turn.specs.Turn.{begun, finished, turned, out_of}
-use Rattle.lane_turn.specs.Handover.{is_another, may_give}
+use Rattle.lane_turn.specs.Turn.{begun, finished}
+use Rattle.lane_turn.specs.Handover.{may_give}
 use Rattle.lane_turn.specs.Holding.{gives_context}
 use Rattle.lane_turn.proofs.Lists.{each-push}
 use Rattle.lane_turn.proofs.Leaves.{own_within}

@@ -1,5 +1,5 @@
 -- A context that is given is owned by nothing, and stands until it goes over.
-use Rattle.std.proofs.Common.{◌≡◌, ◌≢◌, ◌⊎◌, inl, inr, ℕ, zero, suc, ◌==◌, ◌||◌, ◌&&◌, Bool, true, false, cond, Option, Some, None, List, [], ◌∷◌, slice_set, refl, ap, sym, ◌∙◌}
+use Rattle.std.proofs.Common.{◌≡◌, ◌≢◌, ◌⊎◌, inl, inr, ℕ, zero, suc, ◌==◌, ◌||◌, ◌&&◌, Bool, true, false, Option, Some, None, List, [], ◌∷◌, slice_set, refl, ap, sym, ◌∙◌}
 use Rattle.std.specs.Prelude.{not, is_some, unwrap_or, slice_get}
 use Rattle.std.specs.List.{AllByRecursion, list_any}
 use Rattle.std.proofs.lemmas.Bool.Decides.{eqb_tells}
@@ -11,7 +11,7 @@ use Rattle.post_office.specs.declared.letter.Body.TheVariants as mails
 use Rattle.lane_turn.specs.Frames.{owns}
 use Rattle.lane_turn.specs.Lane.{Lane, Turn, present, context_at, is_given, is_own, taken}
 use Rattle.lane_turn.specs.Owned.{has_ground, is_owned, may_release}
-use Rattle.lane_turn.specs.Handover.{is_another, may_give}
+use Rattle.lane_turn.specs.Handover.{is_another}
 use Rattle.lane_turn.specs.Step.{step}
 use Rattle.lane_turn.specs.Turn.{begun}
 use Rattle.lane_turn.specs.Tick.{lanes_at}

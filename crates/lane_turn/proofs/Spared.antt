@@ -1,7 +1,7 @@
 -- What a step leaves as it stands: each context that is not the lane's own, and not acquired. So each that it gave in this tick.
-use Rattle.std.proofs.Common.{◌≡◌, ◌≢◌, ◌⊎◌, inl, inr, ℕ, ℤ, zero, suc, ◌==◌, ◌||◌, ◌&&◌, Bool, true, false, cond, Option, Some, None, List, [], ◌∷◌, option_map, refl, ap, sym, ◌∙◌, subst}
+use Rattle.std.proofs.Common.{◌≡◌, ◌≢◌, ℕ, ℤ, zero, suc, ◌==◌, ◌||◌, ◌&&◌, Bool, true, false, cond, Option, Some, None, List, [], ◌∷◌, option_map, refl, ap, sym, ◌∙◌, subst}
 use Rattle.std.specs.Prelude.{not, is_some, is_none, unwrap_or, slice_get, nat_lt}
-use Rattle.std.specs.List.{AllByRecursion, list_any}
+use Rattle.std.specs.List.{list_any}
 use Rattle.std.proofs.lemmas.Bool.{eq-eqb}
 use Rattle.loop_script.specs.declared.plan.Plan.{Plan}
 use Rattle.loop_script.specs.declared.source.SourceSpec.{SourceSpec}
@@ -32,8 +32,8 @@ use Rattle.lane_turn.specs.declared.layer.Origin.TheVariants as origins
 use Rattle.lane_turn.specs.declared.slot.Place.{Place}
 use Rattle.lane_turn.specs.declared.slot.Named.TheVariants.{Source, Handler}
 use Rattle.lane_turn.specs.Frames.{Frame, CallOf, IterOf, LoopOf, owns, calls_in_progress}
-use Rattle.lane_turn.specs.Replies.{Replies, replies_at, held_without}
-use Rattle.lane_turn.specs.Lane.{Lane, Turn, present, context_at, is_given, is_own, with_rows, with_context, edited, row_of, row_at, place_at, handler_at, next_place, set_slot, set_running, viewing, noting, written, pushed, popped, taken, stopped, is_running, iterating}
+use Rattle.lane_turn.specs.Replies.{replies_at, held_without}
+use Rattle.lane_turn.specs.Lane.{Lane, Turn, present, context_at, is_given, is_own, with_rows, with_context, edited, row_of, row_at, place_at, handler_at, next_place, set_slot, set_running, viewing, noting, written, popped, taken, stopped, is_running, iterating}
 use Rattle.lane_turn.specs.Owned.{default_context, is_owned, may_release, called_at_once, calling, attaching, invoke_own, invoke_spec}
 use Rattle.lane_turn.specs.Handover.{may_give}
 use Rattle.lane_turn.specs.Acted.{missed, born, can_bear_in, can_bear, child_of, on_source, set_priority_of, plain_acted, all_acted, handled, all_handled, cancel, disconnect_of, acted, sends}

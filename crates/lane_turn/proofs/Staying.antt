@@ -1,5 +1,5 @@
 -- The run of a script that gives no context is that in which none goes over.
-use Rattle.std.proofs.Common.{◌≡◌, ℕ, zero, suc, ◌+◌, Bool, true, false, cond, Option, Some, None, List, [], ◌∷◌, ◌++◌, map, refl, ap, sym, ◌∙◌}
+use Rattle.std.proofs.Common.{◌≡◌, ℕ, zero, suc, true, false, Option, Some, None, List, [], ◌∷◌, map, refl, ap, sym, ◌∙◌}
 use Rattle.std.specs.List.{list_any, cons_option}
 use Rattle.std.proofs.lemmas.Bool.{eq-eqb}
 use Rattle.std.proofs.lemmas.List.Folds.{list_any-append}
@@ -9,12 +9,12 @@ use Rattle.post_office.specs.declared.letter.Letter.{Letter}
 use Rattle.post_office.specs.declared.letter.Body.{Body as Mail}
 use Rattle.post_office.specs.declared.letter.Body.TheVariants as mails
 use Rattle.lane_turn.specs.Lane.{Lane, Turn}
-use Rattle.lane_turn.specs.Step.{step, letter, posted_with}
+use Rattle.lane_turn.specs.Step.{letter, posted_with}
 use Rattle.lane_turn.specs.Turn.{begun, turned, out_of}
-use Rattle.lane_turn.specs.Handover.{Handing, all_handed, handing_by, handing_of, moved, handings, handed_over}
+use Rattle.lane_turn.specs.Handover.{Handing, all_handed, handing_by, moved, handings, handed_over}
 use Rattle.lane_turn.specs.Deliver.{received_all}
 use Rattle.lane_turn.specs.Tick.{posted_at, lanes_at}
-use Rattle.lane_turn.specs.Holding.{gives_context, staying_at, RunsStay}
+use Rattle.lane_turn.specs.Holding.{gives_context, RunsStay}
 use Rattle.lane_turn.proofs.Owning.{gives_maybe}
 use Rattle.lane_turn.proofs.Sends.{Sends, step_tells}
 use Rattle.lane_turn.proofs.Turns.{kept_finished}

@@ -25,7 +25,7 @@ use Rattle.lane_turn.specs.declared.line.Word.TheVariants as words
 use Rattle.lane_turn.specs.declared.layer.Origin.{Origin}
 use Rattle.lane_turn.specs.declared.layer.Origin.TheVariants.{Start, Source, Invoke as Invoked}
 use Rattle.lane_turn.specs.declared.slot.Place.{Place}
-use Rattle.lane_turn.specs.Lane.{Lane, present, context_at, with_rows, stopped, place_at, handler_at, written, viewing, noting, is_own}
+use Rattle.lane_turn.specs.Lane.{Lane, present, with_rows, stopped, place_at, handler_at, written, viewing, noting, is_own}
 use Rattle.lane_turn.specs.Handover.{may_give, with_given}
 use Rattle.std.specs.Prelude.{nat_lt, is_some, slice_index_or, slice_get, option_map}
 use Rattle.lane_turn.specs.declared.line.Invoked.TheVariants.{Posted}

@@ -1,11 +1,10 @@
 -- Which lane has which context, and what its letters attach there.
-use Rattle.std.specs.Prelude.{◌≡◌, ◌<◌, ◌==◌, Bool, true, false, pos, Option, Some, None, List, [], ◌∷◌, ◌+◌, ◌++◌, map, length, if◌then◌else◌}
-use Rattle.std.specs.List.{AllByRecursion, filter_map, range_with_len}
+use Rattle.std.specs.Prelude.{◌≡◌, ◌<◌, ◌==◌, Bool, true, false, pos, Option, Some, None, List, [], ◌∷◌, ◌+◌, ◌++◌, map, if◌then◌else◌}
+use Rattle.std.specs.List.{AllByRecursion, filter_map}
 use Rattle.loop_script.specs.declared.plan.Plan.{Plan}
 use Rattle.loop_script.specs.declared.source.SourceSpec.{SourceSpec}
 use Rattle.loop_script.specs.declared.source.Kind.TheVariants.{Idle}
-use Rattle.loop_script.specs.Parts.{home_of, time_of}
-use Rattle.loop_script.specs.References.{sizes}
+use Rattle.loop_script.specs.Parts.{time_of}
 use Rattle.source_rows.specs.declared.row.Row.{Row}
 use Rattle.source_rows.specs.Row.{root_row}
 use Rattle.source_rows.specs.Rows.{row_of}

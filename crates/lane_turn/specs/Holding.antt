@@ -1,11 +1,7 @@
 -- Who holds which context, and what goes over with it.
-use Rattle.std.specs.Prelude.{◌≡◌, ◌≢◌, ◌++◌, ℕ, zero, suc, ◌+◌, ◌<◌, ◌==◌, ◌&&◌, Bool, true, false, Option, Some, None, is_some, List, [], ◌∷◌, map, length, if◌then◌else◌}
-use Rattle.std.specs.List.{AllByRecursion, list_all, list_any, range_with_len}
+use Rattle.std.specs.Prelude.{◌≡◌, ◌≢◌, ◌++◌, zero, suc, ◌<◌, ◌==◌, Bool, true, false, Some, List, [], ◌∷◌, map, length, if◌then◌else◌}
+use Rattle.std.specs.List.{AllByRecursion, range_with_len}
 use Rattle.loop_script.specs.declared.plan.Plan.{Plan}
-use Rattle.loop_script.specs.declared.plan.Proc.{Proc}
-use Rattle.loop_script.specs.declared.plan.LaneSpec.{LaneSpec}
-use Rattle.loop_script.specs.declared.action.Action.{Action}
-use Rattle.loop_script.specs.declared.action.Action.TheVariants.{Give}
 use Rattle.loop_script.specs.Gives.{GivesNone}
 use Rattle.loop_script.specs.Parts.{home_of}
 use Rattle.loop_script.specs.References.{sizes}
@@ -14,11 +10,9 @@ use Rattle.post_office.specs.declared.letter.Letter.{Letter}
 use Rattle.post_office.specs.declared.letter.Body.{Body as Mail}
 use Rattle.post_office.specs.declared.letter.Body.TheVariants as mails
 use Rattle.lane_turn.specs.Replies.{replies_at}
-use Rattle.lane_turn.specs.Frames.{owns}
 use Rattle.lane_turn.specs.Lane.{Lane, Turn, Kept, context_at, is_given, is_own}
-use Rattle.lane_turn.specs.Step.{step}
-use Rattle.lane_turn.specs.Turn.{turned, out_of}
-use Rattle.lane_turn.specs.Handover.{Handing, handings, handed_of, without_context, taken_over, all_handed, handed_over}
+use Rattle.lane_turn.specs.Turn.{turned}
+use Rattle.lane_turn.specs.Handover.{handed_of, without_context, taken_over, handed_over}
 use Rattle.lane_turn.specs.Deliver.{received_all}
 use Rattle.lane_turn.specs.Tick.{posted_at, opened, lanes_at}
 use Rattle.lane_turn.specs.Blocked.{OfEachStep}
