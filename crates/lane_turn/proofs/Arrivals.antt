@@ -1,7 +1,7 @@
 -- What letters attach, and whose contexts are.
-use Rattle.std.proofs.Common.{◌≡◌, ◌≢◌, ◌⊎◌, inl, inr, ℕ, zero, suc, ◌+◌, ◌<◌, ◌≤◌, ◌==◌, Bool, true, false, cond, Option, Some, None, List, [], ◌∷◌, ◌++◌, map, length, slice_set, refl, ap, sym, ◌∙◌, arith, subst, append-nil, ltb-true, ltb-false}
+use Rattle.std.proofs.Common.{◌≡◌, ◌≢◌, ◌⊎◌, inl, inr, ℕ, zero, suc, ◌+◌, ◌<◌, ◌≤◌, ◌==◌, Bool, true, false, cond, Option, Some, None, List, [], ◌∷◌, ◌++◌, length, slice_set, refl, ap, sym, ◌∙◌, arith, subst, append-nil, ltb-true, ltb-false}
 use Rattle.std.specs.Prelude.{not, ◌&&◌, unwrap_or, is_some, slice_get, slice_index_or, option_map, nat_lt}
-use Rattle.std.specs.List.{AllByRecursion, cons_option, range_with_len}
+use Rattle.std.specs.List.{AllByRecursion, cons_option}
 use Rattle.std.proofs.lemmas.List.{append_assoc}
 use Rattle.std.proofs.lemmas.List.Elements.{filter_map-append}
 use Rattle.std.proofs.lemmas.Bool.Decides.{eqb_tells}
@@ -11,7 +11,6 @@ use Rattle.loop_script.specs.declared.action.Action.{Action}
 use Rattle.loop_script.specs.declared.action.Action.TheVariants.{Attach, Child, Destroy, SetReady, SetPriority, Iterate, Pending, Run, Quit, Cancel, Connect, Disconnect, Task, Push, Pop, ShowDefault, Acquire, Release, Invoke, Give, Log}
 use Rattle.loop_script.specs.declared.body.Body.TheVariants.{Procedure}
 use Rattle.loop_script.specs.Parts.{time_of, actions_of, home_of, context_of}
-use Rattle.loop_script.specs.References.{sizes}
 use Rattle.source_rows.specs.Rows.{RowSet, attached, destroyed, ready_set}
 use Rattle.context_core.specs.declared.context.Context.{Context}
 use Rattle.cancel_view.specs.declared.handler.Fired.{Fired}
@@ -27,12 +26,12 @@ use Rattle.lane_turn.specs.declared.line.Word.{Word}
 use Rattle.lane_turn.specs.declared.line.Word.TheVariants as words
 use Rattle.lane_turn.specs.declared.slot.Place.{Place}
 use Rattle.lane_turn.specs.Sources.{no_sources}
-use Rattle.lane_turn.specs.Lane.{Lane, present, context_at, next_id, with_rows, edited, written, place_at, row_at, set_running, viewing, noting, taken, is_own, is_given}
+use Rattle.lane_turn.specs.Lane.{Lane, present, context_at, next_id, with_rows, edited, written, place_at, row_at, set_running, viewing, noting, is_own, is_given}
 use Rattle.lane_turn.specs.Acted.{missed, on_source, plain_acted, all_acted, handled, all_handled, cancel}
 use Rattle.lane_turn.specs.Deliver.{reply_spec, holding, received_body, received, received_all}
-use Rattle.lane_turn.specs.Turn.{opening, open_context, open_contexts_to, begun, turned}
-use Rattle.lane_turn.specs.Tick.{lanes_at, posted_at}
-use Rattle.lane_turn.specs.Arrivals.{held_of, is_for_body, is_for, arrival_of, arrivals, ids_for}
+use Rattle.lane_turn.specs.Turn.{open_context, open_contexts_to, begun, turned}
+use Rattle.lane_turn.specs.Arrivals.{is_for_body, is_for, arrival_of, arrivals, ids_for}
+use Rattle.lane_turn.proofs.Steady.{held_of}
 use Rattle.lane_turn.proofs.Sends.{step_tells}
 use Rattle.lane_turn.proofs.Delivered.{got_given, received_steady}
 use Rattle.lane_turn.proofs.Turns.{kept_finished}

@@ -1,5 +1,5 @@
 -- Contexts that go between lanes: each stays one lane's.
-use Rattle.std.proofs.Common.{◌≡◌, ◌≢◌, ◌⊎◌, inl, inr, ℕ, zero, suc, ◌+◌, ◌<◌, ◌==◌, ◌||◌, ◌&&◌, Bool, true, false, cond, Option, Some, None, is_some, List, [], ◌∷◌, ◌++◌, map, length, get_or, slice_set, option_map, refl, ap, sym, ◌∙◌, subst, arith, eqb-true}
+use Rattle.std.proofs.Common.{◌≡◌, ◌≢◌, ◌⊎◌, inl, inr, ℕ, zero, suc, ◌<◌, ◌==◌, ◌||◌, ◌&&◌, Bool, true, false, cond, Option, Some, None, is_some, List, [], ◌∷◌, map, length, get_or, slice_set, option_map, refl, ap, sym, ◌∙◌, subst, arith, eqb-true}
 use Rattle.std.specs.Prelude.{slice_get, unwrap_or}
 use Rattle.std.specs.Option.{option_and_then}
 use Rattle.std.specs.List.{AllByRecursion, list_any, cons_option}
@@ -11,7 +11,7 @@ use Rattle.post_office.specs.declared.letter.Letter.{Letter}
 use Rattle.post_office.specs.declared.letter.Body.{Body as Mail}
 use Rattle.post_office.specs.declared.letter.Body.TheVariants as mails
 use Rattle.lane_turn.specs.Lane.{Lane, Kept, present, context_at, is_given}
-use Rattle.lane_turn.specs.Handover.{Handing, kept_of, handed_of, without_context, taken_over, let_go, got, handed, all_handed, lane_of_number, handing, handing_by, handing_of, moved, handings, handed_over}
+use Rattle.lane_turn.specs.Handover.{Handing, kept_of, handed_of, without_context, taken_over, let_go, handed, all_handed, handing, handing_by, handing_of, moved, handings, handed_over}
 use Rattle.lane_turn.specs.Holding.{gives_context, given_by, given_to}
 use Rattle.lane_turn.proofs.Whole.{set_here, set_other}
 use Rattle.lane_turn.proofs.Places.{Counted, counted_step, found_at, number_at, each_at}

@@ -20,7 +20,7 @@ use Rattle.lane_turn.specs.Turn.{opening, open_replies, turned}
 use Rattle.lane_turn.specs.declared.replies.Awaited.{Awaited}
 use Rattle.lane_turn.specs.Deliver.{reply_spec, holding, arrived_source, received_body, received, received_all}
 use Rattle.lane_turn.specs.Owed.{one_for, lane_under, none_goes}
-use Rattle.lane_turn.specs.Arrivals.{held_of}
+use Rattle.lane_turn.proofs.Steady.{held_of}
 use Rattle.lane_turn.specs.Taken.{results, awaited_in, awaited, brings, brought, brought_before}
 use Rattle.lane_turn.proofs.Leaves.{Leaves, results_other, same, line, edit, leaves_trans, either, leaves_cancel}
 use Rattle.lane_turn.proofs.Taking.{IsFresh, fresh_more, awaited_next, left}

@@ -9,7 +9,6 @@ use Rattle.task_steps.specs.declared.entry.Reply.{Reply}
 use Rattle.post_office.specs.declared.letter.Letter.{Letter}
 use Rattle.post_office.specs.declared.letter.Body.{Body}
 use Rattle.post_office.specs.declared.letter.Body.TheVariants.{Attach, Complete, Cancelled, Give}
-use Rattle.std.specs.Prelude.{is_some}
 use Rattle.lane_turn.specs.declared.line.Event.TheVariants as events
 use Rattle.lane_turn.specs.Lane.{Lane, context_at, next_id, with_rows, edited, written, is_own}
 use Rattle.lane_turn.specs.Deliver.{reply_spec, holding, arrived, received_body, received, received_all}

@@ -156,7 +156,7 @@ numbered_all script lane (suc n) i = numbered_pushed (open_contexts_to script la
 abbrev pub Owns : Lane → Type 0
 Owns lane = (c : ℕ) → list_any (owns c) lane.frames ≡ true → is_own c lane ≡ true
 
-no_false : (b : Bool) → b ≡ true → b ≡ false → ⊥
+pub no_false : (b : Bool) → b ≡ true → b ≡ false → ⊥
 no_false b t f = let no : true ≡ false = sym t ∙ f in cc
 
 -- what is owned is not given
@@ -194,7 +194,7 @@ not_given script lane (Some (mails.Give d to)) c a k e = by (eqb_tells d c)
         let no : false ≡ true = sym (ap not owned) ∙ (ap (λ (n : ℕ). not (is_owned n lane)) (sym p.1) ∙ none) in
         cc
 
-owns_step : (script : Plan) (tick : ℕ) (t u : Turn) → step script tick t ≡ Some u → Owns t.lane → Owns u.lane
+pub owns_step : (script : Plan) (tick : ℕ) (t u : Turn) → step script tick t ≡ Some u → Owns t.lane → Owns u.lane
 owns_step script tick t u e o c k = by (s.owns c k)
   where
     s : Sends script tick t u
@@ -263,7 +263,7 @@ rests_set lane after d o r e n cs fs g =
         ap (λ b. b && not (is_given c after)) (ap (λ (all : List (Option Context)). is_some (present (slice_get all c))) cs ∙ ap (λ x. is_some (present x)) (set_other lane.contexts d c o p.1))
         ∙ (ap (λ b. is_some (context_at c lane) && not b) (g c p.1) ∙ r.owns c k)
 
-not_own : (x y : Bool) → y ≡ true → (x && not y) ≡ false
+pub not_own : (x y : Bool) → y ≡ true → (x && not y) ≡ false
 not_own true y e = ap not e
 not_own false y e = refl
 

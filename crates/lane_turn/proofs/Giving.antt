@@ -1,25 +1,23 @@
 -- What a turn gives: the contexts that are given are those that its letters give, each once.
-use Rattle.std.proofs.Common.{◌≡◌, ◌≢◌, ◌⊎◌, inl, inr, ℕ, zero, suc, ◌+◌, ◌<◌, ◌==◌, ◌||◌, ◌&&◌, Bool, true, false, cond, Option, Some, None, List, [], ◌∷◌, ◌++◌, length, slice_set, refl, ap, sym, ◌∙◌, subst, arith, ltb-true, eqb-true}
+use Rattle.std.proofs.Common.{◌≡◌, ◌≢◌, ◌⊎◌, inl, inr, ℕ, ◌<◌, ◌==◌, ◌||◌, ◌&&◌, Bool, true, false, Option, Some, None, List, [], ◌∷◌, ◌++◌, length, slice_set, refl, ap, sym, ◌∙◌, subst, arith, ltb-true, eqb-true}
 use Rattle.std.specs.Prelude.{not, unwrap_or, is_some, slice_get, slice_index_or, nat_lt}
 use Rattle.std.specs.List.{AllByRecursion, list_any}
 use Rattle.std.proofs.lemmas.Bool.{eq-eqb}
 use Rattle.std.proofs.lemmas.Bool.Decides.{eqb_tells}
 use Rattle.std.proofs.lemmas.List.{length-map, length-set}
 use Rattle.loop_script.specs.declared.plan.Plan.{Plan}
-use Rattle.context_core.specs.declared.context.Context.{Context}
 use Rattle.post_office.specs.declared.letter.Letter.{Letter}
 use Rattle.post_office.specs.declared.letter.Body.{Body as Mail}
 use Rattle.post_office.specs.declared.letter.Body.TheVariants as mails
 use Rattle.lane_turn.specs.Lane.{Lane, Turn, context_at, is_given, is_own, taken}
 use Rattle.lane_turn.specs.Owned.{is_owned}
 use Rattle.lane_turn.specs.Step.{letter, posted_with}
-use Rattle.lane_turn.specs.Turn.{begun, finished, turned, out_of}
-use Rattle.lane_turn.specs.Handover.{is_another, may_give}
+use Rattle.lane_turn.specs.Turn.{begun, finished}
+use Rattle.lane_turn.specs.Handover.{may_give}
 use Rattle.lane_turn.specs.Holding.{gives_context}
-use Rattle.lane_turn.specs.Arrivals.{held_of}
 use Rattle.lane_turn.proofs.Lists.{each-push}
 use Rattle.lane_turn.proofs.Leaves.{own_within}
-use Rattle.lane_turn.proofs.Steady.{given_by, given_with}
+use Rattle.lane_turn.proofs.Steady.{held_of, given_by, given_with}
 use Rattle.lane_turn.proofs.Sends.{IsAllowedBody, IsAllowed, Sends, step_tells}
 use Rattle.lane_turn.proofs.Turns.{kept_finished}
 use Rattle.lane_turn.proofs.Arrivals.{own_held}
@@ -42,7 +40,7 @@ CanGive count lanes sender (mails.Complete reply) = Unit {0}
 CanGive count lanes sender (mails.Cancelled c) = Unit {0}
 CanGive count lanes sender (mails.Give context to) = (context < count) × ((to < lanes) × (to ≢ sender))
 
-any_push : (p : Letter → Bool) (ls : List Letter) (l : Letter) → list_any p (ls ++ l ∷ []) ≡ (list_any p ls || p l)
+pub any_push : (p : Letter → Bool) (ls : List Letter) (l : Letter) → list_any p (ls ++ l ∷ []) ≡ (list_any p ls || p l)
 any_push p [] l = none (p l)
   where
     none : (b : Bool) → (b || false) ≡ (false || b)

@@ -1,5 +1,5 @@
 -- What lanes are that contexts go between: what each lane keeps, where what is handed over brings no more.
-use Rattle.std.proofs.Common.{◌≡◌, ℕ, zero, suc, ◌==◌, Bool, true, false, cond, Option, Some, None, List, [], ◌∷◌, map, length, slice_set, refl, ap, sym, ◌∙◌, subst, find}
+use Rattle.std.proofs.Common.{◌≡◌, ℕ, zero, suc, ◌==◌, Bool, true, false, cond, Option, Some, None, List, [], ◌∷◌, map, slice_set, refl, ap, ◌∙◌, subst, find}
 use Rattle.std.specs.Prelude.{is_some}
 use Rattle.std.specs.Option.{option_and_then}
 use Rattle.std.specs.List.{AllByRecursion, cons_option}
@@ -8,9 +8,9 @@ use Rattle.context_core.specs.declared.context.Context.{Context}
 use Rattle.post_office.specs.declared.letter.Letter.{Letter}
 use Rattle.post_office.specs.declared.letter.Body.{Body as Mail}
 use Rattle.post_office.specs.declared.letter.Body.TheVariants as mails
-use Rattle.lane_turn.specs.Lane.{Lane, Kept, context_at}
-use Rattle.lane_turn.specs.Handover.{Handing, handed_of, without_context, taken_over, let_go, got, handed, all_handed, lane_of_number, handing, handing_by, handing_of, moved, handings, handed_over}
-use Rattle.lane_turn.specs.Sound.{Bounded, IsWithin, IsReady}
+use Rattle.lane_turn.specs.Lane.{Lane, Kept}
+use Rattle.lane_turn.specs.Handover.{Handing, handed_of, without_context, taken_over, let_go, handed, all_handed, handing, handing_by, handing_of, moved, handings, handed_over}
+use Rattle.lane_turn.specs.Sound.{Bounded, IsReady}
 use Rattle.lane_turn.proofs.Bounds.{bounded_at}
 use Rattle.lane_turn.proofs.Whole.{whole}
 

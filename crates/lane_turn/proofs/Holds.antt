@@ -1,7 +1,7 @@
 -- At each tick of a run each context is one lane's.
-use Rattle.std.proofs.Common.{◌≡◌, ◌≢◌, ◌⊎◌, inl, inr, ℕ, zero, suc, ◌+◌, ◌<◌, ◌≤◌, ◌==◌, ◌||◌, ◌&&◌, Bool, true, false, cond, Option, Some, None, is_some, List, [], ◌∷◌, ◌++◌, map, length, get_or, refl, ap, sym, ◌∙◌, subst, arith, eqb-true, length-append}
+use Rattle.std.proofs.Common.{◌≡◌, ◌≢◌, ◌⊎◌, inl, inr, ℕ, zero, suc, ◌+◌, ◌<◌, ◌≤◌, ◌==◌, ◌||◌, ◌&&◌, Bool, true, false, cond, is_some, List, [], ◌∷◌, ◌++◌, map, length, get_or, refl, ap, sym, ◌∙◌, subst, arith, eqb-true, length-append}
 use Rattle.std.specs.Prelude.{not, slice_get, slice_index_or, unwrap_or}
-use Rattle.std.specs.List.{AllByRecursion, list_any, flat_map, range_with_len}
+use Rattle.std.specs.List.{AllByRecursion, list_any, range_with_len}
 use Rattle.std.proofs.lemmas.Bool.{eq-eqb, ne_eqb}
 use Rattle.std.proofs.lemmas.Bool.Decides.{eqb_tells}
 use Rattle.std.proofs.lemmas.List.{length-set, length-map}
@@ -15,17 +15,17 @@ use Rattle.post_office.specs.declared.letter.Body.TheVariants as mails
 use Rattle.lane_turn.specs.Lane.{Lane, context_at, is_given, is_own}
 use Rattle.lane_turn.specs.Turn.{opening, open_loops, begun, finished, turned, out_of}
 use Rattle.lane_turn.specs.Deliver.{received_all}
-use Rattle.lane_turn.specs.Tick.{posted_at, opened, lanes_at}
+use Rattle.lane_turn.specs.Tick.{posted_at, lanes_at}
 use Rattle.lane_turn.specs.Letters.{AreNumbered}
 use Rattle.lane_turn.specs.Handover.{Handing, all_handed, handings, handed_over}
 use Rattle.lane_turn.specs.Holding.{gives_context, given_by, given_to, holder_at}
-use Rattle.lane_turn.specs.Arrivals.{held_of}
+use Rattle.lane_turn.proofs.Steady.{held_of}
 use Rattle.lane_turn.proofs.Turns.{out_numbered, turned_number}
 use Rattle.lane_turn.proofs.Delivered.{received_number}
 use Rattle.lane_turn.proofs.Arrivals.{own_held, held_turned, held_received, given_received, length_held, open_at}
 use Rattle.lane_turn.proofs.GoingOver.{handed_part}
 use Rattle.lane_turn.proofs.Places.{Counted, counted_step, number_at, each_at}
-use Rattle.lane_turn.proofs.Giving.{gives_one, AreOnce, CanGive, Gave, turn_gave, or_left, or_right, or_false}
+use Rattle.lane_turn.proofs.Giving.{gives_one, AreOnce, CanGive, Gave, turn_gave, or_false}
 use Rattle.lane_turn.proofs.Between.{gives_from, IsFair, AreFair, Fits, AreLanes, over_lanes}
 use Rattle.lane_turn.proofs.Homes.{none_open, home_within}
 

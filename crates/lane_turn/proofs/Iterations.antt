@@ -1,6 +1,6 @@
 -- What each step does to the frames.
 use Rattle.std.proofs.Common.{◌≡◌, ◌<◌, length, arith, ltb-true, ℕ, ℤ, zero, suc, ◌==◌, Bool, true, false, cond, Option, Some, None, List, [], ◌∷◌, ◌++◌, inl, inr, drop, refl, ap, sym, ◌∙◌, subst}
-use Rattle.std.specs.Prelude.{slice_get, nat_lt, is_some}
+use Rattle.std.specs.Prelude.{slice_get, nat_lt}
 use Rattle.std.specs.List.{AllByRecursion, find}
 use Rattle.std.proofs.lemmas.Bool.Decides.{eqb_tells}
 use Rattle.loop_script.specs.declared.plan.Plan.{Plan}

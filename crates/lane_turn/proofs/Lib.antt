@@ -13,6 +13,7 @@ pub mod Edits
 pub mod Steps
 pub mod Steady
 pub mod Owning
+pub mod Gives
 pub mod Sends
 pub mod Finish
 pub mod Turns
@@ -63,6 +64,10 @@ pub mod Homes
 pub mod Holds
 pub mod Sums
 pub mod GoingOver
+pub mod Staying
+pub mod Caused
+pub mod Spared
+pub mod Loose
 pub mod Slots
 pub mod Given
 pub mod Handling

@@ -19,7 +19,7 @@ use Rattle.lane_turn.specs.Lane.{Lane, context_at, next_id, with_rows, edited, w
 use Rattle.lane_turn.specs.Turn.{opening, open_loops, turned, out_of}
 use Rattle.lane_turn.specs.Deliver.{reply_spec, holding, received_body, received, received_all}
 use Rattle.lane_turn.specs.Tick.{lanes_at, posted_at}
-use Rattle.lane_turn.specs.Arrivals.{held_of}
+use Rattle.lane_turn.proofs.Steady.{held_of}
 use Rattle.lane_turn.specs.Letters.{AreNumbered}
 use Rattle.lane_turn.specs.Owed.{one_for, is_reply, replied, lane_under, posted_before, mail_of_run, over_of_run}
 use Rattle.lane_turn.specs.Taken.{accounted, came_before}

@@ -1,5 +1,5 @@
 -- What a lane is in the middle of is in contexts of its own: what begins an iteration, a run or a call that acquires.
-use Rattle.std.proofs.Common.{◌≡◌, ◌⊎◌, inl, inr, ℕ, ℤ, ◌==◌, ◌||◌, Bool, true, false, cond, Option, Some, None, List, [], ◌∷◌, map, drop, refl, ap, sym, ◌∙◌, subst, eqb-true, ◌+◌}
+use Rattle.std.proofs.Common.{◌≡◌, ◌⊎◌, inl, inr, ℕ, ℤ, ◌==◌, ◌||◌, Bool, true, false, cond, Option, Some, None, List, [], ◌∷◌, drop, refl, ap, sym, ◌∙◌, subst, eqb-true, ◌+◌}
 use Rattle.std.specs.Prelude.{not, ◌&&◌, is_some, is_none, nat_lt}
 use Rattle.std.specs.List.{list_any}
 use Rattle.loop_script.specs.declared.plan.Plan.{Plan}
@@ -9,7 +9,7 @@ use Rattle.loop_script.specs.declared.action.Action.TheVariants as actions
 use Rattle.loop_script.specs.declared.body.Body.{Body}
 use Rattle.loop_script.specs.Parts.{time_of, context_of, stays}
 use Rattle.source_rows.specs.declared.row.Row.{Row}
-use Rattle.source_rows.specs.Rows.{RowSet, destroyed, ready_set, reprioritised, priority_fault}
+use Rattle.source_rows.specs.Rows.{RowSet, destroyed, ready_set, priority_fault}
 use Rattle.cancel_view.specs.Seen.{has, may_disconnect}
 use Rattle.post_office.specs.declared.letter.Body.{Body as Mail}
 use Rattle.post_office.specs.declared.letter.Body.TheVariants as mails
@@ -30,7 +30,7 @@ use Rattle.lane_turn.specs.Lane.{Lane, is_own, chosen, edited, pushed, set_runni
 use Rattle.lane_turn.specs.Owned.{default_context, is_owned, may_release, called_at_once, calling, invoke_own, invoke_spec}
 use Rattle.lane_turn.specs.Handover.{may_give, with_given}
 use Rattle.lane_turn.specs.Holding.{gives_context}
-use Rattle.lane_turn.specs.Acted.{missed, acted, child_of, can_bear, on_source, set_priority_of, disconnect_of, connect, sends}
+use Rattle.lane_turn.specs.Acted.{missed, acted, child_of, can_bear, on_source, set_priority_of, disconnect_of, sends}
 use Rattle.lane_turn.specs.Step.{dispatching, returned, answered, body_of}
 use Rattle.lane_turn.specs.Replies.{reply_held}
 use Rattle.lane_turn.specs.Sources.{restarted}

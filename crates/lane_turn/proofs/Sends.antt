@@ -1,10 +1,11 @@
 -- What a step sends, and how tasks and letters are counted.
 use Rattle.std.proofs.Common.{◌≡◌, ◌||◌, ◌<◌, ℕ, zero, suc, ◌+◌, ◌≤◌, Bool, true, false, cond, Option, Some, None, List, [], ◌∷◌, ◌++◌, length, refl, ap, sym, ◌∙◌, arith, subst, length-append}
-use Rattle.std.specs.Prelude.{slice_get, is_some}
+use Rattle.std.specs.Prelude.{slice_get}
 use Rattle.loop_script.specs.declared.plan.Plan.{Plan}
 use Rattle.loop_script.specs.declared.action.Action.{Action}
 use Rattle.loop_script.specs.declared.action.Action.TheVariants as actions
 use Rattle.loop_script.specs.Parts.{actions_of}
+use Rattle.loop_script.specs.Gives.{GivesNone}
 use Rattle.source_rows.specs.declared.row.Row.{Row}
 use Rattle.post_office.specs.declared.letter.Letter.{Letter}
 use Rattle.post_office.specs.declared.letter.Body.{Body as Mail}
@@ -22,11 +23,12 @@ use Rattle.lane_turn.specs.Step.{returned, answered, step, step_polling, step_ca
 use Rattle.lane_turn.specs.Sound.{IsPaced}
 use Rattle.task_steps.specs.declared.entry.Reply.{Reply}
 use Rattle.cancel_view.specs.Seen.{has}
-use Rattle.lane_turn.specs.Arrivals.{held_of, IsOfInvoke}
+use Rattle.lane_turn.specs.Arrivals.{IsOfInvoke}
 use Rattle.lane_turn.specs.Letters.{AreNumbered}
 use Rattle.lane_turn.specs.Handover.{may_give}
-use Rattle.lane_turn.proofs.Owning.{OwnOn, own_same, own_after, own_advanced, own_acted, own_dispatching, own_returned, own_answered, own_looped, less_dropped, less_advanced}
-use Rattle.lane_turn.proofs.Steady.{Steady, told_by, given_with, still, steady_trans, steady_acted, steady_dispatching, steady_returned, steady_answered}
+use Rattle.lane_turn.proofs.Owning.{gives_maybe, OwnOn, own_same, own_after, own_advanced, own_acted, own_dispatching, own_returned, own_answered, own_looped, less_dropped, less_advanced}
+use Rattle.lane_turn.proofs.Gives.{give_stands, none_sent}
+use Rattle.lane_turn.proofs.Steady.{held_of, Steady, told_by, given_with, still, steady_trans, steady_acted, steady_dispatching, steady_returned, steady_answered}
 use Rattle.lane_turn.specs.declared.layer.Asker.TheVariants as askers
 
 -- a letter of the script that tells a source tells that of an invoke, and one that gives a context may give it
@@ -98,6 +100,9 @@ pub record Sends (script : Plan) (tick : ℕ) (t u : Turn) : Type 0 where
   pub given : u.lane.given ≡ given_with mail t.lane.given
   pub allowed : IsAllowed script (taken t.lane) mail
   pub owns : OwnOn (λ c. is_own c t.lane) mail t.lane.frames u.lane.frames
+  -- what gives a context leaves all as they stand, and nothing does where no list of the script gives one
+  pub stands : (c : ℕ) → gives_maybe c mail ≡ true → u.lane.contexts ≡ t.lane.contexts
+  pub none : GivesNone script → (c : ℕ) → gives_maybe c mail ≡ false
 
 some_same : (t u : Turn) → Some t ≡ Some u → t ≡ u
 some_same t u e = cc
@@ -107,8 +112,9 @@ sent_most None n = omega arith
 sent_most (Some body) n = omega arith
 
 -- what is counted
-counted_sends : (script : Plan) (tick : ℕ) (mail : Option Mail) (f : Lane → Lane) (t : Turn) (left : ℕ) → t.left ≡ left → IsAllowed script (taken t.lane) mail → OwnOn (λ c. is_own c t.lane) mail t.lane.frames (f t.lane).frames → Steady 1 mail t.lane (f t.lane) → Sends script tick t (limited_by tick mail f t left)
-counted_sends script tick mail f t zero e p o h = record {
+counted_sends : (script : Plan) (tick : ℕ) (mail : Option Mail) (f : Lane → Lane) (t : Turn) (left : ℕ) → t.left ≡ left → IsAllowed script (taken t.lane) mail → OwnOn (λ c. is_own c t.lane) mail t.lane.frames (f t.lane).frames
+    → ((c : ℕ) → gives_maybe c mail ≡ true → (f t.lane).contexts ≡ t.lane.contexts) → (GivesNone script → (c : ℕ) → gives_maybe c mail ≡ false) → Steady 1 mail t.lane (f t.lane) → Sends script tick t (limited_by tick mail f t left)
+counted_sends script tick mail f t zero e p o k z h = record {
   number = refl;
   now = refl;
   view = refl;
@@ -123,8 +129,10 @@ counted_sends script tick mail f t zero e p o h = record {
   given = refl;
   allowed = tt;
   owns = own_same (λ c. is_own c t.lane) None t.lane.frames;
+  stands = λ c l. refl;
+  none = λ g c. refl;
 }
-counted_sends script tick mail f t (suc left) e p o h = record {
+counted_sends script tick mail f t (suc left) e p o k z h = record {
   number = h.number;
   now = h.tick;
   view = h.view;
@@ -139,6 +147,8 @@ counted_sends script tick mail f t (suc left) e p o h = record {
   given = h.given;
   allowed = p;
   owns = o;
+  stands = k;
+  none = z;
 }
 
 -- what is not
@@ -158,6 +168,8 @@ freely_sends script tick t after iterated o h = record {
   given = h.given;
   allowed = tt;
   owns = o;
+  stands = λ c l. let no : false ≡ true = l in cc;
+  none = λ g c. refl;
 }
 
 taken_too : (mail : Option Mail) (lane after : Lane) → Steady 1 mail (taken lane) after → Steady 1 mail lane after
@@ -166,13 +178,15 @@ taken_too mail lane after h = steady_trans 1 mail lane (taken lane) after (still
 popped_too : (lane after : Lane) → Steady 0 None (popped lane) after → Steady 0 None lane after
 popped_too lane after h = steady_trans 0 None lane (popped lane) after (still 0 lane (popped lane) refl refl refl refl refl) h
 
-call_sends : (script : Plan) (tick : ℕ) (t : Turn) (call : Call) (a : Option Action) → Sends script tick t (step_call script tick t call a)
-call_sends script tick t call (Some a) = counted_sends script tick (sends script a (taken t.lane)) (λ lane. acted script tick a (taken lane)) t t.left refl (sends_allowed script a (taken t.lane)) (own_after (λ c. is_own c t.lane) (sends script a (taken t.lane)) t.lane.frames (taken t.lane).frames (acted script tick a (taken t.lane)).frames (less_advanced t.lane.frames) (own_acted script tick a (taken t.lane))) (taken_too (sends script a (taken t.lane)) t.lane _ (steady_acted script tick a (taken t.lane)))
-call_sends script tick t call None = freely_sends script tick t _ t.iterated (own_after (λ c. is_own c t.lane) None t.lane.frames (popped t.lane).frames (returned script tick call.body call.origin (popped t.lane)).frames (less_dropped t.lane.frames) (own_returned (λ c. is_own c t.lane) script tick call.body call.origin (popped t.lane))) (popped_too t.lane _ (steady_returned script tick call.body call.origin (popped t.lane)))
+call_sends : (script : Plan) (tick : ℕ) (t : Turn) (call : Call) (a : Option Action) → slice_get (actions_of script call.body) call.place ≡ a → Sends script tick t (step_call script tick t call a)
+call_sends script tick t call (Some a) e =
+    counted_sends script tick (sends script a (taken t.lane)) (λ lane. acted script tick a (taken lane)) t t.left refl (sends_allowed script a (taken t.lane)) (own_after (λ c. is_own c t.lane) (sends script a (taken t.lane)) t.lane.frames (taken t.lane).frames (acted script tick a (taken t.lane)).frames (less_advanced t.lane.frames) (own_acted script tick a (taken t.lane)))
+    (give_stands script tick a (taken t.lane)) (λ g. none_sent script g call.body call.place a e (taken t.lane)) (taken_too (sends script a (taken t.lane)) t.lane _ (steady_acted script tick a (taken t.lane)))
+call_sends script tick t call None e = freely_sends script tick t _ t.iterated (own_after (λ c. is_own c t.lane) None t.lane.frames (popped t.lane).frames (returned script tick call.body call.origin (popped t.lane)).frames (less_dropped t.lane.frames) (own_returned (λ c. is_own c t.lane) script tick call.body call.origin (popped t.lane))) (popped_too t.lane _ (steady_returned script tick call.body call.origin (popped t.lane)))
 
 id_sends : (script : Plan) (tick : ℕ) (t : Turn) (context : ℕ) (r : Option Row) → Sends script tick t (step_id tick t context r)
 id_sends script tick t context None = freely_sends script tick t (taken t.lane) t.iterated (own_advanced (λ c. is_own c t.lane) None t.lane.frames) (still 0 t.lane _ refl refl refl refl refl)
-id_sends script tick t context (Some row) = counted_sends script tick None (dispatching tick context row) t t.left refl tt (own_dispatching (λ c. is_own c t.lane) tick context row t.lane) (steady_dispatching tick context row t.lane)
+id_sends script tick t context (Some row) = counted_sends script tick None (dispatching tick context row) t t.left refl tt (own_dispatching (λ c. is_own c t.lane) tick context row t.lane) (λ c l. let no : false ≡ true = l in cc) (λ g c. refl) (steady_dispatching tick context row t.lane)
 
 loop_sends : (script : Plan) (tick : ℕ) (t : Turn) (number context : ℕ) (below : List Frame) → t.lane.frames ≡ LoopOf number context ∷ below → (runs iterated : Bool) (u : Turn)
     → cond runs (cond iterated None (Some (record t { lane = iterating script tick context askers.Loop t.lane; iterated = true }))) (Some (with_lane (λ lane. written tick (events.LoopEnd number) (popped lane)) t)) ≡ Some u → Sends script tick t u
@@ -190,7 +204,7 @@ step_sends : (script : Plan) (tick : ℕ) (t : Turn) (frames : List Frame) (stat
 step_sends script tick t [] GoesOn u e = cc
 step_sends script tick t (CallOf call ∷ below) GoesOn u e =
     let now : Turn = turn t (CallOf call ∷ below) GoesOn in
-    subst (Sends script tick now) (some_same _ _ e) (call_sends script tick now call (slice_get (actions_of script call.body) call.place))
+    subst (Sends script tick now) (some_same _ _ e) (call_sends script tick now call (slice_get (actions_of script call.body) call.place) refl)
 step_sends script tick t (IterOf context [] asker ∷ below) GoesOn u e =
     let now : Turn = turn t (IterOf context [] asker ∷ below) GoesOn in
     subst (Sends script tick now) (some_same _ _ e) (freely_sends script tick now _ now.iterated (own_after (λ c. is_own c now.lane) None now.lane.frames (popped now.lane).frames (answered tick context asker (popped now.lane)).frames (less_dropped now.lane.frames) (own_answered (λ c. is_own c now.lane) tick context asker (popped now.lane))) (popped_too now.lane _ (steady_answered tick context asker (popped now.lane))))
@@ -221,6 +235,10 @@ reply_allowed : (script : Plan) (lane : Lane) (o : Option Reply) → IsAllowed s
 reply_allowed script lane None = tt
 reply_allowed script lane (Some reply) = tt
 
+reply_none : (c : ℕ) (o : Option Reply) → gives_maybe c (mail_of o) ≡ false
+reply_none c None = refl
+reply_none c (Some reply) = refl
+
 polled_sends : (script : Plan) (tick : ℕ) (t : Turn) (task : Started) (tasks : List Started) → Sends script tick (record t { unpolled = task ∷ tasks }) (polled tick task (record t { unpolled = tasks }))
 polled_sends script tick t task tasks =
     let mail : Option Mail = mail_of (reply_at tick t.lane.tasks task) in
@@ -244,6 +262,8 @@ polled_sends script tick t task tasks =
       given = reply_gives t.lane.given (reply_at tick t.lane.tasks task);
       allowed = reply_allowed script (taken t.lane) (reply_at tick t.lane.tasks task);
       owns = own_same (λ c. is_own c t.lane) mail t.lane.frames;
+      stands = λ c l. refl;
+      none = λ g c. reply_none c (reply_at tick t.lane.tasks task);
     }
 
 polling_sends : (script : Plan) (tick : ℕ) (t : Turn) (tasks : List Started) (u : Turn) → step_polling script tick (record t { unpolled = tasks }) tasks ≡ Some u → Sends script tick (record t { unpolled = tasks }) u

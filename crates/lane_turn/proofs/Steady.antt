@@ -1,5 +1,5 @@
 -- What is done in a turn, beside a lane's number, its tasks and the size of its view.
-use Rattle.std.proofs.Common.{◌≡◌, ◌≢◌, ◌⊎◌, inl, inr, subst, ℕ, ℤ, zero, suc, ◌+◌, ◌≤◌, ◌<◌, ◌==◌, ◌||◌, sym, Bool, true, false, cond, Option, Some, None, List, [], ◌∷◌, ◌++◌, length, slice_set, refl, ap, ◌∙◌, arith, length-append, filter}
+use Rattle.std.proofs.Common.{◌≡◌, ◌≢◌, ◌⊎◌, inl, inr, subst, ℕ, ℤ, zero, suc, ◌+◌, ◌≤◌, ◌<◌, ◌==◌, ◌||◌, sym, Bool, true, false, cond, Option, Some, None, List, [], ◌∷◌, ◌++◌, map, length, slice_set, refl, ap, ◌∙◌, arith, length-append, filter}
 use Rattle.std.proofs.lemmas.List.{length-set}
 use Rattle.loop_script.specs.declared.plan.Plan.{Plan}
 use Rattle.loop_script.specs.declared.source.SourceSpec.{SourceSpec}
@@ -14,7 +14,6 @@ use Rattle.cancel_view.specs.declared.handler.Fired.{Fired}
 use Rattle.post_office.specs.declared.letter.Body.{Body as Mail}
 use Rattle.post_office.specs.declared.letter.Body.TheVariants as mails
 use Rattle.lane_turn.specs.Views.{tells_of}
-use Rattle.lane_turn.specs.Arrivals.{held_of}
 use Rattle.context_core.specs.declared.context.Context.{Context}
 use Rattle.context_core.specs.Defaults.{acquired, released}
 use Rattle.lane_turn.specs.Sources.{restarted}
@@ -26,7 +25,7 @@ use Rattle.lane_turn.specs.declared.line.Word.TheVariants as words
 use Rattle.lane_turn.specs.declared.layer.Origin.{Origin}
 use Rattle.lane_turn.specs.declared.layer.Origin.TheVariants.{Start, Source, Invoke as Invoked}
 use Rattle.lane_turn.specs.declared.slot.Place.{Place}
-use Rattle.lane_turn.specs.Lane.{Lane, present, context_at, with_rows, stopped, place_at, handler_at, written, viewing, noting, is_own}
+use Rattle.lane_turn.specs.Lane.{Lane, present, with_rows, stopped, place_at, handler_at, written, viewing, noting, is_own}
 use Rattle.lane_turn.specs.Handover.{may_give, with_given}
 use Rattle.std.specs.Prelude.{nat_lt, is_some, slice_index_or, slice_get, option_map}
 use Rattle.lane_turn.specs.declared.line.Invoked.TheVariants.{Posted}
@@ -54,6 +53,10 @@ given_by (mails.Give context to) given = slice_set given context true
 abbrev pub given_with : Option Mail → List Bool → List Bool
 given_with None given = given
 given_with (Some body) given = given_by body given
+
+-- of each context of the script, whether the lane has it
+abbrev pub held_of : List (Option Context) → List Bool
+held_of contexts = map is_some contexts
 
 -- at most k tasks are started, and none ends; what is seen cancelled is told by the letter that is sent, if it is one of it; the
 -- lane has the contexts that it had

@@ -4,7 +4,7 @@ use Rattle.loop_script.specs.declared.plan.Plan.{Plan}
 use Rattle.lane_turn.specs.Lane.{Lane, Turn}
 use Rattle.lane_turn.specs.Step.{step}
 use Rattle.lane_turn.specs.Turn.{work, stepped, finish, finished, begun, turned, out_of}
-use Rattle.lane_turn.specs.Sound.{IsSound, IsPaced, IsReady, IsTidy}
+use Rattle.lane_turn.specs.Sound.{IsReady, IsTidy}
 use Rattle.lane_turn.specs.Letters.{AreNumbered}
 use Rattle.lane_turn.proofs.Mild.{within_weaker}
 use Rattle.lane_turn.proofs.Steps.{goes}

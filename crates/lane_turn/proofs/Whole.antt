@@ -1,5 +1,5 @@
 -- What goes over with a context, and what stays.
-use Rattle.std.proofs.Common.{◌≡◌, ◌≢◌, ℕ, zero, suc, ◌<◌, Bool, true, false, cond, Option, Some, None, List, [], ◌∷◌, length, slice_set, refl, ap, sym, ◌∙◌, arith}
+use Rattle.std.proofs.Common.{◌≡◌, ◌≢◌, ℕ, zero, suc, ◌<◌, Bool, true, false, cond, Option, Some, None, List, [], ◌∷◌, length, slice_set, refl, ap, ◌∙◌, arith}
 use Rattle.std.specs.Prelude.{is_some, slice_get, slice_index_or, option_map}
 use Rattle.context_core.specs.declared.context.Context.{Context}
 use Rattle.lane_turn.specs.Replies.{Replies, replies_at}
@@ -19,7 +19,7 @@ set_other (x ∷ xs) zero (suc j) v h = refl
 set_other (x ∷ xs) (suc i) zero v h = refl
 set_other (x ∷ xs) (suc i) (suc j) v h = set_other xs i j v (λ e. h (ap suc e))
 
-index_other : {X : Type 0} (xs : List X) (i j : ℕ) (v d : X) → j ≢ i → slice_index_or (slice_set xs i v) j d ≡ slice_index_or xs j d
+pub index_other : {X : Type 0} (xs : List X) (i j : ℕ) (v d : X) → j ≢ i → slice_index_or (slice_set xs i v) j d ≡ slice_index_or xs j d
 index_other [] i j v d h = refl
 index_other (x ∷ xs) zero zero v d h = absurd (h refl)
 index_other (x ∷ xs) zero (suc j) v d h = refl

@@ -156,7 +156,7 @@ disconnect tick slot lane = disconnect_of tick (handler_at slot lane) lane
 abbrev pub start_task : Tick → TaskSpec → Lane → Lane
 start_task tick spec lane = record lane { tasks = starting tick (default_context lane) spec lane.tasks }
 
--- what each action does
+-- what each action does to its lane, its letter left aside
 abbrev pub acted : Plan → Tick → Action → Lane → Lane
 acted script tick (Attach context slot spec) lane = attach tick (time_of script tick) context slot spec lane
 acted script tick (Child parent slot spec) lane = child tick (time_of script tick) parent slot spec lane

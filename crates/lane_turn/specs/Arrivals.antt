@@ -1,11 +1,10 @@
 -- Which lane has which context, and what its letters attach there.
-use Rattle.std.specs.Prelude.{◌≡◌, ◌<◌, ◌==◌, Bool, true, false, pos, Option, Some, None, is_some, List, [], ◌∷◌, ◌+◌, ◌++◌, map, length, if◌then◌else◌}
-use Rattle.std.specs.List.{AllByRecursion, filter_map, range_with_len}
+use Rattle.std.specs.Prelude.{◌≡◌, ◌<◌, ◌==◌, Bool, true, false, pos, Option, Some, None, List, [], ◌∷◌, ◌+◌, ◌++◌, map, if◌then◌else◌}
+use Rattle.std.specs.List.{AllByRecursion, filter_map}
 use Rattle.loop_script.specs.declared.plan.Plan.{Plan}
 use Rattle.loop_script.specs.declared.source.SourceSpec.{SourceSpec}
 use Rattle.loop_script.specs.declared.source.Kind.TheVariants.{Idle}
-use Rattle.loop_script.specs.Parts.{home_of, time_of}
-use Rattle.loop_script.specs.References.{sizes}
+use Rattle.loop_script.specs.Parts.{time_of}
 use Rattle.source_rows.specs.declared.row.Row.{Row}
 use Rattle.source_rows.specs.Row.{root_row}
 use Rattle.source_rows.specs.Rows.{row_of}
@@ -25,10 +24,6 @@ use Rattle.lane_turn.specs.Handover.{handed_over}
 use Rattle.lane_turn.specs.Deliver.{received_all}
 use Rattle.lane_turn.specs.Tick.{posted_at, lanes_at}
 use Rattle.loop_script.specs.Units.{Tick, Microseconds, LaneNumber, ContextNumber, ProcNumber, SourceId, Order}
-
--- of each context of the script, whether it is the lane's
-abbrev pub held_of : List (Option Context) → List Bool
-held_of contexts = map is_some contexts
 
 -- whether what a letter tells attaches a source to a context
 abbrev pub is_for_body : ContextNumber → Body → Bool

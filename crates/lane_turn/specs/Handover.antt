@@ -1,5 +1,5 @@
 -- Contexts that are given to other lanes, and handed over at the end of the tick.
-use Rattle.std.specs.Prelude.{◌≡◌, ℕ, zero, suc, ◌==◌, ◌&&◌, not, Bool, true, false, nat_lt, Option, Some, None, is_some, slice_set, option_map, List, [], ◌∷◌, length, map, if◌then◌else◌}
+use Rattle.std.specs.Prelude.{◌==◌, ◌&&◌, not, Bool, true, false, nat_lt, Option, Some, None, is_some, slice_set, option_map, List, [], ◌∷◌, length, map, if◌then◌else◌}
 use Rattle.std.specs.Option.{option_and_then}
 use Rattle.std.specs.List.{find, cons_option}
 use Rattle.loop_script.specs.declared.plan.Plan.{Plan}

@@ -1,11 +1,8 @@
 -- Who holds which context, and what goes over with it.
-use Rattle.std.specs.Prelude.{◌≡◌, ◌≢◌, ◌++◌, ℕ, zero, suc, ◌+◌, ◌<◌, ◌==◌, ◌&&◌, Bool, true, false, Option, Some, None, is_some, List, [], ◌∷◌, map, length, if◌then◌else◌}
-use Rattle.std.specs.List.{AllByRecursion, list_all, list_any, range_with_len}
+use Rattle.std.specs.Prelude.{◌≡◌, ◌≢◌, ◌++◌, zero, suc, ◌<◌, ◌==◌, Bool, true, false, Some, List, [], ◌∷◌, map, length, if◌then◌else◌}
+use Rattle.std.specs.List.{AllByRecursion, range_with_len}
 use Rattle.loop_script.specs.declared.plan.Plan.{Plan}
-use Rattle.loop_script.specs.declared.plan.Proc.{Proc}
-use Rattle.loop_script.specs.declared.plan.LaneSpec.{LaneSpec}
-use Rattle.loop_script.specs.declared.action.Action.{Action}
-use Rattle.loop_script.specs.declared.action.Action.TheVariants.{Give}
+use Rattle.loop_script.specs.Gives.{GivesNone}
 use Rattle.loop_script.specs.Parts.{home_of}
 use Rattle.loop_script.specs.References.{sizes}
 use Rattle.context_core.specs.declared.context.Context.{Context}
@@ -13,11 +10,9 @@ use Rattle.post_office.specs.declared.letter.Letter.{Letter}
 use Rattle.post_office.specs.declared.letter.Body.{Body as Mail}
 use Rattle.post_office.specs.declared.letter.Body.TheVariants as mails
 use Rattle.lane_turn.specs.Replies.{replies_at}
-use Rattle.lane_turn.specs.Frames.{owns}
 use Rattle.lane_turn.specs.Lane.{Lane, Turn, Kept, context_at, is_given, is_own}
-use Rattle.lane_turn.specs.Step.{step}
-use Rattle.lane_turn.specs.Turn.{turned, out_of}
-use Rattle.lane_turn.specs.Handover.{Handing, handings, handed_of, without_context, taken_over, all_handed, handed_over}
+use Rattle.lane_turn.specs.Turn.{turned}
+use Rattle.lane_turn.specs.Handover.{handed_of, without_context, taken_over, handed_over}
 use Rattle.lane_turn.specs.Deliver.{received_all}
 use Rattle.lane_turn.specs.Tick.{posted_at, opened, lanes_at}
 use Rattle.lane_turn.specs.Blocked.{OfEachStep}
@@ -83,3 +78,22 @@ pub record LettersFollow : Type 0 where
       → AllByRecursion (λ lane. (c : Context) → is_own context lane ≡ true → context_at context lane ≡ Some c
       → arrivals context (received_all script tick (posted_at script tick (lanes_at script tick)) lane).trace ≡ arrivals context lane.trace ++ ids_for context c.rows.next_id (posted_at script tick (lanes_at script tick)))
       (handed_over tick (posted_at script tick (lanes_at script tick)) (map (turned script tick) (lanes_at script tick)))
+
+-- a context that is given stays as it is: it is on its way still, with the rows and the replies that it had
+abbrev pub StaysGiven : Turn → Turn → Type 0
+StaysGiven t u = (context : ContextNumber) → is_given context t.lane ≡ true → (is_given context u.lane ≡ true) × Stands context t.lane u.lane
+
+-- in a run a step leaves each context that was given in this tick as it stood
+abbrev pub GivenContextsStand : Type 0
+GivenContextsStand = (script : Plan) → OfEachStep script StaysGiven
+
+-- ---- where none is given
+
+-- the lanes of a run in which no context goes over
+abbrev pub staying_at : Plan → Tick → List Lane
+staying_at script zero = opened script
+staying_at script (suc k) = map (received_all script k (posted_at script k (staying_at script k))) (map (turned script k) (staying_at script k))
+
+-- a script that gives no context runs as it would where none goes over
+abbrev pub RunsStay : Type 0
+RunsStay = (script : Plan) (tick : Tick) → GivesNone script → lanes_at script tick ≡ staying_at script tick

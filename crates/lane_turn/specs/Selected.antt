@@ -49,7 +49,7 @@ HasEachOnce (CallOf call) = Unit {0}
 HasEachOnce (IterOf context ids asker) = AreOnce ids
 HasEachOnce (LoopOf number context) = Unit {0}
 
--- an iteration dispatches no id twice, and in the order of priority, then of attaching
+-- an iteration dispatches no id twice, and what it dispatches are the most urgent ready sources, by their numbers, each behind those under it
 pub record IterationsHaveOrder : Type 0 where
   -- in a run no iteration in progress has an id twice: and a dispatch takes its id, by the law on iterations, so none dispatches
   -- an id twice

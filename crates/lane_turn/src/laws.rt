@@ -14,7 +14,7 @@ ghost use Rattle.lane_turn.specs.Blocked.{BlockedWait};
 ghost use Rattle.lane_turn.specs.Selected.{IterationsHaveOrder};
 ghost use Rattle.lane_turn.specs.Stays.{SourcesStay};
 ghost use Rattle.lane_turn.specs.Worked.{ContextsGo};
-ghost use Rattle.lane_turn.specs.Holding.{ContextsAreHeld, ContextsMove, LettersFollow};
+ghost use Rattle.lane_turn.specs.Holding.{ContextsAreHeld, ContextsMove, GivenContextsStand, LettersFollow, RunsStay};
 ghost use Rattle.lane_turn.specs.Limited.{StepsAreLimited};
 ghost use Rattle.lane_turn.specs.Stands.{StandingsStay};
 
@@ -53,11 +53,10 @@ pub fn views_agree()
     ensures { ViewsAgree }
 {}
 
-/// Each context is, at every tick, the lane's to which the script gives it, and no other's. Each letter that attaches, a reply
-/// or an invoke, is attached once, in its tick, by the lane that has its context: with the next id, in the order of the
-/// letters, and with the line `arrive`. In a run that lane has there after the delivery the rows that it had, but for what
-/// handlers of a cancellation did to them, and then the row of each letter's source; that of a reply holds the reply. A source
-/// that a letter tells is that of an invoke.
+/// Each letter that attaches, a reply or an invoke, is attached once, in its tick, by the lane that has its context once contexts
+/// went over: with the next id, in the order of the letters, and with the line `arrive`. In a run that lane has there after the
+/// delivery the rows that it had, but for what handlers of a cancellation did to them, and then the row of each letter's source;
+/// that of a reply holds the reply. A source that a letter tells is that of an invoke.
 pub fn letters_arrive()
     ensures { LettersArrive }
 {}
@@ -135,9 +134,20 @@ pub fn contexts_move_whole()
     ensures { ContextsMove }
 {}
 
+/// In a run each step of a lane leaves a context that was given in this tick as it stood, with its rows and the replies that they
+/// hold, and given: what goes over at the end of the tick is the context as it was when it was given.
+pub fn given_contexts_stand()
+    ensures { GivenContextsStand }
+{}
+
 /// Letters for a context reach the lane that has it after the handing over of the tick: each is attached there once.
 pub fn letters_follow()
     ensures { LettersFollow }
+{}
+
+/// A script in whose lists no context is given runs as it would where none ever went over: at each tick its lanes are the same.
+pub fn runs_stay()
+    ensures { RunsStay }
 {}
 
 /// Two scripts whose lanes give contexts, computed: what is handed over keeps its ready times, a letter of the same tick follows it,
