@@ -1,5 +1,5 @@
--- Handlers by their ids, with each cancellable's in its chain, after one more and after one less.
-use Rattle.std.proofs.Common.{◌≡◌, ◌≢◌, ℕ, ◌+◌, ◌<◌, ◌≤◌, ◌==◌, Bool, true, false, cond, not, Option, Some, None, List, [], ◌∷◌, ◌++◌, map, refl, ap, sym, ◌∙◌, arith}
+-- Handlers by their ids, with each cancellable's in its group, after one more and after one less.
+use Rattle.std.proofs.Common.{◌≡◌, ◌≢◌, ℕ, ◌+◌, ◌<◌, ◌≤◌, ◌==◌, Bool, true, false, cond, not, Some, List, [], ◌∷◌, ◌++◌, map, refl, ap, sym, ◌∙◌, arith}
 use Rattle.std.proofs.lemmas.Bool.Decides.{nat_tests}
 use Rattle.std.proofs.lemmas.List.{append-nil}
 use Rattle.std.proofs.lemmas.List.Elements.{filter-append}
@@ -12,7 +12,7 @@ use Rattle.std.specs.BTreeMap.{BTreeMap, is_at, insert_entry}
 use Rattle.cancel_view.specs.declared.handler.Handler.{Handler}
 use Rattle.cancel_view.specs.declared.handlers.Connection.{Connection}
 use Rattle.cancel_view.specs.Seen.{RiseWithin, is_of, fired_as, has_id, has_other_id}
-use Rattle.cancel_view.specs.Chains.{AreKept, chain, fired_at, handler_of, linked, links}
+use Rattle.cancel_view.specs.Groups.{AreKept, group, fired_at, handler_of, grouped_as, listed}
 use Rattle.cancel_view.proofs.Rising.{rise_filtered, rise_pushed}
 
 abbrev at_id : ℕ → ℕ → Bool
@@ -123,37 +123,37 @@ found id es = ap (λ es. is_some (lookup (at_id id) es)) (sym (back es)) ∙ fou
 
 -- ---- by cancellable
 
-abbrev Chains : Type 0
-Chains = BTreeMap ℕ (BTreeMap ℕ ℕ)
+abbrev Groups : Type 0
+Groups = BTreeMap ℕ (BTreeMap ℕ ℕ)
 
-told : (hs : List Handler) → map fired_at (map linked hs) ≡ map fired_as hs
+told : (hs : List Handler) → map fired_at (map grouped_as hs) ≡ map fired_as hs
 told [] = refl
 told (h ∷ hs) = ap (λ fs. fired_as h ∷ fs) (told hs)
 
-pub fired_kept : (c : ℕ) (hs : List Handler) (chains : Chains) → AreKept hs chains → map fired_at (chain c chains) ≡ map fired_as (filter (is_of c) hs)
-fired_kept c hs chains k = ap (map fired_at) (k.chained c) ∙ told (filter (is_of c) hs)
+pub fired_kept : (c : ℕ) (hs : List Handler) (groups : Groups) → AreKept hs groups → map fired_at (group c groups) ≡ map fired_as (filter (is_of c) hs)
+fired_kept c hs groups k = ap (map fired_at) (k.grouped c) ∙ told (filter (is_of c) hs)
 
-pub kept_none : (es : List (ℕ × Connection)) (chains : Chains) → es ≡ [] → chains.entries ≡ [] → AreKept (map handler_of es) chains
-kept_none es chains e k = rw e (record { rising = (1, omega arith); chained = λ c. ap (λ (rows : List (ℕ × BTreeMap ℕ ℕ)). links (lookup (at_id c) rows)) k })
+pub kept_none : (es : List (ℕ × Connection)) (groups : Groups) → es ≡ [] → groups.entries ≡ [] → AreKept (map handler_of es) groups
+kept_none es groups e k = rw e (record { rising = (1, omega arith); grouped = λ c. ap (λ (rows : List (ℕ × BTreeMap ℕ ℕ)). listed (lookup (at_id c) rows)) k })
 
-pub kept_same : (hs gs : List Handler) (chains new : Chains) → AreKept hs chains → gs ≡ hs → ((c : ℕ) → chain c new ≡ chain c chains) → AreKept gs new
-kept_same hs gs chains new k e same = rw e (record { rising = k.rising; chained = λ c. same c ∙ k.chained c })
+pub kept_same : (hs gs : List Handler) (groups new : Groups) → AreKept hs groups → gs ≡ hs → ((c : ℕ) → group c new ≡ group c groups) → AreKept gs new
+kept_same hs gs groups new k e same = rw e (record { rising = k.rising; grouped = λ c. same c ∙ k.grouped c })
 
-pub kept_more : (h : Handler) (hs gs : List Handler) (chains new : Chains) → AreKept hs chains → RiseWithin 0 h.id hs → gs ≡ hs ++ h ∷ []
-    → ((c : ℕ) → chain c new ≡ cond (at_id h.cancellable c) (insert_entry nat_cmp (chain c chains) h.id h.proc) (chain c chains)) → AreKept gs new
-kept_more h hs gs chains new k r e joins =
+pub kept_more : (h : Handler) (hs gs : List Handler) (groups new : Groups) → AreKept hs groups → RiseWithin 0 h.id hs → gs ≡ hs ++ h ∷ []
+    → ((c : ℕ) → group c new ≡ cond (at_id h.cancellable c) (insert_entry nat_cmp (group c groups) h.id h.proc) (group c groups)) → AreKept gs new
+kept_more h hs gs groups new k r e joins =
     rw e (record {
       rising = (h.id + 1, rise_pushed 0 h.id h.cancellable h.proc hs r);
-      chained = λ c.
-        joins c
-        ∙ (ap (λ b. cond b (insert_entry nat_cmp (chain c chains) h.id h.proc) (chain c chains)) (tests_too h.cancellable c)
-        ∙ (by c (h.cancellable == c)
-        ∙ ap (map linked) (sym (filter-append (is_of c) hs (h ∷ [])))));
+      grouped = λ c.
+          joins c
+          ∙ (ap (λ b. cond b (insert_entry nat_cmp (group c groups) h.id h.proc) (group c groups)) (tests_too h.cancellable c)
+          ∙ (by c (h.cancellable == c)
+          ∙ ap (map grouped_as) (sym (filter-append (is_of c) hs (h ∷ [])))));
     })
   where
-    by : (c : ℕ) (b : Bool) → cond b (insert_entry nat_cmp (chain c chains) h.id h.proc) (chain c chains) ≡ map linked (filter (is_of c) hs ++ cond b (h ∷ []) [])
-    by c true = ap (λ es. insert_entry nat_cmp es h.id h.proc) (k.chained c) ∙ at_end (λ x. x.proc) 0 h (filter (is_of c) hs) (rise_filtered (is_of c) 0 h.id hs r)
-    by c false = k.chained c ∙ ap (map linked) (sym (append-nil (filter (is_of c) hs)))
+    by : (c : ℕ) (b : Bool) → cond b (insert_entry nat_cmp (group c groups) h.id h.proc) (group c groups) ≡ map grouped_as (filter (is_of c) hs ++ cond b (h ∷ []) [])
+    by c true = ap (λ es. insert_entry nat_cmp es h.id h.proc) (k.grouped c) ∙ at_end (λ x. x.proc) 0 h (filter (is_of c) hs) (rise_filtered (is_of c) 0 h.id hs r)
+    by c false = k.grouped c ∙ ap (map grouped_as) (sym (append-nil (filter (is_of c) hs)))
 
 both_ways : (p q : Handler → Bool) (hs : List Handler) → filter p (filter q hs) ≡ filter q (filter p hs)
 both_ways p q [] = refl
@@ -185,7 +185,7 @@ all_here id low high at (x ∷ hs) r e = by (all_here id x.id high at hs r.1) (x
     by h true f g = (λ _. same_cancellable (connection_of x) at g, none_here id at.cancellable x.id high hs (omega (arith, are_same x.id id f)) r.1)
     by h false f g = (λ same. let no : false ≡ true = sym f ∙ (ap (λ (n : ℕ). n == id) same ∙ same_self id) in cc, h g)
 
--- the chains of other cancellables do not have it
+-- the groups of other cancellables do not have it
 not_there : (id cancellable c : ℕ) (hs : List Handler) → (cancellable == c) ≡ false → AllByRecursion (IsHere id cancellable) hs → filter (is_of c) (filter (has_other_id id) hs) ≡ filter (is_of c) hs
 not_there id cancellable c [] e h = refl
 not_there id cancellable c (x ∷ hs) e h = by (not_there id cancellable c hs e h.1) (x.id == id) refl
@@ -195,12 +195,12 @@ not_there id cancellable c (x ∷ hs) e h = by (not_there id cancellable c hs e 
     by k true f = rw (ap (λ (n : ℕ). n == c) (h.0 (are_same x.id id f)) ∙ e) k
     by k false f = ap (λ hs. cond (x.cancellable == c) (x ∷ hs) hs) k
 
-pub kept_less : (id : ℕ) (at : Connection) (es : List (ℕ × Connection)) (gs : List Handler) (chains new : Chains) → AreKept (map handler_of es) chains → lookup (at_id id) es ≡ Some at → gs ≡ filter (has_other_id id) (map handler_of es)
-    → ((c : ℕ) → chain c new ≡ cond (at_id at.cancellable c) (remove_entry (at_id id) (chain c chains)) (chain c chains)) → AreKept gs new
-kept_less id at es gs chains new k l e leaves =
+pub kept_less : (id : ℕ) (at : Connection) (es : List (ℕ × Connection)) (gs : List Handler) (groups new : Groups) → AreKept (map handler_of es) groups → lookup (at_id id) es ≡ Some at → gs ≡ filter (has_other_id id) (map handler_of es)
+    → ((c : ℕ) → group c new ≡ cond (at_id at.cancellable c) (remove_entry (at_id id) (group c groups)) (group c groups)) → AreKept gs new
+kept_less id at es gs groups new k l e leaves =
     rw e (record {
       rising = (high, rise_filtered (has_other_id id) 0 high hs r);
-      chained = λ c. leaves c ∙ (ap (λ b. cond b (remove_entry (at_id id) (chain c chains)) (chain c chains)) (tests_too at.cancellable c) ∙ by c (at.cancellable == c) refl);
+      grouped = λ c. leaves c ∙ (ap (λ b. cond b (remove_entry (at_id id) (group c groups)) (group c groups)) (tests_too at.cancellable c) ∙ by c (at.cancellable == c) refl);
     })
   where
     hs : List Handler
@@ -215,9 +215,9 @@ kept_less id at es gs chains new k l e leaves =
     here : AllByRecursion (IsHere id at.cancellable) hs
     here = all_here id 0 high at hs r (ap (lookup (at_id id)) (back es) ∙ l)
 
-    by : (c : ℕ) (b : Bool) → (at.cancellable == c) ≡ b → cond b (remove_entry (at_id id) (chain c chains)) (chain c chains) ≡ map linked (filter (is_of c) (filter (has_other_id id) hs))
+    by : (c : ℕ) (b : Bool) → (at.cancellable == c) ≡ b → cond b (remove_entry (at_id id) (group c groups)) (group c groups) ≡ map grouped_as (filter (is_of c) (filter (has_other_id id) hs))
     by c true f =
-        ap (remove_entry (at_id id)) (k.chained c)
+        ap (remove_entry (at_id id)) (k.grouped c)
         ∙ (taken (λ x. x.proc) id 0 high (filter (is_of c) hs) (rise_filtered (is_of c) 0 high hs r)
-        ∙ ap (map linked) (both_ways (has_other_id id) (is_of c) hs))
-    by c false f = k.chained c ∙ ap (map linked) (sym (not_there id at.cancellable c hs f here))
+        ∙ ap (map grouped_as) (both_ways (has_other_id id) (is_of c) hs))
+    by c false f = k.grouped c ∙ ap (map grouped_as) (sym (not_there id at.cancellable c hs f here))

@@ -4,7 +4,7 @@ ghost use Rattle.std.specs.Prelude.{◌≡◌, ◌++◌, ◌∷◌, [], IfOk, On
 ghost use Rattle.std.specs.List.{list_any};
 ghost use Rattle.cancel_view.specs.Seen.{is_of, fired_as, has_id, has_other_id, RiseWithin};
 
-use crate::chains::{Chains, fired_by, join, leave};
+use crate::groups::{Groups, fired_by, join, leave};
 use crate::handler::{Fired, Handler};
 use std::alloc::{AllocError, Global};
 use std::collections::BTreeMap;
@@ -21,7 +21,7 @@ pub(crate) struct Connection {
 #[derive(Drop)]
 pub(crate) struct Handlers {
     by_id: BTreeMap<u64, Connection>,
-    chains: Chains,
+    groups: Groups,
     alloc: Global,
 }
 
@@ -31,11 +31,11 @@ impl Model for Handlers {
 
     ghost Value = { List Handler };
 
-    ghost use Rattle.cancel_view.specs.Chains.{AreKept, handlers_in};
+    ghost use Rattle.cancel_view.specs.Groups.{AreKept, handlers_in};
 
     ghost view = { λ h. handlers_in h.by_id };
 
-    ghost invariant = { λ h. AreKept (handlers_in h.by_id) h.chains };
+    ghost invariant = { λ h. AreKept (handlers_in h.by_id) h.groups };
 }
 
 impl Handlers {
@@ -45,7 +45,7 @@ impl Handlers {
     {
         Handlers {
             by_id: BTreeMap::new(alloc),
-            chains: BTreeMap::new(alloc),
+            groups: BTreeMap::new(alloc),
             alloc,
         }
     }
@@ -54,7 +54,7 @@ impl Handlers {
     pub fn of(&self, alloc: Global, c: u32) -> Result<Vec<Fired>, AllocError>
         ensures { IfOk result (λ v. v.items ≡ map fired_as (filter (is_of c) self.now)) }
     {
-        fired_by(alloc, &self.chains, c)
+        fired_by(alloc, &self.groups, c)
     }
 
     /// Puts a handler behind the others, whose ids are lower.
@@ -68,7 +68,7 @@ impl Handlers {
             proc: handler.proc,
         };
         self.by_id.insert(handler.id, connection)?;
-        if let Err(refused) = join(self.alloc, &mut self.chains, handler) {
+        if let Err(refused) = join(self.alloc, &mut self.groups, handler) {
             let _ = self.by_id.remove(&handler.id);
             return Err(refused);
         }
@@ -83,7 +83,7 @@ impl Handlers {
         match self.by_id.remove(&id) {
             None => false,
             Some(connection) => {
-                leave(&mut self.chains, connection.cancellable, id);
+                leave(&mut self.groups, connection.cancellable, id);
                 true
             }
         }

@@ -1,5 +1,5 @@
 use Rattle.cancel_view.specs.Seen.{RiseWithin}
-use Rattle.cancel_view.specs.Chains.{handlers_in}
+use Rattle.cancel_view.specs.Groups.{handlers_in}
 use Rattle.cancel_view.proofs.Kept.{added, put_back, kept_same, kept_more}
 use Rattle.cancel_view.proofs.handlers.Handlers.push.Goals as goal
 
