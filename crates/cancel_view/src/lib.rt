@@ -1,6 +1,7 @@
 //! Cancellables as one lane sees them: which of them it has seen cancelled, and the handlers that it has connected.
 #![tactic(auto)]
 
+mod groups;
 mod handler;
 mod handlers;
 mod memory;

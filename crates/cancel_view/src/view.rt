@@ -3,7 +3,7 @@ ghost use Rattle.std.specs.Prelude.{◌≡◌, ◌+◌, ◌<◌, [], Some, None,
 ghost use Rattle.cancel_view.specs.Bounds.{count_end};
 
 use crate::handler::{Connected, Fired, Handler};
-use crate::handlers::{handlers_of, holds, remove};
+use crate::handlers::Handlers;
 use crate::memory::OutOfMemory;
 use std::alloc::Global;
 use std::marker::Model;
@@ -12,7 +12,7 @@ use std::marker::Model;
 #[derive(Drop)]
 pub struct View {
     members: Vec<bool>,
-    handlers: Vec<Handler>,
+    handlers: Handlers,
     next_id: u64,
 }
 
@@ -21,9 +21,9 @@ impl Model for View {
 
     ghost Value = { Seen };
 
-    ghost view = { λ v. record { members = v.members.items; handlers = v.handlers.items; next_id = v.next_id } };
+    ghost view = { λ v. record { members = v.members.items; handlers = v.handlers; next_id = v.next_id } };
 
-    ghost invariant = { λ v. IsSound (record { members = v.members.items; handlers = v.handlers.items; next_id = v.next_id }) };
+    ghost invariant = { λ v. IsSound (record { members = v.members.items; handlers = v.handlers; next_id = v.next_id }) };
 }
 
 /// Whether a cancellable is a member; a number that none has is not.
@@ -55,7 +55,7 @@ impl View {
         let members = vec![in alloc; false; n as usize]?;
         Ok(View {
             members,
-            handlers: Vec::new(alloc),
+            handlers: Handlers::new(alloc),
             next_id: 1,
         })
     }
@@ -80,7 +80,7 @@ impl View {
         if has_member(&self.members, c) {
             return Ok(None);
         }
-        let fired = handlers_of(alloc, &self.handlers, c)?;
+        let fired = self.handlers.of(alloc, c)?;
         add_member(&mut self.members, c);
         Ok(Some(fired))
     }
@@ -104,7 +104,7 @@ impl View {
             cancellable: c,
             proc,
         };
-        self.handlers.push(handler).map_err(|_| OutOfMemory)?;
+        self.handlers.push(handler)?;
         self.next_id = id + 1;
         Ok(Connected::Id(id))
     }
@@ -119,8 +119,6 @@ impl View {
         if id == 0 {
             return true;
         }
-        let found = holds(&self.handlers, id);
-        remove(&mut self.handlers, id);
-        found
+        self.handlers.remove(id)
     }
 }

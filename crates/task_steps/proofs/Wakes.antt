@@ -1,5 +1,6 @@
 -- Which ticks a run may pass over.
-use Rattle.std.proofs.Common.{◌≡◌, ℕ, ◌+◌, ◌≤◌, ◌<◌, Bool, true, false, Option, Some, None, is_some, arith, refl, sym}
+use Rattle.std.proofs.Common.{◌≡◌, ℕ, ◌+◌, ◌≤◌, ◌<◌, Bool, true, false, Option, Some, None, is_some, nat_le, arith, refl, sym, subst}
+use Rattle.std.proofs.lemmas.Bool.Decides.{nat_tests}
 use Rattle.loop_script.specs.Tree.{Tree}
 use Rattle.task_steps.specs.declared.time.Time.{Time}
 use Rattle.task_steps.specs.declared.time.Time.TheVariants.{After, At}
@@ -11,8 +12,8 @@ use Rattle.task_steps.specs.End.{End, end_of, seen}
 use Rattle.task_steps.specs.Moments.{IsOpenAt, wake_at}
 use Rattle.task_steps.specs.Rest.{rest_of, InTime, sooner, wake_of}
 use Rattle.task_steps.proofs.Late.{not_before}
-use Rattle.task_steps.specs.Run.{NoneBefore, MayCome, IsUpTo, IsAfter, IsLater, MaySet, StaysSet, set_to, seen_from, clear_to}
-use Rattle.task_steps.specs.RunInside.{IsBy, IsKnownAt, IsCarried, wake_in}
+use Rattle.task_steps.specs.Run.{NoneBefore, Answered, MayCome, due, IsUpTo, IsAfter, IsLater, MaySet, StaysSet, set_to, seen_from, clear_to}
+use Rattle.task_steps.specs.RunInside.{IsBy, IsKnownAt, IsCarried, IsNoted, IsHeld, wake_in}
 
 -- ---- a wake is later than the tick of the last poll
 pub after_both : (tick : ℕ) (a b : Option ℕ) → IsAfter tick a → IsAfter tick b → IsAfter tick (sooner a b)
@@ -146,3 +147,57 @@ none-before-at tick_us tree s clear cancelled Done (Some wake) e h = tt
 
 pub none_before_wake : (tick_us : ℕ) (tree : Tree) (s : Steps) (clear cancelled : Option ℕ) (stage : Stage) → IsCarried tick_us tree s clear cancelled stage → NoneBefore (record { tree = tree; tick_us = tick_us; stage = stage; clear = clear; cancelled = cancelled; wake = wake_in stage s }) (wake_in stage s)
 none_before_wake tick_us tree s clear cancelled stage h = none-before-at tick_us tree s clear cancelled stage (wake_in stage s) refl h
+
+-- ---- what is noted of a wake
+
+noted_on : (tick tick_us : ℕ) (flag : Bool) (tree : Tree) (s : Steps) (clear cancelled : Option ℕ) (stage : Stage) (wake : Option ℕ) → IsCarried tick_us tree s clear cancelled stage → IsNoted tick_us tree s clear cancelled stage wake
+    → MaySet tick stage (wake_in stage s) → IsNoted tick_us tree s (clear_to tick flag clear) (seen_from tick flag cancelled) (set_to tick stage) wake
+noted_on tick tick_us flag tree s clear cancelled Fresh None h n k = tt
+noted_on tick tick_us flag tree s clear cancelled Fresh (Some wake) h n k = absurd (cc)
+noted_on tick tick_us flag tree s clear cancelled (Set begun at) wake h n k = absurd k
+noted_on tick tick_us flag tree s clear cancelled (Polled begun at) None h n k = tt
+noted_on tick tick_us flag tree s clear cancelled (Polled begun at) (Some wake) h n k =
+    (sym n, λ c next may. h.2 c next (may_before at tick flag clear cancelled c k.0 (known-by at clear cancelled h.1) may))
+noted_on tick tick_us flag tree s clear cancelled Done wake h n k = absurd k
+
+pub held_on : (tick tick_us : ℕ) (flag : Bool) (tree : Tree) (s : Steps) (clear cancelled : Option ℕ) (stage : Stage) (wake : Option ℕ) → IsHeld tick_us tree s clear cancelled stage wake → MaySet tick stage (wake_in stage s) → StaysSet cancelled flag
+    → IsHeld tick_us tree s (clear_to tick flag clear) (seen_from tick flag cancelled) (set_to tick stage) wake
+held_on tick tick_us flag tree s clear cancelled stage wake h k stays = record {
+  carried = carried_on tick tick_us flag tree s clear cancelled stage h.carried k stays;
+  noted = noted_on tick tick_us flag tree s clear cancelled stage wake h.carried h.noted k;
+}
+
+-- ---- a poll before the wake finds it pending
+
+-- what such a poll leaves, and what it may answer
+pub record Sleeps (tick_us : ℕ) (tree : Tree) (s : Steps) (clear cancelled : Option ℕ) (begun tick : ℕ) (wake : Option ℕ) : Type 0 where
+  pub held : IsHeld tick_us tree s clear cancelled (Polled begun tick) wake
+  pub later : IsLater tick (wake_of s)
+  pub answer : (c : Option ℕ) → MayCome clear cancelled c → tick < (end_of tick_us tree begun c).tick
+
+asleep : (tick_us : ℕ) (tree : Tree) (s : Steps) (clear cancelled : Option ℕ) (begun tick : ℕ) (wake : Option ℕ) → IsHeld tick_us tree s clear cancelled (Set begun tick) wake → IsLater tick wake → Sleeps tick_us tree s clear cancelled begun tick wake
+asleep tick_us tree s clear cancelled begun tick None h l = absurd l
+asleep tick_us tree s clear cancelled begun tick (Some wake) h l = record {
+  held = record {
+    carried = (in_time tick (tick + 1) s h.carried.0 (rw h.noted.0 (omega arith)), h.carried.1, h.noted.1);
+    noted = sym h.noted.0;
+  };
+  later = rw h.noted.0 l;
+  answer = λ c may. let late : wake ≤ (end_of tick_us tree begun c).tick = ends-later tick wake s c (end_of tick_us tree begun c) h.carried.0 h.noted.0 (h.noted.1 c wake may) in omega arith;
+}
+
+pub sleeps : (tick_us : ℕ) (tree : Tree) (s : Steps) (clear cancelled : Option ℕ) (stage : Stage) (begun tick : ℕ) (wake : Option ℕ) → stage ≡ Set begun tick → IsHeld tick_us tree s clear cancelled stage wake → IsLater tick wake
+    → Sleeps tick_us tree s clear cancelled begun tick wake
+sleeps tick_us tree s clear cancelled stage begun tick wake e h l = asleep tick_us tree s clear cancelled begun tick wake (subst (λ (x : Stage). IsHeld tick_us tree s clear cancelled x wake) e h) l
+
+none_due : (tick : ℕ) (e : End) → tick < e.tick → None ≡ due tick e
+none_due tick e h = rw (not_yet tick e.tick h) refl
+  where
+    not_yet : (a b : ℕ) → a < b → nat_le b a ≡ false
+    not_yet a b h = grind (arith, nat_tests)
+
+pub pends : (tick_us : ℕ) (tree : Tree) (s : Steps) (clear cancelled : Option ℕ) (stage : Stage) (begun tick : ℕ) (wake : Option ℕ) → stage ≡ Set begun tick → Sleeps tick_us tree s clear cancelled begun tick wake
+    → Answered (record { tree = tree; tick_us = tick_us; stage = stage; clear = clear; cancelled = cancelled; wake = wake_in stage s }) None
+pends tick_us tree s clear cancelled stage begun tick wake e h =
+    subst (λ (x : Stage). Answered (record { tree = tree; tick_us = tick_us; stage = x; clear = clear; cancelled = cancelled; wake = wake_in x s }) None) (sym e)
+    (λ c may. let late = h.answer c may in (none_due tick (end_of tick_us tree begun c) late, omega arith))

@@ -32,6 +32,22 @@ IsCarried tick_us tree steps clear cancelled (Polled begun tick) =
     × ((c : Option Tick) (next : Tick) → MayCome clear cancelled c → rest_of steps next c ≡ end_of tick_us tree begun c)
 IsCarried tick_us tree steps clear cancelled Done = Unit {0}
 
+-- What a run has noted of its wake: that of its steps. In a tick that is set it may be one that the last poll left; the end of what is
+-- left is then that of the tree, whenever the next poll is.
+abbrev pub IsNoted : Microseconds → Tree → Steps → Option Tick → Option Tick → Stage → Option Tick → Type 0
+IsNoted tick_us tree steps clear cancelled Fresh wake = wake ≡ None
+IsNoted tick_us tree steps clear cancelled (Set begun tick) None = Unit {0}
+IsNoted tick_us tree steps clear cancelled (Set begun tick) (Some wake) =
+    (wake_of steps ≡ Some wake)
+    × ((c : Option Tick) (next : Tick) → MayCome clear cancelled c → rest_of steps next c ≡ end_of tick_us tree begun c)
+IsNoted tick_us tree steps clear cancelled (Polled begun tick) wake = wake ≡ wake_of steps
+IsNoted tick_us tree steps clear cancelled Done wake = Unit {0}
+
+-- how a run's steps and what it noted stand for its tree
+pub record IsHeld (tick_us : Microseconds) (tree : Tree) (steps : Steps) (clear cancelled : Option Tick) (stage : Stage) (wake : Option Tick) : Type 0 where
+  pub carried : IsCarried tick_us tree steps clear cancelled stage
+  pub noted : IsNoted tick_us tree steps clear cancelled stage wake
+
 -- the wake of steps in a stage
 abbrev pub wake_in : Stage → Steps → Option Tick
 wake_in Fresh steps = None

@@ -1,7 +1,7 @@
 //! The run of one task.
 ghost use Rattle.std.specs.Prelude.{◌≡◌, ℕ, ◌+◌, ◌<◌, ◌≤◌, None, is_some, IfOk, IsTrue, ◌↔◌};
 
-use crate::stage::{Stage, clear_to, seen_from, set_to};
+use crate::stage::{Stage, clear_to, is_asleep, seen_from, set_to};
 use crate::steps::Steps;
 use loop_script::{Outcome, TaskTree};
 use std::alloc::{AllocError, Global};
@@ -19,6 +19,8 @@ pub struct TaskRun {
     stage: Stage,
     clear: Option<u32>,
     cancelled: Option<u32>,
+    /// What the last poll that found it pending left: the least tick at which a wait in progress ends.
+    wake: Option<u64>,
 }
 
 impl Model for TaskRun {
@@ -32,11 +34,11 @@ impl Model for TaskRun {
 
     ghost coded = { Prim.hlevel (codes, tree_code, stages.the_row.coded) };
 
-    ghost use Rattle.task_steps.specs.RunInside.{IsCarried, wake_in};
+    ghost use Rattle.task_steps.specs.RunInside.{IsHeld, wake_in};
 
     ghost view = { λ r. record { tree = r.tree; tick_us = r.tick_us; stage = r.stage; clear = r.clear; cancelled = r.cancelled; wake = wake_in r.stage r.steps } };
 
-    ghost invariant = { λ r. IsCarried r.tick_us r.tree r.steps r.clear r.cancelled r.stage };
+    ghost invariant = { λ r. IsHeld r.tick_us r.tree r.steps r.clear r.cancelled r.stage r.wake };
 }
 
 impl TaskRun {
@@ -59,6 +61,7 @@ impl TaskRun {
             stage: Stage::Fresh,
             clear: None,
             cancelled: None,
+            wake: None,
         })
     }
 
@@ -94,7 +97,8 @@ impl TaskRun {
         matches!(self.stage, Stage::Done)
     }
 
-    /// The outcome, where the task ends in the tick that was set; none where it is pending.
+    /// The outcome, where the task ends in the tick that was set; none where it is pending. Before its wake that costs the
+    /// same however large the task is.
     #[tactic(auto, using(crate::proofs::Wakes::wakes_later_now, crate::proofs::Wakes::seen_now, crate::proofs::Late::not_before, crate::proofs::Wakes::none_before_wake))]
     pub fn poll(&mut self) -> Option<Outcome>
         requires { IsSet self.old.stage }
@@ -105,11 +109,16 @@ impl TaskRun {
     {
         match self.stage {
             Stage::Set { begun, tick } => {
+                if is_asleep(tick, self.wake) {
+                    self.stage = Stage::Polled { begun, tick };
+                    return None;
+                }
                 let answer = self.steps.poll(tick, self.cancelled.is_some());
                 self.stage = match answer {
                     None => Stage::Polled { begun, tick },
                     Some(_) => Stage::Done,
                 };
+                self.wake = self.steps.next_wake();
                 answer
             }
             _ => None,
@@ -122,7 +131,7 @@ impl TaskRun {
         ensures end { NoneBefore self.now self.now.wake }
     {
         match self.stage {
-            Stage::Polled { .. } => self.steps.next_wake(),
+            Stage::Polled { .. } => self.wake,
             _ => None,
         }
     }
