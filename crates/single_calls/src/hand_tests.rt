@@ -92,6 +92,7 @@ fn refused_take_over(rt: HostRuntime) {
     let ended = take_over(&mut taker, held);
     if ended == Err(LaneFault::OutOfMemory) {
         expect_spent(&rt, rt.alloc(), &script, &mut taker);
+        expect_spent(&rt, rt.alloc(), &script, &mut taker);
     }
     expect_lines_or_spent(&rt, rt.alloc(), &script, &mut taker, ended, &HOLD);
 }
