@@ -1,5 +1,5 @@
 //! Contexts on their way from lane to lane, with ample memory, and with memory refused.
-ghost use Rattle.std.specs.Prelude.{◌≡◌, ◌^◌, false, Err, IsTrue};
+ghost use Rattle.std.specs.Prelude.{◌≡◌, false, Err, IsTrue};
 ghost use Rattle.lane_turn.specs.Sound.{IsReady};
 
 use crate::expected::expect;
