@@ -7,7 +7,7 @@ use Rattle.loop_script.specs.Read.{misshapen}
 use Rattle.loop_script.specs.Number.{whole as whole_of, integer as integer_read, index, index_or_null, slot, priority, ready_time, flag_or}
 use Rattle.loop_script.specs.Words.{choice}
 use Rattle.loop_script.specs.TaskForm.{priority_or_zero, task_spec}
-use Rattle.loop_script.specs.Action.{attach, child, destroy, set_ready, set_priority, iterate, pending, run, quit, cancel, connect, disconnect, task, push, pop, show_default, acquire, release, invoke, log, forms, action as action_of}
+use Rattle.loop_script.specs.Action.{attach, child, destroy, set_ready, set_priority, iterate, pending, run, quit, cancel, connect, disconnect, task, push, pop, show_default, acquire, release, invoke, give, log, forms, action as action_of}
 use Rattle.loop_script.specs.Form.{Object, whole, whole_or_null, truth, an, one_of, tree, action}
 use Rattle.loop_script.specs.Tables as tables
 use Rattle.loop_script.specs.Place.{front, parts_of}
@@ -15,7 +15,7 @@ use Rattle.loop_script.specs.Misfit.{IsOutOfRange, IsMisshapen, IsBeyond}
 use Rattle.loop_script.specs.Meaning.{IsTask, IsAction}
 use Rattle.loop_script.specs.declared.task.TaskSpec.{TaskSpec}
 use Rattle.loop_script.specs.declared.action.Action.{Action}
-use Rattle.loop_script.specs.declared.action.Action.TheVariants.{Attach, Child, Destroy, SetReady, SetPriority, Iterate, Pending, Run, Quit, Cancel, Connect, Disconnect, Task, Push, Pop, ShowDefault, Acquire, Release, Invoke, Log}
+use Rattle.loop_script.specs.declared.action.Action.TheVariants.{Attach, Child, Destroy, SetReady, SetPriority, Iterate, Pending, Run, Quit, Cancel, Connect, Disconnect, Task, Push, Pop, ShowDefault, Acquire, Release, Invoke, Give, Log}
 use Rattle.loop_script.proofs.Meets.{Meets, meets_done, meets_misshapen, next}
 use Rattle.loop_script.proofs.Openings.{an_object}
 use Rattle.loop_script.proofs.Behind.{WordMisfit, BehindWord, RowsMeet, chosen, a_choice}
@@ -41,7 +41,7 @@ unfolding task_spec priority_or_zero index_or_null flag_or index whole_of
 reads_task = record { there = task_at; absent = λ s. refl }
 
 action_rows : (d : Data) (w : List ℕ) → front d ≡ Some w → RowsMeet (Unit {0}) Action (IsAction (Some d)) d w (tables.words action) (forms (Some d))
-unfolding attach child destroy set_ready set_priority iterate pending run quit cancel connect disconnect task push pop show_default acquire release invoke log index slot priority ready_time
+unfolding attach child destroy set_ready set_priority iterate pending run quit cancel connect disconnect task push pop show_default acquire release invoke give log index slot priority ready_time
 action_rows d w f =
     let numbered : Reads tables.index ℕ (whole_of 0 4294967295) _ = reads_whole 0 4294967295 in
     let slotted : Reads tables.slot ℕ (whole_of 0 255) _ = reads_whole 0 255 in
@@ -85,8 +85,11 @@ action_rows d w f =
                                         (
                                           (refl, λ e. row2 d tables.index tables.index numbered numbered Invoke (λ x y l a b. ((begun d f e, l), a, b))),
                                           (
-                                            (refl, λ e. row1 d (whole 0 4294967295) numbered Log (λ x l a. ((begun d f e, l), a))),
-                                            tt,
+                                            (refl, λ e. row2 d tables.index tables.index numbered numbered Give (λ x y l a b. ((begun d f e, l), a, b))),
+                                            (
+                                              (refl, λ e. row1 d (whole 0 4294967295) numbered Log (λ x l a. ((begun d f e, l), a))),
+                                              tt,
+                                            ),
                                           ),
                                         ),
                                       ),

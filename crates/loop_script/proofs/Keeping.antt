@@ -13,7 +13,7 @@ use Rattle.loop_script.specs.Rows.{count, each, of_length, rows_of, rows, rows_o
 use Rattle.loop_script.specs.Words.{choice}
 use Rattle.loop_script.specs.Source.{idle, timeout, ready, fd, cancel as cancel_kind, kinds, kind, usual_priority, priority_or, source_spec, child_spec}
 use Rattle.loop_script.specs.Level.{level, levels}
-use Rattle.loop_script.specs.Action.{attach, child, destroy, set_ready, set_priority, iterate, pending, run, quit, cancel, connect, disconnect, task, push, pop, show_default, acquire, release, invoke, log, forms, action}
+use Rattle.loop_script.specs.Action.{attach, child, destroy, set_ready, set_priority, iterate, pending, run, quit, cancel, connect, disconnect, task, push, pop, show_default, acquire, release, invoke, give, log, forms, action}
 use Rattle.loop_script.specs.Tree.{Tree, fail, seq, both, first}
 use Rattle.loop_script.specs.TreeDepth.{fits_in}
 use Rattle.loop_script.specs.TreeForm.{tree, tree_in, trees_in, forms_from, tree_from, part_reading, value_form, fail_form, sleep_form, check_form, pair_from, within_from}
@@ -412,6 +412,13 @@ of_invoke d s =
     along (index (part 1 d)) (of_index _) _ _ (
     along (index (part 2 d)) (of_index _) _ _ (same _)))
 
+of_give : (d : Option Data) → ClearsNone (give d)
+unfolding give
+of_give d s =
+    along (arity 3 d) (of_arity 3 d) s _ (
+    along (index (part 1 d)) (of_index _) _ _ (
+    along (index (part 2 d)) (of_index _) _ _ (same _)))
+
 of_log : (d : Option Data) → ClearsNone (log d)
 unfolding log
 of_log d s = along (arity 2 d) (of_arity 2 d) s _ (along (whole 0 4294967295 (part 1 d)) (of_whole 0 4294967295 _) _ _ (same _))
@@ -419,7 +426,7 @@ of_log d s = along (arity 2 d) (of_arity 2 d) s _ (along (whole 0 4294967295 (pa
 of_action : (d : Option Data) → ClearsNone (action d)
 unfolding action
 of_action d =
-    let rows : RowsClear (forms d) = (of_attach d, (of_child d, (of_destroy d, (of_set_ready d, (of_set_priority d, (of_iterate d, (of_pending d, (of_run d, (of_quit d, (of_cancel d, (of_connect d, (of_disconnect d, (of_task d, (of_push d, (of_pop d, (of_show_default d, (of_acquire d, (of_release d, (of_invoke d, (of_log d, tt)))))))))))))))))))) in
+    let rows : RowsClear (forms d) = (of_attach d, (of_child d, (of_destroy d, (of_set_ready d, (of_set_priority d, (of_iterate d, (of_pending d, (of_run d, (of_quit d, (of_cancel d, (of_connect d, (of_disconnect d, (of_task d, (of_push d, (of_pop d, (of_show_default d, (of_acquire d, (of_release d, (of_invoke d, (of_give d, (of_log d, tt))))))))))))))))))))) in
     of_choice (word d) (forms d) (misshapen (Log 0)) rows (of_misshapen (Log 0))
 
 of_actions : (d : Option Data) → ClearsNone (actions d)

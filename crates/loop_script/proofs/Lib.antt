@@ -1,4 +1,5 @@
 pub mod Keys
+pub mod Gives
 pub mod Counts
 pub mod Named
 pub mod Rising
@@ -17,3 +18,4 @@ pub mod TreesRead
 pub mod ActionsRead
 pub mod ScriptsRead
 pub mod OneMeaning
+pub mod FirstVersion

@@ -181,7 +181,7 @@ action_word ShowDefault = codes "show_default"
 action_word (Acquire context) = codes "acquire"
 action_word (Release context) = codes "release"
 action_word (Invoke context proc) = codes "invoke"
-action_word (Give context lane) = []
+action_word (Give context lane) = codes "give"
 action_word (Log n) = codes "log"
 
 action_begins : (o : Option Data) (a : Action) → IsAction o a → option_and_then front o ≡ Some (action_word a)
@@ -204,7 +204,7 @@ action_begins o ShowDefault h = h.0
 action_begins o (Acquire context) h = h.0.0
 action_begins o (Release context) h = h.0.0
 action_begins o (Invoke context proc) h = h.0.0
-action_begins o (Give context lane) h = absurd h
+action_begins o (Give context lane) h = h.0.0
 action_begins o (Log n) h = h.0.0
 
 one_action : One IsAction
@@ -227,8 +227,8 @@ one_action o ShowDefault ShowDefault h k = refl
 one_action o (Acquire a) (Acquire x) h k = ap Acquire (one_whole _ a x h.1 k.1)
 one_action o (Release a) (Release x) h k = ap Release (one_whole _ a x h.1 k.1)
 one_action o (Invoke a b) (Invoke x y) h k = ap₂ Invoke (one_whole _ a x h.1 k.1) (one_whole _ b y h.2 k.2)
+one_action o (Give a b) (Give x y) h k = ap₂ Give (one_whole _ a x h.1 k.1) (one_whole _ b y h.2 k.2)
 one_action o (Log a) (Log x) h k = ap Log (one_whole _ a x h.1 k.1)
-one_action o (Give a b) (Give x y) h k = absurd h
 one_action o a b h k = absurd (clash o (action_word a) (action_word b) (action_begins o a h) (action_begins o b k) refl)
 
 one_level : One IsLevel

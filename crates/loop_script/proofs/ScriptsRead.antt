@@ -19,7 +19,8 @@ use Rattle.loop_script.specs.Tables as tables
 use Rattle.loop_script.specs.Place.{count, itself}
 use Rattle.loop_script.specs.Misfit.{HasOtherShape, IsOutside, IsOutOfRange, HasMoreContexts, contexts_of, contexts_in, IsMisshapen, IsBeyond}
 use Rattle.loop_script.specs.Meaning.{IsWhole, EachIs, IsList, IsAction, IsProc, IsLane, Denotes}
-use Rattle.loop_script.specs.ByTables.{judged, GoesByTables, ReadByTables}
+use Rattle.loop_script.specs.ByTables.{judged, IsMalformed, GoesByTables, ReadByTables}
+use Rattle.loop_script.specs.Version.{GivesOutsideVersion2, gives_outside_version_2}
 use Rattle.loop_script.specs.declared.action.Action.{Action}
 use Rattle.loop_script.specs.declared.level.Level.{Level}
 use Rattle.loop_script.specs.declared.plan.LaneSpec.{LaneSpec}
@@ -35,6 +36,7 @@ use Rattle.loop_script.proofs.Leaves.{Reads, of_needed, of_free, reads_whole, re
 use Rattle.loop_script.proofs.SourcesRead.{reads_level}
 use Rattle.loop_script.proofs.ActionsRead.{reads_action}
 use Rattle.loop_script.proofs.OneMeaning.{one_script}
+use Rattle.loop_script.proofs.Gives.{outside}
 
 -- ---- lanes and procedures
 reads_actions : Reads tables.actions (List Action) (rows 0 256 action_of) (IsList IsAction)
@@ -186,24 +188,65 @@ well d e m = not_both ((seen d).1 m) e
 within : (d : Data) → (IsMisshapen (an script) d → ⊥) → (faults d).limit ≡ false → IsBeyond (an script) d → ⊥
 within d n e b = not_both ((over d n).1 b) e
 
-goes_shape : (d : Data) → (script_of d ≡ Err Shape) ↔ IsMisshapen (an script) d
-goes_shape d = let first = first_shape (faults d).shape (faults d).limit (plan (Some d)).value in (λ h. (seen d).0 (first.0 h), λ h. first.1 ((seen d).1 h))
+-- the reading, by whether some action is one that the version has not
+abbrev read_of : Bool → Data → Result Plan ScriptFault
+read_of g d = cond g (Err Shape) (verdict (faults d) (plan (Some d)).value)
 
-goes_limit : (d : Data) → (script_of d ≡ Err Limit) ↔ ((IsMisshapen (an script) d → ⊥) × IsBeyond (an script) d)
-goes_limit d =
-    let first = first_limit (faults d).shape (faults d).limit (plan (Some d)).value in
-    (λ h. let both = first.0 h in (well d both.0, (over d (well d both.0)).0 both.1), λ h. first.1 (unseen (faults d).shape (seen d) h.0, (over d h.0).1 h.1))
+formed : (d : Data) → (IsMisshapen (an script) d → ⊥) → (GivesOutsideVersion2 d → ⊥) → IsMalformed d → ⊥
+formed d n v (inl m) = n m
+formed d n v (inr g) = v g
 
-goes_on : (d : Data) → (IsMisshapen (an script) d → ⊥) → (IsBeyond (an script) d → ⊥) → (p : Plan) × Denotes (Some d) p × (script_of d ≡ judged p)
-goes_on d n b = ((plan (Some d)).value, (script_at d).value tt n b, no_first (faults d).shape (faults d).limit (plan (Some d)).value (unseen (faults d).shape (seen d) n) (unseen (faults d).limit (over d n) b))
+not_outside : {G : Type 0} {g : Bool} → g ≡ false → (g ≡ true) ↔ G → G → ⊥
+not_outside e h x = not_both (h.1 x) e
+
+shape_by : (d : Data) (g : Bool) → (g ≡ true) ↔ GivesOutsideVersion2 d → (read_of g d ≡ Err Shape) ↔ IsMalformed d
+shape_by d true h = (λ e. inr (h.0 refl), λ m. refl)
+shape_by d false h = (λ e. inl ((seen d).0 (first.0 e)), back)
+  where
+    first : (read_of false d ≡ Err Shape) ↔ ((faults d).shape ≡ true)
+    first = first_shape (faults d).shape (faults d).limit (plan (Some d)).value
+
+    back : IsMalformed d → read_of false d ≡ Err Shape
+    back (inl m) = first.1 ((seen d).1 m)
+    back (inr g) = absurd (not_outside refl h g)
+
+limit_by : (d : Data) (g : Bool) → (g ≡ true) ↔ GivesOutsideVersion2 d → (read_of g d ≡ Err Limit) ↔ ((IsMalformed d → ⊥) × IsBeyond (an script) d)
+limit_by d true h = (λ e. cc, λ p. absurd (p.0 (inr (h.0 refl))))
+limit_by d false h =
+    let first = first_limit (faults d).shape (faults d).limit (plan (Some d)).value in (
+      λ e. let both = first.0 e in (formed d (well d both.0) (not_outside refl h), (over d (well d both.0)).0 both.1),
+      λ p. let n : IsMisshapen (an script) d → ⊥ = λ m. p.0 (inl m) in first.1 (unseen (faults d).shape (seen d) n, (over d n).1 p.1),
+    )
+
+on_by : (d : Data) (g : Bool) → (g ≡ true) ↔ GivesOutsideVersion2 d → (IsMalformed d → ⊥) → (IsBeyond (an script) d → ⊥) → (p : Plan) × Denotes (Some d) p × (read_of g d ≡ judged p)
+on_by d true h n b = absurd (n (inr (h.0 refl)))
+on_by d false h n b =
+    let m : IsMisshapen (an script) d → ⊥ = λ x. n (inl x) in
+    ((plan (Some d)).value, (script_at d).value tt m b, no_first (faults d).shape (faults d).limit (plan (Some d)).value (unseen (faults d).shape (seen d) m) (unseen (faults d).limit (over d m) b))
+
+goes_shape : (d : Data) → (script_of d ≡ Err Shape) ↔ IsMalformed d
+goes_shape d = shape_by d (gives_outside_version_2 d) (outside d)
+
+goes_limit : (d : Data) → (script_of d ≡ Err Limit) ↔ ((IsMalformed d → ⊥) × IsBeyond (an script) d)
+goes_limit d = limit_by d (gives_outside_version_2 d) (outside d)
+
+pub goes_on : (d : Data) → (IsMalformed d → ⊥) → (IsBeyond (an script) d → ⊥) → (p : Plan) × Denotes (Some d) p × (script_of d ≡ judged p)
+goes_on d = on_by d (gives_outside_version_2 d) (outside d)
 
 -- and another reading that goes by the tables answers the same
-answers_same : (read : Data → Result Plan ScriptFault) → GoesByTables read → (d : Data) → ((faults d).shape ≡ true) ⊎ ((faults d).shape ≡ false) → ((faults d).limit ≡ true) ⊎ ((faults d).limit ≡ false) → read d ≡ script_of d
-answers_same read h d (inl e) l = let m = (seen d).0 e in (h.shape d).1 m ∙ sym ((goes_shape d).1 m)
-answers_same read h d (inr e) (inl f) = let n = well d e in let b = (over d n).0 f in (h.limit d).1 (n, b) ∙ sym ((goes_limit d).1 (n, b))
-answers_same read h d (inr e) (inr f) =
-    let n = well d e in
-    let b = within d n f in
+both_malformed : (read : Data → Result Plan ScriptFault) → GoesByTables read → (d : Data) → IsMalformed d → read d ≡ script_of d
+both_malformed read h d m = (h.shape d).1 m ∙ sym ((goes_shape d).1 m)
+
+answers_same : (read : Data → Result Plan ScriptFault) → GoesByTables read → (d : Data) → (gives_outside_version_2 d ≡ true) ⊎ (gives_outside_version_2 d ≡ false) → ((faults d).shape ≡ true) ⊎ ((faults d).shape ≡ false) → ((faults d).limit ≡ true) ⊎ ((faults d).limit ≡ false) → read d ≡ script_of d
+answers_same read h d (inl g) e l = both_malformed read h d (inr ((outside d).0 g))
+answers_same read h d (inr g) (inl e) l = both_malformed read h d (inl ((seen d).0 e))
+answers_same read h d (inr g) (inr e) (inl f) =
+    let n = formed d (well d e) (not_outside g (outside d)) in
+    let b = (over d (well d e)).0 f in
+    (h.limit d).1 (n, b) ∙ sym ((goes_limit d).1 (n, b))
+answers_same read h d (inr g) (inr e) (inr f) =
+    let n = formed d (well d e) (not_outside g (outside d)) in
+    let b = within d (well d e) f in
     let (p, hp, rp) = h.script d n b in
     let (q, hq, rq) = goes_on d n b in
     rp ∙ ap judged (one_script (Some d) p q hp hq) ∙ sym rq
@@ -212,6 +255,6 @@ pub read_by_tables : ReadByTables
 read_by_tables = record {
   goes = record { shape = goes_shape; limit = goes_limit; script = goes_on };
   one = λ d. one_script (Some d);
-  only = λ read h d. answers_same read h d (either_way (faults d).shape) (either_way (faults d).limit);
+  only = λ read h d. answers_same read h d (either_way (gives_outside_version_2 d)) (either_way (faults d).shape) (either_way (faults d).limit);
   bytes = of_bytes;
 }

@@ -8,7 +8,7 @@ use Rattle.loop_script.specs.Words.{choice}
 use Rattle.loop_script.specs.Source.{source_spec, child_spec}
 use Rattle.loop_script.specs.TaskForm.{task_spec}
 use Rattle.loop_script.specs.declared.action.Action.{Action}
-use Rattle.loop_script.specs.declared.action.Action.TheVariants.{Attach, Child, Destroy, SetReady, SetPriority, Iterate, Pending, Run, Quit, Cancel, Connect, Disconnect, Task, Push, Pop, ShowDefault, Acquire, Release, Invoke, Log}
+use Rattle.loop_script.specs.declared.action.Action.TheVariants.{Attach, Child, Destroy, SetReady, SetPriority, Iterate, Pending, Run, Quit, Cancel, Connect, Disconnect, Task, Push, Pop, ShowDefault, Acquire, Release, Invoke, Give, Log}
 
 -- `["attach",ctx,slot,spec]`
 unfoldable pub attach : Option Data → Read Action
@@ -151,6 +151,14 @@ invoke d = do
   proc ← index (part 2 d)
   done (Invoke context proc)
 
+-- `["give",ctx,lane]`
+unfoldable pub give : Option Data → Read Action
+give d = do
+  _ ← arity 3 d
+  context ← index (part 1 d)
+  lane ← index (part 2 d)
+  done (Give context lane)
+
 -- `["log",n]`
 unfoldable pub log : Option Data → Read Action
 log d = do
@@ -180,6 +188,7 @@ forms d =
     ∷ (codes "acquire", acquire d)
     ∷ (codes "release", release d)
     ∷ (codes "invoke", invoke d)
+    ∷ (codes "give", give d)
     ∷ (codes "log", log d)
     ∷ []
 

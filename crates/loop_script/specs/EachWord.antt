@@ -4,7 +4,7 @@ use Rattle.serde_json.specs.Data.{Data, Items, boolean, number, string, array, o
 use Rattle.loop_script.specs.Script.{script_of}
 use Rattle.loop_script.specs.declared.plan.Plan.{Plan}
 use Rattle.loop_script.specs.declared.source.Kind.TheVariants as kinds
-use Rattle.loop_script.specs.declared.action.Action.TheVariants.{Attach, Child, Destroy, SetReady, SetPriority, Iterate, Pending, Run, Quit, Cancel, Connect, Disconnect, Task, Push, Pop, ShowDefault, Acquire, Release, Invoke, Log}
+use Rattle.loop_script.specs.declared.action.Action.TheVariants.{Attach, Child, Destroy, SetReady, SetPriority, Iterate, Pending, Run, Quit, Cancel, Connect, Disconnect, Task, Push, Pop, ShowDefault, Acquire, Release, Invoke, Give, Log}
 use Rattle.loop_script.specs.Tree.{value, fail, sleep, check, seq, both, first, within}
 
 -- the parts of a list
@@ -77,6 +77,7 @@ start =
     ∷ row (word (codes "acquire") ∷ n 0 ∷ [])
     ∷ row (word (codes "release") ∷ n 0 ∷ [])
     ∷ row (word (codes "invoke") ∷ n 0 ∷ n 1 ∷ [])
+    ∷ row (word (codes "give") ∷ n 0 ∷ n 0 ∷ [])
     ∷ row (word (codes "log") ∷ n 8 ∷ [])
     ∷ []
 
@@ -106,12 +107,12 @@ each_word = object
     (member (codes "procs") (row (procedure ∷ once ∷ []))
     (member (codes "tick_us") (n 1000)
     (member (codes "ticks") (n 2)
-    (member (codes "version") (n 1) no_members))))))))
+    (member (codes "version") (n 2) no_members))))))))
 
 -- what it is read as
 abbrev pub each_part : Plan
 each_part = record {
-  version = 1;
+  version = 2;
   ticks = 2;
   tick_us = 1000;
   lanes = (record {
@@ -139,6 +140,7 @@ each_part = record {
         ∷ Acquire 0
         ∷ Release 0
         ∷ Invoke 0 1
+        ∷ Give 0 0
         ∷ Log 8
         ∷ [];
   }) ∷ [];

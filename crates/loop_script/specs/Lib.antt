@@ -31,3 +31,5 @@ pub mod Misfit
 pub mod Meaning
 pub mod ByTables
 pub mod EachDefault
+pub mod Gives
+pub mod Version

@@ -106,7 +106,6 @@ pub record IsTask (o : Option Data) (t : TaskSpec) : Type 0 where
   pub return_on_cancel : Or false IsTruth (under (codes "return_on_cancel") o) t.return_on_cancel
   pub priority : Or (pos 0) IsInteger (under (codes "priority") o) t.priority
 
--- no word gives a context over to another lane
 abbrev pub IsAction : Option Data → Action → Type 0
 IsAction o (Attach context slot spec) = Begins (codes "attach") 4 o × IsWhole (nth 1 o) context × IsWhole (nth 2 o) slot × IsSource (nth 3 o) spec
 IsAction o (Child parent slot spec) = Begins (codes "child") 4 o × IsWhole (nth 1 o) parent × IsWhole (nth 2 o) slot × IsChild (nth 3 o) spec
@@ -127,7 +126,7 @@ IsAction o ShowDefault = Begins (codes "show_default") 1 o
 IsAction o (Acquire context) = Begins (codes "acquire") 2 o × IsWhole (nth 1 o) context
 IsAction o (Release context) = Begins (codes "release") 2 o × IsWhole (nth 1 o) context
 IsAction o (Invoke context proc) = Begins (codes "invoke") 3 o × IsWhole (nth 1 o) context × IsWhole (nth 2 o) proc
-IsAction o (Give context lane) = ⊥
+IsAction o (Give context lane) = Begins (codes "give") 3 o × IsWhole (nth 1 o) context × IsWhole (nth 2 o) lane
 IsAction o (Log n) = Begins (codes "log") 2 o × IsWhole (nth 1 o) n
 
 -- `[tick,bits]`

@@ -5,6 +5,7 @@ use Rattle.serde_json.specs.Read.{read}
 use Rattle.serde_json.specs.View.{view}
 use Rattle.serde_json.specs.declared.value.Value.{Value}
 use Rattle.loop_script.specs.Plan.{plan}
+use Rattle.loop_script.specs.Version.{gives_outside_version_2}
 use Rattle.loop_script.specs.References.{plan_refers}
 use Rattle.loop_script.specs.Rules.{plan_rules}
 use Rattle.loop_script.specs.declared.faults.Faults.{Faults}
@@ -30,11 +31,17 @@ none_seen = record { shape = false; limit = false }
 
 -- the script of the data, or the first class of fault in it
 abbrev pub script_of : Data → Result Plan ScriptFault
-script_of d = let r = plan (Some d) in verdict (r.faults none_seen) r.value
+script_of d = if gives_outside_version_2 d then Err Shape else (let r = plan (Some d) in verdict (r.faults none_seen) r.value)
 
 -- what the data says, where its shape and its limits are right
 abbrev pub sound_plan : Data → Option Plan
-sound_plan d = let r = plan (Some d) in let faults = r.faults none_seen in if faults.shape then None else if faults.limit then None else Some r.value
+sound_plan d =
+    let r = plan (Some d) in
+    let faults = r.faults none_seen in
+    if gives_outside_version_2 d then None
+    else if faults.shape then None
+    else if faults.limit then None
+    else Some r.value
 
 -- the cause of a fault stands in the bytes
 abbrev FaultAnswers : List ℕ → ScriptFault → Type 0

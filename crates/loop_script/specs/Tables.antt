@@ -115,6 +115,7 @@ words action =
     ∷ word (codes "acquire") (index ∷ [])
     ∷ word (codes "release") (index ∷ [])
     ∷ word (codes "invoke") (index ∷ index ∷ [])
+    ∷ word (codes "give") (index ∷ index ∷ [])
     ∷ word (codes "log") (whole 0 4294967295 ∷ [])
     ∷ []
 words (tree n) =

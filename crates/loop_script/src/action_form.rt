@@ -1,7 +1,7 @@
 //! Reading the actions of a script.
 ghost use Rattle.std.specs.Prelude.{◌≡◌, IfOk, OnOk};
 ghost use Rattle.loop_script.specs.Read.{after};
-ghost use Rattle.loop_script.specs.Action.{attach, child, destroy, set_ready, set_priority, iterate, pending, run, quit, cancel, connect, disconnect, task, push, pop, show_default, acquire, release, invoke, log, action};
+ghost use Rattle.loop_script.specs.Action.{attach, child, destroy, set_ready, set_priority, iterate, pending, run, quit, cancel, connect, disconnect, task, push, pop, show_default, acquire, release, invoke, give, log, action};
 ghost use Rattle.loop_script.specs.Seen.{seen};
 
 use crate::action::Action;
@@ -57,6 +57,7 @@ fn read_action(
         "acquire" => Ok(read_acquire(value, faults)),
         "release" => Ok(read_release(value, faults)),
         "invoke" => Ok(read_invoke(value, faults)),
+        "give" => Ok(read_give(value, faults)),
         "log" => Ok(read_log(value, faults)),
         _ => {
             faults.shape = true;
@@ -261,6 +262,17 @@ fn read_invoke(value: Option<&Value>, faults: &mut Faults) -> Action
     let context = index_number(part_of(value, 1), faults);
     let proc = index_number(part_of(value, 2), faults);
     Action::Invoke { context, proc }
+}
+
+#[tactic(auto, unfolding(crate::specs::Action::give))]
+fn read_give(value: Option<&Value>, faults: &mut Faults) -> Action
+    ensures value { result ≡ (give (seen value.entry)).value }
+    ensures faults { faults.new ≡ after faults.old (give (seen value.entry)) }
+{
+    check_arity(value, 3, faults);
+    let context = index_number(part_of(value, 1), faults);
+    let lane = index_number(part_of(value, 2), faults);
+    Action::Give { context, lane }
 }
 
 #[tactic(auto, unfolding(crate::specs::Action::log))]

@@ -2,7 +2,7 @@
 ghost use Rattle.loop_script.specs.Laws.{NoFaultIsCleared, OneReading};
 ghost use Rattle.loop_script.specs.EachWord.{EachWord};
 ghost use Rattle.loop_script.specs.EachDefault.{EachDefault};
-ghost use Rattle.loop_script.specs.ByTables.{ReadByTables};
+ghost use Rattle.loop_script.specs.ByTables.{ReadByTables, FirstGivesNone};
 
 /// No part of the reading clears a fault that was seen before it, so the first class is that of all parts.
 pub fn no_fault_is_cleared()
@@ -26,8 +26,13 @@ pub fn each_default_is_read()
 {}
 
 /// A script is read by the tables of its objects, words and ranges. The fault is one of shape exactly where some part
-/// has a wrong type, key, word, length or number, else one of limits exactly where some number or count is out of range;
+/// has a wrong type, key, word, length or number, or where some action is `give` and the version is not 2, else one of limits exactly where some number or count is out of range;
 /// else the one script that the value denotes is judged by its references and its rules.
 pub fn scripts_are_read_by_tables()
     ensures { ReadByTables }
+{}
+
+/// A script that is read in version 1 hands no context over: no list of actions has a `give`.
+pub fn version_1_gives_none()
+    ensures { FirstGivesNone }
 {}

@@ -26,6 +26,7 @@ mod task;
 mod task_form;
 mod tree;
 mod tree_form;
+mod version;
 
 pub use action::Action;
 pub use body::Body;
@@ -38,3 +39,4 @@ pub use script::Script;
 pub use source::{Kind, SourceSpec};
 pub use task::TaskSpec;
 pub use tree::{Node, TaskTree};
+pub use version::{begins_give, is_version_2, items_of};

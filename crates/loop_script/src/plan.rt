@@ -18,6 +18,7 @@ use crate::number::{index_number, optional_count, whole_number};
 use crate::object::only_keys;
 use crate::part::field_of;
 use crate::references::context_count;
+use crate::version::gives_outside_version_2;
 use serde_json::Value;
 use std::alloc::{AllocError, Global};
 
@@ -167,6 +168,9 @@ impl Plan {
         ensures plan { IfOk result (λ found. found ≡ sound_plan (view value.now)) }
         ensures bounded { IfOk result (λ found. IfSome found IsBounded) }
     {
+        if gives_outside_version_2(value) {
+            return Ok(None);
+        }
         let mut faults = Faults {
             shape: false,
             limit: false,

@@ -16,6 +16,7 @@ use crate::faults::Faults;
 use crate::level::{Level, bits_at, change_after};
 use crate::plan::{LaneSpec, Plan, Proc};
 use crate::references::context_count;
+use crate::version::gives_outside_version_2;
 use serde_json::Value;
 use std::alloc::Global;
 use std::marker::Model;
@@ -48,6 +49,9 @@ impl Script {
         ensures { Answers bytes.now result }
     {
         let value = read_value(alloc, bytes)?;
+        if gives_outside_version_2(&value) {
+            return Err(ScriptFault::Shape);
+        }
         let mut faults = Faults {
             shape: false,
             limit: false,

@@ -1,8 +1,11 @@
 -- The least class of the faults is that by which a script is refused.
-use Rattle.std.proofs.Common.{◌≡◌, ◌↔◌, refl, sym, subst, ap, ◌∙◌, Bool, true, false, not, cond, ◌||◌, List, [], ◌∷◌, Option, Some, None, Result, Ok, Err}
+use Rattle.std.proofs.Common.{◌≡◌, ◌⊎◌, ◌↔◌, inl, inr, ◌++◌, refl, sym, subst, ap, ◌∙◌, Bool, true, false, not, cond, ◌||◌, List, [], ◌∷◌, Option, Some, None, Result, Ok, Err}
+use Rattle.std.proofs.lemmas.List.{append-nil}
 use Rattle.serde_json.specs.Data.{Data}
+use Rattle.loop_script.specs.ByTables.{IsMalformed}
 use Rattle.loop_script.specs.Plan.{plan}
-use Rattle.loop_script.specs.Script.{verdict, none_seen, script_of}
+use Rattle.loop_script.specs.Script.{verdict, none_seen, script_of, sound_plan}
+use Rattle.loop_script.specs.Version.{gives_outside_version_2}
 use Rattle.loop_script.specs.References.{plan_refers}
 use Rattle.loop_script.specs.Rules.{plan_rules}
 use Rattle.loop_script.specs.declared.fault.ScriptFault.{ScriptFault}
@@ -11,13 +14,14 @@ use Rattle.loop_script.specs.declared.plan.Plan.{Plan}
 use Rattle.loop_script.proofs.Meets.{not_both}
 use Rattle.loop_script.proofs.ScriptsRead.{read_by_tables}
 use Rattle.script_check.specs.declared.fault.Cause.{Cause}
-use Rattle.script_check.specs.declared.fault.Cause.TheVariants.{OtherType, OtherWord, OtherLength, OtherKey, NoKey, Range, Count, Contexts, Depth, Missing, NotAbove, NotPlain, Stays, Unchecked}
+use Rattle.script_check.specs.declared.fault.Cause.TheVariants.{OtherType, OtherWord, OtherVersion, OtherLength, OtherKey, NoKey, Range, Count, Contexts, Depth, Missing, NotAbove, NotPlain, Stays, Unchecked}
 use Rattle.script_check.specs.Found.{Found}
 use Rattle.script_check.specs.Own.{own}
 use Rattle.script_check.specs.Faults.{form_faults}
 use Rattle.script_check.specs.PlanFaults.{plan_faults}
 use Rattle.script_check.specs.ScriptFaults.{said_faults, or_else, script_faults}
 use Rattle.script_check.specs.Laws.{has, is_shape, is_limit, is_reference, is_rule, IsShallow}
+use Rattle.script_check.specs.VersionFaults.{version_faults}
 use Rattle.script_check.specs.Agreement.{Agrees, ClassesAgree, class_in, FirstClassIs}
 use Rattle.script_check.specs.Least.{least_class}
 use Rattle.script_check.specs.declared.fault.Class.{Class}
@@ -26,6 +30,8 @@ use Rattle.script_check.proofs.Among.{any_in, in_any}
 use Rattle.script_check.proofs.OwnClasses.{Spares, own_classes}
 use Rattle.script_check.proofs.Judged.{Lacks, plan_refers_so, plan_rules_so, neither_so}
 use Rattle.script_check.proofs.Told.{form_faults_hold}
+use Rattle.script_check.proofs.VersionTold.{version_has, version_none, has_append}
+use Rattle.loop_script.proofs.Gives.{outside}
 
 -- ---- what was seen while the script was read
 judged_not_shape : (p : Plan) (a b : Bool) → (cond a (cond b (Ok p) (Err Rule)) (Err Reference) ≡ Err Shape) → ⊥
@@ -76,6 +82,7 @@ of_or s t (x ∷ xs) h =
 any_class : (c : Cause) → (formed c || named c) ≡ true
 any_class OtherType = refl
 any_class OtherWord = refl
+any_class OtherVersion = refl
 any_class OtherLength = refl
 any_class (OtherKey n) = refl
 any_class (NoKey n) = refl
@@ -146,15 +153,58 @@ not_named d h true e =
     absurd (not_both (in_any named x.cause (own x.form v) c t) (own_classes named spares_named x.form v))
 not_named d h false e = refl
 
+-- ---- with the actions that the version has not
+abbrev said_of : Bool → Data → Option Plan
+said_of g d = let r = plan (Some d) in let faults = r.faults none_seen in cond g None (cond faults.shape None (cond faults.limit None (Some r.value)))
+
+abbrev answer_of : Bool → Data → Result Plan ScriptFault
+answer_of g d = let r = plan (Some d) in cond g (Err Shape) (verdict (r.faults none_seen) r.value)
+
+still_shape : (xs ys : List Found) → has is_shape xs ≡ true → has is_shape (or_else xs ys) ≡ true
+still_shape [] ys h = absurd (not_both h refl)
+still_shape (x ∷ xs) ys h = h
+
+or_last : (a b : Bool) → b ≡ true → (a || b) ≡ true
+or_last true b h = refl
+or_last false b h = h
+
+agree_outside : (d : Data) → gives_outside_version_2 d ≡ true → Agrees (or_else (form_faults d ++ version_faults d) (said_faults (said_of true d))) (answer_of true d)
+agree_outside d g = still_shape (form_faults d ++ version_faults d) [] (has_append is_shape (form_faults d) (version_faults d) ∙ or_last (has is_shape (form_faults d)) (has is_shape (version_faults d)) (version_has d ∙ g))
+
+agree_within : (d : Data) → IsShallow d → gives_outside_version_2 d ≡ false → Agrees (or_else (form_faults d) (said_faults (said_of false d))) (answer_of false d)
+agree_within d h g = let r = plan (Some d) in let there = r.faults none_seen in seen there.shape there.limit r.value faults shape limit classed (of_plan r.value)
+  where
+    faults : List Found
+    faults = form_faults d
+
+    answers : script_of d ≡ answer_of false d
+    answers = ap (λ b. answer_of b d) g
+
+    unformed : (has is_shape faults ≡ false) → IsMalformed d → ⊥
+    unformed n (inl m) = not_both ((form_faults_hold.shape d h).1 m) n
+    unformed n (inr x) = not_both ((outside d).1 x) g
+
+    misshapen : IsMalformed d → has is_shape faults ≡ true
+    misshapen (inl m) = (form_faults_hold.shape d h).1 m
+    misshapen (inr x) = absurd (not_both ((outside d).1 x) g)
+
+    shape : (has is_shape faults ≡ true) ↔ (answer_of false d ≡ Err Shape)
+    shape = (λ e. sym answers ∙ (read_by_tables.goes.shape d).1 (inl ((form_faults_hold.shape d h).0 e)), λ e. misshapen ((read_by_tables.goes.shape d).0 (answers ∙ e)))
+
+    limit : has is_shape faults ≡ false → (has is_limit faults ≡ true) ↔ (answer_of false d ≡ Err Limit)
+    limit n = (λ e. sym answers ∙ (read_by_tables.goes.limit d).1 (unformed n, (form_faults_hold.limit d h).0 e), λ e. (form_faults_hold.limit d h).1 ((read_by_tables.goes.limit d).0 (answers ∙ e)).1)
+
+    classed : has is_shape faults ≡ false → has is_limit faults ≡ false → faults ≡ []
+    classed a b = none_left faults (or_has is_shape is_limit faults a b) (not_named d h (has named faults) refl)
+
+agree_by : (d : Data) → IsShallow d → (g : Bool) → gives_outside_version_2 d ≡ g → Agrees (or_else (form_faults d ++ version_faults d) (said_faults (said_of g d))) (answer_of g d)
+agree_by d h true g = agree_outside d g
+agree_by d h false g =
+    let alone : form_faults d ++ version_faults d ≡ form_faults d = ap (λ fs. form_faults d ++ fs) (version_none d g) ∙ append-nil (form_faults d) in
+    subst (λ fs. Agrees (or_else fs (said_faults (said_of false d))) (answer_of false d)) (sym alone) (agree_within d h g)
+
 pub classes_agree : ClassesAgree
-classes_agree d h =
-    let r = plan (Some d) in
-    let seen_there = r.faults none_seen in
-    let faults = form_faults d in
-    let shape : (has is_shape faults ≡ true) ↔ (script_of d ≡ Err Shape) = (λ e. (read_by_tables.goes.shape d).1 ((form_faults_hold.shape d h).0 e), λ e. (form_faults_hold.shape d h).1 ((read_by_tables.goes.shape d).0 e)) in
-    let limit : has is_shape faults ≡ false → (has is_limit faults ≡ true) ↔ (script_of d ≡ Err Limit) = λ n. (λ e. (read_by_tables.goes.limit d).1 (λ m. not_both ((form_faults_hold.shape d h).1 m) n, (form_faults_hold.limit d h).0 e), λ e. (form_faults_hold.limit d h).1 ((read_by_tables.goes.limit d).0 e).1) in
-    let classed : has is_shape faults ≡ false → has is_limit faults ≡ false → faults ≡ [] = λ a b. none_left faults (or_has is_shape is_limit faults a b) (not_named d h (has named faults) refl) in
-    seen seen_there.shape seen_there.limit r.value faults shape limit classed (of_plan r.value)
+classes_agree d h = agree_by d h (gives_outside_version_2 d) refl
 
 -- ---- the first class, as a test tells it
 abbrev least_by : Bool → Bool → Bool → Bool → Option Class

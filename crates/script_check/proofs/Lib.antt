@@ -6,6 +6,8 @@ pub mod OwnByTables
 pub mod Told
 pub mod Judged
 pub mod OwnClasses
+pub mod VersionTold
+pub mod VersionPlaces
 pub mod ClassesAgree
 pub mod PlacesLead
 pub mod Classed

@@ -135,7 +135,7 @@ action_stands d n place ShowDefault h = none_stands d
 action_stands d n place (Acquire context) h = below_stands d n sorts.Context place (nth 1) context h.1
 action_stands d n place (Release context) h = below_stands d n sorts.Context place (nth 1) context h.1
 action_stands d n place (Invoke context proc) h = both_stand d (missing n sorts.Context (one place) context) (missing n sorts.Proc (place ++ nth 2 ∷ []) proc) (below_stands d n sorts.Context place (nth 1) context h.1) (below_stands d n sorts.Proc place (nth 2) proc h.2)
-action_stands d n place (Give context lane) h = absurd h
+action_stands d n place (Give context lane) h = both_stand d (missing n sorts.Context (one place) context) (missing n sorts.Lane (place ++ nth 2 ∷ []) lane) (below_stands d n sorts.Context place (nth 1) context h.1) (below_stands d n sorts.Lane place (nth 2) lane h.2)
 action_stands d n place (Log k) h = none_stands d
 
 -- ---- which rule an action breaks

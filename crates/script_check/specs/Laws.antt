@@ -6,7 +6,7 @@ use Rattle.loop_script.specs.Form.{Form, script, an}
 use Rattle.loop_script.specs.Place.{SomeOf, StandsIn}
 use Rattle.loop_script.specs.Misfit.{IsMisshapen, IsBeyond}
 use Rattle.script_check.specs.declared.fault.Cause.{Cause}
-use Rattle.script_check.specs.declared.fault.Cause.TheVariants.{OtherType, OtherWord, OtherLength, OtherKey, NoKey, Range, Count, Contexts, Depth, Missing, NotAbove, NotPlain, Stays, Unchecked}
+use Rattle.script_check.specs.declared.fault.Cause.TheVariants.{OtherType, OtherWord, OtherVersion, OtherLength, OtherKey, NoKey, Range, Count, Contexts, Depth, Missing, NotAbove, NotPlain, Stays, Unchecked}
 use Rattle.script_check.specs.Found.{Step, at_place, Found}
 use Rattle.script_check.specs.Own.{own}
 use Rattle.script_check.specs.Parts.{Part, parts}
@@ -20,6 +20,7 @@ In x xs = SomeOf (λ y. y ≡ x) xs
 abbrev pub is_shape : Cause → Bool
 is_shape OtherType = true
 is_shape OtherWord = true
+is_shape OtherVersion = true
 is_shape OtherLength = true
 is_shape (OtherKey n) = true
 is_shape (NoKey n) = true

@@ -6,8 +6,9 @@ pub mod Faults
 pub mod Views
 pub mod Seen
 pub mod PlanFaults
-pub mod ScriptFaults
 pub mod Laws
+pub mod VersionFaults
+pub mod ScriptFaults
 pub mod Least
 pub mod Agreement
 pub mod PlanPlaces

@@ -1,4 +1,4 @@
-//! The faults of shape and of limits in a script.
+//! The faults of a script: those of shape and of limits.
 ghost use Rattle.std.specs.Prelude.{◌≡◌, ◌++◌, map, IfOk, OnOk};
 ghost use Rattle.serde_json.specs.View.{view};
 ghost use Rattle.script_check.specs.Faults.{faults_in, found_at, form_faults};
@@ -12,6 +12,7 @@ use crate::own::own_causes;
 use crate::parts::parts_in;
 use crate::place::Place;
 use crate::plan_check::plan_faults;
+use crate::version_check::push_version_faults;
 use crate::wanted::{Object, Wanted};
 use loop_script::Plan;
 use serde_json::Value;
@@ -38,11 +39,12 @@ pub fn form_faults(alloc: Global, value: &Value) -> Result<Vec<Fault>, AllocErro
     Ok(faults)
 }
 
-/// All faults of a script: those of shape and of limits, and where there are none, those of references and of rules.
+/// All faults of a script: those of shape and of limits with the actions that its version has not, and where there are none, those of references and of rules.
 pub fn script_faults(alloc: Global, value: &Value) -> Result<Vec<Fault>, AllocError>
     ensures { IfOk result (λ faults. map found_of faults.items ≡ script_faults (view value.now)) }
 {
-    let faults = form_faults(alloc, value)?;
+    let mut faults = form_faults(alloc, value)?;
+    push_version_faults(alloc, value, &mut faults)?;
     if !faults.is_empty() {
         return Ok(faults);
     }

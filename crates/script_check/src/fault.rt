@@ -12,6 +12,8 @@ pub enum Cause {
     OtherType,
     /// It does not begin with a word that is known there.
     OtherWord,
+    /// It is an action that the version of the script has not.
+    OtherVersion,
     /// It has too few or too many parts.
     OtherLength,
     /// A member, by its place in the order of keys, has a key that is unknown there.
@@ -53,7 +55,8 @@ impl Cause {
         ensures { result ≡ class_of self }
     {
         match self {
-            Cause::OtherType | Cause::OtherWord | Cause::OtherLength => Class::Shape,
+            Cause::OtherType | Cause::OtherWord => Class::Shape,
+            Cause::OtherVersion | Cause::OtherLength => Class::Shape,
             Cause::OtherKey(_) | Cause::NoKey(_) => Class::Shape,
             Cause::Range | Cause::Count | Cause::Contexts | Cause::Depth => Class::Limit,
             Cause::Missing(_) => Class::Reference,

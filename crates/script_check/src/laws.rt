@@ -2,12 +2,19 @@
 ghost use Rattle.script_check.specs.Laws.{FormFaults};
 ghost use Rattle.script_check.specs.Agreement.{ClassesAgree, FirstClassIs};
 ghost use Rattle.script_check.specs.PlanPlaces.{PlacesLead};
+ghost use Rattle.script_check.specs.VersionFaults.{VersionFaults};
 
 /// A fault of shape is told exactly where a script is misshapen by the tables of keys, words and ranges, and one of limits exactly where some number
 /// or count is out of range; what is told is all that is wrong at each place that steps lead to, and nothing else; and
 /// steps lead to that value of the document.
 pub fn form_faults_go_by_tables()
     ensures { FormFaults }
+{}
+
+/// A fault of the version is told exactly where a script of another version than 2 has a `give`, and its place leads to an
+/// action that begins so.
+pub fn version_faults_stand()
+    ensures { VersionFaults }
 {}
 
 /// The faults of a script and its reading agree: there is none exactly where a script is read, and else the least class of the faults

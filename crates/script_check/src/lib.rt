@@ -15,6 +15,7 @@ mod plan_check;
 mod rule_check;
 mod shape;
 mod tables;
+mod version_check;
 mod wanted;
 
 pub use check::{form_faults, script_faults};

@@ -275,6 +275,7 @@ fn parts_of_action(word: &str) -> Option<&'static [Wanted]>
         "acquire" => Some(&[Wanted::Context]),
         "release" => Some(&[Wanted::Context]),
         "invoke" => Some(&[Wanted::Context, Wanted::Proc]),
+        "give" => Some(&[Wanted::Context, Wanted::LaneNumber]),
         "log" => Some(&[Wanted::LogNumber]),
         _ => None,
     }
@@ -309,7 +310,7 @@ pub fn words_of(choice: Choice) -> &'static [&'static str]
 
 const KINDS: [&str; 5] = ["idle", "timeout", "ready", "fd", "cancel"];
 
-const ACTIONS: [&str; 20] = [
+const ACTIONS: [&str; 21] = [
     "attach",
     "child",
     "destroy",
@@ -329,6 +330,7 @@ const ACTIONS: [&str; 20] = [
     "acquire",
     "release",
     "invoke",
+    "give",
     "log",
 ];
 

@@ -16,6 +16,7 @@ pub(crate) fn wanted_text(
         Cause::NoKey(n) => needed_text(alloc, wanted, n),
         Cause::OtherWord => words_text(alloc, wanted),
         Cause::OtherLength => length_text(alloc, wanted, value),
+        Cause::OtherVersion => String::from_str(alloc, "give is an action of version 2"),
         Cause::Contexts => String::from_str(alloc, "lanes have 256 contexts together at most"),
         Cause::Depth => String::from_str(alloc, "a tree is 16 deep at most"),
         Cause::Missing(count) => missing_text(alloc, wanted, count),
@@ -144,6 +145,7 @@ pub(crate) fn found_text(
             }
             None => value_text(alloc, value),
         },
+        Cause::OtherVersion => String::from_str(alloc, "this script is of another"),
         Cause::Count => match value.as_array() {
             Some(items) => {
                 let count = items.len();

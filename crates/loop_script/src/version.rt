@@ -1,0 +1,74 @@
+//! The word that version 2 alone has.
+ghost use Rattle.std.specs.Prelude.{◌≡◌, map, Some};
+ghost use Rattle.std.specs.List.{list_any};
+ghost use Rattle.serde_json.specs.Find.{get};
+ghost use Rattle.serde_json.specs.View.{view};
+ghost use Rattle.loop_script.specs.Seen.{seen};
+ghost use Rattle.loop_script.specs.Version.{is_version_2, begins_give, listed, list_gives, some_gives, gives_outside_version_2};
+
+use crate::part::{field_of, word_of};
+use serde_json::Value;
+
+/// Whether some action of a script begins with the word `give`, and its version is not 2.
+pub(crate) fn gives_outside_version_2(script: &Value) -> bool
+    ensures { result ≡ gives_outside_version_2 (view script.now) }
+{
+    !is_version_2(script)
+        && (some_gives(script.get("lanes"), "start") || some_gives(script.get("procs"), "do"))
+}
+
+/// Whether the version that a script tells is 2.
+pub fn is_version_2(script: &Value) -> bool
+    ensures { result ≡ is_version_2 (view script.now) }
+{
+    match script.get("version").and_then(Value::as_u64) {
+        Some(version) => version == 2,
+        None => false,
+    }
+}
+
+/// Whether some action begins so of the lists under a key of some lanes or procedures.
+fn some_gives(owners: Option<&Value>, key: &str) -> bool
+    ensures { result ≡ some_gives key.now (seen owners.entry) }
+{
+    any_list_gives(items_of(owners), key)
+}
+
+fn any_list_gives(owners: &[Value], key: &str) -> bool
+    ensures { result ≡ list_any (λ owner. list_gives (get key.now (view owner))) owners.now }
+{
+    owners
+        .iter()
+        .any(|owner| list_gives(field_of(Some(owner), key)))
+}
+
+/// Whether some action of a list begins so.
+fn list_gives(actions: Option<&Value>) -> bool
+    ensures { result ≡ list_gives (seen actions.entry) }
+{
+    any_begins_give(items_of(actions))
+}
+
+fn any_begins_give(actions: &[Value]) -> bool
+    ensures { result ≡ list_any (λ action. begins_give (view action)) actions.now }
+{
+    actions.iter().any(|action| begins_give(action))
+}
+
+/// Whether an action begins with the word `give`.
+pub fn begins_give(action: &Value) -> bool
+    ensures { result ≡ begins_give (view action.now) }
+{
+    word_of(Some(action)) == "give"
+}
+
+/// The items of a list; none of what is no list.
+#[tactic(auto, using(crate::proofs::Gives::items_viewed))]
+pub fn items_of(list: Option<&Value>) -> &[Value]
+    ensures { map view result.now ≡ listed (seen list.entry) }
+{
+    match list.and_then(Value::as_array) {
+        Some(items) => items.as_slice(),
+        None => &[],
+    }
+}
