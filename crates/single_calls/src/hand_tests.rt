@@ -35,23 +35,27 @@ fn given(alloc: Global, script: &Script) -> Option<Held> {
     giver.hand_over(1).ok()
 }
 
-/// It is handed over once, and is then the other lane's with its source.
+/// The context is the lane's with its one source, and the line tells that the lane holds it.
+fn expect_held(rt: &impl Abort, lane: &LaneState) {
+    expect_lines(rt, lane, &HOLD);
+    match lane.sources(1) {
+        Some(rows) => expect(rt, rows.ordered().copied().eq([1])),
+        None => expect(rt, false),
+    }
+}
+
+/// It is handed over once.
 #[test]
 fn hands_a_context_over(rt: HostRuntime) -> Result<(), Fail> {
     let script = Script::read(rt.alloc(), gives_script().as_bytes())?;
     let mut giver = LaneState::new(rt.alloc(), &script, 0)?;
     first_turn(rt.alloc(), &script, &mut giver)?;
-    let mut taker = LaneState::new(rt.alloc(), &script, 1)?;
-    expect(&rt, giver.hand_over(0).err() == Some(HandFault::NotGiven));
     let held = giver.hand_over(1)?;
     expect(&rt, giver.hand_over(1).err() == Some(HandFault::NotGiven));
     expect(&rt, giver.sources(1).is_none());
+    let mut taker = LaneState::new(rt.alloc(), &script, 1)?;
     taker.take_over(0, held)?;
-    expect_lines(&rt, &taker, &HOLD);
-    match taker.sources(1) {
-        Some(rows) => expect(&rt, rows.ordered().copied().eq([1])),
-        None => expect(&rt, false),
-    }
+    expect_held(&rt, &taker);
     Ok(())
 }
 
