@@ -6,6 +6,8 @@ mod edge_tests;
 #[cfg(test)]
 mod gate_tests;
 #[cfg(test)]
+mod give_tests;
+#[cfg(test)]
 mod refused_tests;
 #[cfg(test)]
 mod script_tests;

@@ -1,6 +1,6 @@
 //! Runs with memory refused, over writers that only compare.
 use crate::script_tests::{first_run, first_run_text};
-use crate::worked::{Worked, cancels, ownership, posts, tasks};
+use crate::worked::{Worked, cancels, given_with_letters, gives, ownership, posts, tasks};
 use mainctx::{MainFault, OverWrite, run_alone, run_bytes, serve};
 use std::alloc::Global;
 use std::io;
@@ -161,6 +161,26 @@ fn refused_ownership_of_two_workers(rt: HostRuntime) {
     expect_of_two(&rt, rt.alloc(), ownership());
 }
 
+#[test]
+fn refused_gives_of_one_worker(rt: HostRuntime) {
+    expect_alone(&rt, rt.alloc(), gives());
+}
+
+#[test]
+fn refused_gives_of_two_workers(rt: HostRuntime) {
+    expect_of_two(&rt, rt.alloc(), gives());
+}
+
+#[test]
+fn refused_give_with_letters_of_one_worker(rt: HostRuntime) {
+    expect_alone(&rt, rt.alloc(), given_with_letters());
+}
+
+#[test]
+fn refused_give_with_letters_of_two_workers(rt: HostRuntime) {
+    expect_of_two(&rt, rt.alloc(), given_with_letters());
+}
+
 /// The same by the caller's thread alone, which needs no handle.
 fn expect_by_caller(rt: &impl Abort, alloc: Global, worked: Worked) {
     let mut out = OverWrite::new(expecting(worked.text));
@@ -176,6 +196,11 @@ fn refused_by_the_caller(rt: HostRuntime) {
 #[test]
 fn refused_tasks_by_the_caller(rt: HostRuntime) {
     expect_by_caller(&rt, rt.alloc(), tasks());
+}
+
+#[test]
+fn refused_gives_by_the_caller(rt: HostRuntime) {
+    expect_by_caller(&rt, rt.alloc(), gives());
 }
 
 fn memory() -> &'static str {

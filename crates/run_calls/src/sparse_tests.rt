@@ -12,11 +12,11 @@ use std::test::Fail;
 use std::thread::Threads;
 use tick_stepper::{Gate, Sharing};
 
-/// A gate that counts turns, and notes the ticks of the first three.
+/// A gate that counts turns, and notes the ticks of the first five.
 #[derive(Drop)]
 struct Counter {
     turns: AtomicUsize,
-    ticks: [AtomicU32; 3],
+    ticks: [AtomicU32; 5],
 }
 
 impl Gate for Counter {
@@ -42,26 +42,36 @@ fn two_of_a_thousand() -> &'static str {
     r#"{"version": 1, "ticks": 1000, "tick_us": 1000, "loops": [0], "lanes": [{"contexts": 1, "start": [["attach", 0, 0, {"kind": ["timeout", 400]}], ["run", 0]]}]}"#
 }
 
-/// The gate after a run of it.
+/// The same timeout in a context that is given at tick 0. The lane that takes it over runs a loop of it from tick 1 on, when a
+/// timeout of its own has ended the loop before.
+fn given_timeout() -> &'static str {
+    r#"{"version":2,"ticks":1000,"tick_us":1000,"loops":[0,2,1],"procs":[{"do":[["quit",1]]}],"lanes":[{"contexts":2,"start":[["attach",1,0,{"kind":["timeout",400]}],["give",1,1],["run",0]]},{"contexts":1,"start":[["attach",2,0,{"kind":["timeout",1],"call":0}],["run",1],["run",2]]}]}"#
+}
+
+/// A gate before any turn: no turn has a tick of 1000.
+fn fresh() -> Counter {
+    Counter {
+        turns: AtomicUsize::new(0),
+        ticks: [
+            AtomicU32::new(1000),
+            AtomicU32::new(1000),
+            AtomicU32::new(1000),
+            AtomicU32::new(1000),
+            AtomicU32::new(1000),
+        ],
+    }
+}
+
+/// The gate after a run of a script with one worker.
 fn counted<T: Threads + Wait + Sync>(
     rt: &T,
     alloc: Global,
+    script: &str,
     sharing: Sharing,
 ) -> Result<Counter, Fail> {
-    let gate = Counter {
-        turns: AtomicUsize::new(0),
-        ticks: [AtomicU32::new(1), AtomicU32::new(1), AtomicU32::new(1)],
-    };
+    let gate = fresh();
     let mut out = OverWrite::new(Vec::new(alloc));
-    run_bytes(
-        rt,
-        alloc,
-        two_of_a_thousand().as_bytes(),
-        1,
-        sharing,
-        &gate,
-        &mut out,
-    )?;
+    run_bytes(rt, alloc, script.as_bytes(), 1, sharing, &gate, &mut out)?;
     Ok(gate)
 }
 
@@ -76,7 +86,39 @@ fn expect_three(rt: &impl Abort, gate: &Counter) {
 fn empty_ticks_take_no_turn(rt: HostRuntime) -> Result<(), Fail> {
     let table = [0].to_vec(rt.alloc())?;
     for sharing in [Sharing::Round, Sharing::Queue, Sharing::Fixed(table)] {
-        expect_three(&rt, &counted(&rt, rt.alloc(), sharing)?);
+        let gate = counted(&rt, rt.alloc(), two_of_a_thousand(), sharing)?;
+        expect_three(&rt, &gate);
+    }
+    Ok(())
+}
+
+/// The tick of the turn that came so many turns after the first.
+fn expect_tick(rt: &impl Abort, gate: &Counter, turn: usize, tick: u32) {
+    let noted = match gate.ticks.get(turn) {
+        Some(noted) => noted.load(SeqCst),
+        None => 1000,
+    };
+    assert_eq!(rt; noted, tick);
+}
+
+/// The turn that gives, and four of the lane that takes over: its first, that in which its loop ends, and two in which the timeout
+/// is dispatched.
+fn expect_five(rt: &impl Abort, gate: &Counter) {
+    assert_eq!(rt; gate.turns.load(SeqCst), 5);
+    expect_tick(rt, gate, 0, 0);
+    expect_tick(rt, gate, 1, 0);
+    expect_tick(rt, gate, 2, 1);
+    expect_tick(rt, gate, 3, 400);
+    expect_tick(rt, gate, 4, 800);
+}
+
+/// A context that was given keeps no lane awake, neither the one that gave it nor the one that has it now.
+#[test]
+fn empty_ticks_after_a_give_take_no_turn(rt: HostRuntime) -> Result<(), Fail> {
+    let table = [0, 0].to_vec(rt.alloc())?;
+    for sharing in [Sharing::Round, Sharing::Queue, Sharing::Fixed(table)] {
+        let gate = counted(&rt, rt.alloc(), given_timeout(), sharing)?;
+        expect_five(&rt, &gate);
     }
     Ok(())
 }

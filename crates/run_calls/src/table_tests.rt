@@ -8,7 +8,7 @@ use std::thread::Threads;
 use tick_stepper::{OpenGate, Sharing};
 
 /// Runs a script with so many workers.
-fn ran<T: Threads + Wait + Sync>(
+pub(crate) fn ran<T: Threads + Wait + Sync>(
     rt: &T,
     alloc: Global,
     script: &str,
@@ -28,7 +28,7 @@ fn ran<T: Threads + Wait + Sync>(
     Ok(out.into_inner())
 }
 
-fn expect_text(rt: &impl Abort, found: &[u8], wanted: &[u8]) {
+pub(crate) fn expect_text(rt: &impl Abort, found: &[u8], wanted: &[u8]) {
     assert_eq!(rt; found, wanted);
 }
 

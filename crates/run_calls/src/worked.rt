@@ -82,3 +82,57 @@ pub(crate) fn ownership() -> Worked {
         shared: &[1, 0],
     }
 }
+
+fn gives_script() -> &'static str {
+    r#"{"version":2,"ticks":3,"tick_us":1000,"loops":[0,2],"procs":[{"do":[["log",5]],"keep":null},{"do":[["log",6]]},{"do":[["iterate",1]],"keep":null}],"lanes":[{"contexts":2,"start":[["attach",1,0,{"kind":["timeout",2],"call":0}],["give",1,1],["attach",1,1,{"kind":["idle"]}],["invoke",1,1],["run",0]]},{"contexts":1,"start":[["attach",2,0,{"kind":["timeout",1],"call":2}],["run",1]]}]}"#
+}
+
+fn gives_text() -> &'static str {
+    "thread 0\n0 give ctx 1 lane 1\n0 miss attach\n0 invoke ctx 1 posted\nthread 1\n0 hold ctx 1\n0 arrive ctx 1 source 2\n1 dispatch ctx 2 source 1 priority 0 depth 1\n1 dispatch ctx 1 source 2 priority 0 depth 2\n1 log 6\n1 iterate ctx 1 true\n2 dispatch ctx 2 source 1 priority 0 depth 1\n2 dispatch ctx 1 source 1 priority 0 depth 2\n2 log 5\n2 iterate ctx 1 true\n"
+}
+
+/// A lane gives a context to another, and invokes in it in the same tick; its timeout is due there when it would have been.
+pub(crate) fn gives() -> Worked {
+    Worked {
+        script: gives_script(),
+        text: gives_text(),
+        alone: &[0, 0],
+        shared: &[1, 0],
+    }
+}
+
+fn missing_gives_script() -> &'static str {
+    r#"{"version":2,"ticks":1,"tick_us":1000,"loops":[0],"lanes":[{"contexts":1,"start":[["give",1,0],["give",0,0],["acquire",0],["give",0,1],["release",0],["give",0,1],["give",0,1]]},{"contexts":1,"start":[]}]}"#
+}
+
+fn missing_gives_text() -> &'static str {
+    "thread 0\n0 miss give\n0 miss give\n0 acquire ctx 0 true\n0 miss give\n0 give ctx 0 lane 1\n0 miss give\n0 end\nthread 1\n0 end\n0 hold ctx 0\n"
+}
+
+/// A lane gives its one context away, after each give that misses.
+pub(crate) fn missing_gives() -> Worked {
+    Worked {
+        script: missing_gives_script(),
+        text: missing_gives_text(),
+        alone: &[0, 0],
+        shared: &[1, 0],
+    }
+}
+
+fn given_with_letters_script() -> &'static str {
+    r#"{"version":2,"ticks":3,"tick_us":1000,"cancellables":1,"loops":[0,2,3],"procs":[{"do":[["give",1,2]]},{"do":[["log",5]]},{"do":[["cancel",0],["invoke",1,3]]},{"do":[["log",6]]},{"do":[["iterate",1]]},{"do":[["log",7]]}],"lanes":[{"contexts":2,"start":[["push",1],["task",{"tree":["value",8],"call":1,"cancel":0}],["pop",1],["attach",0,0,{"kind":["timeout",1],"call":0}],["run",0]]},{"contexts":1,"start":[["attach",2,0,{"kind":["timeout",1],"call":2}],["run",1]]},{"contexts":1,"start":[["attach",3,0,{"kind":["timeout",2],"call":4}],["connect",0,1,5],["run",2]]}]}"#
+}
+
+fn given_with_letters_text() -> &'static str {
+    "thread 0\n1 dispatch ctx 0 source 1 priority 0 depth 1\n1 give ctx 1 lane 2\n1 cancel 0\nthread 1\n1 dispatch ctx 2 source 1 priority 0 depth 1\n1 cancel 0\n1 invoke ctx 1 posted\nthread 2\n1 hold ctx 1\n1 arrive ctx 1 source 1\n1 cancel 0\n1 handler 1\n1 log 7\n1 arrive ctx 1 source 2\n2 dispatch ctx 3 source 1 priority 0 depth 1\n2 dispatch ctx 1 source 1 priority 0 depth 2\n2 task 0.0 cancelled\n2 log 5\n2 dispatch ctx 1 source 2 priority 0 depth 2\n2 log 6\n2 iterate ctx 1 true\n"
+}
+
+/// A context goes over in a tick in which a reply for it comes, an invoke in it, and a cancellation.
+pub(crate) fn given_with_letters() -> Worked {
+    Worked {
+        script: given_with_letters_script(),
+        text: given_with_letters_text(),
+        alone: &[0, 0, 0],
+        shared: &[1, 0, 1],
+    }
+}

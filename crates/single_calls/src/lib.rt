@@ -6,6 +6,8 @@ mod context_tests;
 #[cfg(test)]
 mod expected;
 #[cfg(test)]
+mod hand_tests;
+#[cfg(test)]
 mod lane_tests;
 #[cfg(test)]
 mod standing_tests;

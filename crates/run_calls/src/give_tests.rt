@@ -1,0 +1,50 @@
+//! Contexts that are given to other lanes, with 1, 2 and 64 workers and each way of sharing; other scripts that give are vectors.
+use crate::table_tests::{expect_text, ran};
+use crate::worked::{Worked, given_with_letters, gives, missing_gives};
+use std::alloc::Global;
+use std::process::Abort;
+use std::sync::Wait;
+use std::test::Fail;
+use std::thread::Threads;
+use tick_stepper::Sharing;
+
+/// The text with so many workers, in each way of sharing.
+fn expect_of_workers<T: Threads + Wait + Sync + Abort>(
+    rt: &T,
+    alloc: Global,
+    worked: Worked,
+    workers: u32,
+    table: &[u32],
+) -> Result<(), Fail> {
+    let table = table.to_vec(alloc)?;
+    for sharing in [Sharing::Round, Sharing::Queue, Sharing::Fixed(table)] {
+        let found = ran(rt, alloc, worked.script, workers, sharing)?;
+        expect_text(rt, &found, worked.text.as_bytes());
+    }
+    Ok(())
+}
+
+fn expect_of_all<T: Threads + Wait + Sync + Abort>(
+    rt: &T,
+    alloc: Global,
+    worked: Worked,
+) -> Result<(), Fail> {
+    expect_of_workers(rt, alloc, worked, 1, worked.alone)?;
+    expect_of_workers(rt, alloc, worked, 2, worked.shared)?;
+    expect_of_workers(rt, alloc, worked, 64, worked.shared)
+}
+
+#[test]
+fn gives_by_all(rt: HostRuntime) -> Result<(), Fail> {
+    expect_of_all(&rt, rt.alloc(), gives())
+}
+
+#[test]
+fn missing_gives_by_all(rt: HostRuntime) -> Result<(), Fail> {
+    expect_of_all(&rt, rt.alloc(), missing_gives())
+}
+
+#[test]
+fn given_with_letters_by_all(rt: HostRuntime) -> Result<(), Fail> {
+    expect_of_all(&rt, rt.alloc(), given_with_letters())
+}
