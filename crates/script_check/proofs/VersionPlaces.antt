@@ -4,11 +4,12 @@ use Rattle.std.specs.Prelude.{option_and_then, slice_get}
 use Rattle.serde_json.specs.Data.{Data, null, boolean, number, string, array, object, Items, no_items, item}
 use Rattle.serde_json.specs.Find.{get, get_item, at}
 use Rattle.loop_script.specs.Version.{IsGive, begins_give, items_in, listed, is_version_2}
+use Rattle.loop_script.proofs.Alternatives.{some_inj}
 use Rattle.loop_script.proofs.Gives.{outside, begins}
 use Rattle.script_check.specs.Found.{Step, under, nth, at_place, Found}
 use Rattle.script_check.specs.Laws.{In}
-use Rattle.script_check.specs.VersionFaults.{other_version, gives_from, gives_of, VersionFaults}
-use Rattle.script_check.proofs.Among.{in_either}
+use Rattle.script_check.specs.VersionFaults.{other_version, gives_from, gives_of, version_faults, action_place, VersionFaults}
+use Rattle.script_check.proofs.Among.{in_first, in_second, in_either}
 use Rattle.script_check.proofs.VersionTold.{version_has}
 
 -- ---- the items of a list by their numbers
@@ -116,8 +117,68 @@ leads_by d x false h = by (in_either x (gives_of (codes "lanes") (codes "start")
     by (inl i) = leads (codes "lanes") (codes "start") d x i
     by (inr i) = leads (codes "procs") (codes "do") d x i
 
+-- ---- and each is told
+at_listed : (o : Option Data) (n : ℕ) (e : Data) → option_and_then (at n) o ≡ Some e → slice_get (listed o) n ≡ Some e
+at_listed None n e h = absurd (cc)
+at_listed (Some null) n e h = absurd (cc)
+at_listed (Some (boolean b)) n e h = absurd (cc)
+at_listed (Some (number k)) n e h = absurd (cc)
+at_listed (Some (string s)) n e h = absurd (cc)
+at_listed (Some (object ms)) n e h = absurd (cc)
+at_listed (Some (array ds)) n e h = item_at ds n ∙ h
+
+first_told : (b : Bool) (place : List Step) (fs : List Found) → b ≡ true → In (other_version place) (cond b (other_version place ∷ []) [] ++ fs)
+first_told true place fs h = inl refl
+first_told false place fs h = absurd (cc)
+
+told_from : (place : List Step) (k : ℕ) (ds : List Data) (m : ℕ) (e : Data) → slice_get ds m ≡ Some e → begins_give e ≡ true → In (other_version (place ++ nth (k + m) ∷ [])) (gives_from place k ds)
+told_from place k [] m e h g = absurd (cc)
+told_from place k (d ∷ ds) zero e h g =
+    let here : begins_give d ≡ true = ap begins_give (some_inj h) ∙ g in
+    let fs = gives_from place k (d ∷ ds) in
+    subst (λ i. In (other_version (place ++ nth i ∷ [])) fs) (omega arith) (first_told (begins_give d) (place ++ nth k ∷ []) (gives_from place (suc k) ds) here)
+told_from place k (d ∷ ds) (suc m) e h g =
+    let fs = gives_from place k (d ∷ ds) in
+    let first = cond (begins_give d) (other_version (place ++ nth k ∷ []) ∷ []) [] in
+    subst (λ i. In (other_version (place ++ nth i ∷ [])) fs) (omega arith) (in_second _ first (gives_from place (suc k) ds) (told_from place (suc k) ds m e h g))
+
+told_of : (owners actions : List ℕ) (k : ℕ) (ds : List Data) (n m : ℕ) (owner e : Data) → slice_get ds n ≡ Some owner → slice_get (listed (get actions owner)) m ≡ Some e → begins_give e ≡ true → In (other_version (action_place owners actions (k + n) m)) (gives_of owners actions k ds)
+told_of owners actions k [] n m owner e h j g = absurd (cc)
+told_of owners actions k (d ∷ ds) zero m owner e h j g =
+    let here : slice_get (listed (get actions d)) m ≡ Some e = ap (λ x. slice_get (listed (get actions x)) m) (some_inj h) ∙ j in
+    let told = told_from (under owners ∷ nth k ∷ under actions ∷ []) 0 (listed (get actions d)) m e here g in
+    let fs = gives_of owners actions k (d ∷ ds) in
+    subst (λ i. In (other_version (action_place owners actions i m)) fs) (omega arith)
+    (subst (λ i. In (other_version (action_place owners actions k i)) fs) (omega arith) (in_first _ (gives_from (under owners ∷ nth k ∷ under actions ∷ []) 0 (listed (get actions d))) (gives_of owners actions (suc k) ds) told))
+told_of owners actions k (d ∷ ds) (suc n) m owner e h j g =
+    let fs = gives_of owners actions k (d ∷ ds) in
+    let first = gives_from (under owners ∷ nth k ∷ under actions ∷ []) 0 (listed (get actions d)) in
+    subst (λ i. In (other_version (action_place owners actions i m)) fs) (omega arith) (in_second _ first (gives_of owners actions (suc k) ds) (told_of owners actions (suc k) ds n m owner e h j g))
+
+-- what stands at a place of a list of a list
+nowhere : IsGive None → ⊥
+nowhere h = cc
+
+told_under : (owners actions : List ℕ) (d : Data) (n m : ℕ) (o : Option Data) → option_and_then (at n) (get owners d) ≡ o → (e : Option Data) → option_and_then (at m) (option_and_then (get actions) o) ≡ e → IsGive e → In (other_version (action_place owners actions n m)) (gives_of owners actions 0 (listed (get owners d)))
+told_under owners actions d n m None h e i g = absurd (nowhere (subst IsGive (sym i) g))
+told_under owners actions d n m (Some owner) h None i g = absurd (nowhere g)
+told_under owners actions d n m (Some owner) h (Some e) i g =
+    subst (λ k. In (other_version (action_place owners actions k m)) (gives_of owners actions 0 (listed (get owners d)))) (omega arith)
+    (told_of owners actions 0 (listed (get owners d)) n m owner e (at_listed (get owners d) n owner h) (at_listed (get actions owner) m e i) ((begins e).1 g))
+
+abbrev lanes_told : Data → List Found
+lanes_told d = gives_of (codes "lanes") (codes "start") 0 (listed (get (codes "lanes") d))
+
+abbrev procs_told : Data → List Found
+procs_told d = gives_of (codes "procs") (codes "do") 0 (listed (get (codes "procs") d))
+
+in_version : (d : Data) (x : Found) → is_version_2 d ≡ false → In x (lanes_told d ++ procs_told d) → In x (version_faults d)
+in_version d x v h = subst (λ b. In x (cond b [] (lanes_told d ++ procs_told d))) (sym v) h
+
 pub version_faults_stand : VersionFaults
 version_faults_stand = record {
   some = λ d. (λ h. (outside d).0 (sym (version_has d) ∙ h), λ g. version_has d ∙ (outside d).1 g);
   place = λ d x h. leads_by d x (is_version_2 d) h;
+  lanes = λ d v n m g. in_version d _ v (in_first _ (lanes_told d) (procs_told d) (told_under (codes "lanes") (codes "start") d n m _ refl _ refl g));
+  procs = λ d v n m g. in_version d _ v (in_second _ (lanes_told d) (procs_told d) (told_under (codes "procs") (codes "do") d n m _ refl _ refl g));
 }

@@ -1,8 +1,9 @@
 -- The actions that the version of a script has not, and where they stand.
-use Rattle.std.specs.Prelude.{◌≡◌, ◌↔◌, true, ℕ, suc, List, [], ◌∷◌, ◌++◌, codes, Some, if◌then◌else◌}
+use Rattle.std.specs.Prelude.{◌≡◌, ◌↔◌, true, false, ℕ, suc, List, [], ◌∷◌, ◌++◌, codes, Some, if◌then◌else◌}
 use Rattle.serde_json.specs.Data.{Data}
 use Rattle.serde_json.specs.Find.{get}
 use Rattle.loop_script.specs.Form.{one_of, action}
+use Rattle.loop_script.specs.Meaning as says
 use Rattle.loop_script.specs.Version.{IsGive, GivesOutsideVersion2, is_version_2, begins_give, listed}
 use Rattle.script_check.specs.declared.fault.Cause.TheVariants.{OtherVersion}
 use Rattle.script_check.specs.Found.{Step, under, nth, at_place, Found}
@@ -28,8 +29,19 @@ version_faults d =
     if is_version_2 d then []
     else gives_of (codes "lanes") (codes "start") 0 (listed (get (codes "lanes") d)) ++ gives_of (codes "procs") (codes "do") 0 (listed (get (codes "procs") d))
 
+-- where an action stands: the m-th of the list that the n-th lane or procedure has under a key
+abbrev pub action_place : List ℕ → List ℕ → ℕ → ℕ → List Step
+action_place owners actions n m = under owners ∷ nth n ∷ under actions ∷ nth m ∷ []
+
+-- each action there that begins so is told
+abbrev pub EachIsTold : List ℕ → List ℕ → Data → Type 0
+EachIsTold owners actions d = (n m : ℕ) → IsGive (says.nth m (says.under actions (says.nth n (says.under owners (Some d))))) → In (other_version (action_place owners actions n m)) (version_faults d)
+
 pub record VersionFaults : Type 0 where
   -- some fault is told exactly where a script of another version than 2 has a `give`
   pub some : (d : Data) → (has is_shape (version_faults d) ≡ true) ↔ GivesOutsideVersion2 d
   -- the place of each leads to an action that begins so
   pub place : (d : Data) (x : Found) → In x (version_faults d) → (e : Data) × (at_place x.place d ≡ Some e) × IsGive (Some e)
+  -- and where the version is not 2, each such action of a lane or a procedure is told
+  pub lanes : (d : Data) → is_version_2 d ≡ false → EachIsTold (codes "lanes") (codes "start") d
+  pub procs : (d : Data) → is_version_2 d ≡ false → EachIsTold (codes "procs") (codes "do") d

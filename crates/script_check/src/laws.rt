@@ -11,8 +11,8 @@ pub fn form_faults_go_by_tables()
     ensures { FormFaults }
 {}
 
-/// A fault of the version is told exactly where a script of another version than 2 has a `give`, and its place leads to an
-/// action that begins so.
+/// A fault of the version is told exactly where a script of another version than 2 has a `give`; its place leads to an action
+/// that begins so, and each such action is told.
 pub fn version_faults_stand()
     ensures { VersionFaults }
 {}
