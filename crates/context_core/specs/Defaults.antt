@@ -4,7 +4,7 @@ use Rattle.std.specs.List.{list_any}
 use Rattle.context_core.specs.declared.context.Context.{Context}
 use Rattle.loop_script.specs.Units.{ContextNumber}
 
--- a context acquired once more, and once less
+-- a context is acquired once more
 abbrev pub acquired : Context → Context
 acquired context = record context { acquires = context.acquires + 1 }
 

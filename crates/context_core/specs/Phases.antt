@@ -67,11 +67,11 @@ bits_of (ReadyTime us) = 0
 bits_of (Fd fd bits) = bits
 bits_of (Cancel c) = 0
 
--- the free rows of descriptors that are not less urgent than a priority, in order
+-- whether a row is of a descriptor, free, and not less urgent than a priority
 abbrev pub is_asked : Option ℤ → List SourceId → Row → Bool
 is_asked priority busy r = is_fd r.kind && (is_free busy r && not (less_urgent priority r.priority))
 
--- the rows whose descriptors are asked for, in order
+-- the rows that are, in order
 abbrev pub asked_rows : Option ℤ → List SourceId → List Row → List Row
 asked_rows priority busy rows = filter (is_asked priority busy) (in_order rows)
 

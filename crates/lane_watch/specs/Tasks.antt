@@ -46,7 +46,7 @@ end_of_task tick_us came t = end_of tick_us t.spec.tree t.first (first_seen came
 abbrev pub reply_of : Started → Outcome → Reply
 reply_of t outcome = record { task = t.number; ctx = t.ctx; outcome = outcome; call = t.spec.call; priority = t.spec.priority; cancel = t.spec.cancel; check = t.spec.check }
 
--- what the poll of a tick gives: a reply, whether the body ends after its reply or with it, and whether it goes on
+-- the reply that the poll of a task at a tick gives
 abbrev pub reply_at : Tick → Tasks → Started → Option Reply
 reply_at tick tasks t =
     option_map (reply_of t) (reply_in tick t.spec.return_on_cancel (first_seen tasks.came t) (end_of_task tasks.tick_us tasks.came t))

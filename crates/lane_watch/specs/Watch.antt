@@ -40,7 +40,7 @@ starting tick ctx spec tasks = record tasks {
   next = tasks.next + 1;
 }
 
--- the replies of a tick, the numbers of those that end after their reply or with it, and the tasks that go on
+-- the replies that the polls of a tick give, in start order
 abbrev pub replies_of : Tick → Tasks → List Reply
 replies_of tick tasks = filter_map (reply_at tick tasks) tasks.started
 

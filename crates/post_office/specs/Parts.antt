@@ -35,25 +35,28 @@ module _ {T : Type 0} where
   abbrev pub posts : ℕ → T → Mail T → Mail T
   posts w x mail = post_of w x mail (slice_get mail.posted w)
 
-  -- these workers, one after another, take the first that waits; these workers, one after another, post these values
+  -- these workers, one after another, take the first that waits
   abbrev pub all_claims : List ℕ → Work T → Work T
   all_claims [] work = work
   all_claims (w ∷ ws) work = all_claims ws (claims w 0 work)
 
+  -- these workers, one after another, post these values
   abbrev pub all_posts : List (ℕ × T) → Mail T → Mail T
   all_posts [] mail = mail
   all_posts (p ∷ ps) mail = all_posts ps (posts p.0 p.1 mail)
 
-  -- nothing was taken; nothing was posted
+  -- nothing was taken
   abbrev pub unclaimed : ℕ → List T → Work T
   unclaimed workers put = record { waiting = put; taken = replicate workers [] }
 
+  -- nothing was posted
   abbrev pub unposted : ℕ → Mail T
   unposted workers = record { posted = replicate workers []; office = [] }
 
-  -- some claims lead to it from what was put; some posts lead to it from nothing
+  -- some claims lead to it from what was put
   abbrev pub IsClaimed : List T → Work T → Type 0
   IsClaimed put work = (who : List ℕ) × (all_claims who (unclaimed (length work.taken) put) ≡ work)
 
+  -- some posts lead to it from nothing
   abbrev pub IsPosted : Mail T → Type 0
   IsPosted mail = (changes : List (ℕ × T)) × (all_posts changes (unposted (length mail.posted)) ≡ mail)

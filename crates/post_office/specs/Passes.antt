@@ -30,23 +30,27 @@ pub record Posting : Type 0 where
   pub posted : List Letter
 
 module _ {T : Type 0} where
-  -- a list with nothing in it; x is put; x is taken by the list itself
+  -- a list with nothing in it
   abbrev pub new_list : ℕ × ℕ → WorkState T
   new_list home = record { home = home; put = []; taken = []; recorded = []; out = 0 }
 
+  -- x is put
   abbrev pub puts : WorkState T → T → WorkState T
   puts list x = record list { put = list.put ++ x ∷ [] }
 
+  -- x is taken by the list itself
   abbrev pub takes_itself : WorkState T → T → WorkState T
   takes_itself list x = record list { taken = list.taken ++ x ∷ [] }
 
-  -- a pass goes out, and a pass comes back
+  -- a new pass of a list
   abbrev pub new_taking : WorkState T → Taking T
   new_taking list = record { home = list.home; put = list.put; taken = [] }
 
+  -- the list, when a pass goes out
   abbrev pub lets_out : WorkState T → WorkState T
   lets_out list = record list { out = list.out + 1 }
 
+  -- and when one comes back
   abbrev pub takes_in : WorkState T → Taking T → WorkState T
   takes_in list pass = record list { recorded = list.recorded ++ pass.taken ∷ []; out = list.out - 1 }
 
@@ -58,15 +62,15 @@ module _ {T : Type 0} where
 abbrev pub new_office : ℕ × ℕ → OfficeState
 new_office home = record { home = home; recorded = []; drained = []; out = 0 }
 
--- a pass goes out, and a pass comes back
+-- a new pass of an office
 abbrev pub new_posting : OfficeState → Posting
 new_posting office = record { home = office.home; posted = [] }
 
--- a pass is made
+-- the office, when a pass goes out
 abbrev pub opens : OfficeState → OfficeState
 opens office = record office { out = office.out + 1 }
 
--- a pass is taken back, with what it posted
+-- and when one comes back, with what it posted
 abbrev pub closes : OfficeState → Posting → OfficeState
 closes office pass = record office { recorded = office.recorded ++ pass.posted ∷ []; out = office.out - 1 }
 

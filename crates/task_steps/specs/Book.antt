@@ -10,8 +10,8 @@ use Rattle.task_steps.specs.Run.{StaysSet, IsAfter}
 use Rattle.task_steps.specs.Rest.{sooner}
 use Rattle.task_steps.specs.Task.{Task, noticed, body_end, reply_in, is_late_in, MayComeTo}
 
--- the tasks whose body has not ended, in start order; the last tick that was polled, passed over or
--- started in, and a tick that no poll may pass over
+-- how long a tick is; the tasks whose body has not ended, in start order, and the number of the next; the last tick that was
+-- polled, passed over or started in; a tick that no poll may pass over; and whether memory was refused
 pub record Book : Type 0 where
   pub tick_us : Microseconds
   pub tasks : List Task
@@ -32,7 +32,7 @@ with_task spec ctx tick b = record b { tasks = b.tasks ++ started b.tick_us b.ne
 abbrev pub exhausted : Book → Book
 exhausted b = record b { tasks = []; last = None; wake = None; spent = true }
 
--- a task is started in the last tick that was polled or passed over, or before any
+-- a task may be started in a tick: in the last that was polled, passed over or started in, or before any
 abbrev pub IsStart : Tick → Option Tick → Type 0
 IsStart tick None = Unit {0}
 IsStart tick (Some last) = last ≡ tick

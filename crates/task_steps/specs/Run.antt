@@ -7,8 +7,8 @@ use Rattle.task_steps.specs.declared.stage.Stage.{Stage}
 use Rattle.task_steps.specs.declared.stage.Stage.TheVariants.{Fresh, Set, Polled, Done}
 use Rattle.task_steps.specs.End.{End, end_of, seen}
 
--- a tree, the stage of its run, the last tick that was set as not cancelled, the first that was set as cancelled, and the least tick
--- at which a wait in progress ends
+-- a tree, how long a tick is, the stage of its run, the last tick that was set as not cancelled, the first that was set as
+-- cancelled, and the least tick at which a wait in progress ends
 pub record Run : Type 0 where
   pub tree : Tree
   pub tick_us : Microseconds
@@ -36,17 +36,17 @@ MayCome clear cancelled c = IsUnseenTo clear c × IsSeenFrom cancelled c
 abbrev pub due : Tick → End → Option Outcome
 due tick end = if nat_le end.tick tick then Some end.outcome else None
 
--- it was unseen up to a tick
+-- a tick is not past a limit, where there is one
 abbrev pub IsUpTo : Tick → Option Tick → Type 0
 IsUpTo tick None = Unit {0}
 IsUpTo tick (Some limit) = tick ≤ limit
 
--- it is seen only after a tick
+-- a tick is before a limit, where there is one
 abbrev pub IsAfter : Tick → Option Tick → Type 0
 IsAfter tick None = Unit {0}
 IsAfter tick (Some limit) = tick < limit
 
--- a tick in which the run may be polled next: later ones than before, that pass over no wake
+-- a tick in which the run may be polled next: one later than the last, that passes over no wake
 abbrev pub MaySet : Tick → Stage → Option Tick → Type 0
 MaySet tick Fresh wake = Unit {0}
 MaySet tick (Set begun at) wake = ⊥
@@ -90,7 +90,7 @@ IsAnswered (Set begun tick) r result =
 IsAnswered (Polled begun tick) r result = Unit {0}
 IsAnswered Done r result = Unit {0}
 
--- A poll answers in the tick that was set what is due there, for whatever may come, and the end was not due before.
+-- a poll answers in the tick that was set what is due there, for whatever may come, and the end was not due before.
 abbrev pub Answered : Run → Option Outcome → Type 0
 Answered r result = IsAnswered r.stage r result
 

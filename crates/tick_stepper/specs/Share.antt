@@ -20,11 +20,11 @@ use Rattle.loop_script.specs.Units.{Tick, LaneNumber}
 abbrev pub unspent : Lane → State
 unspent lane = record { lane = lane; spent = false }
 
--- a lane with its number, and lanes with theirs
+-- a lane with its number
 abbrev pub numbered_one : Lane → Numbered
 numbered_one lane = record { number = lane.number; state = unspent lane }
 
--- lanes with their numbers
+-- lanes with theirs
 abbrev pub numbered : List Lane → List Numbered
 numbered lanes = map numbered_one lanes
 
@@ -45,15 +45,15 @@ pub record HasGone (tick : Tick) (letter : Letter) (ones now : List Numbered) : 
 abbrev pub at_number : LaneNumber → (Lane → Lane) → Lane → Lane
 at_number number step lane = if lane.number == number then step lane else lane
 
--- a lane after a step, its turn among them, and what it posts in its turn
+-- a lane after a step
 abbrev pub stepped_one : (Lane → Lane) → Numbered → Numbered
 stepped_one step one = record { number = one.number; state = unspent (step one.state.lane) }
 
--- a lane after its turn
+-- the same where the step is its turn
 abbrev pub turned_one : Plan → Tick → Numbered → Numbered
 turned_one script tick one = stepped_one (turned script tick) one
 
--- the letters of its turn
+-- the letters that a lane posts in its turn
 abbrev pub out_of_one : Plan → Tick → Numbered → List Letter
 out_of_one script tick one = out_of script tick one.state.lane
 

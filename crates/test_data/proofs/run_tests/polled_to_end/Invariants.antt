@@ -1,0 +1,15 @@
+use Rattle.std.proofs.Common.{◌≡◌, ℕ, ◌<◌, true, Option, Some, None}
+use Rattle.task_steps.specs.End.{seen}
+use Rattle.task_steps.specs.Run.{MaySet}
+use Rattle.test_data.proofs.run_tests.polled_to_end.Given as goal
+
+-- what was seen as cancelled is cancelled, and was set before
+abbrev IsSeenBefore : Option ℕ → ℕ → Option ℕ → Type 0
+IsSeenBefore cancel tick None = Unit {0}
+IsSeenBefore cancel tick (Some from) = (seen cancel from ≡ true) × (from < tick)
+
+abbrev pub invariant-loop-tick : goal.invariant-loop-tick
+invariant-loop-tick g l = record {
+  set : MaySet l.tick-counter l.run.stage l.run.wake;
+  seen : IsSeenBefore l.cancel l.tick-counter l.run.cancelled;
+}
