@@ -17,6 +17,8 @@ use Rattle.task_steps.specs.contracts.steps.Steps as Steps
 use Rattle.task_steps.specs.contracts.book.TaskBook as Book
 use Rattle.task_steps.specs.contracts.run.TaskRun as Run
 use Rattle.task_steps.specs.contracts.entry.Entry as Entry
+use Rattle.cancel_view.specs.contracts.handlers.Handlers as Handlers
+use Rattle.cancel_view.specs.contracts.view.View as View
 use Rattle.lane_watch.specs.contracts.watch.Watch as Watch
 use Rattle.source_rows.proofs.seats.Seats.TheLaws.TheKnot.{crosses as seats}
 use Rattle.source_rows.specs.contracts.seats.Seats as Seats
@@ -67,8 +69,14 @@ entry_send = search (run_send, sendable, crosses) depth 60 fits 10000
 book_send : IsSend Book.the_row
 book_send = search (entry_send, sendable, crosses) depth 60 fits 10000
 
+handlers_send : IsSend Handlers.the_row
+handlers_send = search (BTreeMap-send, sendable, crosses) depth 60 fits 10000
+
+view_send : IsSend View.the_row
+view_send = search (handlers_send, sendable, crosses) depth 60 fits 10000
+
 watch_send : IsSend Watch.the_row
-watch_send = search (book_send, sendable, crosses) depth 60 fits 10000
+watch_send = search (book_send, view_send, sendable, crosses) depth 60 fits 10000
 
 -- ---- sources
 
