@@ -342,7 +342,6 @@ KNOWN = {
     "ticks beside sources of a cancellable": "each tick with a turn, the sources of cancellables",
     "ticks beside sources that wait for others": "each tick with a turn, the idle sources of a context that has had a descriptor's",
     "letters beside lanes that rest": "each tick with a letter, the sources of descriptors and cancellables of all lanes",
-    "handlers that are disconnected": "each disconnect, the lane's handlers",
     "thread-default contexts": "each invoke, the lane's stack",
     "letters of more lanes": "each letter, the lanes: 64 at most",
     "tasks that sleep, started in each tick": "each tick in which a task starts or may end, the lane's tasks",
