@@ -1,4 +1,5 @@
 /* threads SCRIPT..: eight threads at once run each script again and again; each text is that of a run alone. */
+#define _POSIX_C_SOURCE 200809L
 #include "common.h"
 #include <pthread.h>
 #include <stdio.h>

@@ -49,6 +49,7 @@ def test_what_is_shown(tmp_path: Path) -> None:
     ran = subprocess.run(
         [sys.executable, "-m", "pytest", "-q", "-p", "no:cacheprovider", *plugin, str(tmp_path)],
         env={**os.environ, "PYTHONPATH": os.pathsep.join([str(here), str(here.parent), os.environ.get("PYTHONPATH", "")])},
+        cwd=tmp_path,
         stdout=subprocess.PIPE,
         text=True,
     )
