@@ -2,17 +2,7 @@
 #![tactic(auto)]
 
 mod arguments;
-mod cursor;
-mod excerpt;
-mod input;
-mod layout;
-mod lead;
-mod nearest;
-mod order;
 mod program;
-mod report;
-mod summary;
-mod words;
 
 use std::process::ExitCode;
 

@@ -1,6 +1,6 @@
 -- the levels that are left fall
 use Rattle.std.proofs.Common.{◌+◌, ◌*◌}
-use Rattle.script_check_cli.proofs.layout.+read_value.Given as goal
+use Rattle.script_report.proofs.layout.+read_value.Given as goal
 
 abbrev pub decreases-read_value : goal.decreases-read_value
 decreases-read_value l = 2 * l.levels

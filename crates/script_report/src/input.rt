@@ -10,9 +10,12 @@ const ROOM: usize = 65_536;
 
 /// Why the input was not read.
 #[derive(Clone, Copy, Debug, Drop, PartialEq, Eq)]
-pub(crate) enum InputFault {
+pub enum InputFault {
+    /// A read failed.
     Unreadable,
+    /// There are more bytes than a script may have, which are 4,194,304.
     TooLong,
+    /// A request for memory was refused.
     OutOfMemory,
 }
 
@@ -22,8 +25,8 @@ impl From<AllocError> for InputFault {
     }
 }
 
-/// All bytes that are left, where there are few enough.
-pub(crate) fn read_input<R: Read>(alloc: Global, input: &mut R) -> Result<Vec<u8>, InputFault> {
+/// All bytes that are left, where they are 4,194,304 at most.
+pub fn read_input<R: Read>(alloc: Global, input: &mut R) -> Result<Vec<u8>, InputFault> {
     let mut space = vec![in alloc; 0u8; ROOM]?;
     let room = space.as_mut_slice();
     let mut bytes = Vec::new(alloc);

@@ -2,8 +2,8 @@ use Rattle.std.proofs.Common.{rules, ℕ, List, map, subst}
 use Rattle.std.specs.Prelude.{IsPermutation}
 use Rattle.std.specs.List.{range_with_len}
 use Rattle.std.proofs.lemmas.List.Sorted.{IsPermutation-map, IsNonDecreasingBy-from_sort_by_key}
-use Rattle.script_check_cli.specs.declared.order.Placed.{Placed}
-use Rattle.script_check_cli.proofs.order.in_order.Goals as goal
+use Rattle.script_report.specs.declared.order.Placed.{Placed}
+use Rattle.script_report.proofs.order.in_order.Goals as goal
 
 pub returns-clause-all : goal.returns-clause-all
 returns-clause-all c =

@@ -1,8 +1,8 @@
 use Rattle.std.proofs.Common.{rules, ◌≡◌, ℕ, zero, suc, ◌+◌, ◌++◌, [], ◌∷◌, List, map, refl, sym, ap, ◌∙◌, arith}
 use Rattle.std.proofs.lemmas.List.{map_push}
 use Rattle.std.specs.List.{range_with_len}
-use Rattle.script_check_cli.specs.declared.order.Placed.{Placed}
-use Rattle.script_check_cli.proofs.order.place_all.Goals as goal
+use Rattle.script_report.specs.declared.order.Placed.{Placed}
+use Rattle.script_report.proofs.order.place_all.Goals as goal
 
 -- a range that is one longer has one number more at its end
 range_more : (a n : ℕ) → range_with_len a (suc n) ≡ range_with_len a n ++ (a + n) ∷ []

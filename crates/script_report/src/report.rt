@@ -14,7 +14,7 @@ const MOST_TOLD: usize = 100;
 
 /// How a report is written.
 #[derive(Clone, Copy)]
-pub(crate) struct Form<'a> {
+pub struct Form<'a> {
     /// One object a line, in place of text.
     pub json: bool,
     /// The name of the file.
