@@ -1,0 +1,22 @@
+//! What a run did and why, in words: each iteration with its sources, the life of one source, a summary, and each moment
+//! as JSON.
+#![tactic(auto)]
+
+mod action_words;
+mod begun;
+mod block;
+mod life;
+mod moments;
+mod quiet;
+mod rests;
+mod summary;
+mod time;
+mod why;
+mod window;
+mod words;
+
+pub use life::Life;
+pub use moments::Moments;
+pub use summary::Summary;
+pub use why::Why;
+pub use window::{SourceName, Window};
