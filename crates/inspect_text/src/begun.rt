@@ -1,5 +1,6 @@
 //! Iterations as they begin.
 use crate::action_words::push_list;
+use crate::window::SourceName;
 use account::{Account, Deed, Moment};
 use lane_turn::{Activity, Asker, Call, LaneState, Origin};
 use loop_script::{Action, Body};
@@ -12,10 +13,31 @@ pub(crate) enum AskedBy {
     Loop(u32),
     /// An action of a call.
     Action {
-        origin: Origin,
+        caller: Caller,
         body: Body,
         place: usize,
     },
+}
+
+/// What made a call.
+#[derive(Clone, Copy, Debug, PartialEq, Eq)]
+pub(crate) enum Caller {
+    /// The thread itself, of its start list.
+    Start,
+    Source(SourceName),
+    Invoke,
+}
+
+/// What made a call of this origin.
+fn caller_of(origin: Origin) -> Caller {
+    match origin {
+        Origin::Start => Caller::Start,
+        Origin::Source(caller) => Caller::Source(SourceName {
+            context: caller.context,
+            id: caller.id,
+        }),
+        Origin::Invoke(_) => Caller::Invoke,
+    }
 }
 
 /// An iteration that a moment began.
@@ -80,7 +102,7 @@ pub(crate) fn begun(account: &Account, moment: &Moment) -> Option<Begun> {
                 lane: number,
                 context: *context,
                 asker: AskedBy::Action {
-                    origin: asked.call.origin,
+                    caller: caller_of(asked.call.origin),
                     body,
                     place,
                 },
@@ -107,27 +129,27 @@ impl AskedBy {
         match self {
             AskedBy::Loop(number) => write!(out, "loop {number}"),
             AskedBy::Action {
-                origin,
+                caller,
                 body,
                 place,
             } => {
                 write!(out, "action {place} of ")?;
                 push_list(out, body)?;
-                push_origin(out, origin)
+                caller.push(out)
             }
         }
     }
 }
 
-/// Adds by what a call was made, where that is not the list itself.
-fn push_origin(out: &mut String, origin: Origin) -> Result<(), AllocError> {
-    match origin {
-        Origin::Start => Ok(()),
-        Origin::Source(caller) => {
-            let context = caller.context;
-            let id = caller.id;
-            write!(out, ", which source {context}.{id} calls,")
+impl Caller {
+    /// Adds what made the call, where that is not the thread itself.
+    fn push(self, out: &mut String) -> Result<(), AllocError> {
+        match self {
+            Caller::Start => Ok(()),
+            Caller::Source(SourceName { context, id }) => {
+                write!(out, ", which source {context}.{id} calls,")
+            }
+            Caller::Invoke => out.push_str(", which is invoked,"),
         }
-        Origin::Invoke(_) => out.push_str(", which is invoked,"),
     }
 }

@@ -4,12 +4,12 @@ use context_core::Standing;
 use lane_turn::LaneState;
 use loop_script::Script;
 use source_rows::{Row, Rows};
-use std::alloc::AllocError;
+use std::alloc::{AllocError, Global};
 
 /// What an iteration does with the sources of a context.
 #[derive(Drop)]
 pub(crate) struct Block {
-    /// A line for each source, in the order of dispatch.
+    /// A line for each source, in the order of dispatch, and one for what an older iteration loses.
     pub lines: String,
     /// Whether some source is to be dispatched.
     pub dispatches: bool,
@@ -51,14 +51,16 @@ fn push_row(
     out.push_str("\n")
 }
 
-/// What an iteration of one of a thread's contexts, begun at a tick, does with its sources.
+/// What an iteration of one of a thread's contexts, begun at a tick, does with its sources, and what an older one loses by it.
 pub(crate) fn block_of(
+    alloc: Global,
     script: &Script,
     tick: u32,
     lane: &LaneState,
     context: u32,
-    mut lines: String,
+    lost: &[u64],
 ) -> Result<Block, AllocError> {
+    let mut lines = String::new(alloc);
     let list = lane.standings(script, tick, context)?;
     let standings = list.as_slice();
     let mut dispatches = false;
@@ -73,5 +75,19 @@ pub(crate) fn block_of(
     if lines.is_empty() {
         lines.push_str("  it has no source\n")?;
     }
+    push_lost(&mut lines, lost)?;
     Ok(Block { lines, dispatches })
+}
+
+/// Adds what an older iteration loses, the next source last.
+fn push_lost(out: &mut String, lost: &[u64]) -> Result<(), AllocError> {
+    if lost.is_empty() {
+        return Ok(());
+    }
+    out.push_str("  the older iteration loses what it had left: ")?;
+    for (n, id) in lost.iter().rev().enumerate() {
+        out.push_str(if n == 0 { "source " } else { ", source " })?;
+        write!(out, "{id}")?;
+    }
+    out.push_str("\n")
 }

@@ -3,12 +3,16 @@
 #![tactic(auto)]
 
 mod action_words;
+mod alike;
 mod begun;
 mod block;
+mod counts;
 mod life;
 mod moments;
-mod quiet;
+mod record;
 mod rests;
+mod silent;
+mod span;
 mod summary;
 mod time;
 mod why;

@@ -1,7 +1,7 @@
 //! The life of one source.
 use crate::action_words::push_cause;
+use crate::alike::push_count;
 use crate::begun::{Begun, begun};
-use crate::quiet::push_count;
 use crate::time::{push_tick, push_ticks};
 use crate::why::halt_reason;
 use crate::window::{SourceName, Window};

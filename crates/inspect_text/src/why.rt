@@ -1,7 +1,7 @@
 //! Why sources are dispatched or not, iteration by iteration.
+use crate::alike::Alike;
 use crate::begun::{Begun, begun};
-use crate::block::{Block, block_of};
-use crate::quiet::Quiet;
+use crate::block::block_of;
 use crate::rests::Rests;
 use crate::time::push_tick;
 use crate::window::Window;
@@ -17,26 +17,26 @@ pub struct Why {
     window: Window,
     rests: Rests,
     /// Of each thread, the iterations that are not told yet.
-    quiet: Vec<Option<Quiet>>,
+    alike: Vec<Option<Alike>>,
 }
 
 impl Why {
     /// Nothing is told yet.
     pub fn new(alloc: Global, script: &Script, window: Window) -> Result<Why, AllocError> {
-        let mut quiet = Vec::new(alloc);
+        let mut alike = Vec::new(alloc);
         for _ in 0..script.lanes() {
-            quiet.push(None)?;
+            alike.push(None)?;
         }
         Ok(Why {
             alloc,
             window,
             rests: Rests::new(alloc, script)?,
-            quiet,
+            alike,
         })
     }
 
-    /// Adds what the latest moment of a run says. Iterations that are alike and dispatch nothing are added when something else comes
-    /// of their thread.
+    /// Adds what the latest moment of a run says. Iterations one after another that are alike are added together, when something
+    /// else comes of their thread.
     pub fn tell(
         &mut self,
         account: &Account,
@@ -81,23 +81,18 @@ impl Why {
         lost: &[u64],
         out: &mut String,
     ) -> Result<(), AllocError> {
-        let lines = String::new(self.alloc);
-        let block = block_of(script, tick, lane, iteration.context, lines)?;
-        if block.dispatches || !lost.is_empty() {
-            self.flush(script, iteration.lane, out)?;
-            return push_block(out, script, tick, iteration, &block, lost);
-        }
-        let Some(place) = self.quiet.get_mut(iteration.lane as usize) else {
+        let block = block_of(self.alloc, script, tick, lane, iteration.context, lost)?;
+        let Some(place) = self.alike.get_mut(iteration.lane as usize) else {
             return Ok(());
         };
-        if let Some(quiet) = place {
-            if quiet.is_like(iteration, block.lines.as_str()) {
-                quiet.add(tick);
+        if let Some(alike) = place {
+            if alike.has(iteration, &block) {
+                alike.add(tick);
                 return Ok(());
             }
-            quiet.push(out, script)?;
+            alike.push(out, script)?;
         }
-        *place = Some(Quiet::new(*iteration, block.lines, tick));
+        *place = Some(Alike::new(*iteration, block, tick));
         Ok(())
     }
 
@@ -125,11 +120,11 @@ impl Why {
 
     /// Adds what is not told yet of a thread.
     fn flush(&mut self, script: &Script, lane: u32, out: &mut String) -> Result<(), AllocError> {
-        let Some(place) = self.quiet.get_mut(lane as usize) else {
+        let Some(place) = self.alike.get_mut(lane as usize) else {
             return Ok(());
         };
         match place.take() {
-            Some(quiet) => quiet.push(out, script),
+            Some(alike) => alike.push(out, script),
             None => Ok(()),
         }
     }
@@ -151,39 +146,6 @@ pub(crate) fn halt_reason(event: Event) -> Option<&'static str> {
         Event::HaltSteps => Some("10000 actions and dispatches are over in this tick"),
         _ => None,
     }
-}
-
-/// Adds an iteration: who asked for it, each source, and what an older one loses by it.
-fn push_block(
-    out: &mut String,
-    script: &Script,
-    tick: u32,
-    iteration: &Begun,
-    block: &Block,
-    lost: &[u64],
-) -> Result<(), AllocError> {
-    push_tick(out, script, tick)?;
-    iteration.push(out)?;
-    out.push_str(if block.dispatches {
-        "\n"
-    } else {
-        ", and nothing is ready\n"
-    })?;
-    out.push_str(block.lines.as_str())?;
-    push_lost(out, lost)
-}
-
-/// Adds what an older iteration loses.
-fn push_lost(out: &mut String, lost: &[u64]) -> Result<(), AllocError> {
-    if lost.is_empty() {
-        return Ok(());
-    }
-    out.push_str("  the iteration around it loses what it had left: ")?;
-    for (n, id) in lost.iter().rev().enumerate() {
-        out.push_str(if n == 0 { "source " } else { ", source " })?;
-        write!(out, "{id}")?;
-    }
-    out.push_str("\n")
 }
 
 fn push_passed_over(

@@ -1,25 +1,26 @@
 //! Iterations that are told once, since they follow one another and are alike.
 use crate::begun::Begun;
+use crate::block::Block;
 use crate::time::push_ticks;
 use loop_script::Script;
 use std::alloc::AllocError;
 
-/// Iterations one after another that dispatch nothing, for the same reasons.
+/// Iterations of a thread one after another, with the same asker and the same reasons.
 #[derive(Drop)]
-pub(crate) struct Quiet {
+pub(crate) struct Alike {
     begun: Begun,
-    /// A line for each source.
-    reasons: String,
+    block: Block,
     first: u32,
     last: u32,
     count: u32,
 }
 
-impl Quiet {
-    pub(crate) fn new(begun: Begun, reasons: String, tick: u32) -> Quiet {
-        Quiet {
+impl Alike {
+    /// One iteration in a tick.
+    pub(crate) fn new(begun: Begun, block: Block, tick: u32) -> Alike {
+        Alike {
             begun,
-            reasons,
+            block,
             first: tick,
             last: tick,
             count: 1,
@@ -27,8 +28,8 @@ impl Quiet {
     }
 
     /// Whether an iteration is alike.
-    pub(crate) fn is_like(&self, begun: &Begun, reasons: &str) -> bool {
-        self.begun == *begun && self.reasons.as_str() == reasons
+    pub(crate) fn has(&self, begun: &Begun, block: &Block) -> bool {
+        self.begun == *begun && self.block.lines.as_str() == block.lines.as_str()
     }
 
     /// Counts one more that is alike.
@@ -37,13 +38,17 @@ impl Quiet {
         self.count = self.count.saturating_add(1);
     }
 
-    /// Adds the ticks, and what was not dispatched in them.
+    /// Adds the ticks, who asked, and what is done with each source.
     pub(crate) fn push(&self, out: &mut String, script: &Script) -> Result<(), AllocError> {
         push_ticks(out, script, self.first, self.last)?;
         self.begun.push(out)?;
         push_count(out, self.first, self.last, self.count)?;
-        out.push_str(", and nothing is ready\n")?;
-        out.push_str(self.reasons.as_str())
+        out.push_str(if self.block.dispatches {
+            "\n"
+        } else {
+            ", and nothing is ready\n"
+        })?;
+        out.push_str(self.block.lines.as_str())
     }
 }
 
@@ -57,5 +62,5 @@ pub(crate) fn push_count(
     if count == last.saturating_sub(first).saturating_add(1) {
         return Ok(());
     }
-    write!(out, " {count} times")
+    write!(out, ", {count} times")
 }
