@@ -8,6 +8,7 @@ Runs a script, and tells what the run did and why; without FILE, of standard inp
   summary   each source and loop in one line, and what was silent
   account   each move of the run as JSON, an object a line\n
 mainctx_inspect COMMAND --help says more.\n
+  mainctx_inspect why examples/ten_lines.json\n
 Status: 0 told, 1 other arguments, 2 the script is refused, which is told as by mainctx_check, 3 no memory, 4 the script could not be
 read or the answer not written.\n";
 
@@ -17,7 +18,7 @@ Writes the text of the run, as mainctx writes it.\n
 
 const WHY: &str = "usage: mainctx_inspect why [--lane L] [--ticks A..B] [--source C.S] [FILE]\n
 Tells of each iteration of a context who asked for it, and why each source is dispatched by it or not, in the order of dispatch. Iterations
-that find nothing ready, for the same reasons as those before, are told together when something else comes of their thread.\n
+one after another that are alike are told together, when something else comes of their thread.\n
   --lane L       thread L alone
   --ticks A..B   the ticks from A to B alone, both included
   --source C.S   source S of context C alone: when it was attached, dispatched, left out and why, and destroyed\n
