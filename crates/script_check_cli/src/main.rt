@@ -2,18 +2,7 @@
 #![tactic(auto)]
 
 mod arguments;
-mod cursor;
-mod excerpt;
-mod input;
-mod layout;
-mod lead;
-mod nearest;
-mod order;
 mod program;
-mod report;
-mod summary;
-mod told;
-mod words;
 
 use std::process::ExitCode;
 

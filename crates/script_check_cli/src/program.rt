@@ -1,18 +1,9 @@
 //! What the program does, and its exit status.
 use crate::arguments::{Asked, read_words};
-use crate::cursor::Cursor;
-use crate::excerpt::push_excerpt;
-use crate::input::{InputFault, read_input};
-use crate::layout::layout_of;
-use crate::report::{Form, push_faults, push_object};
-use crate::summary::summary;
-use loop_script::Script;
-use script_check::script_faults;
-use serde_json::Value;
-use std::alloc::{AllocError, Global};
+use script_report::{Form, InputFault, check_script, read_input};
+use std::alloc::AllocError;
 use std::fs::File;
 use std::io::Write;
-use std::str::from_utf8;
 use std::{env, io};
 
 const USAGE: &str = "usage: mainctx_check [--json] [FILE]\n";
@@ -21,6 +12,9 @@ const HELP: &str = "usage: mainctx_check [--json] [FILE]\n
 Says what is wrong with a script, each fault with its place; without FILE, of standard input.\n
   --json   one object a line, with class, pointer, line, column, byte, wanted and found\n
 Status: 0 no fault, 1 other arguments, 2 faults, 3 no memory, 4 the input could not be read or the answer not written.\n";
+
+/// The status where the script has faults.
+const FAULTS: u8 = 2;
 
 /// Why there is no answer.
 #[derive(Clone, Copy, Debug, Drop, PartialEq, Eq)]
@@ -94,9 +88,9 @@ fn attempt(rt: &HostRuntime) -> Result<u8, Failure> {
                 name: file.unwrap_or("<stdin>"),
             };
             let mut out = String::new(rt.alloc());
-            let status = check(rt.alloc(), &form, bytes.as_slice(), &mut out)?;
+            let is_right = check_script(rt.alloc(), &form, bytes.as_slice(), &mut out)?;
             write_out(rt, out.as_str())?;
-            Ok(status)
+            Ok(if is_right { 0 } else { FAULTS })
         }
     }
 }
@@ -125,63 +119,4 @@ fn write_out(rt: &HostRuntime, text: &str) -> Result<(), Failure> {
         Ok(()) => Ok(()),
         Err(_) => Err(Failure::Write),
     }
-}
-
-/// Adds the answer for a script, and gives the status.
-fn check(alloc: Global, form: &Form<'_>, bytes: &[u8], out: &mut String) -> Result<u8, AllocError> {
-    let value = match Value::from_slice(alloc, bytes) {
-        Ok(value) => value,
-        Err(error) if error.is_memory() => return Err(AllocError),
-        Err(error) => {
-            let why = format!(in alloc; "{error}")?;
-            let at = Cursor::of_line(bytes, error.line(), error.column());
-            push_unreadable(alloc, form, bytes, at, why.as_str(), out)?;
-            return Ok(2);
-        }
-    };
-    let faults = script_faults(alloc, &value)?;
-    if faults.is_empty() {
-        push_summary(alloc, form, bytes, out)?;
-        return Ok(0);
-    }
-    let text = from_utf8(bytes).unwrap_or("");
-    if let Some(layout) = layout_of(alloc, text)? {
-        push_faults(alloc, out, form, bytes, &value, &layout, faults.as_slice())?;
-    }
-    Ok(2)
-}
-
-fn push_summary(
-    alloc: Global,
-    form: &Form<'_>,
-    bytes: &[u8],
-    out: &mut String,
-) -> Result<(), AllocError> {
-    if form.json {
-        return Ok(());
-    }
-    match Script::read(alloc, bytes) {
-        Ok(script) => out.push_str(summary(alloc, &script)?.as_str()),
-        Err(_) => Err(AllocError),
-    }
-}
-
-/// Where reading stopped, and why.
-fn push_unreadable(
-    alloc: Global,
-    form: &Form<'_>,
-    bytes: &[u8],
-    at: Cursor,
-    why: &str,
-    out: &mut String,
-) -> Result<(), AllocError> {
-    if form.json {
-        return push_object(alloc, out, "not json", "", Some(at), "one JSON value", why);
-    }
-    let name = form.name;
-    let line = at.line;
-    let column = at.column;
-    writeln!(out, "{name}:{line}:{column}: not json: {why}")?;
-    push_excerpt(out, bytes, at, at.byte)?;
-    out.push_str("1 fault; mainctx answers 'script: not json'\n")
 }

@@ -1,0 +1,64 @@
+//! What a lane's next step does.
+use crate::moment::Deed;
+use lane_turn::{Activity, LaneState};
+use loop_script::{Body, Script};
+
+/// What the next step of a lane's turn does, where there is one. Of the run of a loop it is told as if it began an iteration.
+pub(crate) fn foreseen(script: &Script, lane: &LaneState) -> Deed {
+    match lane.frames().last() {
+        None => Deed::Rests,
+        Some(Activity::Call(call)) => of_call(script, call.body, call.place),
+        Some(Activity::Iteration { context, left, .. }) => of_iteration(
+            lane,
+            context,
+            left.first().copied(),
+        ),
+        Some(Activity::Loop { number, context }) => Deed::Iterated {
+            loop_number: number,
+            context,
+        },
+    }
+}
+
+/// A call takes its next action, or returns.
+fn of_call(script: &Script, body: Body, place: usize) -> Deed {
+    if place < script.actions(body).len() {
+        Deed::Acted { body, place }
+    } else {
+        Deed::Returned { body }
+    }
+}
+
+/// An iteration takes its next id, or ends.
+fn of_iteration(lane: &LaneState, context: u32, next: Option<u64>) -> Deed {
+    let Some(source) = next else {
+        return Deed::IterationEnded { context };
+    };
+    match lane.sources(context) {
+        None => Deed::PassedOver { context, source },
+        Some(rows) => {
+            if rows.found(source).is_some() {
+                Deed::Dispatched { context, source }
+            } else {
+                Deed::PassedOver { context, source }
+            }
+        }
+    }
+}
+
+/// What a step did, by what was foreseen of it, whether there was one, and how many lines it wrote: a loop that was quit writes one.
+pub(crate) fn done(foreseen: Deed, more: bool, lines: usize) -> Deed {
+    if !more {
+        return Deed::Rests;
+    }
+    match foreseen {
+        Deed::Iterated {
+            loop_number,
+            context,
+        } if lines != 0 => Deed::LoopEnded {
+            loop_number,
+            context,
+        },
+        deed => deed,
+    }
+}

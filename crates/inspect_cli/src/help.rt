@@ -1,0 +1,47 @@
+//! What `--help` says.
+use crate::arguments::Command;
+
+const HELP: &str = "usage: mainctx_inspect COMMAND [FLAGS] [FILE]\n
+Runs a script, and tells what the run did and why; without FILE, of standard input.\n
+  text      the text of the run, as mainctx writes it
+  why       each iteration, and why each source is dispatched by it or not
+  summary   each source and loop in one line, and what was silent
+  account   each move of the run as JSON, an object a line\n
+mainctx_inspect COMMAND --help says more.\n
+  mainctx_inspect why examples/ten_lines.json\n
+Status: 0 told, 1 other arguments, 2 the script is refused, which is told as by mainctx_check, 3 no memory, 4 the script could not be
+read or the answer not written.\n";
+
+const TEXT: &str = "usage: mainctx_inspect text [FILE]\n
+Writes the text of the run, as mainctx writes it.\n
+  mainctx_inspect text examples/ten_lines.json\n";
+
+const WHY: &str = "usage: mainctx_inspect why [--lane L] [--ticks A..B] [--source C.S] [FILE]\n
+Tells of each iteration of a context who asked for it, and why each source is dispatched by it or not, in the order of dispatch. Iterations
+one after another that are alike are told together, when something else comes of their thread.\n
+  --lane L       thread L alone
+  --ticks A..B   the ticks from A to B alone, both included
+  --source C.S   source S of context C alone: when it was attached, dispatched, left out and why, and destroyed\n
+  mainctx_inspect why --source 0.1 examples/ten_lines.json\n";
+
+const SUMMARY: &str = "usage: mainctx_inspect summary [FILE]\n
+Tells of each source how often it was dispatched, and how long it was ready without that; of each loop how often it iterated. Then what was
+silent: sources that were never dispatched, loops that did not end, threads that halted, and why.\n
+  mainctx_inspect summary examples/ten_lines.json\n";
+
+const ACCOUNT: &str = "usage: mainctx_inspect account [--lane L] [--ticks A..B] [FILE]\n
+Writes each move of the run as JSON, an object a line; docs/ACCOUNT.md has the keys.\n
+  --lane L       thread L alone
+  --ticks A..B   the ticks from A to B alone, both included\n
+  mainctx_inspect account --ticks 0..1 examples/ten_lines.json\n";
+
+/// The help for a command, or for all.
+pub(crate) fn help_text(command: Option<Command>) -> &'static str {
+    match command {
+        None => HELP,
+        Some(Command::Text) => TEXT,
+        Some(Command::Why) => WHY,
+        Some(Command::Summary) => SUMMARY,
+        Some(Command::Account) => ACCOUNT,
+    }
+}

@@ -1,0 +1,14 @@
+//! The program `mainctx_inspect`: what a run did, and why.
+#![tactic(auto)]
+
+mod arguments;
+mod failure;
+mod help;
+mod program;
+mod teller;
+
+use std::process::ExitCode;
+
+fn main(rt: HostRuntime) -> ExitCode {
+    ExitCode::from(program::run(&rt))
+}

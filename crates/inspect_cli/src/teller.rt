@@ -1,0 +1,60 @@
+//! What is told of a run, moment by moment.
+use crate::arguments::{Command, Order};
+use account::{Account, Moment};
+use inspect_text::{Life, Moments, Summary, Why};
+use loop_script::Script;
+use std::alloc::{AllocError, Global};
+
+/// What tells of a run.
+#[derive(Drop)]
+pub(crate) enum Teller {
+    Why(Why),
+    Life(Life),
+    Summary(Summary),
+    Moments(Moments),
+}
+
+impl Teller {
+    /// What is asked for, with what it says before the first moment.
+    pub(crate) fn begin(
+        alloc: Global,
+        order: &Order<'_>,
+        script: &Script,
+        out: &mut String,
+    ) -> Result<Teller, AllocError> {
+        let window = order.window;
+        match (order.command, order.source) {
+            (Command::Account, _) => Ok(Teller::Moments(Moments::begin(
+                alloc, script, window, out,
+            )?)),
+            (Command::Summary, _) => Ok(Teller::Summary(Summary::new(alloc, script)?)),
+            (_, Some(name)) => Ok(Teller::Life(Life::new(name, window))),
+            (_, None) => Ok(Teller::Why(Why::new(alloc, script, window)?)),
+        }
+    }
+
+    /// Adds what it says of the latest moment.
+    pub(crate) fn tell(
+        &mut self,
+        account: &Account,
+        moment: &Moment,
+        out: &mut String,
+    ) -> Result<(), AllocError> {
+        match self {
+            Teller::Why(why) => why.tell(account, moment, out),
+            Teller::Life(life) => life.tell(account, moment, out),
+            Teller::Summary(summary) => summary.tell(account, moment),
+            Teller::Moments(moments) => moments.tell(account, moment, out),
+        }
+    }
+
+    /// Adds what it says when the run is over.
+    pub(crate) fn end(&mut self, account: &Account, out: &mut String) -> Result<(), AllocError> {
+        match self {
+            Teller::Why(why) => why.end(account, out),
+            Teller::Life(life) => life.end(account, out),
+            Teller::Summary(summary) => summary.end(account, out),
+            Teller::Moments(moments) => moments.end(account, out),
+        }
+    }
+}

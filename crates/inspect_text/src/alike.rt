@@ -1,0 +1,66 @@
+//! Iterations that are told once, since they follow one another and are alike.
+use crate::begun::Begun;
+use crate::block::Block;
+use crate::time::push_ticks;
+use loop_script::Script;
+use std::alloc::AllocError;
+
+/// Iterations of a thread one after another, with the same asker and the same reasons.
+#[derive(Drop)]
+pub(crate) struct Alike {
+    begun: Begun,
+    block: Block,
+    first: u32,
+    last: u32,
+    count: u32,
+}
+
+impl Alike {
+    /// One iteration in a tick.
+    pub(crate) fn new(begun: Begun, block: Block, tick: u32) -> Alike {
+        Alike {
+            begun,
+            block,
+            first: tick,
+            last: tick,
+            count: 1,
+        }
+    }
+
+    /// Whether an iteration is alike.
+    pub(crate) fn has(&self, begun: &Begun, block: &Block) -> bool {
+        self.begun == *begun && self.block.lines.as_str() == block.lines.as_str()
+    }
+
+    /// Counts one more that is alike.
+    pub(crate) fn add(&mut self, tick: u32) {
+        self.last = tick;
+        self.count = self.count.saturating_add(1);
+    }
+
+    /// Adds the ticks, who asked, and what is done with each source.
+    pub(crate) fn push(&self, out: &mut String, script: &Script) -> Result<(), AllocError> {
+        push_ticks(out, script, self.first, self.last)?;
+        self.begun.push(out)?;
+        push_count(out, self.first, self.last, self.count)?;
+        out.push_str(if self.block.dispatches {
+            "\n"
+        } else {
+            ", and nothing is ready\n"
+        })?;
+        out.push_str(self.block.lines.as_str())
+    }
+}
+
+/// Adds how many there were, where that is not one in each tick.
+pub(crate) fn push_count(
+    out: &mut String,
+    first: u32,
+    last: u32,
+    count: u32,
+) -> Result<(), AllocError> {
+    if count == last.saturating_sub(first).saturating_add(1) {
+        return Ok(());
+    }
+    write!(out, ", {count} times")
+}

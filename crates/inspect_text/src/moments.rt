@@ -1,0 +1,170 @@
+//! The moments of a run as JSON, an object a line.
+use crate::action_words::action_word;
+use crate::window::Window;
+use account::{Account, Deed, Moment};
+use lane_turn::LaneState;
+use loop_script::{Body, Script};
+use mainctx::{OutOfMemory, add_text};
+use std::alloc::{AllocError, Global};
+use std::str::from_utf8;
+
+/// The version of the format, which the first line tells.
+const VERSION: u32 = 1;
+
+/// Tells of each moment where and what it was, and the lines that it wrote.
+#[derive(Drop)]
+pub struct Moments {
+    alloc: Global,
+    window: Window,
+    /// How many were told.
+    told: u64,
+}
+
+impl Moments {
+    /// Adds the first line: what format it is, and what run.
+    pub fn begin(
+        alloc: Global,
+        script: &Script,
+        window: Window,
+        out: &mut String,
+    ) -> Result<Moments, AllocError> {
+        let ticks = script.ticks();
+        let length = script.tick_us();
+        let lanes = script.lanes();
+        let contexts = script.contexts();
+        writeln!(
+            out,
+            "{{\"format\":\"mainctx account\",\"version\":{VERSION},\"ticks\":{ticks},\"tick_us\":{length},\"lanes\":{lanes},\"contexts\":{contexts}}}"
+        )?;
+        Ok(Moments {
+            alloc,
+            window,
+            told: 0,
+        })
+    }
+
+    /// Adds the line of the latest moment of a run.
+    pub fn tell(
+        &mut self,
+        account: &Account,
+        moment: &Moment,
+        out: &mut String,
+    ) -> Result<(), AllocError> {
+        if !self.window.has(moment.lane, moment.tick) {
+            return Ok(());
+        }
+        self.told = self.told.saturating_add(1);
+        let tick = moment.tick;
+        let number = moment.lane;
+        write!(out, "{{\"tick\":{tick},\"lane\":{number},\"did\":")?;
+        push_deed(out, account.script(), moment.deed)?;
+        if let Some(lane) = account.lane(number) {
+            push_lines(self.alloc, out, lane, moment)?;
+        }
+        out.push_str("}\n")
+    }
+
+    /// Adds the last line: that the run is over, and how many moments were told.
+    pub fn end(&self, account: &Account, out: &mut String) -> Result<(), AllocError> {
+        let ticks = account.script().ticks();
+        let told = self.told;
+        writeln!(
+            out,
+            "{{\"tick\":{ticks},\"did\":\"over\",\"moments\":{told}}}"
+        )
+    }
+}
+
+/// Adds the key and the list of what a moment wrote.
+fn push_lines(
+    alloc: Global,
+    out: &mut String,
+    lane: &LaneState,
+    moment: &Moment,
+) -> Result<(), AllocError> {
+    let Some(lines) = lane.trace().get(moment.from..moment.to) else {
+        return Ok(());
+    };
+    if lines.is_empty() {
+        return Ok(());
+    }
+    let mut bytes = Vec::new(alloc);
+    if let Err(OutOfMemory) = add_text(&mut bytes, moment.lane, lines) {
+        return Err(AllocError);
+    }
+    out.push_str(",\"lines\":[")?;
+    let mut between = "";
+    for line in from_utf8(bytes.as_slice()).unwrap_or("").lines().skip(1) {
+        out.push_str(between)?;
+        out.push_str("\"")?;
+        out.push_str(line)?;
+        out.push_str("\"")?;
+        between = ",";
+    }
+    out.push_str("]")
+}
+
+/// Adds the keys of a list of actions.
+fn push_body(out: &mut String, body: Body) -> Result<(), AllocError> {
+    match body {
+        Body::Start(_) => out.push_str(",\"list\":\"start\""),
+        Body::Procedure(proc) => write!(out, ",\"list\":\"procedure\",\"procedure\":{proc}"),
+        Body::Nothing => out.push_str(",\"list\":\"nothing\""),
+    }
+}
+
+/// Adds the word of what was done, and its keys.
+fn push_deed(out: &mut String, script: &Script, deed: Deed) -> Result<(), AllocError> {
+    match deed {
+        Deed::Polled => out.push_str("\"polled\""),
+        Deed::Acted { body, place } => {
+            out.push_str("\"acted\"")?;
+            push_body(out, body)?;
+            let word = match script.actions(body).get(place) {
+                Some(action) => action_word(action),
+                None => "",
+            };
+            write!(out, ",\"place\":{place},\"action\":\"{word}\"")
+        }
+        Deed::Returned { body } => {
+            out.push_str("\"returned\"")?;
+            push_body(out, body)
+        }
+        Deed::Dispatched { context, source } => {
+            write!(
+                out,
+                "\"dispatched\",\"context\":{context},\"source\":{source}"
+            )
+        }
+        Deed::PassedOver { context, source } => {
+            write!(
+                out,
+                "\"passed_over\",\"context\":{context},\"source\":{source}"
+            )
+        }
+        Deed::IterationEnded { context } => {
+            write!(out, "\"iteration_ended\",\"context\":{context}")
+        }
+        Deed::Iterated {
+            loop_number,
+            context,
+        } => write!(
+            out,
+            "\"iterated\",\"loop\":{loop_number},\"context\":{context}"
+        ),
+        Deed::LoopEnded {
+            loop_number,
+            context,
+        } => write!(
+            out,
+            "\"loop_ended\",\"loop\":{loop_number},\"context\":{context}"
+        ),
+        Deed::Rests => out.push_str("\"rests\""),
+        Deed::HandedOver { context, from } => {
+            write!(out, "\"handed_over\",\"context\":{context},\"from\":{from}")
+        }
+        Deed::Received { letter, sender } => {
+            write!(out, "\"received\",\"letter\":{letter},\"sender\":{sender}")
+        }
+    }
+}

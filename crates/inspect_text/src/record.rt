@@ -1,0 +1,112 @@
+//! What is counted of a source.
+use crate::span::{Span, push_many};
+use crate::time::push_tick;
+use crate::words::push_source;
+use context_core::Standing;
+use loop_script::Script;
+use source_rows::Row;
+use std::alloc::AllocError;
+
+/// What is counted of a source.
+#[derive(Clone, Copy)]
+pub(crate) struct Record {
+    pub context: u32,
+    /// The source as it was attached.
+    pub row: Row,
+    /// The tick in which it was attached.
+    pub attached: u32,
+    /// The thread that sent it, as a reply or an invoke.
+    pub sender: Option<u32>,
+    pub dispatches: Span,
+    /// The iterations of its context that it was there for.
+    pub iterations: Span,
+    /// Those of them that found it ready behind a more urgent source.
+    pub waits: Span,
+    /// The least and the greatest priority behind which it waited.
+    pub least: i32,
+    pub greatest: i32,
+    /// What the latest iteration did with it.
+    pub latest: Option<Standing>,
+}
+
+impl Record {
+    /// A source that was attached in a tick.
+    pub(crate) fn new(context: u32, row: Row, attached: u32, sender: Option<u32>) -> Record {
+        Record {
+            context,
+            row,
+            attached,
+            sender,
+            dispatches: Span::none(),
+            iterations: Span::none(),
+            waits: Span::none(),
+            least: i32::MAX,
+            greatest: i32::MIN,
+            latest: None,
+        }
+    }
+
+    /// Counts an iteration of its context.
+    pub(crate) fn add_iteration(&mut self, tick: u32, standing: Standing) {
+        self.iterations.add(tick);
+        self.latest = Some(standing);
+        if let Standing::LessUrgent { priority, .. } = standing {
+            self.waits.add(tick);
+            self.least = self.least.min(priority);
+            self.greatest = self.greatest.max(priority);
+        }
+    }
+
+    /// Adds the source's name, `source C.S`.
+    pub(crate) fn push_name(&self, out: &mut String) -> Result<(), AllocError> {
+        let context = self.context;
+        let id = self.row.id;
+        write!(out, "source {context}.{id}")
+    }
+
+    /// Adds its line of the summary.
+    pub(crate) fn push(&self, out: &mut String, script: &Script) -> Result<(), AllocError> {
+        self.push_name(out)?;
+        out.push_str(", ")?;
+        push_source(out, &self.row)?;
+        out.push_str(", attached in ")?;
+        push_tick(out, script, self.attached)?;
+        if self.dispatches.count == 0 {
+            out.push_str(": never dispatched")?;
+        } else {
+            out.push_str(": dispatched ")?;
+            push_times(out, self.dispatches.count)?;
+            out.push_str(", ")?;
+            self.dispatches.push_ticks(out, script)?;
+        }
+        if self.waits.count != 0 {
+            out.push_str("; ready but left out by ")?;
+            push_many(out, self.waits.count, "iteration", "iterations")?;
+            out.push_str(", ")?;
+            self.waits.push_ticks(out, script)?;
+            out.push_str(", behind ")?;
+            self.push_behind(out)?;
+        }
+        out.push_str("\n")
+    }
+
+    /// Adds the priorities behind which it waited.
+    pub(crate) fn push_behind(&self, out: &mut String) -> Result<(), AllocError> {
+        let least = self.least;
+        let greatest = self.greatest;
+        if least == greatest {
+            write!(out, "priority {least}")
+        } else {
+            write!(out, "priorities from {least} to {greatest}")
+        }
+    }
+}
+
+/// Adds how often.
+fn push_times(out: &mut String, count: u64) -> Result<(), AllocError> {
+    if count == 1 {
+        out.push_str("once")
+    } else {
+        write!(out, "{count} times")
+    }
+}

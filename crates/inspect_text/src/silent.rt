@@ -1,0 +1,245 @@
+//! What was silent in a run, and why.
+use crate::action_words::action_word;
+use crate::counts::{ContextCount, Counts};
+use crate::record::Record;
+use crate::span::push_many;
+use crate::time::push_tick;
+use crate::why::halt_reason;
+use crate::words::push_standing;
+use account::Account;
+use context_core::Standing;
+use lane_turn::{Activity, LaneState, Line, Origin};
+use loop_script::{Action, Body, Script};
+use std::alloc::AllocError;
+
+/// Adds a line for each source that was never dispatched, each loop that did not end and each thread that did not come to the end of its
+/// start list.
+pub(crate) fn push_silent(
+    out: &mut String,
+    account: &Account,
+    counts: &Counts,
+) -> Result<(), AllocError> {
+    let script = account.script();
+    for context in counts.contexts.as_slice() {
+        for record in context.sources.as_slice() {
+            if record.dispatches.count == 0 {
+                push_undispatched(out, account, context, record)?;
+            }
+        }
+    }
+    for number in 0..script.lanes() {
+        if let Some(lane) = account.lane(number) {
+            push_unended(out, script, number, lane)?;
+        }
+    }
+    Ok(())
+}
+
+/// Adds that a source was never dispatched, and why.
+fn push_undispatched(
+    out: &mut String,
+    account: &Account,
+    context: &ContextCount,
+    record: &Record,
+) -> Result<(), AllocError> {
+    let script = account.script();
+    record.push_name(out)?;
+    if let Some(sender) = record.sender {
+        write!(out, ", which thread {sender} sent,")?;
+    }
+    out.push_str(" was never dispatched: ")?;
+    if !is_there(account, record) {
+        out.push_str("it was destroyed before")?;
+    } else if record.iterations.count == 0 {
+        push_not_iterated(out, script, context, record)?;
+    } else if record.waits.count == record.iterations.count {
+        out.push_str("it was ready in ")?;
+        push_many(out, record.waits.count, "iteration", "iterations")?;
+        let number = record.context;
+        write!(out, " of context {number}, and sources of ")?;
+        record.push_behind(out)?;
+        out.push_str(" went first")?;
+    } else if let Some(standing) = record.latest {
+        push_latest(out, script, record, standing)?;
+    }
+    out.push_str("\n")
+}
+
+/// Adds how a source stood when its context was last iterated.
+fn push_latest(
+    out: &mut String,
+    script: &Script,
+    record: &Record,
+    standing: Standing,
+) -> Result<(), AllocError> {
+    let number = record.context;
+    write!(out, "in the last iteration of context {number}, ")?;
+    push_tick(out, script, record.iterations.last)?;
+    out.push_str(", ")?;
+    push_standing(out, script, record.row.id, standing)?;
+    if standing == Standing::Selected {
+        out.push_str(", but its thread came to no dispatch of it")?;
+    }
+    Ok(())
+}
+
+/// Whether a source is still there.
+fn is_there(account: &Account, record: &Record) -> bool {
+    for number in 0..account.script().lanes() {
+        if let Some(lane) = account.lane(number) {
+            if let Some(rows) = lane.sources(record.context) {
+                return rows.found(record.row.id).is_some();
+            }
+        }
+    }
+    false
+}
+
+/// Adds why a source met no iteration of its context.
+fn push_not_iterated(
+    out: &mut String,
+    script: &Script,
+    context: &ContextCount,
+    record: &Record,
+) -> Result<(), AllocError> {
+    let number = record.context;
+    if context.iterations.count != 0 {
+        write!(out, "context {number} was last iterated in ")?;
+        push_tick(out, script, context.iterations.last)?;
+        return out.push_str(", before it was attached");
+    }
+    write!(out, "context {number} was never iterated, since ")?;
+    out.push_str(if has_loop(script, number) {
+        "no loop of it ran and no action iterated it"
+    } else {
+        "it has no loop and no action iterated it"
+    })
+}
+
+/// Whether a context has a loop.
+fn has_loop(script: &Script, context: u32) -> bool {
+    for number in 0..script.loops() {
+        if script.loop_context(number) == context {
+            return true;
+        }
+    }
+    false
+}
+
+/// What of a thread is still in progress when the run is over.
+#[derive(Clone, Copy)]
+struct Unended {
+    /// The place of the next action of its start list.
+    place: Option<usize>,
+    /// The loop that the start list runs.
+    outermost: Option<u32>,
+}
+
+/// What of a thread is still in progress.
+fn unended(lane: &LaneState) -> Unended {
+    let mut found = Unended {
+        place: None,
+        outermost: None,
+    };
+    for one in lane.frames() {
+        match one {
+            Activity::Call(call) if call.origin == Origin::Start => found.place = Some(call.place),
+            Activity::Loop { number, .. } if found.outermost.is_none() => {
+                found.outermost = Some(number);
+            }
+            _ => {}
+        }
+    }
+    found
+}
+
+/// Adds that loops of a thread did not end, that it halted, and to what of its start list it did not come.
+fn push_unended(
+    out: &mut String,
+    script: &Script,
+    number: u32,
+    lane: &LaneState,
+) -> Result<(), AllocError> {
+    for one in lane.frames() {
+        if let Activity::Loop { number, context } = one {
+            writeln!(
+                out,
+                "loop {number} of context {context} had not ended when the run did"
+            )?;
+        }
+    }
+    if lane.halted() {
+        push_halt(out, script, number, lane)?;
+    }
+    let left = unended(lane);
+    match left.place {
+        Some(place) => push_rest(out, script, number, place, lane.halted(), left.outermost),
+        None => Ok(()),
+    }
+}
+
+/// Adds when and why a thread halted.
+fn push_halt(
+    out: &mut String,
+    script: &Script,
+    number: u32,
+    lane: &LaneState,
+) -> Result<(), AllocError> {
+    for line in lane.trace().iter().rev() {
+        let Line { tick, event } = *line;
+        if let Some(reason) = halt_reason(event) {
+            write!(out, "thread {number} halted in ")?;
+            push_tick(out, script, tick)?;
+            return writeln!(out, ": {reason}");
+        }
+    }
+    Ok(())
+}
+
+/// Adds to what of its start list a thread did not come.
+fn push_rest(
+    out: &mut String,
+    script: &Script,
+    number: u32,
+    place: usize,
+    halted: bool,
+    running: Option<u32>,
+) -> Result<(), AllocError> {
+    let Some(rest) = script.actions(Body::Start(number)).get(place..) else {
+        return Ok(());
+    };
+    let Some(next) = rest.first() else {
+        return Ok(());
+    };
+    let word = action_word(next);
+    write!(
+        out,
+        "thread {number} did not come to action {place} of its start list ({word})"
+    )?;
+    if rest.len() > 1 {
+        out.push_str(" or those behind it")?;
+    }
+    if halted {
+        out.push_str(", since it halted")?;
+    } else if let Some(running) = running {
+        write!(out, ", since loop {running} had not ended")?;
+    }
+    let sources = attaches(rest);
+    if sources != 0 {
+        out.push_str(": ")?;
+        push_many(out, sources, "source was", "sources were")?;
+        out.push_str(" never attached")?;
+    }
+    out.push_str("\n")
+}
+
+/// How many actions attach a source.
+fn attaches(actions: &[Action]) -> u64 {
+    let mut count = 0u64;
+    for action in actions {
+        if matches!(action, Action::Attach { .. } | Action::Child { .. }) {
+            count = count.saturating_add(1);
+        }
+    }
+    count
+}

@@ -1,0 +1,79 @@
+//! Each source and loop in one line, and what was silent.
+use crate::counts::Counts;
+use crate::silent::push_silent;
+use crate::span::push_many;
+use crate::time::push_ticks;
+use account::{Account, Moment};
+use loop_script::Script;
+use std::alloc::{AllocError, Global};
+
+/// Counts what happens in a run, and tells of it in the end.
+#[derive(Drop)]
+pub struct Summary {
+    alloc: Global,
+    counts: Counts,
+}
+
+impl Summary {
+    /// Nothing is counted yet.
+    pub fn new(alloc: Global, script: &Script) -> Result<Summary, AllocError> {
+        Ok(Summary {
+            alloc,
+            counts: Counts::new(alloc, script)?,
+        })
+    }
+
+    /// Counts the latest moment of a run.
+    pub fn tell(&mut self, account: &Account, moment: &Moment) -> Result<(), AllocError> {
+        self.counts.add(account, moment)
+    }
+
+    /// Adds a line for each source and each loop, and then one for each that was silent.
+    pub fn end(&self, account: &Account, out: &mut String) -> Result<(), AllocError> {
+        let script = account.script();
+        push_ticks(out, script, 0, script.ticks().saturating_sub(1))?;
+        out.push_str("\n")?;
+        for context in self.counts.contexts.as_slice() {
+            for record in context.sources.as_slice() {
+                record.push(out, script)?;
+            }
+        }
+        for number in 0..script.loops() {
+            self.push_loop(out, script, number)?;
+        }
+        self.push_rest(account, out)
+    }
+
+    /// Adds what was silent.
+    fn push_rest(&self, account: &Account, out: &mut String) -> Result<(), AllocError> {
+        let mut silent = String::new(self.alloc);
+        push_silent(&mut silent, account, &self.counts)?;
+        if silent.is_empty() {
+            return out.push_str("\nEach source was dispatched, and each loop that ran ended.\n");
+        }
+        out.push_str("\n")?;
+        out.push_str(silent.as_str())
+    }
+
+    /// Adds the line of a loop.
+    fn push_loop(&self, out: &mut String, script: &Script, number: u32) -> Result<(), AllocError> {
+        let Some(count) = self.counts.loops.get(number as usize) else {
+            return Ok(());
+        };
+        write!(out, "loop {number}: ")?;
+        if count.iterations.count == 0 {
+            out.push_str("never iterated")?;
+        } else {
+            push_many(out, count.iterations.count, "iteration", "iterations")?;
+            out.push_str(", ")?;
+            count.iterations.push_ticks(out, script)?;
+        }
+        if count.ends.count != 0 {
+            out.push_str("; ended ")?;
+            push_many(out, count.ends.count, "time", "times")?;
+            out.push_str(", ")?;
+            count.ends.push_ticks(out, script)?;
+        }
+        out.push_str("\n")
+    }
+}

@@ -1,0 +1,164 @@
+//! Why sources are dispatched or not, iteration by iteration.
+use crate::alike::Alike;
+use crate::begun::{Begun, begun};
+use crate::block::block_of;
+use crate::rests::Rests;
+use crate::time::push_tick;
+use crate::window::Window;
+use account::{Account, Deed, Moment};
+use lane_turn::{Event, LaneState};
+use loop_script::Script;
+use std::alloc::{AllocError, Global};
+
+/// Tells of each iteration why each source of its context is dispatched or not.
+#[derive(Drop)]
+pub struct Why {
+    alloc: Global,
+    window: Window,
+    rests: Rests,
+    /// Of each thread, the iterations that are not told yet.
+    alike: Vec<Option<Alike>>,
+}
+
+impl Why {
+    /// Nothing is told yet.
+    pub fn new(alloc: Global, script: &Script, window: Window) -> Result<Why, AllocError> {
+        let mut alike = Vec::new(alloc);
+        for _ in 0..script.lanes() {
+            alike.push(None)?;
+        }
+        Ok(Why {
+            alloc,
+            window,
+            rests: Rests::new(alloc, script)?,
+            alike,
+        })
+    }
+
+    /// Adds what the latest moment of a run says. Iterations one after another that are alike are added together, when something
+    /// else comes of their thread.
+    pub fn tell(
+        &mut self,
+        account: &Account,
+        moment: &Moment,
+        out: &mut String,
+    ) -> Result<(), AllocError> {
+        let Some(lane) = account.lane(moment.lane) else {
+            return Ok(());
+        };
+        let script = account.script();
+        if let Some(iteration) = begun(account, moment) {
+            let lost = self.rests.begin(lane, iteration.context)?;
+            if self.window.has(moment.lane, moment.tick) {
+                let tick = moment.tick;
+                self.tell_iteration(script, tick, lane, &iteration, lost.as_slice(), out)?;
+            }
+            return Ok(());
+        }
+        match moment.deed {
+            Deed::Dispatched { context, .. } => self.rests.take(context),
+            Deed::PassedOver { context, source } => {
+                self.rests.take(context);
+                if self.window.has(moment.lane, moment.tick) {
+                    self.flush(script, moment.lane, out)?;
+                    push_passed_over(out, script, moment, context, source)?;
+                }
+            }
+            _ => {}
+        }
+        if self.window.has(moment.lane, moment.tick) {
+            self.tell_halt(script, lane, moment, out)?;
+        }
+        Ok(())
+    }
+
+    fn tell_iteration(
+        &mut self,
+        script: &Script,
+        tick: u32,
+        lane: &LaneState,
+        iteration: &Begun,
+        lost: &[u64],
+        out: &mut String,
+    ) -> Result<(), AllocError> {
+        let block = block_of(self.alloc, script, tick, lane, iteration.context, lost)?;
+        let Some(place) = self.alike.get_mut(iteration.lane as usize) else {
+            return Ok(());
+        };
+        if let Some(alike) = place {
+            if alike.has(iteration, &block) {
+                alike.add(tick);
+                return Ok(());
+            }
+            alike.push(out, script)?;
+        }
+        *place = Some(Alike::new(*iteration, block, tick));
+        Ok(())
+    }
+
+    /// Adds that a thread halts, where a moment says so.
+    fn tell_halt(
+        &mut self,
+        script: &Script,
+        lane: &LaneState,
+        moment: &Moment,
+        out: &mut String,
+    ) -> Result<(), AllocError> {
+        let Some(lines) = lane.trace().get(moment.from..moment.to) else {
+            return Ok(());
+        };
+        for line in lines {
+            if let Some(reason) = halt_reason(line.event) {
+                self.flush(script, moment.lane, out)?;
+                push_tick(out, script, moment.tick)?;
+                let number = moment.lane;
+                writeln!(out, ", thread {number} halts: {reason}")?;
+            }
+        }
+        Ok(())
+    }
+
+    /// Adds what is not told yet of a thread.
+    fn flush(&mut self, script: &Script, lane: u32, out: &mut String) -> Result<(), AllocError> {
+        let Some(place) = self.alike.get_mut(lane as usize) else {
+            return Ok(());
+        };
+        match place.take() {
+            Some(alike) => alike.push(out, script),
+            None => Ok(()),
+        }
+    }
+
+    /// Adds what is not told yet at the end of the run.
+    pub fn end(&mut self, account: &Account, out: &mut String) -> Result<(), AllocError> {
+        let script = account.script();
+        for lane in 0..script.lanes() {
+            self.flush(script, lane, out)?;
+        }
+        Ok(())
+    }
+}
+
+/// Why a thread halts, where a line says that it does.
+pub(crate) fn halt_reason(event: Event) -> Option<&'static str> {
+    match event {
+        Event::HaltDepth => Some("32 calls are in progress already"),
+        Event::HaltSteps => Some("10000 actions and dispatches are over in this tick"),
+        _ => None,
+    }
+}
+
+fn push_passed_over(
+    out: &mut String,
+    script: &Script,
+    moment: &Moment,
+    context: u32,
+    source: u64,
+) -> Result<(), AllocError> {
+    let lane = moment.lane;
+    push_tick(out, script, moment.tick)?;
+    writeln!(
+        out,
+        ", thread {lane}: source {source} of context {context} is passed over: it was destroyed"
+    )
+}

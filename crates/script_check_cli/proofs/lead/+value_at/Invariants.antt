@@ -1,6 +1,0 @@
--- the steps that are left are fewer
-use Rattle.std.proofs.Common.{length}
-use Rattle.script_check_cli.proofs.lead.+value_at.Given as goal
-
-abbrev pub decreases-value_at : goal.decreases-value_at
-decreases-value_at l = length l.steps.now

@@ -1,0 +1,76 @@
+//! The whole answer for the bytes of a script.
+use crate::cursor::Cursor;
+use crate::excerpt::push_excerpt;
+use crate::layout::layout_of;
+use crate::report::{Form, push_faults, push_object};
+use crate::summary::summary;
+use loop_script::Script;
+use script_check::script_faults;
+use serde_json::Value;
+use std::alloc::{AllocError, Global};
+use std::str::from_utf8;
+
+/// Adds what is wrong with a script, each fault with its place, or that nothing is; and answers whether nothing is. After an
+/// error a part of that was added.
+pub fn check_script(
+    alloc: Global,
+    form: &Form<'_>,
+    bytes: &[u8],
+    out: &mut String,
+) -> Result<bool, AllocError> {
+    let value = match Value::from_slice(alloc, bytes) {
+        Ok(value) => value,
+        Err(error) if error.is_memory() => return Err(AllocError),
+        Err(error) => {
+            let why = format!(in alloc; "{error}")?;
+            let at = Cursor::of_line(bytes, error.line(), error.column());
+            push_unreadable(alloc, form, bytes, at, why.as_str(), out)?;
+            return Ok(false);
+        }
+    };
+    let faults = script_faults(alloc, &value)?;
+    if faults.is_empty() {
+        push_summary(alloc, form, bytes, out)?;
+        return Ok(true);
+    }
+    let text = from_utf8(bytes).unwrap_or("");
+    if let Some(layout) = layout_of(alloc, text)? {
+        push_faults(alloc, out, form, bytes, &value, &layout, faults.as_slice())?;
+    }
+    Ok(false)
+}
+
+fn push_summary(
+    alloc: Global,
+    form: &Form<'_>,
+    bytes: &[u8],
+    out: &mut String,
+) -> Result<(), AllocError> {
+    if form.json {
+        return Ok(());
+    }
+    match Script::read(alloc, bytes) {
+        Ok(script) => out.push_str(summary(alloc, &script)?.as_str()),
+        Err(_) => Err(AllocError),
+    }
+}
+
+/// Where reading stopped, and why.
+fn push_unreadable(
+    alloc: Global,
+    form: &Form<'_>,
+    bytes: &[u8],
+    at: Cursor,
+    why: &str,
+    out: &mut String,
+) -> Result<(), AllocError> {
+    if form.json {
+        return push_object(alloc, out, "not json", "", Some(at), "one JSON value", why);
+    }
+    let name = form.name;
+    let line = at.line;
+    let column = at.column;
+    writeln!(out, "{name}:{line}:{column}: not json: {why}")?;
+    push_excerpt(out, bytes, at, at.byte)?;
+    out.push_str("1 fault; mainctx answers 'script: not json'\n")
+}

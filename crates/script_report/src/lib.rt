@@ -1,0 +1,19 @@
+//! The faults of a script in words, each with its place in the bytes, and the reading of the bytes.
+#![tactic(auto)]
+
+mod check;
+mod cursor;
+mod excerpt;
+mod input;
+mod layout;
+mod lead;
+mod nearest;
+mod order;
+mod report;
+mod summary;
+mod told;
+mod words;
+
+pub use check::check_script;
+pub use input::{InputFault, read_input};
+pub use report::Form;

@@ -1,0 +1,169 @@
+//! The faults of a script with their places, as text and as JSON.
+ghost use Rattle.std.specs.Prelude.{◌≤◌};
+ghost use Rattle.serde_json.specs.Data.{depth};
+ghost use Rattle.serde_json.specs.Read.{max_depth};
+ghost use Rattle.serde_json.specs.View.{view};
+
+use crate::cursor::Cursor;
+use crate::excerpt::push_excerpt;
+use crate::layout::Layout;
+use crate::lead::value_at;
+use crate::order::in_order;
+use crate::told::told_of;
+use crate::words::{found_text, wanted_text};
+use script_check::{Class, Fault, first_class};
+use serde_json::{Value, json};
+use std::alloc::{AllocError, Global};
+
+/// How many faults are told at most.
+const MOST_TOLD: usize = 100;
+
+/// How a report is written.
+#[derive(Clone, Copy)]
+pub struct Form<'a> {
+    /// One object a line, in place of text.
+    pub json: bool,
+    /// The name of the file.
+    pub name: &'a str,
+}
+
+/// The class as the program `mainctx` says it.
+pub(crate) fn class_text(class: Class) -> &'static str {
+    match class {
+        Class::Shape => "shape",
+        Class::Limit => "limit",
+        Class::Reference => "reference",
+        Class::Rule => "rule",
+    }
+}
+
+/// Adds the faults, in the order of their places, and a line on how many they are.
+pub(crate) fn push_faults(
+    alloc: Global,
+    out: &mut String,
+    form: &Form<'_>,
+    bytes: &[u8],
+    value: &Value,
+    layout: &Layout,
+    faults: &[Fault],
+) -> Result<(), AllocError>
+    requires { depth (view value.now) ≤ max_depth }
+{
+    let placed = in_order(alloc, value, layout, faults)?;
+    let mut cursor = Cursor::start();
+    for (n, each) in placed.as_slice().iter().enumerate() {
+        if n >= MOST_TOLD {
+            break;
+        }
+        cursor = cursor.to(bytes, each.span.start);
+        if let Some(fault) = faults.get(each.fault) {
+            let told = told_of(alloc, bytes, value, fault, each.span)?;
+            let place = TextPlace {
+                pointer: told.pointer.as_str(),
+                at: if told.span.is_some() {
+                    Some(cursor)
+                } else {
+                    None
+                },
+                marked: each.marked,
+            };
+            push_fault(alloc, out, form, bytes, value, fault, &place)?;
+        }
+    }
+    if form.json {
+        return Ok(());
+    }
+    push_sum(out, faults)
+}
+
+/// The last line: how many there are, and what `mainctx` answers.
+fn push_sum(out: &mut String, faults: &[Fault]) -> Result<(), AllocError> {
+    let count = faults.len();
+    let class = first_class(faults).map_or("", class_text);
+    if count == 1 {
+        out.push_str("1 fault")?;
+    } else {
+        write!(out, "{count} faults")?;
+    }
+    if count > MOST_TOLD {
+        let others = count.saturating_sub(MOST_TOLD);
+        write!(out, ", of which {others} are not told here")?;
+    }
+    writeln!(out, "; mainctx answers 'script: {class}'")
+}
+
+/// A place as it is written.
+#[derive(Clone, Copy)]
+struct TextPlace<'a> {
+    pointer: &'a str,
+    /// The line and the column, where they are known.
+    at: Option<Cursor>,
+    /// The end of the bytes that are marked.
+    marked: usize,
+}
+
+fn push_fault(
+    alloc: Global,
+    out: &mut String,
+    form: &Form<'_>,
+    bytes: &[u8],
+    value: &Value,
+    fault: &Fault,
+    place: &TextPlace<'_>,
+) -> Result<(), AllocError> {
+    let here = value_at(value, fault.place.steps());
+    let class = class_text(fault.cause.class());
+    let wanted = wanted_text(alloc, fault, here)?;
+    let wanted = wanted.as_str();
+    let found = found_text(alloc, fault, here)?;
+    let found = found.as_str();
+    let pointer = place.pointer;
+    if form.json {
+        return push_object(alloc, out, class, pointer, place.at, wanted, found);
+    }
+    let name = form.name;
+    match place.at {
+        None => write!(out, "{name}: ")?,
+        Some(at) => {
+            let line = at.line;
+            let column = at.column;
+            write!(out, "{name}:{line}:{column}: ")?;
+        }
+    }
+    writeln!(out, "{class}: {wanted}, {found}")?;
+    if pointer.is_empty() {
+        out.push_str("  at the top\n")?;
+    } else {
+        writeln!(out, "  at {pointer}")?;
+    }
+    match place.at {
+        None => Ok(()),
+        Some(at) => push_excerpt(out, bytes, at, place.marked),
+    }
+}
+
+/// Adds one object, on a line of its own: null for what is not known.
+pub(crate) fn push_object(
+    alloc: Global,
+    out: &mut String,
+    class: &str,
+    pointer: &str,
+    at: Option<Cursor>,
+    wanted: &str,
+    found: &str,
+) -> Result<(), AllocError> {
+    let line = at.map(|at| at.line);
+    let column = at.map(|at| at.column);
+    let byte = at.map(|at| at.byte);
+    let object = json!(in alloc; {
+        "class": class,
+        "pointer": pointer,
+        "line": line,
+        "column": column,
+        "byte": byte,
+        "wanted": wanted,
+        "found": found
+    })?;
+    out.push_str(object.to_string(alloc)?.as_str())?;
+    out.push_str("\n")
+}
