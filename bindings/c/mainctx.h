@@ -1,4 +1,5 @@
-/* Runs scripts of mainctx (docs/FORMAT.md) from C. */
+/* Runs scripts of mainctx (docs/FORMAT.md) from C. The engine is proved to meet its contract (docs/PROOFS.md); what this header
+   and the heap below it add is tested, and not proved. */
 #ifndef MAINCTX_H
 #define MAINCTX_H
 
@@ -21,16 +22,22 @@ enum {
     MAINCTX_SHORT_ROOM = 7  /* the text is longer than the room */
 };
 
-/* Runs a script to its end in the caller's thread, and puts its text into the room.
+/* Runs a script to its end in the caller's thread, and puts its text into the room. It answers one of the eight numbers above.
 
-   MAINCTX_TEXT: the text stands first in the room, *needed is its length, and what is behind it in the room is as it was.
+   MAINCTX_TEXT: the text stands first in the room, *needed is its length in bytes, and what is behind it in the room is as it was.
+   The text is ASCII, and no null byte ends it.
    MAINCTX_SHORT_ROOM: the room has as much of the text as fits, and *needed is the length of the whole: a call with a room of so
    many bytes has it, since a script has one text.
-   Else nothing was run to its end: the room is as it was, and *needed is 0.
+   MAINCTX_NOT_JSON to MAINCTX_RULE: the script is refused, by the first class of which it has a fault. The room is as it was, and
+   *needed is 0.
+   MAINCTX_MEMORY: nothing was run to its end. The room is as it was, *needed is 0, and all memory that was taken is given back.
 
-   The caller owns both blocks; the library keeps nothing between calls, and frees what it took. No pointer may be null, not even
-   where a size is 0, and none of script, room and needed may overlap another. Several threads may call at once where malloc,
-   realloc and free of the process allow it. Not from a signal handler. */
+   The script is never changed. It may have any size: 4,194,304 bytes are what the program takes, and no limit of this call.
+   The caller owns the script, the room and *needed; the library keeps nothing between calls, and frees what it took. No pointer may
+   be null, not even where a size is 0, and none of the three may overlap another.
+
+   Several threads may call at once, also with one script, where malloc, realloc and free of the process allow it. Not from a signal
+   handler. A call ends by itself, and can't be interrupted: how long it may take says docs/SPEED.md. */
 uint32_t mainctx_run(const uint8_t *script, size_t script_size, uint8_t *room, size_t room_size, size_t *needed);
 
 #ifdef __cplusplus

@@ -11,6 +11,7 @@ mod nearest;
 mod order;
 mod report;
 mod summary;
+mod told;
 mod words;
 
 pub use check::check_script;

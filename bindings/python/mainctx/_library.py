@@ -1,0 +1,58 @@
+"""The shared library: where it is found, and the one call that is made of it."""
+from __future__ import annotations
+
+import ctypes
+import os
+from functools import lru_cache
+from pathlib import Path
+
+from .errors import Fault, LibraryNotFound, ScriptError
+
+VARIABLE = "MAINCTX_LIBRARY"
+NAME = "libmainctx.so"
+INSTALLED_NAME = "libmainctx.so.0"  # as the loader looks for it: the name with the number of its interface
+HERE = Path(__file__).resolve().parent
+BESIDE = HERE / NAME  # where the package has the library along
+BUILT = HERE.parents[1] / "c" / "out" / NAME  # where make of bindings/c leaves it, seen from bindings/python
+
+TEXT, MEMORY, SHORT_ROOM = 0, 6, 7  # what a call answers beside the numbers of faults (mainctx.h)
+FIRST_ROOM = 65536
+
+
+def _places() -> list[str]:
+    """The files to try, best first. Where the variable names one, no other is tried."""
+    if os.environ.get(VARIABLE):
+        return [os.environ[VARIABLE]]
+    return [*(str(path) for path in (BESIDE, BUILT) if path.exists()), INSTALLED_NAME]
+
+
+@lru_cache(maxsize=None)
+def library() -> ctypes.CDLL:
+    """The library, which is loaded once."""
+    tried = []
+    for place in _places():
+        try:
+            loaded = ctypes.CDLL(place)
+        except OSError as fault:
+            tried.append(str(fault))
+            continue
+        size, pointer = ctypes.c_size_t, ctypes.c_char_p
+        loaded.mainctx_run.restype = ctypes.c_uint32
+        loaded.mainctx_run.argtypes = [pointer, size, pointer, size, ctypes.POINTER(size)]
+        return loaded
+    raise LibraryNotFound(tried)
+
+
+def text_of(script: bytes) -> str:
+    """The text of a script. Other threads of Python go on while it runs."""
+    room, needed = FIRST_ROOM, ctypes.c_size_t()
+    while True:
+        text = ctypes.create_string_buffer(room)
+        answer = library().mainctx_run(script, len(script), text, room, ctypes.byref(needed))
+        if answer == TEXT:
+            return text.raw[: needed.value].decode("ascii")
+        if answer == MEMORY:
+            raise MemoryError("mainctx: a request for memory was refused")
+        if answer != SHORT_ROOM:
+            raise ScriptError(Fault.by_number(answer))
+        room = needed.value

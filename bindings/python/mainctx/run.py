@@ -1,0 +1,151 @@
+"""A run of a script, and what is asked of it."""
+from __future__ import annotations
+
+import json
+import os
+from collections.abc import Iterable, Mapping
+from dataclasses import dataclass, field, fields
+from functools import cached_property
+from pathlib import Path
+from typing import Any, TypeVar, Union
+
+from ._library import text_of
+from .errors import Fault, ScriptError
+from .lines import Dispatch, Line, Source, read_lines
+from .timeline import draw
+
+Item = TypeVar("Item")
+AnyLine = TypeVar("AnyLine", bound=Line)
+
+#: what a script may be given as: a dict, its JSON as text or bytes, or the path of a file
+Script = Union[Mapping[str, Any], str, bytes, "os.PathLike[str]"]
+
+
+class Found(list[Item]):
+    """What was asked of a run: a list, which knows the run and the place of each item's line there.
+
+    So a test that fails can show the lines around (pytest_plugin).
+    """
+
+    def __init__(self, items: Iterable[Item], run: Run, places: Iterable[int], sources: Iterable[Source] = ()) -> None:
+        super().__init__(items)
+        self.run = run
+        self.places = tuple(places)
+        self.sources = tuple(sources)  # those that were asked for, dispatched or not
+
+
+@dataclass(frozen=True)
+class Run:
+    """A run that has ended: the bytes of its script, and its text, which is the same each time."""
+
+    script: bytes = field(repr=False)
+    text: str = field(repr=False)
+
+    def __str__(self) -> str:
+        return self.text
+
+    def __repr__(self) -> str:
+        return f"<a run of {self.ticks} ticks of {self.tick_us} us, with {len(self.lines)} lines>"
+
+    @cached_property
+    def lines(self) -> tuple[Line, ...]:
+        """Its lines in the order of the text: those of thread 0, of thread 1, .., each in the order in which they came."""
+        return tuple(read_lines(self.text))
+
+    @cached_property
+    def _keys(self) -> dict[str, Any]:
+        keys: dict[str, Any] = json.loads(self.script)
+        return keys
+
+    @property
+    def ticks(self) -> int:
+        """How many ticks it has, from 0 on."""
+        return int(self._keys["ticks"])
+
+    @property
+    def tick_us(self) -> int:
+        """The length of a tick in microseconds."""
+        return int(self._keys["tick_us"])
+
+    def select(self, kind: type[AnyLine], **wanted: object) -> Found[AnyLine]:
+        """The lines of a class whose fields have these values, as `select(Miss, action="destroy")`, in the order of the text.
+
+        A field that the class has not is a TypeError.
+        """
+        unknown = wanted.keys() - {field.name for field in fields(kind)}
+        if unknown:
+            raise TypeError(f"{kind.__name__} has no {sorted(unknown)[0]}; it has {', '.join(field.name for field in fields(kind))}")
+        found = [
+            (place, line)
+            for place, line in enumerate(self.lines)
+            if isinstance(line, kind) and all(getattr(line, name) == value for name, value in wanted.items())
+        ]
+        return Found([line for _, line in found], self, [place for place, _ in found], _source_in(wanted))
+
+    def when(self, kind: type[Line], **wanted: object) -> Found[int]:
+        """The ticks of the lines that `select` finds, one for each line: `when(Log, number=7)`."""
+        found = self.select(kind, **wanted)
+        return Found([line.tick for line in found], self, found.places, found.sources)
+
+    def dispatches(
+        self, context: int | None = None, source: int | None = None, *, thread: int | None = None
+    ) -> Found[Dispatch]:
+        """The dispatches of a context, of one source of it, of a thread; with nothing given all of them."""
+        wanted = {"context": context, "source": source, "thread": thread}
+        return self.select(Dispatch, **{name: value for name, value in wanted.items() if value is not None})
+
+    def order(self, *sources: tuple[int, int]) -> Found[Source]:
+        """These sources, pairs of a context and a number, in the order in which they are dispatched; without any, all sources.
+
+        What different threads dispatch in one tick has no order: then it is a ValueError, which names the tick.
+        """
+        asked = [Source(*source) for source in sources]
+        found = [
+            (place, line)
+            for place, line in enumerate(self.lines)
+            if isinstance(line, Dispatch) and (not asked or (line.context, line.source) in asked)
+        ]
+        found.sort(key=lambda placed: placed[1].tick)
+        threads: dict[int, int] = {}
+        for _, line in found:
+            if threads.setdefault(line.tick, line.thread) != line.thread:
+                raise ValueError(f"in tick {line.tick} threads {threads[line.tick]} and {line.thread} both dispatch: that has no order")
+        return Found([Source(line.context, line.source) for _, line in found], self, [place for place, _ in found], asked)
+
+    def timeline(self, *sources: tuple[int, int], around: int = 0) -> str:
+        """A picture of the dispatches in each tick, with a row for each source, and for these sources though nothing dispatches them.
+
+        Of a long run it shows the ticks around one.
+        """
+        return draw(self.select(Dispatch), self.ticks, self.tick_us, [Source(*source) for source in sources], around)
+
+
+def _source_in(wanted: Mapping[str, object]) -> list[Source]:
+    """The source that was asked for, if one was."""
+    context, source = wanted.get("context"), wanted.get("source")
+    return [Source(context, source)] if isinstance(context, int) and isinstance(source, int) else []
+
+
+def _bytes_of(script: Script) -> bytes:
+    if isinstance(script, str):
+        return script.encode("utf-8", "surrogatepass")
+    if isinstance(script, (bytes, bytearray, memoryview)):
+        return bytes(script)
+    if isinstance(script, Mapping):
+        return json.dumps(dict(script)).encode()
+    return Path(script).read_bytes()
+
+
+def run(script: Script) -> Run:
+    """Runs a script to its end: a dict, its JSON as text or bytes, or the path of a file (a pathlib.Path; a str is JSON).
+
+    A script that is refused is a ScriptError, refused memory a MemoryError, no library a LibraryNotFound, and a file that can't be
+    read an OSError. A run can't be interrupted; other threads of Python go on.
+    """
+    bytes_of = _bytes_of(script)
+    try:
+        return Run(bytes_of, text_of(bytes_of))
+    except ScriptError as refused:
+        if refused.fault is Fault.NOT_JSON and isinstance(script, str) and not script.lstrip().startswith(("{", "[")):
+            raise ScriptError(Fault.NOT_JSON, "a str is the script itself; for a file give pathlib.Path(..)") from None
+        raise

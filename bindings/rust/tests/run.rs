@@ -1,0 +1,65 @@
+//! Runs, refusals, and threads.
+
+use mainctx::{run, Fault};
+use std::thread;
+
+const THREADS: usize = 8;
+const ROUNDS: usize = 100;
+
+/// A log in each of so many ticks.
+fn script_of(ticks: u32) -> Vec<u8> {
+    format!(
+        r#"{{"version": 1, "ticks": {ticks}, "tick_us": 1000, "loops": [0], "procs": [{{"do": [["log", 7]], "keep": null}}],
+            "lanes": [{{"contexts": 1, "start": [["attach", 0, 0, {{"kind": ["idle"], "call": 0}}], ["run", 0]]}}]}}"#
+    )
+    .into_bytes()
+}
+
+fn text_of(ticks: u32) -> String {
+    let lines = (0..ticks)
+        .map(|tick| format!("{tick} dispatch ctx 0 source 1 priority 200 depth 1\n{tick} log 7\n"));
+    "thread 0\n".to_owned() + &lines.collect::<String>()
+}
+
+#[test]
+fn a_short_text() {
+    assert_eq!(run(&script_of(2)), Ok(text_of(2)));
+}
+
+#[test]
+fn a_text_that_is_longer_than_the_first_room() {
+    assert_eq!(run(&script_of(4096)), Ok(text_of(4096)));
+}
+
+#[test]
+fn each_class_of_fault() {
+    let faults: [(&[u8], Fault); 5] = [
+        (b"", Fault::NotJson),
+        (b"[]", Fault::Shape),
+        (br#"{"version": 1, "ticks": 0, "tick_us": 1, "lanes": [{"contexts": 1, "start": []}]}"#, Fault::Limit),
+        (br#"{"version": 1, "ticks": 1, "tick_us": 1, "loops": [1], "lanes": [{"contexts": 1, "start": []}]}"#, Fault::Reference),
+        (br#"{"version": 1, "ticks": 1, "tick_us": 1, "fds": [[[1, 1], [1, 0]]], "lanes": [{"contexts": 1, "start": []}]}"#, Fault::Rule),
+    ];
+    for (script, fault) in faults {
+        assert_eq!(run(script), Err(fault));
+    }
+}
+
+#[test]
+fn a_fault_is_an_error() {
+    let fault: Box<dyn std::error::Error + Send + Sync> = Fault::Limit.into();
+    assert_eq!(fault.to_string(), "script: limit");
+}
+
+#[test]
+fn eight_threads_at_once() {
+    thread::scope(|scope| {
+        for ticks in 1..=THREADS as u32 {
+            scope.spawn(move || {
+                for _ in 0..ROUNDS {
+                    assert_eq!(run(&script_of(ticks)), Ok(text_of(ticks)));
+                }
+            });
+        }
+    });
+}

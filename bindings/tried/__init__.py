@@ -1,0 +1,1 @@
+"""What bindings/test tries, by language."""

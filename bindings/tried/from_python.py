@@ -1,0 +1,155 @@
+"""The package for Python: all vectors, its own tests, what pip installs, what its README says, threads."""
+from __future__ import annotations
+
+import importlib
+import os
+import re
+import shutil
+import sys
+from collections.abc import Iterator
+from concurrent.futures import ThreadPoolExecutor
+from functools import partial
+from pathlib import Path
+from types import ModuleType
+
+from .common import MOST, PYTHON, SCRIPT, SCRIPTS, Built, Count, Ended, Fault, Missing, Test, Variables, ended, ends, python_with
+from .from_c import LONG_TEXT, long_script
+
+THREADS, ROUNDS = 8, 25
+
+RUNS = f"import mainctx, pathlib; print(mainctx.run(pathlib.Path({str(SCRIPT)!r})), end='')"
+TEXT = SCRIPT.with_suffix(".out").read_text()
+
+
+def package(built: Built) -> ModuleType:
+    """The package of this tree, in this process."""
+    os.environ["MAINCTX_LIBRARY"] = str(built.shared)
+    sys.path.insert(0, str(PYTHON))
+    try:
+        return importlib.import_module("mainctx")
+    finally:
+        sys.path.remove(str(PYTHON))
+
+
+def vector(mainctx: ModuleType, path: Path) -> Fault:
+    """the text, or the class; and the text anew from its lines"""
+    script, wanted = path.read_bytes(), path.with_suffix(".out")
+    try:
+        run = mainctx.run(script)
+    except mainctx.ScriptError as refused:
+        told = f"script: {refused.fault.value}\n"
+        return None if not wanted.exists() and told == path.with_suffix(".err").read_text() else told
+    if not wanted.exists() or run.text != wanted.read_text():
+        return "another text"
+    lines = [line for line in run.text.splitlines() if not line.startswith("thread ")]
+    return None if [str(line) for line in run.lines] == lines else "its lines are written otherwise"
+
+
+def all_vectors(built: Built) -> Count:
+    mainctx = package(built)
+    faults = [f"{path.name}: {fault}" for path in SCRIPTS if (fault := vector(mainctx, path))]
+    return Count(len(SCRIPTS) - len(faults), len(faults), "\n".join(faults[:40]))
+
+
+def threads(built: Built) -> Fault:
+    """eight threads of Python at once"""
+    mainctx, paths = package(built), [path for path in SCRIPTS if path.parent.name == "examples"]
+    with ThreadPoolExecutor(THREADS) as pool:
+        faults = [fault for fault in pool.map(lambda path: vector(mainctx, path), paths * ROUNDS) if fault]
+    return faults[0] if faults else None
+
+
+def long_one(built: Built) -> Fault:
+    """a script of 4 MiB, and one that is longer, which the call takes too"""
+    mainctx = package(built)
+    for script in (long_script(), long_script() + b" "):
+        if mainctx.run(script).text != LONG_TEXT:
+            return f"another text for {len(script)} bytes"
+    return None if len(long_script()) == MOST else "it is shorter"
+
+
+def by_pytest(built: Built, python: str, tests: Path) -> Ended:
+    words = (python, "-m", "pytest", "-q", "-p", "no:cacheprovider", "-p", "mainctx.pytest_plugin", tests)
+    return ended(*words, where=built.room, under={"PYTHONPATH": PYTHON, "MAINCTX_LIBRARY": built.shared})
+
+
+def own_tests(built: Built, pytest: str) -> Fault:
+    done = by_pytest(built, pytest, PYTHON / "tests")
+    return None if done.status == 0 else done.told
+
+
+def readme_says(built: Built, pytest: str) -> Fault:
+    """the test in README.md fails and shows the lines that stand there, and passes where the socket has the redraw's priority"""
+    page, test = (PYTHON / "README.md").read_text(), built.room / "test_redraw.py"
+    code = "".join(re.findall(r"^```python\n(.*?)^```", page, re.DOTALL | re.MULTILINE))
+    shown = re.findall(r"^    ((?:>  |E  |---|tick|ctx |a tick).*)", page, re.MULTILINE)
+    test.write_text(code)
+    failed = by_pytest(built, pytest, test)
+    missing = [line for line in shown if line not in failed.told.splitlines()]
+    if failed.status != 1 or missing or not shown:
+        return f"{missing} is not shown: {failed.told}"
+    test.write_text(code.replace('"priority": 0', '"priority": 120'))
+    passed = by_pytest(built, pytest, test)
+    return None if passed.status == 0 else passed.told
+
+
+def by_unittest(built: Built) -> Fault:
+    words = (sys.executable, "-m", "unittest", "discover", "-s", ".")
+    return ends(*words, where=PYTHON / "tests", told="OK", under={"PYTHONPATH": PYTHON, "MAINCTX_LIBRARY": built.shared})
+
+
+def by_pip(built: Built, pip: str) -> Fault:
+    """pip install of a copy of bindings/, beside what make built: the package takes the library along"""
+    copy, site = built.out.parents[1] / "python", built.room / "site"
+    shutil.copytree(PYTHON, copy, ignore=shutil.ignore_patterns("__pycache__"))
+    fault = ends(pip, "-m", "pip", "install", "-q", "--no-index", "--disable-pip-version-check", "--target", site, copy)
+    shutil.rmtree(copy)
+    if fault or not (site / "mainctx" / "libmainctx.so").exists():
+        return fault or "the package has no library"
+    return ends(pip, "-c", RUNS, told=TEXT, where=built.room, under={"PYTHONPATH": site})
+
+
+def plugin_by_pip(built: Built, pytest: str) -> Fault:
+    """pytest finds what pip installed by itself"""
+    test = PYTHON / "tests" / "test_plugin.py"
+    words = (pytest, "-m", "pytest", "-q", "-p", "no:cacheprovider", "--rootdir", built.room, test)
+    return ends(*words, where=built.room, told="1 passed", under={"PYTHONPATH": built.room / "site"})
+
+
+def found_by(built: Built, variables: Variables) -> Fault:
+    """The package of this tree finds the library by a variable."""
+    return ends(sys.executable, "-c", RUNS, told=TEXT, where=built.room, under={"PYTHONPATH": PYTHON, **variables})
+
+
+def with_pytest(built: Built, pytest: str) -> Iterator[Test]:
+    yield Test("Python, the package's tests by pytest", lambda: own_tests(built, pytest))
+    yield Test("bindings/python/README.md", lambda: readme_says(built, pytest))
+    if (built.room / "site").exists():
+        yield Test("pytest with what pip installed", lambda: plugin_by_pip(built, pytest))
+
+
+def with_mypy(built: Built, mypy: str) -> Iterator[Test]:
+    words = ("--cache-dir", built.room / "mypy", "mainctx", "build_backend.py", "tests")
+    yield Test("mypy", lambda: ends(mypy, "-m", "mypy", *words, where=PYTHON, told="Success"))
+
+
+def tests(built: Built) -> Iterator[Test | Missing]:
+    yield Test("vectors by Python", lambda: all_vectors(built))
+    yield Test("eight threads of Python at once", lambda: threads(built))
+    yield Test("Python, scripts of 4 MiB", lambda: long_one(built))
+    yield Test("Python, the package's tests", lambda: by_unittest(built))
+    yield Test("Python, the library that a variable names", lambda: found_by(built, {"MAINCTX_LIBRARY": built.shared}))
+    yield Test("Python, the library that is installed", lambda: found_by(built, {"LD_LIBRARY_PATH": built.prefix / "lib"}))
+    pip, pytest, mypy = python_with("pip"), python_with("pytest"), python_with("mypy")
+    if pip:
+        yield Test("pip install", partial(by_pip, built, pip))
+    else:
+        yield Missing("pip", "pip install ./bindings/python")
+    if pytest:
+        yield from with_pytest(built, pytest)
+    else:
+        yield Missing("pytest (Debian: apt-get install python3-pytest)", "what pytest shows of a run")
+    if mypy:
+        yield from with_mypy(built, mypy)
+    else:
+        yield Missing("mypy (Debian: apt-get install mypy)", "the types of the package for Python")
