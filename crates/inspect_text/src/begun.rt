@@ -79,7 +79,7 @@ fn asked_by_action(lane: &LaneState) -> Option<Asked> {
 }
 
 /// The iteration that a moment began, if it did.
-pub(crate) fn begun(account: &Account, moment: &Moment) -> Option<Begun> {
+pub(crate) fn begun_by(account: &Account, moment: &Moment) -> Option<Begun> {
     let number = moment.lane;
     match moment.deed {
         Deed::Iterated {

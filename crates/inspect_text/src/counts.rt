@@ -1,5 +1,5 @@
 //! What is counted of a run.
-use crate::begun::begun;
+use crate::begun::begun_by;
 use crate::record::Record;
 use crate::span::Span;
 use account::{Account, Deed, Moment};
@@ -56,7 +56,7 @@ impl Counts {
             return Ok(());
         };
         let script = account.script();
-        if let Some(iteration) = begun(account, moment) {
+        if let Some(iteration) = begun_by(account, moment) {
             self.add_iteration(script, moment.tick, lane, iteration.context)?;
         }
         match moment.deed {

@@ -1,7 +1,7 @@
 //! The life of one source.
 use crate::action_words::push_cause;
 use crate::alike::push_count;
-use crate::begun::{Begun, begun};
+use crate::begun::{Begun, begun_by};
 use crate::time::{push_tick, push_ticks};
 use crate::why::halt_reason;
 use crate::window::{SourceName, Window};
@@ -68,7 +68,7 @@ impl Life {
             Some(row) => self.tell_there(script, moment, row, told, out)?,
             None => self.tell_gone(script, moment, told, out)?,
         }
-        if let Some(iteration) = begun(account, moment) {
+        if let Some(iteration) = begun_by(account, moment) {
             if told && iteration.context == self.name.context {
                 self.tell_iteration(script, moment.tick, lane, &iteration, out)?;
             }

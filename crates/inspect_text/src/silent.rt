@@ -136,7 +136,7 @@ struct Unended {
 }
 
 /// What of a thread is still in progress.
-fn unended(lane: &LaneState) -> Unended {
+fn in_progress(lane: &LaneState) -> Unended {
     let mut found = Unended {
         place: None,
         outermost: None,
@@ -171,7 +171,7 @@ fn push_unended(
     if lane.halted() {
         push_halt(out, script, number, lane)?;
     }
-    let left = unended(lane);
+    let left = in_progress(lane);
     match left.place {
         Some(place) => push_rest(out, script, number, place, lane.halted(), left.outermost),
         None => Ok(()),

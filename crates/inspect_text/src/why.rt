@@ -1,6 +1,6 @@
 //! Why sources are dispatched or not, iteration by iteration.
 use crate::alike::Alike;
-use crate::begun::{Begun, begun};
+use crate::begun::{Begun, begun_by};
 use crate::block::block_of;
 use crate::rests::Rests;
 use crate::time::push_tick;
@@ -47,7 +47,7 @@ impl Why {
             return Ok(());
         };
         let script = account.script();
-        if let Some(iteration) = begun(account, moment) {
+        if let Some(iteration) = begun_by(account, moment) {
             let lost = self.rests.begin(lane, iteration.context)?;
             if self.window.has(moment.lane, moment.tick) {
                 let tick = moment.tick;
