@@ -29,6 +29,7 @@ def _places() -> list[str]:
 @lru_cache(maxsize=None)
 def library() -> ctypes.CDLL:
     """The library, which is loaded once."""
+    __tracebackhide__ = True
     tried = []
     for place in _places():
         try:
@@ -45,6 +46,7 @@ def library() -> ctypes.CDLL:
 
 def text_of(script: bytes) -> str:
     """The text of a script. Other threads of Python go on while it runs."""
+    __tracebackhide__ = True
     room, needed = FIRST_ROOM, ctypes.c_size_t()
     while True:
         text = ctypes.create_string_buffer(room)

@@ -7,7 +7,7 @@ from collections.abc import Iterable, Mapping
 from dataclasses import dataclass, field, fields
 from functools import cached_property
 from pathlib import Path
-from typing import Any, TypeVar, Union
+from typing import Any, SupportsIndex, TypeVar, Union, overload
 
 from ._library import text_of
 from .errors import Fault, ScriptError
@@ -24,7 +24,7 @@ Script = Union[Mapping[str, Any], str, bytes, "os.PathLike[str]"]
 class Found(list[Item]):
     """What was asked of a run: a list, which knows the run and the place of each item's line there.
 
-    So a test that fails can show the lines around (pytest_plugin).
+    So does a part of it, as `[:3]`: a test that fails can show the lines around (pytest_plugin).
     """
 
     def __init__(self, items: Iterable[Item], run: Run, places: Iterable[int], sources: Iterable[Source] = ()) -> None:
@@ -32,6 +32,17 @@ class Found(list[Item]):
         self.run = run
         self.places = tuple(places)
         self.sources = tuple(sources)  # those that were asked for, dispatched or not
+
+    @overload
+    def __getitem__(self, at: SupportsIndex) -> Item: ...
+
+    @overload
+    def __getitem__(self, at: slice) -> Found[Item]: ...
+
+    def __getitem__(self, at: SupportsIndex | slice) -> Item | Found[Item]:
+        if isinstance(at, slice):
+            return Found(super().__getitem__(at), self.run, self.places[at], self.sources)
+        return super().__getitem__(at)
 
 
 @dataclass(frozen=True)
@@ -142,6 +153,7 @@ def run(script: Script) -> Run:
     A script that is refused is a ScriptError, refused memory a MemoryError, no library a LibraryNotFound, and a file that can't be
     read an OSError. A run can't be interrupted; other threads of Python go on.
     """
+    __tracebackhide__ = True  # (pytest shows the call, and not what is in here)
     bytes_of = _bytes_of(script)
     try:
         return Run(bytes_of, text_of(bytes_of))

@@ -80,6 +80,12 @@ class Asked(unittest.TestCase):
         with self.assertRaisesRegex(ValueError, "tick 0 threads 0 and 1"):
             run.order((0, 1), (1, 1))
 
+    def test_a_part_of_what_was_found_knows_its_run(self) -> None:
+        found = self.run_.order()
+        self.assertEqual(found[1:], [(0, 1), (0, 2)])
+        self.assertEqual((found[1:].run, found[1:].places), (self.run_, (2, 4)))
+        self.assertEqual(found[-1], (0, 2))
+
     def test_when(self) -> None:
         self.assertEqual(self.run_.when(Log, number=7), [0, 1])
         self.assertEqual(self.run_.when(LoopEnd), [2])
