@@ -26,8 +26,7 @@ def _window(ticks: int, around: int) -> range:
     """The ticks that are shown: all of them, or those around one, from a multiple of the step on."""
     if ticks <= WIDTH:
         return range(ticks)
-    first = max(0, min(around - WIDTH // 2, ticks - WIDTH))
-    first -= first % STEP
+    first = max(0, around - WIDTH // 2) // STEP * STEP
     return range(first, min(first + WIDTH, ticks))
 
 

@@ -111,6 +111,7 @@ a tick is 1 ms"""
         self.assertEqual(lines[0], "tick            70        80        90        100       110       120")
         self.assertEqual(lines[1], "ctx 0 source 1  " + "1" * 60)
         self.assertEqual(lines[-1], "a tick is 1500 us; 200 ticks in all")
+        self.assertEqual(mainctx.run(script).timeline(around=199).splitlines()[0], "tick            160       170       180       190")
 
 
 class Refused(unittest.TestCase):
