@@ -9,3 +9,4 @@ pub mod InClasses
 pub mod Candidates
 pub mod Standings
 pub mod AtFour
+mod Pushing

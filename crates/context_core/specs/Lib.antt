@@ -7,3 +7,4 @@ pub mod Lent
 pub mod Defaults
 pub mod TwoLevels
 pub mod FourLevels
+pub mod Pushed

@@ -118,6 +118,17 @@ impl Context {
         None
     }
 
+    /// The least priority of what is ready before any descriptor is asked, as `prepare` tells it: for who does not wait, and needs no
+    /// time for a poll.
+    pub fn ready_priority(&self, now: u64, busy: &[u64], view: &View) -> Option<i32>
+        requires { now ≤ latest }
+        ensures { result ≡ least_ready (in_view view.now) now busy.now self.now.rows.rows }
+    {
+        let classes = classes_of_ids(busy);
+        let busy = Busy::new(busy, &classes);
+        self.most_urgent(now, &busy, view)
+    }
+
     /// What is ready before any descriptor is asked, at a time in microseconds, with the ids of the sources of this
     /// context whose calls are in progress and may not be dispatched again.
     pub fn prepare(&self, now: u64, busy: &[u64], view: &View) -> Prepared

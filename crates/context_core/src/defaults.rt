@@ -3,21 +3,35 @@ ghost use Rattle.std.specs.Prelude.{◌≡◌, [], OnOk, OnErr};
 ghost use Rattle.context_core.specs.Defaults.{top_of, is_on_top, is_pushed, pushed, popped};
 
 use std::alloc::{AllocError, Global};
+use std::collections::BTreeSet;
 use std::marker::Model;
+
+/// A context that was pushed.
+#[derive(Clone, Copy, Debug)]
+struct Pushed {
+    context: u32,
+    /// Whether it stood on the stack already.
+    again: bool,
+}
 
 /// The contexts that a lane has pushed as its thread-default ones, the last one on top
 /// (GMainContext: `g_main_context_push_thread_default`). Contexts go by their number in the script.
 #[derive(Drop)]
 pub struct DefaultStack {
-    contexts: Vec<u32>,
+    pushed: Vec<Pushed>,
+    /// The contexts that stand on the stack.
+    contexts: BTreeSet<u32>,
 }
 
 impl Model for DefaultStack {
     ghost use Rattle.context_core.specs.Defaults.{Defaults};
+    ghost use Rattle.context_core.specs.Pushed.{contexts_of, IsKnown};
 
     ghost Value = { Defaults };
 
-    ghost view = { λ s. s.contexts.items };
+    ghost view = { λ s. contexts_of s.pushed.items };
+
+    ghost invariant = { λ s. IsKnown s.pushed.items s.contexts };
 }
 
 impl DefaultStack {
@@ -26,7 +40,8 @@ impl DefaultStack {
         ensures { result ≡ [] }
     {
         DefaultStack {
-            contexts: Vec::new(alloc),
+            pushed: Vec::new(alloc),
+            contexts: BTreeSet::new(alloc),
         }
     }
 
@@ -35,7 +50,16 @@ impl DefaultStack {
         ensures pushed { OnOk result (self.new ≡ pushed context self.old) }
         ensures same { OnErr result (self.new ≡ self.old) }
     {
-        self.contexts.push(context)?;
+        let Ok(is_new) = self.contexts.insert(context) else {
+            return Err(AllocError);
+        };
+        let again = !is_new;
+        if self.pushed.push(Pushed { context, again }).is_err() {
+            if is_new {
+                let _ = self.contexts.remove(&context);
+            }
+            return Err(AllocError);
+        }
         Ok(())
     }
 
@@ -44,9 +68,12 @@ impl DefaultStack {
         ensures answer { result ≡ is_on_top context self.old }
         ensures popped { self.new ≡ popped context self.old }
     {
-        match self.top() {
-            Some(top) if top == context => {
-                let _ = self.contexts.pop();
+        match self.pushed.last().copied() {
+            Some(top) if top.context == context => {
+                let _ = self.pushed.pop();
+                if !top.again {
+                    let _ = self.contexts.remove(&context);
+                }
                 true
             }
             _ => false,
@@ -57,13 +84,16 @@ impl DefaultStack {
     pub fn top(&self) -> Option<u32>
         ensures { result ≡ top_of self.now }
     {
-        self.contexts.last().copied()
+        match self.pushed.last() {
+            None => None,
+            Some(top) => Some(top.context),
+        }
     }
 
     /// Whether a context was pushed and not popped since, on top or below.
     pub fn contains(&self, context: u32) -> bool
         ensures { result ≡ is_pushed context self.now }
     {
-        self.contexts.iter().any(|c| *c == context)
+        self.contexts.contains(&context)
     }
 }

@@ -8,6 +8,9 @@ use context_core::{Context, Interest, Prepared, Standing};
 use loop_script::Script;
 use std::alloc::{AllocError, Global};
 
+/// How many milliseconds a poll of a lane waits: its time is that of the tick.
+const NO_WAIT: i64 = 0;
+
 /// The levels that descriptors show at a tick, one for each interest.
 fn poll(
     alloc: Global,
@@ -35,7 +38,11 @@ pub(crate) fn select(
     ensures { IfOk result (λ ids. ids.items ≡ chosen_in script.now tick view.now busy.now (Some context.now)) }
 {
     let now = script.now(tick);
-    let prepared = context.prepare(now, busy, view);
+    let priority = context.ready_priority(now, busy, view);
+    let prepared = Prepared {
+        priority,
+        timeout_ms: NO_WAIT,
+    };
     let interests = context.query(alloc, &prepared, busy)?;
     let levels = poll(alloc, script, tick, &interests)?;
     context.check(alloc, &prepared, now, busy, view, &levels)
@@ -54,7 +61,7 @@ pub(crate) fn stand(
 {
     let nothing_ready = Prepared {
         priority: None,
-        timeout_ms: -1,
+        timeout_ms: NO_WAIT,
     };
     let interests = context.query(alloc, &nothing_ready, busy)?;
     let levels = poll(alloc, script, tick, &interests)?;

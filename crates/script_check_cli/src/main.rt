@@ -12,6 +12,7 @@ mod order;
 mod program;
 mod report;
 mod summary;
+mod told;
 mod words;
 
 use std::process::ExitCode;

@@ -3,7 +3,7 @@ ghost use Rattle.std.specs.Prelude.{◌≡◌, map, length, IfOk, IsPermutation}
 ghost use Rattle.std.specs.List.{range_with_len};
 ghost use Rattle.std.specs.List.Sorted.{IsNonDecreasingBy};
 
-use crate::layout::Layout;
+use crate::layout::{Layout, Span};
 use crate::lead::value_at;
 use crate::words::other_key;
 use script_check::{Cause, Fault, Step};
@@ -13,8 +13,9 @@ use std::alloc::{AllocError, Global};
 /// A fault, by its place in the list of all, with the bytes of the value that it points to.
 #[derive(Drop)]
 pub(crate) struct Placed {
-    pub start: usize,
-    pub end: usize,
+    pub span: Span,
+    /// The end of the bytes that are marked: all of a value that is neither a list nor an object, else the first.
+    pub marked: usize,
     pub fault: usize,
 }
 
@@ -26,10 +27,10 @@ pub(crate) fn in_order(
     faults: &[Fault],
 ) -> Result<Vec<Placed>, AllocError>
     ensures all { IfOk result (λ placed. IsPermutation (range_with_len 0 (length faults.now)) (map (λ (one : Placed). one.fault) placed.items)) }
-    ensures order { IfOk result (λ placed. IsNonDecreasingBy (λ (one : Placed). one.start) placed.items) }
+    ensures order { IfOk result (λ placed. IsNonDecreasingBy (λ (one : Placed). one.span.start) placed.items) }
 {
     let mut placed = place_all(alloc, value, layout, faults)?;
-    placed.sort_by_key(|one| one.start)?;
+    placed.sort_by_key(|one| one.span.start)?;
     Ok(placed)
 }
 
@@ -49,7 +50,7 @@ fn place_all(
     Ok(placed)
 }
 
-/// A fault of this number with its bytes: the whole of a value that is neither a list nor an object, else its first.
+/// A fault of this number with its bytes.
 fn place_one(value: &Value, layout: &Layout, fault: &Fault, number: usize) -> Placed
     ensures { result.fault ≡ number }
 {
@@ -64,14 +65,14 @@ fn place_one(value: &Value, layout: &Layout, fault: &Fault, number: usize) -> Pl
         _ => here,
     };
     let span = target.span();
-    let end = if target.is_scalar() {
+    let marked = if target.is_scalar() {
         span.end
     } else {
         span.start.saturating_add(1)
     };
     Placed {
-        start: span.start,
-        end,
+        span,
+        marked,
         fault: number,
     }
 }

@@ -176,7 +176,7 @@ fn push_unreadable(
     out: &mut String,
 ) -> Result<(), AllocError> {
     if form.json {
-        return push_object(alloc, out, "not json", "", at, "one JSON value", why);
+        return push_object(alloc, out, "not json", "", Some(at), "one JSON value", why);
     }
     let name = form.name;
     let line = at.line;

@@ -1,11 +1,17 @@
 //! The faults of a script with their places, as text and as JSON.
+ghost use Rattle.std.specs.Prelude.{◌≤◌};
+ghost use Rattle.serde_json.specs.Data.{depth};
+ghost use Rattle.serde_json.specs.Read.{max_depth};
+ghost use Rattle.serde_json.specs.View.{view};
+
 use crate::cursor::Cursor;
 use crate::excerpt::push_excerpt;
 use crate::layout::Layout;
 use crate::lead::value_at;
 use crate::order::in_order;
-use crate::words::{found_text, other_key, wanted_text};
-use script_check::{Cause, Class, Fault, Step, first_class};
+use crate::told::told_of;
+use crate::words::{found_text, wanted_text};
+use script_check::{Class, Fault, first_class};
 use serde_json::{Value, json};
 use std::alloc::{AllocError, Global};
 
@@ -40,16 +46,28 @@ pub(crate) fn push_faults(
     value: &Value,
     layout: &Layout,
     faults: &[Fault],
-) -> Result<(), AllocError> {
+) -> Result<(), AllocError>
+    requires { depth (view value.now) ≤ max_depth }
+{
     let placed = in_order(alloc, value, layout, faults)?;
     let mut cursor = Cursor::start();
     for (n, each) in placed.as_slice().iter().enumerate() {
         if n >= MOST_TOLD {
             break;
         }
-        cursor = cursor.to(bytes, each.start);
+        cursor = cursor.to(bytes, each.span.start);
         if let Some(fault) = faults.get(each.fault) {
-            push_fault(alloc, out, form, bytes, value, fault, cursor, each.end)?;
+            let told = told_of(alloc, bytes, value, fault, each.span)?;
+            let place = TextPlace {
+                pointer: told.pointer.as_str(),
+                at: if told.span.is_some() {
+                    Some(cursor)
+                } else {
+                    None
+                },
+                marked: each.marked,
+            };
+            push_fault(alloc, out, form, bytes, value, fault, &place)?;
         }
     }
     if form.json {
@@ -74,6 +92,16 @@ fn push_sum(out: &mut String, faults: &[Fault]) -> Result<(), AllocError> {
     writeln!(out, "; mainctx answers 'script: {class}'")
 }
 
+/// A place as it is written.
+#[derive(Clone, Copy)]
+struct TextPlace<'a> {
+    pointer: &'a str,
+    /// The line and the column, where they are known.
+    at: Option<Cursor>,
+    /// The end of the bytes that are marked.
+    marked: usize,
+}
+
 fn push_fault(
     alloc: Global,
     out: &mut String,
@@ -81,50 +109,52 @@ fn push_fault(
     bytes: &[u8],
     value: &Value,
     fault: &Fault,
-    at: Cursor,
-    end: usize,
+    place: &TextPlace<'_>,
 ) -> Result<(), AllocError> {
     let here = value_at(value, fault.place.steps());
     let class = class_text(fault.cause.class());
     let wanted = wanted_text(alloc, fault, here)?;
+    let wanted = wanted.as_str();
     let found = found_text(alloc, fault, here)?;
-    let pointer = pointer_text(alloc, fault, here)?;
+    let found = found.as_str();
+    let pointer = place.pointer;
     if form.json {
-        return push_object(
-            alloc,
-            out,
-            class,
-            pointer.as_str(),
-            at,
-            wanted.as_str(),
-            found.as_str(),
-        );
+        return push_object(alloc, out, class, pointer, place.at, wanted, found);
     }
     let name = form.name;
-    let line = at.line;
-    let column = at.column;
-    writeln!(out, "{name}:{line}:{column}: {class}: {wanted}, {found}")?;
+    match place.at {
+        None => write!(out, "{name}: ")?,
+        Some(at) => {
+            let line = at.line;
+            let column = at.column;
+            write!(out, "{name}:{line}:{column}: ")?;
+        }
+    }
+    writeln!(out, "{class}: {wanted}, {found}")?;
     if pointer.is_empty() {
         out.push_str("  at the top\n")?;
     } else {
         writeln!(out, "  at {pointer}")?;
     }
-    push_excerpt(out, bytes, at, end)
+    match place.at {
+        None => Ok(()),
+        Some(at) => push_excerpt(out, bytes, at, place.marked),
+    }
 }
 
-/// Adds one object, on a line of its own.
+/// Adds one object, on a line of its own: null for what is not known.
 pub(crate) fn push_object(
     alloc: Global,
     out: &mut String,
     class: &str,
     pointer: &str,
-    at: Cursor,
+    at: Option<Cursor>,
     wanted: &str,
     found: &str,
 ) -> Result<(), AllocError> {
-    let line = at.line;
-    let column = at.column;
-    let byte = at.byte;
+    let line = at.map(|at| at.line);
+    let column = at.map(|at| at.column);
+    let byte = at.map(|at| at.byte);
     let object = json!(in alloc; {
         "class": class,
         "pointer": pointer,
@@ -136,36 +166,4 @@ pub(crate) fn push_object(
     })?;
     out.push_str(object.to_string(alloc)?.as_str())?;
     out.push_str("\n")
-}
-
-/// The pointer to the value of a fault (RFC 6901).
-fn pointer_text(alloc: Global, fault: &Fault, here: &Value) -> Result<String, AllocError> {
-    let mut text = String::new(alloc);
-    for step in fault.place.steps() {
-        match step {
-            Step::Key(name) => {
-                text.push_str("/")?;
-                text.push_str(name.text())?;
-            }
-            Step::Item(n) => write!(text, "/{n}")?,
-        }
-    }
-    if let Cause::OtherKey(k) = fault.cause {
-        if let Some(name) = other_key(here, k) {
-            text.push_str("/")?;
-            push_escaped(&mut text, name)?;
-        }
-    }
-    Ok(text)
-}
-
-fn push_escaped(out: &mut String, name: &str) -> Result<(), AllocError> {
-    for character in name.chars() {
-        match character {
-            '~' => out.push_str("~0")?,
-            '/' => out.push_str("~1")?,
-            _ => out.push(character)?,
-        }
-    }
-    Ok(())
 }

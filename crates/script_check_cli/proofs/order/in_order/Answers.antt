@@ -11,4 +11,4 @@ returns-clause-all c =
     (IsPermutation-map (λ (one : Placed). one.fault) c.in_ok-placed.placed.items c.sort_by_key.new.self.items c.in_ok-sort_by_key.ensures.permutation)
 
 pub returns-clause-order : goal.returns-clause-order
-returns-clause-order c = IsNonDecreasingBy-from_sort_by_key (λ (one : Placed). one.start) _ c.in_ok-sort_by_key.ensures.sorted (λ a r f' k. search rules)
+returns-clause-order c = IsNonDecreasingBy-from_sort_by_key (λ (one : Placed). one.span.start) _ c.in_ok-sort_by_key.ensures.sorted (λ a r f' k. search rules)

@@ -1,0 +1,7 @@
+use Rattle.std.proofs.Common.{ℕ, List, ap, ◌∙◌}
+use Rattle.context_core.specs.Ready.{in_view}
+use Rattle.context_core.specs.Phases.{least_ready}
+use Rattle.context_core.proofs.context.Context.ready_priority.Goals as goal
+
+pub returns : goal.returns
+returns c = c.most_urgent.ensures ∙ ap (λ (l : List ℕ). least_ready (in_view c.args.view.now) c.args.now l c.args.self.now.rows.rows) c.new-busy.ensures
