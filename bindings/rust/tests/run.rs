@@ -26,6 +26,15 @@ fn a_short_text() {
     assert_eq!(run(&script_of(2)), Ok(text_of(2)));
 }
 
+/// The lines of README.md of the repository.
+#[test]
+fn what_the_first_page_says() -> Result<(), Fault> {
+    let text = mainctx::run(br#"{"version": 1, "ticks": 1, "tick_us": 1, "lanes": [{"contexts": 1, "start": [["log", 7]]}]}"#)?;
+    assert_eq!(text, "thread 0\n0 log 7\n0 end\n");
+    assert_eq!(mainctx::run(b"{}"), Err(mainctx::Fault::Shape));
+    Ok(())
+}
+
 #[test]
 fn a_text_that_is_longer_than_the_first_room() {
     assert_eq!(run(&script_of(4096)), Ok(text_of(4096)));
