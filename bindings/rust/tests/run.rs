@@ -3,7 +3,7 @@
 use mainctx::{run, Fault};
 use std::thread;
 
-const THREADS: usize = 8;
+const THREADS: u32 = 8;
 const ROUNDS: usize = 100;
 
 /// A log in each of so many ticks.
@@ -63,7 +63,7 @@ fn a_fault_is_an_error() {
 #[test]
 fn eight_threads_at_once() {
     thread::scope(|scope| {
-        for ticks in 1..=THREADS as u32 {
+        for ticks in 1..=THREADS {
             scope.spawn(move || {
                 for _ in 0..ROUNDS {
                     assert_eq!(run(&script_of(ticks)), Ok(text_of(ticks)));
