@@ -1,0 +1,4 @@
+pub mod Within
+pub mod States
+pub mod Lined
+pub mod Goings

@@ -1,0 +1,4 @@
+pub mod Course
+pub mod Within
+pub mod Standing
+pub mod Gifts
