@@ -2,3 +2,4 @@ pub mod Course
 pub mod Within
 pub mod Standing
 pub mod Gifts
+pub mod Told
