@@ -1,10 +1,13 @@
 -- The fields of a tick in progress, as moves change them.
-use Rattle.std.proofs.Common.{◌≡◌, ℕ, zero, suc, ◌+◌, ◌<◌, ◌≤◌, true, false, Option, Some, None, List, [], ◌∷◌, ◌++◌, map, length, take, drop, get_or, refl, ap, sym, ◌∙◌, subst, arith}
+use Rattle.std.proofs.Common.{◌≡◌, ℕ, zero, suc, ◌+◌, ◌<◌, ◌≤◌, Bool, true, false, Option, Some, None, List, [], ◌∷◌, ◌++◌, map, length, take, drop, get_or, refl, ap, sym, ◌∙◌, subst, arith, is_some, ltb-true, ltb-false}
+use Rattle.std.specs.Prelude.{slice_get, option_map, IfSome, nat_lt}
+use Rattle.std.specs.Option.{option_copied}
+use denote.Ref.{Bor}
 use Rattle.std.proofs.lemmas.List.{drop_more, drop_all, take_more, take_all}
 use Rattle.loop_script.specs.declared.plan.Plan.{Plan}
 use Rattle.post_office.specs.declared.letter.Letter.{Letter}
 use Rattle.lane_turn.specs.Lane.{Lane, State}
-use Rattle.lane_turn.specs.Handover.{handing_of, moved as gone_over}
+use Rattle.lane_turn.specs.Handover.{handing_by, handing_of, moved as gone_over}
 use Rattle.lane_turn.specs.Tick.{lanes_at}
 use Rattle.tick_stepper.specs.Account.{Place, Turning, Giving, Bringing, started, moved, lanes_in}
 use Rattle.account.specs.declared.turns.Begun.{Begun}
@@ -12,9 +15,14 @@ use Rattle.account.specs.declared.going.Going.{Going}
 use Rattle.account.specs.declared.going.Phase.{Phase}
 use Rattle.account.specs.declared.going.Phase.TheVariants as phases
 use Rattle.account.specs.Within.{GoesOver, IsWithin, AllMayTake, polled}
-use Rattle.account.specs.Standing.{lanes_of, AreUnspent, AreLined, OwnsTurn, IsInTurn, turning_from, turning, turning_after, bringing, place_at, place_of, OwnsBegun, Stands}
-use Rattle.account.proofs.Within.{polls_within, moves_within, over_within}
-use Rattle.account.proofs.States.{turning_none}
+use Rattle.post_office.specs.declared.letter.Body.TheVariants as mails
+use Rattle.account.specs.declared.hand.Gift.{Gift}
+use Rattle.account.specs.Gifts.{gift_of}
+use Rattle.account.proofs.Lined.{lanes_unspent, gift_goes}
+use Rattle.account.specs.Standing.{unspent, lanes_of, AreUnspent, AreLined, OwnsTurn, IsInTurn, turning_from, turning, turning_after, bringing, place_at, place_of, OwnsBegun, Stands}
+use Rattle.account.proofs.Within.{polls_within, moves_within, over_within, begins_within}
+use Rattle.tick_stepper.proofs.Counted.{lane_count}
+use Rattle.account.proofs.States.{turning_none, lanes_length, first_unspent, rest_unspent}
 
 -- ---- parts that are the same
 
@@ -179,3 +187,67 @@ in_phase lanes letters begun (phases.Bringing n k) = take_drop n lanes
 
 pub lanes_in_place : (g : Going) → lanes_in (place_of g) ≡ lanes_of g.lanes.items
 lanes_in_place g = in_phase (lanes_of g.lanes.items) g.letters.items g.begun g.phase
+
+-- ---- a tick begins
+
+pub starts_at : (g : Going) → g.phase ≡ phases.Turning 0 → g.begun ≡ None → g.letters.items ≡ [] → place_of g ≡ started (lanes_of g.lanes.items)
+starts_at g gp gb gl = place_same refl gl gb gp ∙ turning_none [] (lanes_of g.lanes.items) []
+
+pub stands_started : (script : Plan) (tick : ℕ) (g : Going) → length script.lanes ≤ 64 → tick ≤ 4096 → place_of g ≡ started (lanes_of g.lanes.items) → g.phase ≡ phases.Turning 0 → g.begun ≡ None → AreUnspent g.lanes.items → lanes_of g.lanes.items ≡ lanes_at script tick → Stands script tick g
+stands_started script tick g few low there gp gb u e = record {
+  unspent = u;
+  count = sym (lanes_length g.lanes.items) ∙ (ap length e ∙ lane_count script tick);
+  owns = owns_same refl (sym gb) (sym gp) (owns_none (lanes_of g.lanes.items));
+  within = subst (IsWithin script tick) (sym (there ∙ ap started e)) (begins_within script tick few low);
+}
+
+-- ---- a lane of a number
+
+pub got : {A B : Type 0} (f : A → B) (xs : List A) (n : ℕ) → option_map f (slice_get xs n) ≡ slice_get (map f xs) n
+got f [] n = refl
+got f (x ∷ xs) zero = refl
+got f (x ∷ xs) (suc n) = got f xs n
+
+got_unspent : (states : List State) (n : ℕ) (s : State) → AreUnspent states → slice_get states n ≡ Some s → s.spent ≡ false
+got_unspent [] n s u e = cc
+got_unspent (x ∷ states) zero s u e = let same : x ≡ s = cc in sym (ap (λ (k : State). k.spent) same) ∙ ap (λ (k : State). k.spent) (first_unspent x states u)
+got_unspent (x ∷ states) (suc n) s u e = got_unspent states n s (rest_unspent x states u) e
+
+pub lent_unspent : (states : List State) (n : ℕ) (o : Option (Bor State)) → AreUnspent states → option_copied o ≡ slice_get states n → IfSome o (λ s. s.now.spent ≡ false)
+lent_unspent states n None u e = tt
+lent_unspent states n (Some s) u e = got_unspent states n s.now u (sym e)
+
+-- ---- what a hand over leaves
+
+pub giving_place : (g : Going) (k : ℕ) → g.phase ≡ phases.Giving k → place_of g ≡ Giving (lanes_of g.lanes.items) (drop k g.letters.items) g.letters.items
+giving_place g k e = place_same refl refl refl e
+
+pub handed_place : (script : Plan) (tick k : ℕ) (g : Going) (was states now : List State) (one : Letter) (gift : Gift) → g.phase ≡ phases.Giving k → k < length g.letters.items → was ≡ g.lanes.items
+    → states ≡ map unspent (gone_over tick (handing_by gift.from (mails.Give gift.context gift.to) (lanes_of was)) (lanes_of was)) → gift_of (get_or g.letters.items k one) ≡ Some gift → now ≡ states
+    → moved script tick (place_of g) ≡ Some (Giving (lanes_of now) (drop (k + 1) g.letters.items) g.letters.items)
+handed_place script tick k g was states now one gift gp h back went gives same =
+    let lanes : List Lane = lanes_of g.lanes.items in
+    let letter : Letter = get_or g.letters.items k one in
+    let there : lanes_of now ≡ gone_over tick (handing_of letter lanes) lanes =
+    ap lanes_of (same ∙ went) ∙ (lanes_unspent _
+    ∙ (ap (λ (ss : List State). gone_over tick (handing_by gift.from (mails.Give gift.context gift.to) (lanes_of ss)) (lanes_of ss)) back
+    ∙ ap (λ o. gone_over tick o lanes) (gift_goes letter lanes gift gives))) in
+    ap (moved script tick) (giving_place g k gp) ∙ gives_at script tick k lanes (lanes_of now) g.letters.items one h there
+
+pub handed_unspent : (lanes : List Lane) (states now : List State) → states ≡ map unspent lanes → now ≡ states → AreUnspent now
+handed_unspent lanes states now went same = subst AreUnspent (sym (same ∙ went)) (ap (map unspent) (sym (lanes_unspent lanes)))
+
+-- a call of `get`
+get_none : (states : List State) (n : ℕ) → length states ≤ n → slice_get states n ≡ None
+get_none [] n h = refl
+get_none (x ∷ states) zero h = absurd (omega (arith, h))
+get_none (x ∷ states) (suc n) h = get_none states n (omega (arith, h))
+
+get_some : (states : List State) (n : ℕ) (d : State) → n < length states → slice_get states n ≡ Some (get_or states n d)
+get_some [] n d h = absurd (omega (arith, h))
+get_some (x ∷ states) zero d h = refl
+get_some (x ∷ states) (suc n) d h = get_some states n d (omega (arith, h))
+
+pub got_by : (states : List State) (n : ℕ) (o : Option (Bor State)) → is_some o ≡ nat_lt n (length states) → IfSome o (λ s. s.now ≡ get_or states n s.now) → option_copied o ≡ slice_get states n
+got_by states n None e f = sym (get_none states n (ltb-false n (length states) (sym e)))
+got_by states n (Some s) e f = ap Some f ∙ sym (get_some states n s.now (ltb-true n (length states) (sym e)))

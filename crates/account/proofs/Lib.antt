@@ -2,3 +2,5 @@ pub mod Within
 pub mod States
 pub mod Lined
 pub mod Goings
+pub mod Lines
+pub mod Did

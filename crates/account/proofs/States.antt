@@ -49,10 +49,10 @@ drop_past states i s = ap (drop (i + 1)) (lanes_set states i s) ∙ drop-set-lt 
 
 -- ---- none is spent
 
-rest_unspent : (x : State) (states : List State) → AreUnspent (x ∷ states) → AreUnspent states
+pub rest_unspent : (x : State) (states : List State) → AreUnspent (x ∷ states) → AreUnspent states
 rest_unspent x states u = cc
 
-first_unspent : (x : State) (states : List State) → AreUnspent (x ∷ states) → x ≡ unspent x.lane
+pub first_unspent : (x : State) (states : List State) → AreUnspent (x ∷ states) → x ≡ unspent x.lane
 first_unspent x states u = cc
 
 pub unspent_at : (states : List State) (i : ℕ) (d : State) → AreUnspent states → i < length states → (get_or states i d).spent ≡ false

@@ -46,7 +46,7 @@ pub in_turn : (script : Plan) (tick : ℕ) (over : List Lane) (t u : Turn) (wait
 in_turn script tick over t u waiting posted same tidy w = record {
   lanes = ap (λ (v : Turn). over ++ v.lane ∷ map (turned script tick) waiting) same ∙ w.lanes;
   letters = ap (λ (v : Turn). posted ++ (v.posted ++ posted_at script tick waiting)) same ∙ w.letters;
-  held = tidy;
+  bounds = tidy;
   ready = w.ready;
 }
 
@@ -55,7 +55,7 @@ pub in_begun : (script : Plan) (tick : ℕ) (over : List Lane) (lane : Lane) (wa
 in_begun script tick over lane waiting posted w = record {
   lanes = w.lanes;
   letters = w.letters;
-  held = begun_tidy script tick (2 ^ 61) lane w.ready.0;
+  bounds = begun_tidy script tick (2 ^ 61) lane w.ready.0;
   ready = w.ready.1;
 }
 
@@ -83,7 +83,7 @@ turn_on : (script : Plan) (tick : ℕ) (over : List Lane) (t : Turn) (waiting : 
 turn_on script tick over t waiting posted (Some u) e w =
     let more = ap (λ (x : Option Turn). is_some x) e in
     let next : u ≡ stepped script tick t = sym (ap (λ (x : Option Turn). step_or x t) e) in
-    in_turn script tick over t u waiting posted (ap (finished script tick) next ∙ finished_on script tick t more) (tidy_on script (10000 * (tick + 1)) (2 ^ 61 + 20001) tick script.cancellables t u e w.held) w
+    in_turn script tick over t u waiting posted (ap (finished script tick) next ∙ finished_on script tick t more) (tidy_on script (10000 * (tick + 1)) (2 ^ 61 + 20001) tick script.cancellables t u e w.bounds) w
   where
     step_or : Option Turn → Turn → Turn
     step_or None t = t
@@ -94,7 +94,7 @@ turn_on script tick over t waiting posted None e w =
     record {
       lanes = append_assoc over (t.lane ∷ []) (map (turned script tick) waiting) ∙ (ap (λ (v : Turn). over ++ v.lane ∷ map (turned script tick) waiting) same ∙ w.lanes);
       letters = append_assoc posted t.posted (posted_at script tick waiting) ∙ (ap (λ (v : Turn). posted ++ (v.posted ++ posted_at script tick waiting)) same ∙ w.letters);
-      held = tt;
+      bounds = tt;
       ready = w.ready;
     }
 
@@ -104,15 +104,15 @@ give_all : (script : Plan) (tick : ℕ) (over : List Lane) (posted : List Letter
 give_all script tick over posted w =
     let lanes : over ≡ map (turned script tick) (lanes_at script tick) = sym (append-nil over) ∙ w.lanes in
     record {
-      letters = sym (append-nil posted) ∙ w.letters;
-      lanes = ap (handed_over tick posted) lanes;
+      sent = sym (append-nil posted) ∙ w.letters;
+      comes = ap (handed_over tick posted) lanes;
       places = subst (StandFrom 0) (sym lanes) (stand_from 0 _ (counted_turned script tick));
     }
 
 give_on : (script : Plan) (tick : ℕ) (lanes : List Lane) (letter : Letter) (left letters : List Letter) → GoesOver script tick lanes (letter ∷ left) letters → GoesOver script tick (gone_over tick (handing_of letter lanes) lanes) left letters
 give_on script tick lanes letter left letters w = record {
-  letters = w.letters;
-  lanes = first_over tick (handing_of letter lanes) left lanes ∙ w.lanes;
+  sent = w.sent;
+  comes = first_over tick (handing_of letter lanes) left lanes ∙ w.comes;
   places = stand_from 0 _ (counted_moved tick (handing_of letter lanes) lanes (counted_from 0 lanes w.places));
 }
 
@@ -138,8 +138,8 @@ from_first script tick letters (lane ∷ lanes) all = (all.0, all.1)
 bring_all : (script : Plan) (tick : ℕ) (lanes : List Lane) (letters : List Letter) → length script.lanes ≤ 64 → tick < 4096 → GoesOver script tick lanes [] letters → Brings script tick [] lanes letters letters
 bring_all script tick lanes letters few low w =
     let turns : List Lane = map (turned script tick) (lanes_at script tick) in
-    let there : lanes ≡ handed_over tick letters turns = sym (none_left tick lanes) ∙ w.lanes in
-    let all : letters ≡ posted_at script tick (lanes_at script tick) = w.letters in
+    let there : lanes ≡ handed_over tick letters turns = sym (none_left tick lanes) ∙ w.comes in
+    let all : letters ≡ posted_at script tick (lanes_at script tick) = w.sent in
     let ready : AllReady script (tick + 1) (most_at tick + 20001) lanes =
     subst (AllReady script (tick + 1) (most_at tick + 20001)) (sym there)
     (ready_over script tick (tick + 1) (most_at tick + 20001) letters turns (all_ready_turned script tick (most_at tick) (lanes_at script tick) (ready_at script tick few (omega arith)))) in
@@ -186,7 +186,7 @@ pub begins_within : (script : Plan) (tick : ℕ) → length script.lanes ≤ 64 
 begins_within script tick few low = record {
   lanes = refl;
   letters = refl;
-  held = tt;
+  bounds = tt;
   ready = all_ready_half script tick (most_at tick) (lanes_at script tick) (omega (arith, posted_fits script tick few low)) (ready_at script tick few low);
 }
 
@@ -195,8 +195,8 @@ begins_within script tick few low = record {
 pub ends_within : (script : Plan) (tick : ℕ) (p : Place) → IsWithin script tick p → end_of script tick p ≡ lanes_at script (tick + 1)
 ends_within script tick (Turning over held waiting posted) w = (λ i. delivered script tick (w.letters i) (w.lanes i)) ∙ ap (lanes_at script) (sym (add-one tick))
 ends_within script tick (Giving lanes left letters) w =
-    ap (map (received_all script tick letters)) w.lanes
-    ∙ (ap (λ (ls : List Letter). delivered script tick ls (map (turned script tick) (lanes_at script tick))) w.letters ∙ ap (lanes_at script) (sym (add-one tick)))
+    ap (map (received_all script tick letters)) w.comes
+    ∙ (ap (λ (ls : List Letter). delivered script tick ls (map (turned script tick) (lanes_at script tick))) w.sent ∙ ap (lanes_at script) (sym (add-one tick)))
 ends_within script tick (Bringing over waiting left letters) w = w.lanes
 
 -- the lanes that have all letters are those after the tick

@@ -21,7 +21,7 @@ IsHeld script tick (Some t) = IsGoing script tick (half_count + turn_growth) t
 pub record TakesTurns (script : Plan) (tick : Tick) (over : List Lane) (held : Option Turn) (waiting : List Lane) (posted : List Letter) : Type 0 where
   pub lanes : over ++ (held_lanes (held_end script tick held) ++ map (turned script tick) waiting) ≡ map (turned script tick) (lanes_at script tick)
   pub letters : posted ++ (held_posted (held_end script tick held) ++ posted_at script tick waiting) ≡ posted_at script tick (lanes_at script tick)
-  pub held : IsHeld script tick held
+  pub bounds : IsHeld script tick held
   pub ready : AllByRecursion (IsReady script tick half_count) waiting
 
 -- lanes with the numbers from n on
@@ -31,8 +31,8 @@ StandFrom n (lane ∷ lanes) = (lane.number ≡ n) × StandFrom (n + 1) lanes
 
 -- while contexts go over: what the letters that are left give comes to the run's lanes, which stand by number
 pub record GoesOver (script : Plan) (tick : Tick) (lanes : List Lane) (left letters : List Letter) : Type 0 where
-  pub letters : letters ≡ posted_at script tick (lanes_at script tick)
-  pub lanes : handed_over tick left lanes ≡ handed_over tick letters (map (turned script tick) (lanes_at script tick))
+  pub sent : letters ≡ posted_at script tick (lanes_at script tick)
+  pub comes : handed_over tick left lanes ≡ handed_over tick letters (map (turned script tick) (lanes_at script tick))
   pub places : StandFrom 0 lanes
 
 -- a lane that may be brought letters: no counter passes its bound

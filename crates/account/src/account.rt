@@ -118,13 +118,14 @@ impl Account {
     {
         let _most = self.script.ticks();
         self.spent = true;
-        let moment = self.going.next(self.alloc, &self.script, self.tick)?;
-        if moment.is_none() {
+        let Some(moment) = self.going.next(self.alloc, &self.script, self.tick)? else {
             self.going.begin_tick();
             self.tick += 1;
-        }
+            self.spent = false;
+            return Ok(None);
+        };
         self.spent = false;
-        Ok(moment)
+        Ok(Some(moment))
     }
 
     /// The script of the run.

@@ -289,6 +289,7 @@ impl Going {
     pub(crate) fn begin_tick(&mut self)
         ensures lanes { self.new.lanes ≡ self.old.lanes }
         ensures begun { self.new.begun ≡ None }
+        ensures phase { self.new.phase ≡ Phase.Turning 0 }
         ensures place { place_of self.new ≡ started (lanes_of self.old.lanes.items) }
     {
         self.letters.clear();

@@ -21,8 +21,8 @@ returns-in-None c =
     ∙ ap (map unspent) (over_none c.args.gift.from c.args.gift.context lanes (counted_in c.args.lanes.now c.requires.lined) none
     ∙ ap (λ o. moved c.args.tick (handing c.args.gift.from c.args.gift.to o) lanes) (sym none))
 
-pub returns-in-Some : goal.returns-in-Some
-returns-in-Some c =
+pub returns-in_ok-take_over-in-Some : goal.returns-in_ok-take_over-in-Some
+returns-in_ok-take_over-in-Some c =
     let lanes : List Lane = lanes_of c.args.lanes.now in
     let left : List Lane = map (at_number c.args.gift.from (left_by c.args.gift.context)) lanes in
     let some = sym c.in_ok-hand_over.ensures.held ∙ c.in-Some.is in
@@ -31,4 +31,4 @@ returns-in-Some c =
     ap (map unspent) (ap (map (at_number c.args.gift.to (taken_over c.args.tick c.in-Some.held))) same
     ∙ (over_some c.args.tick c.args.gift.from c.args.gift.context c.args.gift.to lanes c.in-Some.held (counted_in c.args.lanes.now c.requires.lined) some
     ∙ ap (λ o. moved c.args.tick (handing c.args.gift.from c.args.gift.to o) lanes) (sym some))) in
-    c.in_ok-take_over.ensures ∙ goes
+    c.in_ok-take_over-in-Some.ensures ∙ goes

@@ -3,7 +3,7 @@ use Rattle.std.specs.Option.{option_and_then}
 use Rattle.lane_turn.specs.Lane.{Lane, State}
 use Rattle.lane_turn.specs.Handover.{handed_of, left_by}
 use Rattle.tick_stepper.proofs.Ready.{kept_is}
-use Rattle.tick_stepper.proofs.Lined.{left_none, left_some, left_number}
+use Rattle.tick_stepper.proofs.Lined.{left_none, left_some}
 use Rattle.account.specs.Standing.{unspent}
 use Rattle.account.proofs.States.{unspent_at}
 use Rattle.account.proofs.Lined.{nowhere, none_there, found_there, steps_there}
@@ -24,7 +24,7 @@ returns-in-Ok-clause-left c =
     let d : State = c.index-lanes-sender.result in
     let lane : Lane = (get_or c.args.lanes.now c.args.sender d).lane in
     let goes = sym (left_some c.args.context lane (handed_of c.args.context lane) c.in-Ok.held c.in-Ok.ensures.handed) in
-    steps_there (left_by c.args.context) c.args.lanes.now c.args.sender d c.hand_over.new.self (left_number c.args.context) c.requires.lined (omega arith)
+    steps_there (left_by c.args.context) c.args.lanes.now c.args.sender d c.hand_over.new.self c.requires.lined (omega arith)
     (kept_is c.hand_over.new.self (left_by c.args.context lane) (c.in-Ok.ensures.left ∙ goes) c.in-Ok.ensures.lasts)
 
 pub returns-in-Err-NotGiven-clause-held : goal.returns-in-Err-NotGiven-clause-held
@@ -39,5 +39,5 @@ returns-in-Err-NotGiven-clause-left c =
     let d : State = c.index-lanes-sender.result in
     let state : State = get_or c.args.lanes.now c.args.sender d in
     let none : handed_of c.args.context state.lane ≡ None = search rules in
-    steps_there (left_by c.args.context) c.args.lanes.now c.args.sender d c.hand_over.new.self (left_number c.args.context) c.requires.lined (omega arith)
+    steps_there (left_by c.args.context) c.args.lanes.now c.args.sender d c.hand_over.new.self c.requires.lined (omega arith)
     (c.in-Err-NotGiven.ensures.fault ∙ (kept_is state state.lane refl (unspent_at c.args.lanes.now c.args.sender d c.requires.lined.unspent (omega arith)) ∙ ap unspent (sym (left_none c.args.context state.lane (handed_of c.args.context state.lane) none))))
