@@ -46,8 +46,8 @@ fn of_iteration(lane: &LaneState, context: u32, next: Option<u64>) -> Deed {
     }
 }
 
-/// What a step did, by what was foreseen of it, whether there was one, and how many lines it wrote: a loop that was quit writes one.
-pub(crate) fn done(foreseen: Deed, more: bool, lines: usize) -> Deed {
+/// What a step did, by what was foreseen of it, whether there was one, and whether it wrote: a loop that was quit does.
+pub(crate) fn done(foreseen: Deed, more: bool, wrote: bool) -> Deed {
     if !more {
         return Deed::Rests;
     }
@@ -55,7 +55,7 @@ pub(crate) fn done(foreseen: Deed, more: bool, lines: usize) -> Deed {
         Deed::Iterated {
             loop_number,
             context,
-        } if lines != 0 => Deed::LoopEnded {
+        } if wrote => Deed::LoopEnded {
             loop_number,
             context,
         },
