@@ -6,6 +6,7 @@ from __future__ import annotations
 
 import base64
 import hashlib
+import io
 import os
 import re
 import sysconfig
@@ -17,7 +18,8 @@ from zipfile import ZIP_DEFLATED, ZipFile, ZipInfo
 
 HERE = Path(__file__).resolve().parent
 PACKAGE = HERE / "mainctx"
-BUILT = HERE.parent / "c" / "out" / "libmainctx.so"
+CHECKOUT = HERE.parent  # where the package lies in bindings/python
+BUILT = CHECKOUT / "c" / "out" / "libmainctx.so"
 LIBRARY_NAME = "mainctx/libmainctx.so"
 EARLIEST = (1980, 1, 1, 0, 0, 0)  # that a zip file can say; so that what is built depends on the files alone
 MODES = {True: 0o100755, False: 0o100644}  # of a library, and of another file
@@ -46,7 +48,7 @@ def _library() -> Path | None:
     named = os.environ.get("MAINCTX_LIBRARY")
     if named:
         return Path(named)
-    return BUILT if BUILT.exists() else None
+    return BUILT if CHECKOUT.name == "bindings" and BUILT.exists() else None
 
 
 def _tag(library: Path | None) -> str:
@@ -97,10 +99,17 @@ def build_wheel(
     return name
 
 
+def _without_caches(entry: tarfile.TarInfo) -> tarfile.TarInfo | None:
+    return None if "__pycache__" in entry.name else entry
+
+
 def build_sdist(sdist_directory: str, config_settings: Optional[dict[str, Any]] = None) -> str:
-    """Writes the sources into a folder, and answers their name."""
-    name = f"{STEM}.tar.gz"
+    """Writes the sources into a folder, and answers their name. The library is not among them."""
+    name, metadata = f"{STEM}.tar.gz", _metadata()
     with tarfile.open(Path(sdist_directory) / name, "w:gz") as archive:
         for path in ("mainctx", "tests", "README.md", "pyproject.toml", "build_backend.py"):
-            archive.add(HERE / path, f"{STEM}/{path}", filter=lambda entry: None if "__pycache__" in entry.name else entry)
+            archive.add(HERE / path, f"{STEM}/{path}", filter=_without_caches)
+        entry = tarfile.TarInfo(f"{STEM}/PKG-INFO")
+        entry.size = len(metadata)
+        archive.addfile(entry, io.BytesIO(metadata))
     return name

@@ -6,7 +6,7 @@ import subprocess
 from collections.abc import Iterator
 from pathlib import Path
 
-from .common import C, MOST, SCRIPT, TOP, Built, Fault, Missing, Test, ends, vectors
+from .common import C, MOST, SCRIPT, SCRIPTS, TOP, Built, Fault, Missing, Test, ends, vectors
 
 EXPORTED = {"mainctx_run"}
 INSTALLED = {"include/mainctx.h", "lib/libmainctx.a", "lib/libmainctx.so", "lib/libmainctx.so.0", "lib/pkgconfig/mainctx.pc"}
@@ -14,12 +14,8 @@ SANITIZERS = ("-fsanitize=address,undefined", "-fno-sanitize-recover=all")
 WARNINGS = ("-std=c11", "-O1", "-g", "-Wall", "-Wextra", "-Werror")
 WRAPPED = "-Wl,--wrap=malloc,--wrap=realloc,--wrap=free"
 
-# of each script every request for memory is refused in turn: one of each part of the language, and refused ones
-REFUSED_IN = [
-    *(f"examples/{name}" for name in ("ten_lines", "children", "nested_drop", "connect_after_cancel", "task_ends", "give_to_worker")),
-    "vectors/01-idle-sources/broken-01-000",
-    "vectors/08-lanes/random-08-002",
-]
+# of these every request for memory is refused in turn: each example, and some vectors, right ones and refused ones
+REFUSED_IN = [path for path in SCRIPTS if path.parent.name == "examples" or path.stem.endswith("-002")]
 AT_ONCE = [f"examples/{name}.json" for name in ("ten_lines", "idle_starves", "invoke_three_ways", "task_ends", "give_to_worker")]
 
 # a text that is worked out by hand: example.c's socket has data in ticks 0 to 4
@@ -131,6 +127,6 @@ def tests(built: Built) -> Iterator[Test | Missing]:
     if not sanitizers:
         yield Missing("AddressSanitizer for cc", "memory under it: the same tests run without it")
     yield Test("rooms of each length", lambda: compiled(built, "rooms", sanitizers, SCRIPT, SCRIPT.with_suffix(".out")))
-    yield Test("each request refused", lambda: compiled(built, "refuse", sanitizers, *(TOP / f"{path}.json" for path in REFUSED_IN)))
+    yield Test("each request refused", lambda: compiled(built, "refuse", sanitizers, *REFUSED_IN))
     yield Test("eight threads at once", lambda: compiled(built, "threads", sanitizers, *(TOP / path for path in AT_ONCE)))
     yield Test("a library that is loaded twice", lambda: twice(built, sanitizers))

@@ -99,10 +99,11 @@ def by_unittest(built: Built) -> Fault:
 
 
 def by_pip(built: Built, pip: str) -> Fault:
-    """pip install of a copy of bindings/, beside what make built: the package takes the library along"""
+    """a copy of bindings/, beside what make built: the package finds that, and takes it along where pip installs it"""
     copy, site = built.out.parents[1] / "python", built.room / "site"
     shutil.copytree(PYTHON, copy, ignore=shutil.ignore_patterns("__pycache__"))
-    fault = ends(pip, "-m", "pip", "install", "-q", "--no-index", "--disable-pip-version-check", "--target", site, copy)
+    fault = ends(pip, "-c", RUNS, told=TEXT, where=built.room, under={"PYTHONPATH": copy})
+    fault = fault or ends(pip, "-m", "pip", "install", "-q", "--no-index", "--disable-pip-version-check", "--target", site, copy)
     shutil.rmtree(copy)
     if fault or not (site / "mainctx" / "libmainctx.so").exists():
         return fault or "the package has no library"

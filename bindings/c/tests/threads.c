@@ -5,7 +5,7 @@
 #include <stdio.h>
 #include <stdlib.h>
 
-enum { THREADS = 8, ROUNDS = 20, SCRIPTS_MOST = 64 };
+enum { THREADS = 8, ROUNDS = 200, SCRIPTS_MOST = 64 };
 
 static struct task {
     const char *path;

@@ -13,7 +13,8 @@ NAME = "libmainctx.so"
 INSTALLED_NAME = "libmainctx.so.0"  # as the loader looks for it: the name with the number of its interface
 HERE = Path(__file__).resolve().parent
 BESIDE = HERE / NAME  # where the package has the library along
-BUILT = HERE.parents[1] / "c" / "out" / NAME  # where make of bindings/c leaves it, seen from bindings/python
+CHECKOUT = HERE.parents[1]  # where the package lies in bindings/python
+BUILT = CHECKOUT / "c" / "out" / NAME  # where make of bindings/c leaves it
 
 TEXT, MEMORY, SHORT_ROOM = 0, 6, 7  # what a call answers beside the numbers of faults (mainctx.h)
 FIRST_ROOM = 65536
@@ -23,12 +24,14 @@ def _places() -> list[str]:
     """The files to try, best first. Where the variable names one, no other is tried."""
     if os.environ.get(VARIABLE):
         return [os.environ[VARIABLE]]
-    return [*(str(path) for path in (BESIDE, BUILT) if path.exists()), INSTALLED_NAME]
+    near = [BESIDE, BUILT] if CHECKOUT.name == "bindings" else [BESIDE]
+    return [*(str(path) for path in near if path.exists()), INSTALLED_NAME]
 
 
 @lru_cache(maxsize=None)
 def library() -> ctypes.CDLL:
     """The library, which is loaded once."""
+    __tracebackhide__ = True
     tried = []
     for place in _places():
         try:
@@ -45,6 +48,7 @@ def library() -> ctypes.CDLL:
 
 def text_of(script: bytes) -> str:
     """The text of a script. Other threads of Python go on while it runs."""
+    __tracebackhide__ = True
     room, needed = FIRST_ROOM, ctypes.c_size_t()
     while True:
         text = ctypes.create_string_buffer(room)

@@ -46,6 +46,11 @@ class Dispatch(Line):
     priority: int
     depth: int
 
+    @property
+    def pair(self) -> Source:
+        """The source, by its context and its number there."""
+        return Source(self.context, self.source)
+
 
 @dataclass(frozen=True)
 class Log(Line):

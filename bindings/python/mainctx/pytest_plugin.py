@@ -39,10 +39,10 @@ def pytest_runtest_makereport(call: pytest.CallInfo[None]) -> Generator[None, An
     """Shows what was told of the comparison that failed, and the time lines of other runs in variables of the test."""
     outcome = yield
     report: pytest.TestReport = outcome.get_result()
-    pictures = {id(difference.run): (difference.run, difference.picture) for difference in _told}
+    sections = {id(difference.run): (repr(difference.run), difference.picture) for difference in _told}
     _told.clear()
     if call.excinfo is None or not report.failed:
         return
     for run in _runs_in(entry.frame.f_locals for entry in call.excinfo.traceback):
-        pictures.setdefault(id(run), (run, run.timeline()))
-    report.sections += [(repr(run), picture) for run, picture in pictures.values()]
+        sections.setdefault(id(run), (repr(run), run.timeline()))
+    report.sections.extend(sections.values())

@@ -4,10 +4,10 @@ from __future__ import annotations
 import json
 import os
 from collections.abc import Iterable, Mapping
-from dataclasses import dataclass, field, fields
+from dataclasses import dataclass, fields
 from functools import cached_property
 from pathlib import Path
-from typing import Any, TypeVar, Union
+from typing import Any, SupportsIndex, TypeVar, Union, overload
 
 from ._library import text_of
 from .errors import Fault, ScriptError
@@ -24,7 +24,7 @@ Script = Union[Mapping[str, Any], str, bytes, "os.PathLike[str]"]
 class Found(list[Item]):
     """What was asked of a run: a list, which knows the run and the place of each item's line there.
 
-    So a test that fails can show the lines around (pytest_plugin).
+    So does a part of it, as `[:3]`: a test that fails can show the lines around (pytest_plugin).
     """
 
     def __init__(self, items: Iterable[Item], run: Run, places: Iterable[int], sources: Iterable[Source] = ()) -> None:
@@ -33,13 +33,24 @@ class Found(list[Item]):
         self.places = tuple(places)
         self.sources = tuple(sources)  # those that were asked for, dispatched or not
 
+    @overload
+    def __getitem__(self, at: SupportsIndex) -> Item: ...
+
+    @overload
+    def __getitem__(self, at: slice) -> Found[Item]: ...
+
+    def __getitem__(self, at: SupportsIndex | slice) -> Item | Found[Item]:
+        if isinstance(at, slice):
+            return Found(super().__getitem__(at), self.run, self.places[at], self.sources)
+        return super().__getitem__(at)
+
 
 @dataclass(frozen=True)
 class Run:
     """A run that has ended: the bytes of its script, and its text, which is the same each time."""
 
-    script: bytes = field(repr=False)
-    text: str = field(repr=False)
+    script: bytes
+    text: str
 
     def __str__(self) -> str:
         return self.text
@@ -72,15 +83,16 @@ class Run:
 
         A field that the class has not is a TypeError.
         """
-        unknown = wanted.keys() - {field.name for field in fields(kind)}
-        if unknown:
-            raise TypeError(f"{kind.__name__} has no {sorted(unknown)[0]}; it has {', '.join(field.name for field in fields(kind))}")
-        found = [
-            (place, line)
+        names = [field.name for field in fields(kind)]
+        for name in wanted:
+            if name not in names:
+                raise TypeError(f"{kind.__name__} has no {name}; it has {', '.join(names)}")
+        found = {
+            place: line
             for place, line in enumerate(self.lines)
             if isinstance(line, kind) and all(getattr(line, name) == value for name, value in wanted.items())
-        ]
-        return Found([line for _, line in found], self, [place for place, _ in found], _source_in(wanted))
+        }
+        return Found(found.values(), self, found, _source_in(wanted))
 
     def when(self, kind: type[Line], **wanted: object) -> Found[int]:
         """The ticks of the lines that `select` finds, one for each line: `when(Log, number=7)`."""
@@ -100,17 +112,15 @@ class Run:
         What different threads dispatch in one tick has no order: then it is a ValueError, which names the tick.
         """
         asked = [Source(*source) for source in sources]
-        found = [
-            (place, line)
-            for place, line in enumerate(self.lines)
-            if isinstance(line, Dispatch) and (not asked or (line.context, line.source) in asked)
-        ]
-        found.sort(key=lambda placed: placed[1].tick)
-        threads: dict[int, int] = {}
-        for _, line in found:
-            if threads.setdefault(line.tick, line.thread) != line.thread:
-                raise ValueError(f"in tick {line.tick} threads {threads[line.tick]} and {line.thread} both dispatch: that has no order")
-        return Found([Source(line.context, line.source) for _, line in found], self, [place for place, _ in found], asked)
+        dispatches = self.select(Dispatch)
+        found = {place: line for place, line in zip(dispatches.places, dispatches) if not asked or line.pair in asked}
+        places = sorted(found, key=lambda place: found[place].tick)
+        threads: dict[int, int] = {}  # that of each tick
+        for line in found.values():
+            thread = threads.setdefault(line.tick, line.thread)
+            if line.thread != thread:
+                raise ValueError(f"in tick {line.tick} threads {thread} and {line.thread} both dispatch: that has no order")
+        return Found([found[place].pair for place in places], self, places, asked)
 
     def timeline(self, *sources: tuple[int, int], around: int = 0) -> str:
         """A picture of the dispatches in each tick, with a row for each source, and for these sources though nothing dispatches them.
@@ -142,6 +152,7 @@ def run(script: Script) -> Run:
     A script that is refused is a ScriptError, refused memory a MemoryError, no library a LibraryNotFound, and a file that can't be
     read an OSError. A run can't be interrupted; other threads of Python go on.
     """
+    __tracebackhide__ = True  # (pytest shows the call, and not what is in here)
     bytes_of = _bytes_of(script)
     try:
         return Run(bytes_of, text_of(bytes_of))

@@ -26,8 +26,7 @@ def _window(ticks: int, around: int) -> range:
     """The ticks that are shown: all of them, or those around one, from a multiple of the step on."""
     if ticks <= WIDTH:
         return range(ticks)
-    first = max(0, min(around - WIDTH // 2, ticks - WIDTH))
-    first -= first % STEP
+    first = max(0, around - WIDTH // 2) // STEP * STEP
     return range(first, min(first + WIDTH, ticks))
 
 
@@ -37,16 +36,16 @@ def _length(microseconds: int) -> str:
 
 def draw(dispatches: Sequence[Dispatch], ticks: int, tick_us: int, asked: Sequence[Source], around: int) -> str:
     """How often each source is dispatched in each tick: a digit, + for more than nine, a point for none."""
-    counts = Counter((Source(line.context, line.source), line.tick) for line in dispatches)
-    sources = list(dict.fromkeys([*asked, *sorted(source for source, _ in counts)]))
+    counts = Counter((line.pair, line.tick) for line in dispatches)
+    dispatched = {line.pair for line in dispatches}
+    sources = list(dict.fromkeys([*asked, *sorted(dispatched)]))
     shown, window = sources[:ROWS], _window(ticks, around)
     margin = max(map(len, ["tick", *map(_name, shown)]))
     numbers = "".join(str(tick).ljust(STEP) for tick in window[::STEP])
     rows = [f"{'tick':{margin}}  {numbers}".rstrip()]
     for source in shown:
         cells = "".join(_cell(counts[source, tick]) for tick in window)
-        never = "  never dispatched" if not any(counts[source, tick] for tick in range(ticks)) else ""
-        rows.append(f"{_name(source):{margin}}  {cells}{never}")
+        rows.append(f"{_name(source):{margin}}  {cells}" + ("" if source in dispatched else "  never dispatched"))
     if len(sources) > ROWS:
         rows.append(f"and {len(sources) - ROWS} sources more")
     length = f"a tick is {_length(tick_us)}"

@@ -80,6 +80,12 @@ class Asked(unittest.TestCase):
         with self.assertRaisesRegex(ValueError, "tick 0 threads 0 and 1"):
             run.order((0, 1), (1, 1))
 
+    def test_a_part_of_what_was_found_knows_its_run(self) -> None:
+        found = self.run_.order()
+        self.assertEqual(found[1:], [(0, 1), (0, 2)])
+        self.assertEqual((found[1:].run, found[1:].places), (self.run_, (2, 4)))
+        self.assertEqual(found[-1], (0, 2))
+
     def test_when(self) -> None:
         self.assertEqual(self.run_.when(Log, number=7), [0, 1])
         self.assertEqual(self.run_.when(LoopEnd), [2])
@@ -105,6 +111,7 @@ a tick is 1 ms"""
         self.assertEqual(lines[0], "tick            70        80        90        100       110       120")
         self.assertEqual(lines[1], "ctx 0 source 1  " + "1" * 60)
         self.assertEqual(lines[-1], "a tick is 1500 us; 200 ticks in all")
+        self.assertEqual(mainctx.run(script).timeline(around=199).splitlines()[0], "tick            160       170       180       190")
 
 
 class Refused(unittest.TestCase):

@@ -3,7 +3,7 @@
 use mainctx::{run, Fault};
 use std::thread;
 
-const THREADS: usize = 8;
+const THREADS: u32 = 8;
 const ROUNDS: usize = 100;
 
 /// A log in each of so many ticks.
@@ -24,6 +24,15 @@ fn text_of(ticks: u32) -> String {
 #[test]
 fn a_short_text() {
     assert_eq!(run(&script_of(2)), Ok(text_of(2)));
+}
+
+/// The lines of README.md of the repository.
+#[test]
+fn what_the_first_page_says() -> Result<(), Fault> {
+    let text = mainctx::run(br#"{"version": 1, "ticks": 1, "tick_us": 1, "lanes": [{"contexts": 1, "start": [["log", 7]]}]}"#)?;
+    assert_eq!(text, "thread 0\n0 log 7\n0 end\n");
+    assert_eq!(mainctx::run(b"{}"), Err(mainctx::Fault::Shape));
+    Ok(())
 }
 
 #[test]
@@ -54,7 +63,7 @@ fn a_fault_is_an_error() {
 #[test]
 fn eight_threads_at_once() {
     thread::scope(|scope| {
-        for ticks in 1..=THREADS as u32 {
+        for ticks in 1..=THREADS {
             scope.spawn(move || {
                 for _ in 0..ROUNDS {
                     assert_eq!(run(&script_of(ticks)), Ok(text_of(ticks)));

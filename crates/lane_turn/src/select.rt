@@ -38,8 +38,9 @@ pub(crate) fn select(
     ensures { IfOk result (λ ids. ids.items ≡ chosen_in script.now tick view.now busy.now (Some context.now)) }
 {
     let now = script.now(tick);
+    let priority = context.ready_priority(now, busy, view);
     let prepared = Prepared {
-        priority: context.ready_priority(now, busy, view),
+        priority,
         timeout_ms: NO_WAIT,
     };
     let interests = context.query(alloc, &prepared, busy)?;

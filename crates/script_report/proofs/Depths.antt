@@ -1,7 +1,7 @@
 -- What a pointer leads to goes no deeper than the whole.
-use Rattle.std.proofs.Common.{◌≡◌, ◌≤◌, ◌==◌, ℕ, Bool, true, false, if◌then◌else◌, List, [], ◌∷◌, ◌++◌, Option, Some, None, option_and_then, refl, sym, subst, ap, ◌∙◌, arith}
-use Rattle.serde_json.specs.Data.{Data, null, boolean, number, string, array, object, Items, Members, depth}
-use Rattle.serde_json.specs.Find.{get_item, get_member, unescape, index_of, step, walk, pointer}
+use Rattle.std.proofs.Common.{◌≡◌, ◌≤◌, ◌==◌, ℕ, Bool, true, false, if◌then◌else◌, List, [], ◌∷◌, ◌++◌, Option, Some, None, option_and_then, refl, subst, arith}
+use Rattle.serde_json.specs.Data.{Data, null, boolean, number, string, array, object, Items, depth}
+use Rattle.serde_json.specs.Find.{get_item, unescape, index_of, step, walk, pointer}
 use Rattle.loop_script.proofs.Alternatives.{some_inj}
 use Rattle.script_check.proofs.PartsOf.{item_depth, member_depth}
 

@@ -1,1 +1,2 @@
 mod Depths
+mod Judged

@@ -1,4 +1,7 @@
 //! The whole answer for the bytes of a script.
+ghost use Rattle.std.specs.Prelude.{IfOk};
+ghost use Rattle.script_report.specs.Verdict.{Judges};
+
 use crate::cursor::Cursor;
 use crate::excerpt::push_excerpt;
 use crate::layout::layout_of;
@@ -10,14 +13,16 @@ use serde_json::Value;
 use std::alloc::{AllocError, Global};
 use std::str::from_utf8;
 
-/// Adds what is wrong with a script, each fault with its place, or that nothing is; and answers whether nothing is. After an
-/// error a part of that was added.
+/// Adds what is wrong with a script, each fault with its place, or that nothing is; and answers whether nothing is, so whether
+/// `Script::read` reads it. After an error a part of that was added.
 pub fn check_script(
     alloc: Global,
     form: &Form<'_>,
     bytes: &[u8],
     out: &mut String,
-) -> Result<bool, AllocError> {
+) -> Result<bool, AllocError>
+    ensures { IfOk result (λ fine. Judges bytes.now fine) }
+{
     let value = match Value::from_slice(alloc, bytes) {
         Ok(value) => value,
         Err(error) if error.is_memory() => return Err(AllocError),

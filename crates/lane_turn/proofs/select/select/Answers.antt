@@ -14,4 +14,4 @@ returns c =
     IfOk-weaker c.check.result _ _
     (λ ids i. i ∙ ap (λ (now : ℕ). selected (own_ready level (in_view c.args.view.now) now) c.args.busy.now c.args.context.now.rows.rows) c.now-now.ensures.now)
     (c.check.ensures level (c.deref-2.ensures.value ∙ (c.in_ok-levels.ensures
-    ∙ (shown ∙ levels_polled level (asked_rows c.prepared.priority c.args.busy.now c.args.context.now.rows.rows)))))
+    ∙ (shown ∙ levels_polled level (asked_rows c.ready_priority-priority.result c.args.busy.now c.args.context.now.rows.rows)))))

@@ -1,6 +1,5 @@
 use Rattle.std.proofs.Common.{rules, ℕ, List, map, subst}
 use Rattle.std.specs.Prelude.{IsPermutation}
-use Rattle.std.specs.List.{range_with_len}
 use Rattle.std.proofs.lemmas.List.Sorted.{IsPermutation-map, IsNonDecreasingBy-from_sort_by_key}
 use Rattle.script_report.specs.declared.order.Placed.{Placed}
 use Rattle.script_report.proofs.order.in_order.Goals as goal
