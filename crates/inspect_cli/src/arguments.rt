@@ -8,6 +8,7 @@ pub(crate) enum Command {
     Why,
     Summary,
     Account,
+    Steps,
 }
 
 /// What to tell, and of what.
@@ -36,6 +37,7 @@ fn command_of(word: &str) -> Option<Command> {
         "why" => Some(Command::Why),
         "summary" => Some(Command::Summary),
         "account" => Some(Command::Account),
+        "steps" => Some(Command::Steps),
         _ => None,
     }
 }

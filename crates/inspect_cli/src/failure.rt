@@ -52,7 +52,7 @@ impl Failure {
     pub(crate) fn line(self) -> &'static str {
         match self {
             Failure::Usage => {
-                "usage: mainctx_inspect text|why|summary|account [--lane L] [--ticks A..B] [--source C.S] [FILE]\n"
+                "usage: mainctx_inspect text|why|summary|account|steps [--lane L] [--ticks A..B] [--source C.S] [FILE]\n"
             }
             Failure::NotThere => "usage: the script has no such thread or context\n",
             Failure::Memory => "memory\n",

@@ -6,7 +6,8 @@ Runs a script, and tells what the run did and why; without FILE, of standard inp
   text      the text of the run, as mainctx writes it
   why       each iteration, and why each source is dispatched by it or not
   summary   each source and loop in one line, and what was silent
-  account   each move of the run as JSON, an object a line\n
+  account   each move of the run as JSON, an object a line
+  steps     each step of each turn, with what is in progress after it, as a table\n
 mainctx_inspect COMMAND --help says more.\n
   mainctx_inspect why examples/ten_lines.json\n
 Status: 0 told, 1 other arguments, 2 the script is refused, which is told as by mainctx_check, 3 no memory, 4 the script could not be
@@ -35,6 +36,13 @@ Writes each move of the run as JSON, an object a line; docs/ACCOUNT.md has the k
   --ticks A..B   the ticks from A to B alone, both included\n
   mainctx_inspect account --ticks 0..1 examples/ten_lines.json\n";
 
+const STEPS: &str = "usage: mainctx_inspect steps [--lane L] [--ticks A..B] [FILE]\n
+Tells each step of each turn in a row: what is done, what is in progress after it from the outermost inwards, and the lines of the text that
+it writes, as the table of docs/STEP.md does. `iter [2 3]` is an iteration that has sources 2 and 3 left, `call 1` a call of procedure 1.\n
+  --lane L       thread L alone
+  --ticks A..B   the ticks from A to B alone, both included\n
+  mainctx_inspect steps --ticks 0..0 examples/ten_lines.json\n";
+
 /// The help for a command, or for all.
 pub(crate) fn help_text(command: Option<Command>) -> &'static str {
     match command {
@@ -43,5 +51,6 @@ pub(crate) fn help_text(command: Option<Command>) -> &'static str {
         Some(Command::Why) => WHY,
         Some(Command::Summary) => SUMMARY,
         Some(Command::Account) => ACCOUNT,
+        Some(Command::Steps) => STEPS,
     }
 }

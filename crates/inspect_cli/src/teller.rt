@@ -1,7 +1,7 @@
 //! What is told of a run, moment by moment.
 use crate::arguments::{Command, Order};
 use account::{Account, Moment};
-use inspect_text::{Life, Moments, Summary, Why};
+use inspect_text::{Life, Moments, Steps, Summary, Why};
 use loop_script::Script;
 use std::alloc::{AllocError, Global};
 
@@ -12,6 +12,7 @@ pub(crate) enum Teller {
     Life(Life),
     Summary(Summary),
     Moments(Moments),
+    Steps(Steps),
 }
 
 impl Teller {
@@ -28,6 +29,7 @@ impl Teller {
                 alloc, script, window, out,
             )?)),
             (Command::Summary, _) => Ok(Teller::Summary(Summary::new(alloc, script)?)),
+            (Command::Steps, _) => Ok(Teller::Steps(Steps::new(alloc, window))),
             (_, Some(name)) => Ok(Teller::Life(Life::new(name, window))),
             (_, None) => Ok(Teller::Why(Why::new(alloc, script, window)?)),
         }
@@ -45,6 +47,7 @@ impl Teller {
             Teller::Life(life) => life.tell(account, moment, out),
             Teller::Summary(summary) => summary.tell(account, moment),
             Teller::Moments(moments) => moments.tell(account, moment, out),
+            Teller::Steps(steps) => steps.tell(account, moment, out),
         }
     }
 
@@ -55,6 +58,7 @@ impl Teller {
             Teller::Life(life) => life.end(account, out),
             Teller::Summary(summary) => summary.end(account, out),
             Teller::Moments(moments) => moments.end(account, out),
+            Teller::Steps(_) => Ok(()),
         }
     }
 }

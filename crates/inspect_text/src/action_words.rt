@@ -54,3 +54,39 @@ pub(crate) fn push_cause(out: &mut String, moment: &Moment) -> Result<(), AllocE
         _ => out.push_str("the run"),
     }
 }
+
+/// Adds an action: its word, and the number that stands next to it in the script.
+pub(crate) fn push_action(out: &mut String, action: &Action) -> Result<(), AllocError> {
+    out.push_str(action_word(action))?;
+    match number_of(action) {
+        Some(number) => write!(out, " {number}"),
+        None => Ok(()),
+    }
+}
+
+/// The first number of an action.
+fn number_of(action: &Action) -> Option<u32> {
+    match action {
+        Action::Attach { context, .. } => Some(*context),
+        Action::Invoke { context, .. } => Some(*context),
+        Action::Give { context, .. } => Some(*context),
+        Action::Connect { cancellable, .. } => Some(*cancellable),
+        Action::Child { parent, .. } => Some(u32::from(*parent)),
+        Action::Destroy(slot) => Some(u32::from(*slot)),
+        Action::SetReady(slot, _) => Some(u32::from(*slot)),
+        Action::SetPriority(slot, _) => Some(u32::from(*slot)),
+        Action::Disconnect(slot) => Some(u32::from(*slot)),
+        Action::Iterate(number) => Some(*number),
+        Action::Pending(number) => Some(*number),
+        Action::Run(number) => Some(*number),
+        Action::Quit(number) => Some(*number),
+        Action::Cancel(number) => Some(*number),
+        Action::Push(number) => Some(*number),
+        Action::Pop(number) => Some(*number),
+        Action::Acquire(number) => Some(*number),
+        Action::Release(number) => Some(*number),
+        Action::Log(number) => Some(*number),
+        Action::Task(_) => None,
+        Action::ShowDefault => None,
+    }
+}

@@ -13,6 +13,7 @@ mod record;
 mod rests;
 mod silent;
 mod span;
+mod steps;
 mod summary;
 mod time;
 mod why;
@@ -21,6 +22,7 @@ mod words;
 
 pub use life::Life;
 pub use moments::Moments;
+pub use steps::Steps;
 pub use summary::Summary;
 pub use why::Why;
 pub use window::{SourceName, Window};

@@ -5,30 +5,49 @@ use loop_script::{Kind, Script};
 use source_rows::Row;
 use std::alloc::AllocError;
 
-/// The bits that a descriptor may show, with GLib's names.
-const BITS: [(u8, &str); 6] = [
-    (1, "IN"),
-    (2, "PRI"),
-    (4, "OUT"),
-    (8, "ERR"),
-    (16, "HUP"),
-    (32, "NVAL"),
-];
+/// The bits that a descriptor may show.
+const IN: u8 = 1;
 
-/// Adds the names of bits.
+const PRI: u8 = 2;
+
+const OUT: u8 = 4;
+
+const ERR: u8 = 8;
+
+const HUP: u8 = 16;
+
+const NVAL: u8 = 32;
+
+/// Adds the name of a bit, where it is one of some bits, and answers whether it or one before it is.
+fn push_bit(
+    out: &mut String,
+    bits: u8,
+    bit: u8,
+    name: &str,
+    any: bool,
+) -> Result<bool, AllocError> {
+    if bits & bit == 0 {
+        return Ok(any);
+    }
+    if any {
+        out.push_str(" and ")?;
+    }
+    out.push_str(name)?;
+    Ok(true)
+}
+
+/// Adds the names of bits that a descriptor may show.
 fn push_bits(out: &mut String, bits: u8) -> Result<(), AllocError> {
-    if bits == 0 {
-        return out.push_str("nothing");
+    let any = push_bit(out, bits, IN, "IN", false)?;
+    let any = push_bit(out, bits, PRI, "PRI", any)?;
+    let any = push_bit(out, bits, OUT, "OUT", any)?;
+    let any = push_bit(out, bits, ERR, "ERR", any)?;
+    let any = push_bit(out, bits, HUP, "HUP", any)?;
+    let any = push_bit(out, bits, NVAL, "NVAL", any)?;
+    if any {
+        return Ok(());
     }
-    let mut between = "";
-    for (bit, name) in BITS.iter() {
-        if bits & *bit != 0 {
-            out.push_str(between)?;
-            out.push_str(*name)?;
-            between = " and ";
-        }
-    }
-    Ok(())
+    out.push_str("nothing")
 }
 
 /// Adds what kind of source it is.
