@@ -10,19 +10,20 @@
 extern "C" {
 #endif
 
-/* What mainctx_run answers. */
+/* What the calls answer. */
 enum {
-    MAINCTX_TEXT = 0,       /* the whole text is in the room */
+    MAINCTX_TEXT = 0,       /* the whole text is in the room; of mainctx_check: nothing is wrong */
     MAINCTX_NOT_JSON = 1,   /* the bytes are not one JSON value */
     MAINCTX_SHAPE = 2,      /* a value of the wrong type, an unknown key or word, a list of the wrong length */
     MAINCTX_LIMIT = 3,      /* a number or a count outside its range */
     MAINCTX_REFERENCE = 4,  /* an index of something that the script has not */
     MAINCTX_RULE = 5,       /* a procedure that may not be connected or invoked, and the other rules */
     MAINCTX_MEMORY = 6,     /* a request for memory was refused */
-    MAINCTX_SHORT_ROOM = 7  /* the text is longer than the room */
+    MAINCTX_SHORT_ROOM = 7, /* the text is longer than the room */
+    MAINCTX_FAULTS = 8      /* all that is wrong with the script is told in the room; of mainctx_check alone */
 };
 
-/* Runs a script to its end in the caller's thread, and puts its text into the room. It answers one of the eight numbers above.
+/* Runs a script to its end in the caller's thread, and puts its text into the room. It answers one of the first eight numbers above.
 
    MAINCTX_TEXT: the text stands first in the room, *needed is its length in bytes, and what is behind it in the room is as it was.
    The text is ASCII, and no null byte ends it.
@@ -39,6 +40,17 @@ enum {
    Several threads may call at once, also with one script, where malloc, realloc and free of the process allow it. Not from a signal
    handler. A call ends by itself, and can't be interrupted: how long it may take says docs/SPEED.md. */
 uint32_t mainctx_run(const uint8_t *script, size_t script_size, uint8_t *room, size_t room_size, size_t *needed);
+
+/* Tells what is wrong with a script, and runs nothing: each fault as a JSON object on a line of its own, in the order of their places, 100
+   at most, as the program mainctx_check --json tells them (docs/FORMAT.md): class, pointer, line, column, byte, wanted, found.
+
+   MAINCTX_TEXT: nothing is wrong, and mainctx_run runs the script. The room is as it was, and *needed is 0.
+   MAINCTX_FAULTS: the text stands first in the room, in UTF-8, and *needed is its length in bytes; mainctx_run refuses the script.
+   MAINCTX_SHORT_ROOM: the room has as much of that text as fits, and *needed is the length of the whole.
+   MAINCTX_MEMORY: the room is as it was, *needed is 0, and all memory that was taken is given back.
+
+   All else is as of mainctx_run. */
+uint32_t mainctx_check(const uint8_t *script, size_t script_size, uint8_t *room, size_t room_size, size_t *needed);
 
 #ifdef __cplusplus
 }

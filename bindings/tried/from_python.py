@@ -31,14 +31,26 @@ def package(built: Built) -> ModuleType:
         sys.path.remove(str(PYTHON))
 
 
+def refused_rightly(mainctx: ModuleType, path: Path, refused: Exception) -> Fault:
+    """the class, which is that of some fault told with it, and of none is an earlier one; and each place is one of the script"""
+    told = f"script: {refused.fault.value}\n"
+    classes = list(mainctx.Fault)
+    if path.with_suffix(".out").exists() or told != path.with_suffix(".err").read_text():
+        return told
+    if not refused.faults or min(classes.index(each.fault) for each in refused.faults) != classes.index(refused.fault):
+        return f"{refused.fault} with {[each.fault for each in refused.faults]}"
+    return None if all(each.line and each.column for each in refused.faults) else "a fault without a place"
+
+
 def vector(mainctx: ModuleType, path: Path) -> Fault:
-    """the text, or the class; and the text anew from its lines"""
+    """the text, or the class; the text anew from its lines; and nothing is wrong with what runs"""
     script, wanted = path.read_bytes(), path.with_suffix(".out")
     try:
         run = mainctx.run(script)
     except mainctx.ScriptError as refused:
-        told = f"script: {refused.fault.value}\n"
-        return None if not wanted.exists() and told == path.with_suffix(".err").read_text() else told
+        return refused_rightly(mainctx, path, refused)
+    if mainctx.check(script):
+        return "something is wrong with a script that runs"
     if not wanted.exists() or run.text != wanted.read_text():
         return "another text"
     lines = [line for line in run.text.splitlines() if not line.startswith("thread ")]

@@ -7,7 +7,7 @@
 
 docs/FORMAT.md of the repository has the script and the lines of the text.
 """
-from .errors import Fault, LibraryNotFound, ScriptError
+from .errors import Fault, LibraryNotFound, ScriptError, ScriptFault
 from .lines import (
     Acquire,
     Arrive,
@@ -34,12 +34,12 @@ from .lines import (
     TaskResult,
     TaskTimedOut,
 )
-from .run import Found, Run, Script, run
+from .run import Found, Run, Script, check, run
 
 __version__ = "0.1.0"
 
 __all__ = [
     "Acquire", "Arrive", "Cancel", "Default", "Dispatch", "End", "Fault", "Found", "Give", "Halt", "Handler", "Hold", "Invoke", "Iterate",
-    "LibraryNotFound", "Line", "Log", "LoopEnd", "Miss", "Pending", "Run", "Script", "ScriptError", "Source", "TaskCancelled",
-    "TaskFailed", "TaskLate", "TaskOk", "TaskResult", "TaskTimedOut", "run",
+    "LibraryNotFound", "Line", "Log", "LoopEnd", "Miss", "Pending", "Run", "Script", "ScriptError", "ScriptFault", "Source", "TaskCancelled",
+    "TaskFailed", "TaskLate", "TaskOk", "TaskResult", "TaskTimedOut", "check", "run",
 ]  # fmt: skip

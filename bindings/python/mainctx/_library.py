@@ -1,12 +1,14 @@
-"""The shared library: where it is found, and the one call that is made of it."""
+"""The shared library: where it is found, and the two calls that are made of it."""
 from __future__ import annotations
 
 import ctypes
+import json
 import os
+from collections.abc import Callable
 from functools import lru_cache
 from pathlib import Path
 
-from .errors import Fault, LibraryNotFound, ScriptError
+from .errors import Fault, LibraryNotFound, ScriptError, ScriptFault
 
 VARIABLE = "MAINCTX_LIBRARY"
 NAME = "libmainctx.so"
@@ -16,7 +18,7 @@ BESIDE = HERE / NAME  # where the package has the library along
 CHECKOUT = HERE.parents[1]  # where the package lies in bindings/python
 BUILT = CHECKOUT / "c" / "out" / NAME  # where make of bindings/c leaves it
 
-TEXT, MEMORY, SHORT_ROOM = 0, 6, 7  # what a call answers beside the numbers of faults (mainctx.h)
+TEXT, MEMORY, SHORT_ROOM, FAULTS = 0, 6, 7, 8  # what a call answers beside the numbers of faults (mainctx.h)
 FIRST_ROOM = 65536
 
 
@@ -40,23 +42,37 @@ def library() -> ctypes.CDLL:
             tried.append(str(fault))
             continue
         size, pointer = ctypes.c_size_t, ctypes.c_char_p
-        loaded.mainctx_run.restype = ctypes.c_uint32
-        loaded.mainctx_run.argtypes = [pointer, size, pointer, size, ctypes.POINTER(size)]
+        for call in (loaded.mainctx_run, loaded.mainctx_check):
+            call.restype = ctypes.c_uint32
+            call.argtypes = [pointer, size, pointer, size, ctypes.POINTER(size)]
         return loaded
     raise LibraryNotFound(tried)
 
 
-def text_of(script: bytes) -> str:
-    """The text of a script. Other threads of Python go on while it runs."""
+def _answer(call: Callable[..., int], script: bytes) -> tuple[int, bytes]:
+    """What a call answers of a script, and the text that it leaves. Other threads of Python go on meanwhile."""
     __tracebackhide__ = True
     room, needed = FIRST_ROOM, ctypes.c_size_t()
     while True:
         text = ctypes.create_string_buffer(room)
-        answer = library().mainctx_run(script, len(script), text, room, ctypes.byref(needed))
-        if answer == TEXT:
-            return text.raw[: needed.value].decode("ascii")
+        answer = call(script, len(script), text, room, ctypes.byref(needed))
         if answer == MEMORY:
             raise MemoryError("mainctx: a request for memory was refused")
         if answer != SHORT_ROOM:
-            raise ScriptError(Fault.by_number(answer))
+            return answer, text.raw[: needed.value]
         room = needed.value
+
+
+def text_of(script: bytes) -> str:
+    """The text of a script."""
+    __tracebackhide__ = True
+    answer, text = _answer(library().mainctx_run, script)
+    if answer != TEXT:
+        raise ScriptError(Fault.by_number(answer), faults_of(script))
+    return text.decode("ascii")
+
+
+def faults_of(script: bytes) -> tuple[ScriptFault, ...]:
+    """What is wrong with a script, 100 faults at most, in the order of their places."""
+    _, text = _answer(library().mainctx_check, script)
+    return tuple(ScriptFault.of_keys(json.loads(line)) for line in text.decode("utf-8").splitlines())

@@ -1,8 +1,10 @@
 """What a run refuses, and why the library is not found."""
 from __future__ import annotations
 
-from collections.abc import Sequence
+from collections.abc import Mapping, Sequence
+from dataclasses import dataclass
 from enum import Enum
+from typing import Any
 
 
 class Fault(Enum):
@@ -35,16 +37,37 @@ _WAYS = (
 )
 
 
-class ScriptError(ValueError):
-    """A script that is refused: its class, `fault`, and what that means, `message`. Nothing was run."""
+@dataclass(frozen=True)
+class ScriptFault:
+    """A fault of a script, at a place: as str in the words of mainctx_check."""
 
-    def __init__(self, fault: Fault, hint: str = "") -> None:
-        super().__init__(fault, hint)
+    fault: Fault
+    pointer: str  # to the value that is wrong (RFC 6901), "" for the whole script
+    line: int | None  # from 1 on, as the column, which counts characters; of a dict that of its JSON
+    column: int | None
+    wanted: str
+    found: str
+
+    @classmethod
+    def of_keys(cls, keys: Mapping[str, Any]) -> ScriptFault:
+        """The fault of an object of mainctx_check --json."""
+        return cls(Fault(keys["class"]), keys["pointer"], keys["line"], keys["column"], keys["wanted"], keys["found"])
+
+    def __str__(self) -> str:
+        return f"{self.pointer or 'the whole script'}: {self.fault.value}: {self.wanted}, {self.found}"
+
+
+class ScriptError(ValueError):
+    """A script that is refused: its class, `fault`, what that means, `message`, and each fault with its place, `faults`. Nothing was run."""
+
+    def __init__(self, fault: Fault, faults: Sequence[ScriptFault] = (), hint: str = "") -> None:
+        super().__init__(fault, faults, hint)
         self.fault = fault
+        self.faults = tuple(faults)
         self.message = f"{_MEANING[fault]}; {hint}" if hint else _MEANING[fault]
 
     def __str__(self) -> str:
-        return f"script: {self.fault.value}: {self.message}"
+        return "".join([f"script: {self.fault.value}: {self.message}", *(f"\n  {each}" for each in self.faults)])
 
 
 class LibraryNotFound(OSError):

@@ -9,8 +9,8 @@ from functools import cached_property
 from pathlib import Path
 from typing import Any, SupportsIndex, TypeVar, Union, overload
 
-from ._library import text_of
-from .errors import Fault, ScriptError
+from ._library import faults_of, text_of
+from .errors import Fault, ScriptError, ScriptFault
 from .lines import Dispatch, Line, Source, read_lines
 from .timeline import draw
 
@@ -158,5 +158,14 @@ def run(script: Script) -> Run:
         return Run(bytes_of, text_of(bytes_of))
     except ScriptError as refused:
         if refused.fault is Fault.NOT_JSON and isinstance(script, str) and not script.lstrip().startswith(("{", "[")):
-            raise ScriptError(Fault.NOT_JSON, "a str is the script itself; for a file give pathlib.Path(..)") from None
+            raise ScriptError(Fault.NOT_JSON, refused.faults, "a str is the script itself; for a file give pathlib.Path(..)") from None
         raise
+
+
+def check(script: Script) -> tuple[ScriptFault, ...]:
+    """What is wrong with a script, in the order of the places, 100 faults at most; nothing where `run` runs it.
+
+    Refused memory is a MemoryError, no library a LibraryNotFound, and a file that can't be read an OSError.
+    """
+    __tracebackhide__ = True
+    return faults_of(_bytes_of(script))

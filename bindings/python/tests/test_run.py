@@ -42,6 +42,33 @@ TWO_THREADS = {
 }  # fmt: skip
 
 
+class Checked(unittest.TestCase):
+    """What is wrong, worked out by hand from docs/FORMAT.md."""
+
+    SCRIPT = b"""{"version": 1, "ticks": 4, "tick_us": 1000,
+ "lanes": [{"contexts": 1,
+   "start": [["attach", 0, 300, {"kind": ["idle"]}], ["log", -1]]}]}"""
+
+    def test_nothing_is_wrong(self) -> None:
+        self.assertEqual(mainctx.check(TEN_LINES), ())
+
+    def test_each_fault_has_its_place(self) -> None:
+        slot, number = mainctx.check(self.SCRIPT)
+        self.assertEqual((slot.fault, slot.pointer, slot.line, slot.column), (Fault.LIMIT, "/lanes/0/start/0/2", 3, 28))
+        self.assertEqual((slot.wanted, slot.found), ("a slot is 0 to 255", "this is 300"))
+        self.assertEqual((number.fault, number.pointer, number.line, number.column), (Fault.LIMIT, "/lanes/0/start/1/1", 3, 62))
+
+    def test_a_refusal_tells_them(self) -> None:
+        with self.assertRaises(ScriptError) as caught:
+            mainctx.run(self.SCRIPT)
+        self.assertEqual(caught.exception.faults, mainctx.check(self.SCRIPT))
+        self.assertIn("/lanes/0/start/0/2: limit: a slot is 0 to 255, this is 300", str(caught.exception))
+
+    def test_what_is_no_json(self) -> None:
+        (fault,) = mainctx.check(b'{"version": 1,}')
+        self.assertEqual((fault.fault, fault.pointer, fault.wanted), (Fault.NOT_JSON, "", "one JSON value"))
+
+
 class Asked(unittest.TestCase):
     def setUp(self) -> None:
         self.run_ = mainctx.run(TEN_LINES)

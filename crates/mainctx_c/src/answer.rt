@@ -20,6 +20,8 @@ pub(crate) const RULE: u32 = 5;
 pub(crate) const MEMORY: u32 = 6;
 /// The text is longer than the room.
 pub(crate) const SHORT_ROOM: u32 = 7;
+/// Something is wrong with the script, and all of it is told in the room.
+pub(crate) const FAULTS: u32 = 8;
 
 /// The number of a class of fault.
 pub(crate) fn class_of(fault: ScriptFault) -> u32

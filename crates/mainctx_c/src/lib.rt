@@ -1,13 +1,15 @@
-//! The engine for callers that are not Rattle: one function, with C's calling convention.
+//! The engine for callers that are not Rattle: two functions, with C's calling convention.
 #![tactic(auto)]
 
-ghost use Rattle.std.specs.Prelude.{◌≡◌, ◌≤◌, ◌<◌, ◌⊎◌};
+ghost use Rattle.std.specs.Prelude.{◌≡◌, ◌≤◌, ◌<◌, ◌⊎◌, true, false};
 ghost use Rattle.mainctx_c.specs.Room.{HasAll, HasFront, HasFaultOf, HoldsText, HoldsFront};
+ghost use Rattle.script_report.specs.Verdict.{Judges};
 
 mod answer;
 
-use crate::answer::{MEMORY, SHORT_ROOM, TEXT, class_of};
+use crate::answer::{FAULTS, MEMORY, SHORT_ROOM, TEXT, class_of};
 use mainctx::{MainFault, OverWrite, run_alone};
+use script_report::{Form, check_script};
 use std::alloc::Global;
 
 /// Puts a text into a room, as much of it as fits, and answers whether that is the whole.
@@ -58,5 +60,43 @@ pub extern "C" fn mainctx_run(
         // (the writer is a list, which fails for want of memory alone)
         Err(MainFault::OutOfMemory | MainFault::Write) => MEMORY,
         Err(MainFault::Setup(_)) => unreachable!(),
+    }
+}
+
+/// Tells what is wrong with a script: each fault as a JSON object on a line, as `mainctx_check --json` tells it.
+///
+/// It answers 0 where nothing is wrong: then `mainctx_run` runs the script, `needed` is 0, and the room is as it was. It answers 8 where
+/// all that is wrong is told in the room, and 7 where the room is too short, and has as much of that as fits; in both cases `needed` is
+/// its length. It answers 6 where a request for memory was refused: then `needed` is 0, and the room is as it was. What is behind
+/// the text in the room stays too.
+#[unsafe(no_mangle)]
+pub extern "C" fn mainctx_check(
+    alloc: Global,
+    script: &[u8],
+    room: &mut [u8],
+    needed: &mut usize,
+) -> u32
+    ensures fine { result ≡ TEXT → Judges script.now true }
+    ensures faulty { (result ≡ FAULTS) ⊎ (result ≡ SHORT_ROOM) → Judges script.now false }
+    ensures stays { result ≤ MEMORY → room.new ≡ room.old }
+    ensures none { result ≤ MEMORY → needed.new ≡ 0 }
+    ensures answers { (result ≡ TEXT) ⊎ (MEMORY ≤ result × result ≤ FAULTS) }
+{
+    *needed = 0;
+    let mut told = String::new(alloc);
+    let form = Form {
+        json: true,
+        name: "",
+    };
+    match check_script(alloc, &form, script, &mut told) {
+        Err(_) => MEMORY,
+        Ok(true) => TEXT,
+        Ok(false) => {
+            *needed = told.len();
+            match fill(told.as_bytes(), room) {
+                TEXT => FAULTS,
+                _ => SHORT_ROOM,
+            }
+        }
     }
 }
