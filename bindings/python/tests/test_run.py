@@ -161,7 +161,9 @@ class Refused(unittest.TestCase):
 
     def test_what_is_told(self) -> None:
         refused = self.fault_of({})
-        self.assertEqual(str(refused), f"script: shape: {refused.message}")
+        told = str(refused).splitlines()
+        self.assertEqual(told[0], f"script: shape: {refused.message}")
+        self.assertEqual(told[1], "  the whole script: shape: a script needs the key version, this lacks it")
         self.assertIsInstance(refused, ValueError)
 
     def test_a_file_name_is_told_from_a_script(self) -> None:

@@ -1,8 +1,13 @@
 -- What a step does, as it is seen before it and by the lines that it writes.
-use Rattle.std.proofs.Common.{◌≡◌, ◌≢◌, ℕ, Bool, true, false, Option, Some, None, is_some, unwrap_or, List, [], ◌∷◌, ◌++◌, map, length, reverse, refl, ap, sym, ◌∙◌, subst, arith, length-append, option_map}
+use Rattle.std.proofs.Common.{◌≡◌, ◌≢◌, ℕ, Bool, true, false, Option, Some, None, is_some, unwrap_or, List, [], ◌∷◌, ◌++◌, map, length, reverse, refl, ap, sym, ◌∙◌, subst, arith, length-append, option_map, not, eqb}
 use Rattle.std.specs.Prelude.{slice_get, if◌then◌else◌}
 use Rattle.std.proofs.lemmas.List.{reverse-append}
+use Rattle.std.proofs.lemmas.Bool.{eqb-true, eq-eqb}
 use Rattle.std.specs.List.{last_or}
+use Rattle.std.specs.Iterator.{Drains}
+use Rattle.std.specs.Map.Iter.{TakesFirst}
+use Rattle.std.proofs.iter.Yields.{gives_Drains}
+use Rattle.std.proofs.lemmas.Iterator.Consumers.{YieldsList-from_rest}
 use Rattle.loop_script.specs.declared.plan.Plan.{Plan}
 use Rattle.loop_script.specs.declared.action.Action.{Action}
 use Rattle.loop_script.specs.declared.body.Body.{Body}
@@ -123,3 +128,21 @@ top_some (LoopOf number context ∷ frames) one e = ap (λ (o : Option Frame). t
     top_by : Option Frame → Top
     top_by None = tops.Nothing
     top_by (Some f) = top_of (f ∷ [])
+
+-- what was seen of what is in progress, when all of it was
+drained : (s : List Frame) (xs : List Activity) → Drains (TakesFirst frame_shown) s xs → map frame_shown xs ≡ s
+drained s xs d = gives_Drains (TakesFirst frame_shown) frame_shown xs s s (YieldsList-from_rest s refl).runs d
+
+pub nothing_seen : (frames s : List Frame) (xs : List Activity) → s ≡ reverse frames → Drains (TakesFirst frame_shown) s xs → None ≡ last_or None xs → top_of frames ≡ tops.Nothing
+nothing_seen frames s xs e d l = top_none frames (sym (last_shown xs frames (drained s xs d ∙ e)) ∙ ap (option_map frame_shown) (sym l))
+
+pub seen : (frames s : List Frame) (xs : List Activity) (a : Activity) → s ≡ reverse frames → Drains (TakesFirst frame_shown) s xs → Some a ≡ last_or None xs → top_of frames ≡ top_of (frame_shown a ∷ [])
+seen frames s xs a e d l = top_some frames (frame_shown a) (sym (last_shown xs frames (drained s xs d ∙ e)) ∙ ap (option_map frame_shown) (sym l))
+
+-- whether the lines are as many as before
+pub wrote_by : (a b : ℕ) (lines now : List Line) → a ≡ length now → b ≡ length lines → Wrote (not (eqb a b)) lines now
+wrote_by a b lines now p q = by (eqb a b) refl
+  where
+    by : (t : Bool) → eqb a b ≡ t → Wrote (not t) lines now
+    by true e = sym p ∙ (eqb-true a b e ∙ q)
+    by false e = λ k. let no : true ≡ false = sym (eq-eqb a b (p ∙ (k ∙ sym q))) ∙ e in cc

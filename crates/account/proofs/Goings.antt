@@ -26,7 +26,7 @@ use Rattle.account.proofs.States.{turning_none, lanes_length, first_unspent, res
 
 -- ---- parts that are the same
 
-place_same : {a b : List Lane} {l m : List Letter} {o p : Option Begun} {x y : Phase} → a ≡ b → l ≡ m → o ≡ p → x ≡ y → place_at a l o x ≡ place_at b m p y
+pub place_same : {a b : List Lane} {l m : List Letter} {o p : Option Begun} {x y : Phase} → a ≡ b → l ≡ m → o ≡ p → x ≡ y → place_at a l o x ≡ place_at b m p y
 place_same ea el eo ex = λ j. place_at (ea j) (el j) (eo j) (ex j)
 
 owns_same : {a b : List Lane} {o p : Option Begun} {x y : Phase} → a ≡ b → o ≡ p → x ≡ y → OwnsBegun a o x → OwnsBegun b p y
@@ -59,6 +59,28 @@ stands_begun script tick n g h b states s gp gb hp hb hl same goes own u c =
       owns = owns_same (sym (ap lanes_of same)) (sym hb) (sym hp) own;
       within = subst (IsWithin script tick) (sym there) (polls_within script tick (place_of g) s.within);
     }
+
+pub begun_place : (script : Plan) (tick n : ℕ) (g h : Going) (b : Begun) (states : List State) → g.phase ≡ phases.Turning n → g.begun ≡ None → h.phase ≡ phases.Turning n → h.begun ≡ Some b
+    → h.letters.items ≡ g.letters.items → h.lanes.items ≡ states → turning n (lanes_of states) (Some b) g.letters.items ≡ polled script tick (turning n (lanes_of g.lanes.items) None g.letters.items)
+    → place_of h ≡ polled script tick (place_of g)
+begun_place script tick n g h b states gp gb hp hb hl same goes = place_same (ap lanes_of same) hl hb hp ∙ (goes ∙ ap (polled script tick) (sym (place_same refl refl gb gp)))
+
+pub stepped_place : (script : Plan) (tick n : ℕ) (g h : Going) (b c : Begun) (states : List State) → g.phase ≡ phases.Turning n → g.begun ≡ Some b
+    → h.phase ≡ phases.Turning n → h.begun ≡ Some c → h.letters.items ≡ g.letters.items → h.lanes.items ≡ states
+    → moved script tick (turning n (lanes_of g.lanes.items) (Some b) g.letters.items) ≡ Some (turning_after true n (lanes_of states) c g.letters.items) → moved script tick (place_of g) ≡ Some (place_of h)
+stepped_place script tick n g h b c states gp gb hp hb hl same goes =
+    ap (moved script tick) (place_same refl refl gb gp) ∙ (goes ∙ ap Some (sym (place_same (ap lanes_of same) hl hb hp)))
+
+pub over_place : (script : Plan) (tick n : ℕ) (g h : Going) (b c : Begun) (states : List State) → g.phase ≡ phases.Turning n → g.begun ≡ Some b
+    → h.phase ≡ phases.Turning (n + 1) → h.begun ≡ None → h.letters.items ≡ g.letters.items ++ c.post → h.lanes.items ≡ states
+    → moved script tick (turning n (lanes_of g.lanes.items) (Some b) g.letters.items) ≡ Some (turning_after false n (lanes_of states) c g.letters.items) → moved script tick (place_of g) ≡ Some (place_of h)
+over_place script tick n g h b c states gp gb hp hb hl same goes =
+    ap (moved script tick) (place_same refl refl gb gp) ∙ (goes ∙ ap Some (sym (place_same (ap lanes_of same) hl hb hp)))
+
+pub received_place : (script : Plan) (tick n k : ℕ) (g h : Going) (states : List State) → g.phase ≡ phases.Bringing n k → h.phase ≡ phases.Bringing n (k + 1) → h.letters.items ≡ g.letters.items → h.lanes.items ≡ states
+    → moved script tick (bringing n k (lanes_of g.lanes.items) g.letters.items) ≡ Some (bringing n (k + 1) (lanes_of states) g.letters.items) → moved script tick (place_of g) ≡ Some (place_of h)
+received_place script tick n k g h states gp hp hl same goes =
+    ap (moved script tick) (place_same refl refl refl gp) ∙ (goes ∙ ap Some (sym (place_same {p = h.begun} (ap lanes_of same) hl refl hp)))
 
 -- it takes a step
 pub stands_stepped : (script : Plan) (tick n : ℕ) (g h : Going) (b c : Begun) (states : List State) → length script.lanes ≤ 64 → tick < 4096 → Stands script tick g → g.phase ≡ phases.Turning n → g.begun ≡ Some b

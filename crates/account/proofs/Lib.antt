@@ -4,3 +4,4 @@ pub mod Lined
 pub mod Goings
 pub mod Lines
 pub mod Did
+pub mod Moments

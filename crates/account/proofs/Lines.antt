@@ -1,5 +1,6 @@
 -- The lines that a move writes.
-use Rattle.std.proofs.Common.{◌≡◌, ◌≢◌, ℕ, zero, suc, ◌+◌, ◌<◌, ◌==◌, Bool, true, false, cond, Option, Some, None, List, [], ◌∷◌, ◌++◌, map, length, set, get_or, refl, ap, sym, ◌∙◌, subst, arith, append-nil}
+use Rattle.std.proofs.Common.{◌≡◌, ◌≢◌, ℕ, zero, suc, ◌+◌, ◌<◌, ◌≤◌, ◌==◌, Bool, true, false, cond, Option, Some, None, List, [], ◌∷◌, ◌++◌, map, length, set, get_or, refl, ap, sym, ◌∙◌, subst, arith, append-nil, ltb-true, ltb-false}
+use Rattle.std.specs.Prelude.{nat_lt}
 use Rattle.std.proofs.lemmas.Bool.{ne_eqb}
 use Rattle.lane_turn.specs.declared.line.Line.{Line}
 use Rattle.lane_turn.specs.declared.line.Event.TheVariants as events
@@ -93,3 +94,26 @@ grows_over tick h lanes s = record {
   lines = at_number_grows tick h h.to lanes;
   others = λ other n. at_number_stays tick h 0 other lanes s (λ e. n (omega (arith, e)));
 }
+
+-- ---- how many lines there are
+
+lines_past : (states : List State) (n : ℕ) → length states ≤ n → trace_at n (lanes_of states) ≡ []
+lines_past [] n h = refl
+lines_past (x ∷ states) zero h = absurd (omega (arith, h))
+lines_past (x ∷ states) (suc n) h = lines_past states n (omega (arith, h))
+
+pub lines_none : (states : List State) (n : ℕ) → false ≡ nat_lt n (length states) → trace_at n (lanes_of states) ≡ []
+lines_none states n e = lines_past states n (ltb-false n (length states) (sym e))
+
+pub lines_some : (states : List State) (n : ℕ) (s : State) → true ≡ nat_lt n (length states) → s ≡ get_or states n s → trace_at n (lanes_of states) ≡ s.lane.trace
+lines_some states n s e f = at_here states n s (ltb-true n (length states) (sym e)) ∙ ap (λ (k : State). k.lane.trace) (sym f)
+
+-- ---- the one in a place
+
+pub at_put : (states : List State) (i : ℕ) (s : State) → i < length states → trace_at i (lanes_of (set states i s)) ≡ s.lane.trace
+at_put states i s h = ap (trace_at i) (lanes_set states i s) ∙ at_set (lanes_of states) i s.lane (lanes_long states i h)
+
+pub same_there : (states : List State) (i : ℕ) (d e : State) → i < length states → get_or states i d ≡ get_or states i e
+same_there [] i d e h = absurd (omega (arith, h))
+same_there (x ∷ states) zero d e h = refl
+same_there (x ∷ states) (suc i) d e h = same_there states i d e (omega (arith, h))

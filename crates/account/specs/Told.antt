@@ -161,15 +161,20 @@ pub record TellsLines (moment : Moment) (lanes now : List Lane) : Type 0 where
 
 -- ---- a moment
 
+-- a move that is told, by its moment
+pub record IsMoment (script : Plan) (tick : Tick) (before now : Place) (moment : Moment) : Type 0 where
+  pub goes : told_move script tick before ≡ Some now
+  pub tells : told script tick before ≡ Some (record { lane = moment.lane; deed = moment.deed })
+  pub when : moment.tick ≡ tick
+  pub lines : TellsLines moment (lanes_in before) (lanes_in now)
+
 -- the spot of a run
 abbrev pub spot_of : Course → Spot
 spot_of course = record { tick = course.tick; place = course.place }
 
--- after moves of which nothing is told, the run has made the one of the moment
+-- after moves of which nothing is told, and which change no lane, the run has made the one of the moment
 pub record HasGone (old new : Course) (moment : Moment) : Type 0 where
   pub before : Place
   pub quiet : IsQuietTo new.script (spot_of old) (record { tick = new.tick; place = before })
-  pub moved : told_move new.script new.tick before ≡ Some new.place
-  pub told : told new.script new.tick before ≡ Some (record { lane = moment.lane; deed = moment.deed })
-  pub tick : moment.tick ≡ new.tick
-  pub lines : TellsLines moment (lanes_in old.place) (lanes_in new.place)
+  pub lanes : lanes_in before ≡ lanes_in old.place
+  pub is : IsMoment new.script new.tick before new.place moment

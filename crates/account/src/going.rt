@@ -1,9 +1,10 @@
 //! A tick of a run in progress.
-ghost use Rattle.std.specs.Prelude.{◌≡◌, ◌+◌, ◌<◌, ◌≤◌, ◌++◌, Ok, None, Some, length, OnOk};
+ghost use Rattle.std.specs.Prelude.{◌≡◌, ◌+◌, ◌<◌, ◌≤◌, ◌++◌, Ok, None, Some, length, IfOk, OnOk};
 ghost use Rattle.loop_script.specs.declared.plan.Plan.{Plan};
 ghost use Rattle.loop_script.specs.Bounds.{most_lanes, most_ticks};
 ghost use Rattle.lane_turn.specs.Tick.{lanes_at};
 ghost use Rattle.tick_stepper.specs.Account.{started, moved};
+ghost use Rattle.account.specs.Told.{trace_at, IsMoment};
 ghost use Rattle.account.specs.Standing.{lanes_of, AreUnspent, AreLined, place_of, Stands};
 
 use crate::fault::OutOfMemory;
@@ -65,10 +66,25 @@ impl Going {
     }
 
     /// How many lines a lane has written.
-    fn lines_of(&self, lane: usize) -> usize {
+    fn lines_of(&self, lane: usize) -> usize
+        ensures { result ≡ length (trace_at lane (lanes_of self.now.lanes.items)) }
+    {
         match self.lanes.get(lane) {
             None => 0,
             Some(lane) => lane.trace().len(),
+        }
+    }
+
+    /// The moment of what a lane has just done, which had written so many lines before.
+    fn moment(&self, tick: u32, lane: u32, deed: Deed, from: usize) -> Moment
+        ensures { result ≡ record { tick = tick; lane = lane; deed = deed; from = from; to = length (trace_at lane (lanes_of self.now.lanes.items)) } }
+    {
+        Moment {
+            tick,
+            lane,
+            deed,
+            from,
+            to: self.lines_of(lane as usize),
         }
     }
 
@@ -86,19 +102,12 @@ impl Going {
         requires phase { self.old.phase ≡ Phase.Turning lane }
         requires lane { lane < length self.old.lanes.items }
         ensures stands { OnOk result (Stands script.now tick self.new) }
+        ensures moment { IfOk result (IsMoment script.now tick (place_of self.old) (place_of self.new)) }
     {
-        let from = self.lines_of(lane);
-        let deed = match self.begun.take() {
-            None => self.begin(alloc, script, tick, lane)?,
-            Some(begun) => self.step(script, tick, lane, begun)?,
-        };
-        Ok(Moment {
-            tick,
-            lane: lane as u32,
-            deed,
-            from,
-            to: self.lines_of(lane),
-        })
+        match self.begun.take() {
+            None => self.begin(alloc, script, tick, lane),
+            Some(begun) => self.step(script, tick, lane, begun),
+        }
     }
 
     /// The turn of a lane begins.
@@ -108,17 +117,20 @@ impl Going {
         script: &Script,
         tick: u32,
         lane: usize,
-    ) -> Result<Deed, OutOfMemory>
+    ) -> Result<Moment, OutOfMemory>
+        requires few { length script.now.lanes ≤ most_lanes }
         requires tick { tick < most_ticks }
         requires stands { Stands script.now tick self.old }
         requires phase { self.old.phase ≡ Phase.Turning lane }
         requires begun { self.old.begun ≡ None }
         requires lane { lane < length self.old.lanes.items }
         ensures stands { OnOk result (Stands script.now tick self.new) }
+        ensures moment { IfOk result (IsMoment script.now tick (place_of self.old) (place_of self.new)) }
     {
+        let from = self.lines_of(lane);
         let begun = begin(alloc, script, tick, self.lanes.as_mut_slice(), lane)?;
         self.begun = Some(begun);
-        Ok(Deed::Polled)
+        Ok(self.moment(tick, lane as u32, Deed::Polled, from))
     }
 
     /// The turn of a lane, which was taken out, takes its next step, or is over.
@@ -128,24 +140,25 @@ impl Going {
         tick: u32,
         lane: usize,
         mut begun: Begun,
-    ) -> Result<Deed, OutOfMemory>
+    ) -> Result<Moment, OutOfMemory>
         requires few { length script.now.lanes ≤ most_lanes }
         requires tick { tick < most_ticks }
         requires stands { Stands script.now tick (record self.old { begun = Some begun }) }
         requires phase { self.old.phase ≡ Phase.Turning lane }
         requires lane { lane < length self.old.lanes.items }
         ensures stands { OnOk result (Stands script.now tick self.new) }
+        ensures moment { IfOk result (IsMoment script.now tick (place_of (record self.old { begun = Some begun })) (place_of self.new)) }
     {
         let from = self.lines_of(lane);
         let ahead = foreseen(script, &self.lanes[lane]);
         let more = step(script, tick, self.lanes.as_mut_slice(), lane, &mut begun)?;
-        let wrote = self.lines_of(lane) != from;
+        let deed = done(ahead, more, self.lines_of(lane) != from);
         if more {
             self.begun = Some(begun);
         } else {
             self.end_turn(lane, begun)?;
         }
-        Ok(done(ahead, more, wrote))
+        Ok(self.moment(tick, lane as u32, deed, from))
     }
 
     /// The turn of a lane is over: what it posted is behind the letters of the turns before.
@@ -205,16 +218,11 @@ impl Going {
         if !hand(tick, self.lanes.as_mut_slice(), gift)? {
             return Ok(None);
         }
-        Ok(Some(Moment {
-            tick,
-            lane: gift.to,
-            deed: Deed::HandedOver {
-                context: gift.context,
-                from: gift.from,
-            },
-            from,
-            to: self.lines_of(gift.to as usize),
-        }))
+        let deed = Deed::HandedOver {
+            context: gift.context,
+            from: gift.from,
+        };
+        Ok(Some(self.moment(tick, gift.to, deed, from)))
     }
 
     /// The next letter is brought: to a lane, or where that has them all to the one behind it. None where all lanes have all letters.
@@ -261,6 +269,7 @@ impl Going {
         requires lane { lane < length self.old.lanes.items }
         requires letter { letter < length self.old.letters.items }
         ensures stands { OnOk result (Stands script.now tick self.new) }
+        ensures moment { IfOk result (IsMoment script.now tick (place_of self.old) (place_of self.new)) }
     {
         let from = self.lines_of(lane);
         let sender = self.letters[letter].sender;
@@ -276,13 +285,7 @@ impl Going {
             lane,
             letter: letter + 1,
         };
-        Ok(Moment {
-            tick,
-            lane: lane as u32,
-            deed: Deed::Received { letter, sender },
-            from,
-            to: self.lines_of(lane),
-        })
+        Ok(self.moment(tick, lane as u32, Deed::Received { letter, sender }, from))
     }
 
     /// A tick is over, and the next begins: no turn is begun, and nothing posted.

@@ -1,5 +1,5 @@
 //! Contexts go from lane to lane at the end of a tick.
-ghost use Rattle.std.specs.Prelude.{◌≡◌, map, IfOk, OnOk};
+ghost use Rattle.std.specs.Prelude.{◌≡◌, map, is_some, IfOk, OnOk};
 ghost use Rattle.std.specs.Option.{option_and_then};
 ghost use Rattle.post_office.specs.declared.letter.Body.TheVariants.{Give as GiveBody};
 ghost use Rattle.lane_turn.specs.Handover.{handed_of, left_by, taken_over, lane_of_number, handing_by, moved};
@@ -67,7 +67,8 @@ fn take_over(tick: u32, lanes: &mut [LaneState], to: u32, held: Held) -> Result<
 /// A context goes from the lane that gave it to another. It answers whether one did.
 pub(crate) fn hand(tick: u32, lanes: &mut [LaneState], gift: Gift) -> Result<bool, OutOfMemory>
     requires lined { AreLined lanes.old }
-    ensures { OnOk result (lanes.new ≡ map unspent (moved tick (handing_by gift.from (GiveBody gift.context gift.to) (lanes_of lanes.old)) (lanes_of lanes.old))) }
+    ensures went { IfOk result (λ went. went ≡ is_some (handing_by gift.from (GiveBody gift.context gift.to) (lanes_of lanes.old))) }
+    ensures gone { OnOk result (lanes.new ≡ map unspent (moved tick (handing_by gift.from (GiveBody gift.context gift.to) (lanes_of lanes.old)) (lanes_of lanes.old))) }
 {
     match hand_over(lanes, gift.from, gift.context)? {
         None => Ok(false),

@@ -3,6 +3,7 @@ ghost use Rattle.std.specs.Prelude.{◌≡◌, ◌+◌, ◌<◌, Some, length, d
 ghost use Rattle.loop_script.specs.Bounds.{most_ticks};
 ghost use Rattle.tick_stepper.specs.Account.{moved};
 ghost use Rattle.account.specs.Within.{AllMayTake};
+ghost use Rattle.account.specs.Told.{GrowsAt};
 ghost use Rattle.account.specs.Standing.{lanes_of, AreUnspent, bringing};
 
 use crate::fault::OutOfMemory;
@@ -26,6 +27,7 @@ pub(crate) fn receive(
     requires may { AllMayTake script.now tick (drop at (lanes_of lanes.old)) (drop place letters.now) letters.now }
     ensures moved { OnOk result (moved script.now tick (bringing at place (lanes_of lanes.old) letters.now) ≡ Some (bringing at (place + 1) (lanes_of lanes.new) letters.now)) }
     ensures unspent { OnOk result (AreUnspent lanes.new) }
+    ensures grows { OnOk result (GrowsAt tick at (lanes_of lanes.old) (lanes_of lanes.new)) }
 {
     lanes[at].deliver(script, tick, &letters[place..place + 1])?;
     Ok(())

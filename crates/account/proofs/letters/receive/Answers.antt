@@ -1,7 +1,10 @@
-use Rattle.std.proofs.Common.{◌≡◌, ◌^◌, ℕ, zero, suc, ◌+◌, ◌-◌, ◌<◌, List, ◌∷◌, [], length, take, drop, get_or, ap, ◌∙◌, arith}
+use Rattle.std.proofs.Common.{◌≡◌, ◌^◌, ℕ, zero, suc, ◌+◌, ◌-◌, ◌<◌, List, ◌∷◌, [], length, take, drop, get_or, ap, sym, subst, ◌∙◌, arith}
 use Rattle.std.proofs.lemmas.List.{drop_more}
 use Rattle.post_office.specs.declared.letter.Letter.{Letter}
-use Rattle.lane_turn.specs.Lane.{State}
+use Rattle.lane_turn.specs.Lane.{Lane, State}
+use Rattle.lane_turn.specs.Traces.{Grows, IsOf}
+use Rattle.lane_turn.proofs.Traced.{delivery_grows}
+use Rattle.account.proofs.Lines.{grows_put}
 use Rattle.account.proofs.States.{may_here, receives_at, unspent_put}
 use Rattle.account.proofs.letters.receive.Goals as goal
 
@@ -28,3 +31,10 @@ returns-clause-moved c =
 
 pub returns-clause-unspent : goal.returns-clause-unspent
 returns-clause-unspent c = unspent_put c.args.lanes.now c.args.at c.deliver.new.self c.requires.unspent c.in_ok-deliver.ensures.lasts
+
+pub returns-clause-grows : goal.returns-clause-grows
+returns-clause-grows c =
+    let d : State = c.index-lanes-at.result in
+    let lane : Lane = (get_or c.args.lanes.now c.args.at d).lane in
+    grows_put c.args.tick c.args.lanes.now c.args.at d c.deliver.new.self (omega arith)
+    (subst (λ (l : Lane). Grows (IsOf c.args.tick) lane.trace l.trace) (sym c.in_ok-deliver.ensures.delivered) (delivery_grows c.args.script.now c.args.tick (take (c.args.place + 1 - c.args.place) (drop c.args.place c.args.letters.now)) lane))

@@ -18,12 +18,14 @@ invariant_of-self-in_default c =
     let unspent = subst (λ v. AreUnspent v.items) (sym began.lanes) c.in_ok-moment.ensures.stands.unspent in
     let lanes = ap (λ v. lanes_of v.items) began.lanes ∙ over in
     let there = began.place ∙ ap (λ v. started (lanes_of v.items)) (sym began.lanes) in
-    let low : s.tick + 1 ≤ 4096 = omega (arith, left, c.ticks-most.ensures.few, c.ticks-most.ensures.ticks) in
-    (omega (arith, left), few,
+    let low : s.tick + 1 ≤ 4096 = omega (arith, left, c.ticks-most.ensures.few, c.ticks-most.ensures.ticks) in (
+      omega (arith, left),
+      few,
       λ _. record {
         stands = stands_started s.script (s.tick + 1) c.begin_tick.new.self few low there began.phase began.begun unspent lanes;
         last = λ _. began.place ∙ ap started over;
-      })
+      },
+    )
 
 pub returns-clause-leads : goal.returns-clause-leads
 returns-clause-leads c = ends_within c.self.inside.script c.self.inside.tick _ c.in_ok-moment.ensures.stands.within
