@@ -93,13 +93,14 @@ fn push_lines(
         return Err(AllocError);
     }
     out.push_str(",\"lines\":[")?;
-    let mut between = "";
-    for line in from_utf8(bytes.as_slice()).unwrap_or("").lines().skip(1) {
-        out.push_str(between)?;
+    let text = from_utf8(bytes.as_slice()).unwrap_or("");
+    for (n, line) in text.lines().skip(1).enumerate() {
+        if n != 0 {
+            out.push_str(",")?;
+        }
         out.push_str("\"")?;
         out.push_str(line)?;
         out.push_str("\"")?;
-        between = ",";
     }
     out.push_str("]")
 }
