@@ -1,0 +1,7 @@
+pub mod Within
+pub mod States
+pub mod Lined
+pub mod Goings
+pub mod Lines
+pub mod Did
+pub mod Moments

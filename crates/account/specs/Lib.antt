@@ -1,0 +1,5 @@
+pub mod Course
+pub mod Within
+pub mod Standing
+pub mod Gifts
+pub mod Told

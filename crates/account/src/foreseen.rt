@@ -1,10 +1,17 @@
 //! What a lane's next step does.
+ghost use Rattle.std.specs.Prelude.{◌≡◌, slice_get};
+ghost use Rattle.loop_script.specs.Parts.{actions_of};
+ghost use Rattle.lane_turn.specs.Frames.{top_of};
+ghost use Rattle.account.specs.Told.{did_call, did_iteration, foreseen_top, done};
+
 use crate::moment::Deed;
 use lane_turn::{Activity, LaneState};
 use loop_script::{Body, Script};
 
 /// What the next step of a lane's turn does, where there is one. Of the run of a loop it is told as if it began an iteration.
-pub(crate) fn foreseen(script: &Script, lane: &LaneState) -> Deed {
+pub(crate) fn foreseen(script: &Script, lane: &LaneState) -> Deed
+    ensures { result ≡ foreseen_top script.now lane.now.lane (top_of lane.now.lane.frames) }
+{
     match lane.frames().last() {
         None => Deed::Rests,
         Some(Activity::Call(call)) => of_call(script, call.body, call.place),
@@ -21,7 +28,9 @@ pub(crate) fn foreseen(script: &Script, lane: &LaneState) -> Deed {
 }
 
 /// A call takes its next action, or returns.
-fn of_call(script: &Script, body: Body, place: usize) -> Deed {
+fn of_call(script: &Script, body: Body, place: usize) -> Deed
+    ensures { result ≡ did_call body place (slice_get (actions_of script.now body) place) }
+{
     if place < script.actions(body).len() {
         Deed::Acted { body, place }
     } else {
@@ -30,7 +39,9 @@ fn of_call(script: &Script, body: Body, place: usize) -> Deed {
 }
 
 /// An iteration takes its next id, or ends.
-fn of_iteration(lane: &LaneState, context: u32, next: Option<u64>) -> Deed {
+fn of_iteration(lane: &LaneState, context: u32, next: Option<u64>) -> Deed
+    ensures { result ≡ did_iteration lane.now.lane context next }
+{
     let Some(source) = next else {
         return Deed::IterationEnded { context };
     };
@@ -46,8 +57,10 @@ fn of_iteration(lane: &LaneState, context: u32, next: Option<u64>) -> Deed {
     }
 }
 
-/// What a step did, by what was foreseen of it, whether there was one, and how many lines it wrote: a loop that was quit writes one.
-pub(crate) fn done(foreseen: Deed, more: bool, lines: usize) -> Deed {
+/// What a step did, by what was foreseen of it, whether there was one, and whether it wrote: a loop that was quit does.
+pub(crate) fn done(foreseen: Deed, more: bool, wrote: bool) -> Deed
+    ensures { result ≡ done foreseen more wrote }
+{
     if !more {
         return Deed::Rests;
     }
@@ -55,7 +68,7 @@ pub(crate) fn done(foreseen: Deed, more: bool, lines: usize) -> Deed {
         Deed::Iterated {
             loop_number,
             context,
-        } if lines != 0 => Deed::LoopEnded {
+        } if wrote => Deed::LoopEnded {
             loop_number,
             context,
         },

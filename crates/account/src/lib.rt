@@ -6,7 +6,9 @@ mod fault;
 mod foreseen;
 mod going;
 mod hand;
+mod letters;
 mod moment;
+mod turns;
 
 pub use account::Account;
 pub use fault::AccountFault;

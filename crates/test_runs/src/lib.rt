@@ -2,6 +2,8 @@
 #![tactic(auto)]
 
 #[cfg(test)]
+mod account_tests;
+#[cfg(test)]
 mod edge_tests;
 #[cfg(test)]
 mod gate_tests;

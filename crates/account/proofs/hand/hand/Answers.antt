@@ -1,0 +1,44 @@
+use Rattle.std.proofs.Common.{◌≡◌, ap, sym, ◌∙◌, subst, List, map, is_some}
+use Rattle.lane_turn.specs.Lane.{Lane}
+use Rattle.lane_turn.specs.Handover.{left_by, taken_over, handing, moved}
+use Rattle.tick_stepper.specs.Share.{at_number}
+use Rattle.tick_stepper.proofs.Lined.{counted_left, over_none, over_some}
+use Rattle.account.specs.Standing.{unspent, lanes_of, AreLined}
+use Rattle.account.proofs.Lined.{lanes_unspent, lined, counted_in}
+use Rattle.account.proofs.hand.hand.Goals as goal
+
+pub take_over-requires : goal.take_over-requires
+take_over-requires c =
+    let lanes : List Lane = lanes_of c.args.lanes.now in
+    let left : List Lane = map (at_number c.args.gift.from (left_by c.args.gift.context)) lanes in
+    record { lined = subst AreLined (sym c.in_ok-hand_over.ensures.left) (lined left (counted_left c.args.gift.from c.args.gift.context lanes (counted_in c.args.lanes.now c.requires.lined))) }
+
+pub returns-in-None-clause-gone : goal.returns-in-None-clause-gone
+returns-in-None-clause-gone c =
+    let lanes : List Lane = lanes_of c.args.lanes.now in
+    let none = sym c.in_ok-hand_over.ensures.held ∙ c.in-None.is in
+    c.in_ok-hand_over.ensures.left
+    ∙ ap (map unspent) (over_none c.args.gift.from c.args.gift.context lanes (counted_in c.args.lanes.now c.requires.lined) none
+    ∙ ap (λ o. moved c.args.tick (handing c.args.gift.from c.args.gift.to o) lanes) (sym none))
+
+pub returns-in_ok-take_over-in-Some-clause-gone : goal.returns-in_ok-take_over-in-Some-clause-gone
+returns-in_ok-take_over-in-Some-clause-gone c =
+    let lanes : List Lane = lanes_of c.args.lanes.now in
+    let left : List Lane = map (at_number c.args.gift.from (left_by c.args.gift.context)) lanes in
+    let some = sym c.in_ok-hand_over.ensures.held ∙ c.in-Some.is in
+    let same : lanes_of c.hand_over.new.lanes ≡ left = ap lanes_of c.in_ok-hand_over.ensures.left ∙ lanes_unspent left in
+    let goes =
+    ap (map unspent) (ap (map (at_number c.args.gift.to (taken_over c.args.tick c.in-Some.held))) same
+    ∙ (over_some c.args.tick c.args.gift.from c.args.gift.context c.args.gift.to lanes c.in-Some.held (counted_in c.args.lanes.now c.requires.lined) some
+    ∙ ap (λ o. moved c.args.tick (handing c.args.gift.from c.args.gift.to o) lanes) (sym some))) in
+    c.in_ok-take_over-in-Some.ensures ∙ goes
+
+pub returns-in-None-clause-went : goal.returns-in-None-clause-went
+returns-in-None-clause-went c =
+    let none = sym c.in_ok-hand_over.ensures.held ∙ c.in-None.is in
+    ap (λ o. is_some (handing c.args.gift.from c.args.gift.to o)) (sym none)
+
+pub returns-in_ok-take_over-in-Some-clause-went : goal.returns-in_ok-take_over-in-Some-clause-went
+returns-in_ok-take_over-in-Some-clause-went c =
+    let some = sym c.in_ok-hand_over.ensures.held ∙ c.in-Some.is in
+    ap (λ o. is_some (handing c.args.gift.from c.args.gift.to o)) (sym some)

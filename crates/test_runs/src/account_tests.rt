@@ -1,0 +1,152 @@
+//! Runs told moment by moment: the worked first run, the lines of all moments, and refused memory.
+use crate::script_tests::first_run;
+use crate::worked::{Worked, cancels, given_with_letters, posts, tasks};
+use account::{Account, AccountFault, Deed, Moment};
+use loop_script::{Body, Script};
+use mainctx::{OutOfMemory, add_text};
+use std::alloc::Global;
+use std::process::Abort;
+use std::test::Fail;
+
+/// More moments than a worked script has.
+const MOST: u32 = 2000;
+
+/// What the worked first run does, one after another: an idle source is attached, loop 0 runs, and the source is dispatched and goes; in the
+/// second tick the loop iterates and selects nothing.
+fn first_deed(k: u32) -> Deed {
+    match k {
+        0 | 9 => Deed::Polled,
+        1 => Deed::Acted {
+            body: Body::Start(0),
+            place: 0,
+        },
+        2 => Deed::Acted {
+            body: Body::Start(0),
+            place: 1,
+        },
+        3 | 10 => Deed::Iterated {
+            loop_number: 0,
+            context: 0,
+        },
+        4 => Deed::Dispatched {
+            context: 0,
+            source: 1,
+        },
+        5 => Deed::Acted {
+            body: Body::Procedure(0),
+            place: 0,
+        },
+        6 => Deed::Returned {
+            body: Body::Procedure(0),
+        },
+        7 | 11 => Deed::IterationEnded { context: 0 },
+        _ => Deed::Rests,
+    }
+}
+
+/// How many lines stand before a moment of it: it writes the dispatch and the 7.
+fn first_lines(k: u32) -> usize {
+    match k {
+        0..=4 => 0,
+        5 => 1,
+        _ => 2,
+    }
+}
+
+fn first_moment(k: u32) -> Moment {
+    Moment {
+        tick: if k < 9 { 0 } else { 1 },
+        lane: 0,
+        deed: first_deed(k),
+        from: first_lines(k),
+        to: first_lines(k + 1),
+    }
+}
+
+fn expect_moment(rt: &impl Abort, found: Option<Moment>, wanted: Option<Moment>) {
+    assert_eq!(rt; found, wanted);
+}
+
+#[test]
+fn tells_the_first_run(rt: HostRuntime) -> Result<(), Fail> {
+    let script = Script::read(rt.alloc(), first_run().as_bytes())?;
+    let mut account = Account::new(rt.alloc(), script)?;
+    for k in 0..13 {
+        let found = account.next()?;
+        expect_moment(&rt, found, Some(first_moment(k)));
+    }
+    let found = account.next()?;
+    expect_moment(&rt, found, None);
+    assert_eq!(rt; account.tick(), 2);
+    Ok(())
+}
+
+/// Goes on to the end of a run, and answers how many lines its moments wrote.
+fn count_lines(account: &mut Account) -> Result<usize, AccountFault> {
+    let mut lines: usize = 0;
+    'moments: for _ in 0..MOST {
+        match account.next()? {
+            None => return Ok(lines),
+            Some(moment) => lines = lines.saturating_add(moment.to.saturating_sub(moment.from)),
+        }
+    }
+    Ok(0)
+}
+
+/// The text of what the lanes have written.
+fn text_of(alloc: Global, account: &Account) -> Result<Vec<u8>, OutOfMemory> {
+    let mut text = Vec::new(alloc);
+    for number in 0..account.script().lanes() {
+        if let Some(lane) = account.lane(number) {
+            add_text(&mut text, number, lane.trace())?;
+        }
+    }
+    Ok(text)
+}
+
+/// A text has a heading for each lane, and the lines.
+fn expect_lines(rt: &impl Abort, text: &str, lanes: u32, lines: usize) {
+    assert_eq!(rt; text.lines().count(), lines.saturating_add(lanes as usize));
+}
+
+/// Where a request for memory was refused the account is spent; else the text is that of the vector, and the moments wrote each line.
+fn expect_or_spent(rt: &impl Abort, alloc: Global, worked: Worked) {
+    let Ok(script) = Script::read(alloc, worked.script.as_bytes()) else {
+        return;
+    };
+    let Ok(mut account) = Account::new(alloc, script) else {
+        return;
+    };
+    match count_lines(&mut account) {
+        Err(fault) => {
+            assert_eq!(rt; fault, AccountFault::OutOfMemory);
+            assert_eq!(rt; account.next(), Err(AccountFault::Spent));
+        }
+        Ok(lines) => {
+            expect_lines(rt, worked.text, account.script().lanes(), lines);
+            if let Ok(text) = text_of(alloc, &account) {
+                assert_eq!(rt; text.as_slice(), worked.text.as_bytes());
+            }
+        }
+    }
+}
+
+#[test]
+fn refused_account_of_posts(rt: HostRuntime) {
+    expect_or_spent(&rt, rt.alloc(), posts());
+}
+
+#[test]
+fn refused_account_of_cancels(rt: HostRuntime) {
+    expect_or_spent(&rt, rt.alloc(), cancels());
+}
+
+#[test]
+fn refused_account_of_tasks(rt: HostRuntime) {
+    expect_or_spent(&rt, rt.alloc(), tasks());
+}
+
+#[test]
+fn refused_account_of_a_context_that_is_given(rt: HostRuntime) {
+    expect_or_spent(&rt, rt.alloc(), given_with_letters());
+}
