@@ -93,13 +93,14 @@ fn push_lines(
         return Err(AllocError);
     }
     out.push_str(",\"lines\":[")?;
-    let mut between = "";
-    for line in from_utf8(bytes.as_slice()).unwrap_or("").lines().skip(1) {
-        out.push_str(between)?;
+    let text = from_utf8(bytes.as_slice()).unwrap_or("");
+    for (n, line) in text.lines().skip(1).enumerate() {
+        if n != 0 {
+            out.push_str(",")?;
+        }
         out.push_str("\"")?;
         out.push_str(line)?;
         out.push_str("\"")?;
-        between = ",";
     }
     out.push_str("]")
 }
@@ -113,52 +114,59 @@ fn push_body(out: &mut String, body: Body) -> Result<(), AllocError> {
     }
 }
 
+/// Adds the word of what was done to a source, and its keys.
+fn push_of_source(
+    out: &mut String,
+    word: &str,
+    context: u32,
+    source: u64,
+) -> Result<(), AllocError> {
+    write!(out, "\"{word}\",\"context\":{context},\"source\":{source}")
+}
+
+/// Adds the word of what a loop did, and its keys.
+fn push_of_loop(out: &mut String, word: &str, number: u32, context: u32) -> Result<(), AllocError> {
+    write!(out, "\"{word}\",\"loop\":{number},\"context\":{context}")
+}
+
+/// Adds the keys of an action.
+fn push_acted(
+    out: &mut String,
+    script: &Script,
+    body: Body,
+    place: usize,
+) -> Result<(), AllocError> {
+    out.push_str("\"acted\"")?;
+    push_body(out, body)?;
+    let word = match script.actions(body).get(place) {
+        Some(action) => action_word(action),
+        None => "",
+    };
+    write!(out, ",\"place\":{place},\"action\":\"{word}\"")
+}
+
 /// Adds the word of what was done, and its keys.
 fn push_deed(out: &mut String, script: &Script, deed: Deed) -> Result<(), AllocError> {
     match deed {
         Deed::Polled => out.push_str("\"polled\""),
-        Deed::Acted { body, place } => {
-            out.push_str("\"acted\"")?;
-            push_body(out, body)?;
-            let word = match script.actions(body).get(place) {
-                Some(action) => action_word(action),
-                None => "",
-            };
-            write!(out, ",\"place\":{place},\"action\":\"{word}\"")
-        }
+        Deed::Acted { body, place } => push_acted(out, script, body, place),
         Deed::Returned { body } => {
             out.push_str("\"returned\"")?;
             push_body(out, body)
         }
-        Deed::Dispatched { context, source } => {
-            write!(
-                out,
-                "\"dispatched\",\"context\":{context},\"source\":{source}"
-            )
-        }
-        Deed::PassedOver { context, source } => {
-            write!(
-                out,
-                "\"passed_over\",\"context\":{context},\"source\":{source}"
-            )
-        }
+        Deed::Dispatched { context, source } => push_of_source(out, "dispatched", context, source),
+        Deed::PassedOver { context, source } => push_of_source(out, "passed_over", context, source),
         Deed::IterationEnded { context } => {
             write!(out, "\"iteration_ended\",\"context\":{context}")
         }
         Deed::Iterated {
             loop_number,
             context,
-        } => write!(
-            out,
-            "\"iterated\",\"loop\":{loop_number},\"context\":{context}"
-        ),
+        } => push_of_loop(out, "iterated", loop_number, context),
         Deed::LoopEnded {
             loop_number,
             context,
-        } => write!(
-            out,
-            "\"loop_ended\",\"loop\":{loop_number},\"context\":{context}"
-        ),
+        } => push_of_loop(out, "loop_ended", loop_number, context),
         Deed::Rests => out.push_str("\"rests\""),
         Deed::HandedOver { context, from } => {
             write!(out, "\"handed_over\",\"context\":{context},\"from\":{from}")
