@@ -44,7 +44,7 @@ step_grows script tick t = by (step script tick t) refl
 abbrev pub moment_of : ℕ → ℕ → Deed → List Lane → List Lane → Moment
 moment_of tick n deed lanes now = record { tick = tick; lane = n; deed = deed; from = length (trace_at n lanes); to = length (trace_at n now) }
 
-tells_lines : (tick n : ℕ) (deed : Deed) (g h : Going) → GrowsAt tick n (lanes_of g.lanes.items) (lanes_of h.lanes.items)
+pub tells_lines : (tick n : ℕ) (deed : Deed) (g h : Going) → GrowsAt tick n (lanes_of g.lanes.items) (lanes_of h.lanes.items)
     → TellsLines (moment_of tick n deed (lanes_of g.lanes.items) (lanes_of h.lanes.items)) (lanes_in (place_of g)) (lanes_in (place_of h))
 tells_lines tick n deed g h grows =
     let m : Moment = moment_of tick n deed (lanes_of g.lanes.items) (lanes_of h.lanes.items) in
