@@ -1,5 +1,5 @@
 -- The fields of a tick in progress, as moves change them.
-use Rattle.std.proofs.Common.{◌≡◌, ℕ, zero, suc, ◌+◌, ◌<◌, ◌≤◌, Bool, true, false, Option, Some, None, List, [], ◌∷◌, ◌++◌, map, length, take, drop, get_or, refl, ap, sym, ◌∙◌, subst, arith, is_some, ltb-true, ltb-false}
+use Rattle.std.proofs.Common.{◌≡◌, ℕ, zero, suc, ◌+◌, ◌<◌, ◌≤◌, true, false, Option, Some, None, List, [], ◌∷◌, ◌++◌, map, length, take, drop, get_or, refl, ap, sym, ◌∙◌, subst, arith, is_some, ltb-true, ltb-false}
 use Rattle.std.specs.Prelude.{slice_get, option_map, IfSome, nat_lt}
 use Rattle.std.specs.Option.{option_copied}
 use denote.Ref.{Bor}
@@ -9,17 +9,17 @@ use Rattle.post_office.specs.declared.letter.Letter.{Letter}
 use Rattle.lane_turn.specs.Lane.{Lane, State}
 use Rattle.lane_turn.specs.Handover.{handing_by, handing_of, moved as gone_over}
 use Rattle.lane_turn.specs.Tick.{lanes_at}
-use Rattle.tick_stepper.specs.Account.{Place, Turning, Giving, Bringing, started, moved, lanes_in}
+use Rattle.tick_stepper.specs.Account.{Giving, Bringing, started, moved, lanes_in}
 use Rattle.account.specs.declared.turns.Begun.{Begun}
 use Rattle.account.specs.declared.going.Going.{Going}
 use Rattle.account.specs.declared.going.Phase.{Phase}
 use Rattle.account.specs.declared.going.Phase.TheVariants as phases
-use Rattle.account.specs.Within.{GoesOver, IsWithin, AllMayTake, polled}
+use Rattle.account.specs.Within.{IsWithin, AllMayTake, polled}
 use Rattle.post_office.specs.declared.letter.Body.TheVariants as mails
 use Rattle.account.specs.declared.hand.Gift.{Gift}
 use Rattle.account.specs.Gifts.{gift_of}
 use Rattle.account.proofs.Lined.{lanes_unspent, gift_goes}
-use Rattle.account.specs.Standing.{unspent, lanes_of, AreUnspent, AreLined, OwnsTurn, IsInTurn, turning_from, turning, turning_after, bringing, place_at, place_of, OwnsBegun, Stands}
+use Rattle.account.specs.Standing.{unspent, lanes_of, AreUnspent, AreLined, OwnsTurn, turning_from, turning, turning_after, bringing, place_at, place_of, OwnsBegun, Stands}
 use Rattle.account.proofs.Within.{polls_within, moves_within, over_within, begins_within}
 use Rattle.tick_stepper.proofs.Counted.{lane_count}
 use Rattle.account.proofs.States.{turning_none, lanes_length, first_unspent, rest_unspent}

@@ -1,15 +1,14 @@
 -- Moves of which nothing is told.
-use Rattle.std.proofs.Common.{◌≡◌, ℕ, zero, suc, ◌+◌, ◌<◌, ◌≤◌, true, false, Option, Some, None, is_some, List, [], ◌∷◌, length, take, drop, get_or, refl, ap, sym, ◌∙◌, subst, arith}
+use Rattle.std.proofs.Common.{◌≡◌, ℕ, zero, suc, ◌+◌, ◌<◌, ◌≤◌, true, false, Option, Some, None, is_some, List, [], ◌∷◌, length, take, drop, get_or, refl, ap, sym, ◌∙◌, subst}
 use Rattle.std.specs.Prelude.{Result, Ok, Err, IfOk, IfSome}
 use Rattle.std.specs.Option.{option_and_then}
-use Rattle.std.proofs.lemmas.List.{drop_more, drop_all, take_all}
+use Rattle.std.proofs.lemmas.List.{drop_more, drop_all}
 use Rattle.loop_script.specs.declared.plan.Plan.{Plan}
 use Rattle.post_office.specs.declared.letter.Letter.{Letter}
 use Rattle.post_office.specs.declared.letter.Body.TheVariants as mails
-use Rattle.lane_turn.specs.Lane.{Lane, State, Kept}
+use Rattle.lane_turn.specs.Lane.{Lane, Kept}
 use Rattle.lane_turn.specs.Handover.{Handing, handing, handing_by, handing_of, moved as gone_over}
-use Rattle.tick_stepper.specs.Account.{Place, Turning, Giving, Bringing, started, moved, lanes_in}
-use Rattle.account.specs.declared.turns.Begun.{Begun}
+use Rattle.tick_stepper.specs.Account.{Place, Giving, Bringing, started, moved, lanes_in}
 use Rattle.account.specs.declared.going.Going.{Going}
 use Rattle.account.specs.declared.going.Phase.TheVariants as phases
 use Rattle.account.specs.declared.hand.Gift.{Gift}
@@ -17,7 +16,7 @@ use Rattle.account.specs.declared.moment.Deed.TheVariants as deeds
 use Rattle.account.specs.declared.moment.Moment.{Moment}
 use Rattle.account.specs.Gifts.{gift_of}
 use Rattle.account.specs.Within.{StandFrom}
-use Rattle.account.specs.Standing.{lanes_of, turning_from, turning, bringing, place_of}
+use Rattle.account.specs.Standing.{lanes_of, turning_from, place_of}
 use Rattle.account.specs.Told.{told, told_gift, told_move, Spot, goes_on, quiet_by, quiet, quiet_moves, IsQuietTo, GrowsAt, TellsNext, TellsNothing, IsMoment, spot_of, HasPassed, HasGone}
 use Rattle.account.specs.Course.{Course}
 use Rattle.account.proofs.Lined.{gift_goes}

@@ -1,5 +1,5 @@
 -- What is told of a run: its moves one after another, and what each of them does.
-use Rattle.std.specs.Prelude.{◌≡◌, ◌≢◌, Bool, true, false, ℕ, zero, suc, ◌+◌, ◌-◌, Option, Some, None, is_some, is_none, List, [], ◌∷◌, length, slice_get, if◌then◌else◌}
+use Rattle.std.specs.Prelude.{◌≡◌, ◌≢◌, Bool, true, false, ℕ, zero, suc, ◌+◌, ◌-◌, Option, Some, None, is_some, List, [], ◌∷◌, length, slice_get, if◌then◌else◌}
 use Rattle.std.specs.Option.{option_map_or, option_and_then}
 use Rattle.loop_script.specs.declared.plan.Plan.{Plan}
 use Rattle.loop_script.specs.declared.action.Action.{Action}
@@ -7,7 +7,6 @@ use Rattle.loop_script.specs.declared.body.Body.{Body}
 use Rattle.loop_script.specs.Parts.{actions_of}
 use Rattle.loop_script.specs.Units.{Tick, LaneNumber, ContextNumber, SourceId}
 use Rattle.source_rows.specs.declared.row.Row.{Row}
-use Rattle.post_office.specs.declared.letter.Letter.{Letter}
 use Rattle.lane_turn.specs.declared.layer.Top.{Top}
 use Rattle.lane_turn.specs.declared.layer.Top.TheVariants as tops
 use Rattle.lane_turn.specs.declared.line.Line.{Line}

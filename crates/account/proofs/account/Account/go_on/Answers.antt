@@ -1,4 +1,4 @@
-use Rattle.std.proofs.Common.{◌≡◌, ◌+◌, ◌<◌, ◌≤◌, length, false, ap, subst, sym, ◌∙◌, arith}
+use Rattle.std.proofs.Common.{◌≡◌, ◌+◌, ◌<◌, ◌≤◌, false, ap, subst, sym, ◌∙◌, arith}
 use Rattle.std.specs.Prelude.{Ok}
 use Rattle.lane_turn.specs.Tick.{lanes_at}
 use Rattle.tick_stepper.specs.Account.{Place, started, lanes_in}
@@ -43,7 +43,7 @@ returns-in_default-clause-passed c _ =
     let quiet = one_more s.script _ _ _ none.quiet (quiet_end s.script s.tick (place_of next) none.none none.last) in
     let there : started (lanes_in (place_of next)) ≡ now.place = sym (began.place ∙ ap started (sym (lanes_in_place next))) in
     let passed : HasPassed (record { script = s.script; tick = s.tick; place = place_of s.going; spent = s.spent }) now = record {
-          quiet = subst (λ (p : Place). IsQuietTo s.script (record { tick = s.tick; place = place_of s.going }) (record { tick = s.tick + 1; place = p })) there quiet;
-          lanes = still next c.begin_tick.new.self (ap (λ v. lanes_of v.items) began.lanes) ∙ none.lanes;
-        } in
+      quiet = subst (λ (p : Place). IsQuietTo s.script (record { tick = s.tick; place = place_of s.going }) (record { tick = s.tick + 1; place = p })) there quiet;
+      lanes = still next c.begin_tick.new.self (ap (λ v. lanes_of v.items) began.lanes) ∙ none.lanes;
+    } in
     subst (λ (v : Course). HasPassed v now) c.self.view_is passed

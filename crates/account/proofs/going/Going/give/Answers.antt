@@ -1,4 +1,4 @@
-use Rattle.std.proofs.Common.{◌≡◌, ◌+◌, ◌≤◌, length, ap, subst, ◌∙◌, refl, arith}
+use Rattle.std.proofs.Common.{◌+◌, ◌≤◌, length, ap, subst, ◌∙◌, refl, arith}
 use Rattle.std.specs.Prelude.{Ok, IfSome}
 use Rattle.loop_script.specs.declared.plan.Plan.{Plan}
 use Rattle.account.specs.declared.going.Going.{Going}

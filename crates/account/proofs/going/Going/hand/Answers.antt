@@ -1,4 +1,4 @@
-use Rattle.std.proofs.Common.{◌≡◌, ◌+◌, ◌++◌, List, Some, length, take, drop, get_or, is_some, ap, sym, ◌∙◌, subst, arith, take_at}
+use Rattle.std.proofs.Common.{◌≡◌, ◌+◌, List, length, is_some, ap, sym, ◌∙◌, subst, arith, take_at}
 use Rattle.std.specs.Vec.{with_items}
 use Rattle.lane_turn.specs.Lane.{State}
 use Rattle.post_office.specs.declared.letter.Body.TheVariants as mails
