@@ -1,5 +1,5 @@
 -- What a step does, as it is seen before it and by the lines that it writes.
-use Rattle.std.proofs.Common.{◌≡◌, ◌≢◌, ℕ, Bool, true, false, Option, Some, None, is_some, unwrap_or, List, [], ◌∷◌, ◌++◌, map, length, reverse, refl, ap, sym, ◌∙◌, subst, arith, length-append, option_map, not, eqb}
+use Rattle.std.proofs.Common.{◌≡◌, ◌≢◌, ℕ, Bool, true, false, Option, Some, None, is_some, unwrap_or, List, [], ◌∷◌, ◌++◌, map, length, reverse, refl, ap, sym, ◌∙◌, arith, length-append, option_map, not, eqb}
 use Rattle.std.specs.Prelude.{slice_get, if◌then◌else◌}
 use Rattle.std.proofs.lemmas.List.{reverse-append}
 use Rattle.std.proofs.lemmas.Bool.{eqb-true, eq-eqb}
@@ -19,14 +19,11 @@ use Rattle.lane_turn.specs.declared.lane.Status.{Status}
 use Rattle.lane_turn.specs.declared.lane.Status.TheVariants as statuses
 use Rattle.lane_turn.specs.declared.layer.Top.{Top}
 use Rattle.lane_turn.specs.declared.layer.Top.TheVariants as tops
-use Rattle.lane_turn.specs.declared.layer.Call.{Call}
 use Rattle.lane_turn.specs.declared.line.Line.{Line}
-use Rattle.lane_turn.specs.declared.line.Event.TheVariants as events
 use Rattle.lane_turn.specs.Frames.{Frame, CallOf, IterOf, LoopOf, top_of}
 use Rattle.lane_turn.specs.InProgress.{frame_shown}
 use Rattle.lane_turn.specs.Lane.{Lane, Turn, is_running, row_of}
 use Rattle.lane_turn.specs.Step.{step, step_going, step_top}
-use Rattle.account.specs.declared.moment.Deed.{Deed}
 use Rattle.account.specs.declared.moment.Deed.TheVariants as deeds
 use Rattle.account.specs.Told.{did_call, did_id, did_iteration, did_top, did_step, foreseen_top, by_lines, done}
 

@@ -1,5 +1,5 @@
 -- The fields of a tick in progress, as moves change them.
-use Rattle.std.proofs.Common.{◌≡◌, ℕ, zero, suc, ◌+◌, ◌<◌, ◌≤◌, Bool, true, false, Option, Some, None, List, [], ◌∷◌, ◌++◌, map, length, take, drop, get_or, refl, ap, sym, ◌∙◌, subst, arith, is_some, ltb-true, ltb-false}
+use Rattle.std.proofs.Common.{◌≡◌, ℕ, zero, suc, ◌+◌, ◌<◌, ◌≤◌, true, false, Option, Some, None, List, [], ◌∷◌, ◌++◌, map, length, take, drop, get_or, refl, ap, sym, ◌∙◌, subst, arith, is_some, ltb-true, ltb-false}
 use Rattle.std.specs.Prelude.{slice_get, option_map, IfSome, nat_lt}
 use Rattle.std.specs.Option.{option_copied}
 use denote.Ref.{Bor}
@@ -9,17 +9,17 @@ use Rattle.post_office.specs.declared.letter.Letter.{Letter}
 use Rattle.lane_turn.specs.Lane.{Lane, State}
 use Rattle.lane_turn.specs.Handover.{handing_by, handing_of, moved as gone_over}
 use Rattle.lane_turn.specs.Tick.{lanes_at}
-use Rattle.tick_stepper.specs.Account.{Place, Turning, Giving, Bringing, started, moved, lanes_in}
+use Rattle.tick_stepper.specs.Account.{Giving, Bringing, started, moved, lanes_in}
 use Rattle.account.specs.declared.turns.Begun.{Begun}
 use Rattle.account.specs.declared.going.Going.{Going}
 use Rattle.account.specs.declared.going.Phase.{Phase}
 use Rattle.account.specs.declared.going.Phase.TheVariants as phases
-use Rattle.account.specs.Within.{GoesOver, IsWithin, AllMayTake, polled}
+use Rattle.account.specs.Within.{IsWithin, AllMayTake, polled}
 use Rattle.post_office.specs.declared.letter.Body.TheVariants as mails
 use Rattle.account.specs.declared.hand.Gift.{Gift}
 use Rattle.account.specs.Gifts.{gift_of}
 use Rattle.account.proofs.Lined.{lanes_unspent, gift_goes}
-use Rattle.account.specs.Standing.{unspent, lanes_of, AreUnspent, AreLined, OwnsTurn, IsInTurn, turning_from, turning, turning_after, bringing, place_at, place_of, OwnsBegun, Stands}
+use Rattle.account.specs.Standing.{unspent, lanes_of, AreUnspent, AreLined, OwnsTurn, turning_from, turning, turning_after, bringing, place_at, place_of, OwnsBegun, Stands}
 use Rattle.account.proofs.Within.{polls_within, moves_within, over_within, begins_within}
 use Rattle.tick_stepper.proofs.Counted.{lane_count}
 use Rattle.account.proofs.States.{turning_none, lanes_length, first_unspent, rest_unspent}
@@ -244,6 +244,15 @@ lent_unspent states n (Some s) u e = got_unspent states n s.now u (sym e)
 pub giving_place : (g : Going) (k : ℕ) → g.phase ≡ phases.Giving k → place_of g ≡ Giving (lanes_of g.lanes.items) (drop k g.letters.items) g.letters.items
 giving_place g k e = place_same refl refl refl e
 
+pub handed_lanes : (tick k : ℕ) (g : Going) (was states now : List State) (one : Letter) (gift : Gift) → was ≡ g.lanes.items
+    → states ≡ map unspent (gone_over tick (handing_by gift.from (mails.Give gift.context gift.to) (lanes_of was)) (lanes_of was)) → gift_of (get_or g.letters.items k one) ≡ Some gift → now ≡ states
+    → lanes_of now ≡ gone_over tick (handing_of (get_or g.letters.items k one) (lanes_of g.lanes.items)) (lanes_of g.lanes.items)
+handed_lanes tick k g was states now one gift back went gives same =
+    let lanes : List Lane = lanes_of g.lanes.items in
+    ap lanes_of (same ∙ went) ∙ (lanes_unspent _
+    ∙ (ap (λ (ss : List State). gone_over tick (handing_by gift.from (mails.Give gift.context gift.to) (lanes_of ss)) (lanes_of ss)) back
+    ∙ ap (λ o. gone_over tick o lanes) (gift_goes (get_or g.letters.items k one) lanes gift gives)))
+
 pub handed_place : (script : Plan) (tick k : ℕ) (g : Going) (was states now : List State) (one : Letter) (gift : Gift) → g.phase ≡ phases.Giving k → k < length g.letters.items → was ≡ g.lanes.items
     → states ≡ map unspent (gone_over tick (handing_by gift.from (mails.Give gift.context gift.to) (lanes_of was)) (lanes_of was)) → gift_of (get_or g.letters.items k one) ≡ Some gift → now ≡ states
     → moved script tick (place_of g) ≡ Some (Giving (lanes_of now) (drop (k + 1) g.letters.items) g.letters.items)
@@ -273,3 +282,31 @@ get_some (x ∷ states) (suc n) d h = get_some states n d (omega (arith, h))
 pub got_by : (states : List State) (n : ℕ) (o : Option (Bor State)) → is_some o ≡ nat_lt n (length states) → IfSome o (λ s. s.now ≡ get_or states n s.now) → option_copied o ≡ slice_get states n
 got_by states n None e f = sym (get_none states n (ltb-false n (length states) (sym e)))
 got_by states n (Some s) e f = ap Some f ∙ sym (get_some states n s.now (ltb-true n (length states) (sym e)))
+
+-- ---- places of which nothing is told
+
+pub turned_place : (script : Plan) (tick n : ℕ) (g h : Going) → g.phase ≡ phases.Turning n → length (lanes_of g.lanes.items) ≤ n → h.phase ≡ phases.Giving 0 → h.lanes ≡ g.lanes → h.letters ≡ g.letters
+    → moved script tick (place_of g) ≡ Some (place_of h)
+turned_place script tick n g h gp all hp hs hl =
+    let there : place_of h ≡ Giving (lanes_of g.lanes.items) g.letters.items g.letters.items = place_same {p = h.begun} (ap (λ v. lanes_of v.items) hs) (ap (λ v. v.items) hl) refl hp in
+    ap (moved script tick) (place_same refl refl refl gp) ∙ (turned_all script tick n (lanes_of g.lanes.items) g.begun g.letters.items all ∙ ap Some (sym there))
+
+pub gone_place : (script : Plan) (tick k : ℕ) (g h : Going) → g.phase ≡ phases.Giving k → length g.letters.items ≤ k → h.phase ≡ phases.Bringing 0 0 → h.lanes ≡ g.lanes → h.letters ≡ g.letters
+    → moved script tick (place_of g) ≡ Some (place_of h)
+gone_place script tick k g h gp all hp hs hl =
+    let lanes : List Lane = lanes_of g.lanes.items in
+    let letters : List Letter = g.letters.items in
+    let there : place_of h ≡ Bringing [] lanes letters letters = place_same {p = h.begun} (ap (λ v. lanes_of v.items) hs) (ap (λ v. v.items) hl) refl hp in
+    ap (moved script tick) (giving_place g k gp) ∙ (ap (λ (left : List Letter). moved script tick (Giving lanes left letters)) (drop_all k letters all) ∙ ap Some (sym there))
+
+pub passed_place : (script : Plan) (tick n k : ℕ) (g h : Going) → g.phase ≡ phases.Bringing n k → n < length (lanes_of g.lanes.items) → length g.letters.items ≤ k → h.phase ≡ phases.Bringing (n + 1) 0 → h.lanes ≡ g.lanes
+    → h.letters ≡ g.letters → moved script tick (place_of g) ≡ Some (place_of h)
+passed_place script tick n k g h gp here all hp hs hl =
+    let lanes : List Lane = lanes_of g.lanes.items in
+    let letters : List Letter = g.letters.items in
+    let there : place_of h ≡ bringing (n + 1) 0 lanes letters = place_same {p = h.begun} (ap (λ v. lanes_of v.items) hs) (ap (λ v. v.items) hl) refl hp in
+    ap (moved script tick) (place_same {p = g.begun} refl refl refl gp) ∙ (passes_at script tick n k lanes letters here all ∙ ap Some (sym there))
+
+-- the lanes stand as they stood
+pub still : (g h : Going) → lanes_of h.lanes.items ≡ lanes_of g.lanes.items → lanes_in (place_of h) ≡ lanes_in (place_of g)
+still g h e = lanes_in_place h ∙ (e ∙ sym (lanes_in_place g))

@@ -5,3 +5,4 @@ pub mod Goings
 pub mod Lines
 pub mod Did
 pub mod Moments
+pub mod Quiet

@@ -1,5 +1,5 @@
 -- Lanes that stand by number: what one of them does, and what goes from one to another.
-use Rattle.std.proofs.Common.{◌≡◌, ◌⊎◌, inl, inr, ℕ, zero, suc, ◌+◌, ◌<◌, ◌≤◌, false, Option, Some, None, List, [], ◌∷◌, map, length, set, get_or, refl, ap, sym, ◌∙◌, subst, arith}
+use Rattle.std.proofs.Common.{◌≡◌, inr, ℕ, zero, suc, ◌<◌, ◌≤◌, Some, None, List, [], ◌∷◌, map, length, set, get_or, refl, ap, sym, ◌∙◌, subst, arith}
 use Rattle.post_office.specs.declared.letter.Letter.{Letter}
 use Rattle.post_office.specs.declared.letter.Body.{Body as Mail}
 use Rattle.post_office.specs.declared.letter.Body.TheVariants as mails
@@ -10,7 +10,7 @@ use Rattle.tick_stepper.specs.Share.{at_number}
 use Rattle.tick_stepper.proofs.Lined.{at_none, at_index}
 use Rattle.account.specs.declared.hand.Gift.{Gift}
 use Rattle.account.specs.Within.{StandFrom}
-use Rattle.account.specs.Standing.{unspent, lanes_of, AreUnspent, AreLined}
+use Rattle.account.specs.Standing.{unspent, lanes_of, AreLined}
 use Rattle.account.specs.Gifts.{gift_by, gift_of}
 use Rattle.account.proofs.Within.{counted_from, stand_from}
 use Rattle.account.proofs.States.{lanes_get, lanes_length}

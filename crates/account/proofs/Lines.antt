@@ -1,10 +1,10 @@
 -- The lines that a move writes.
-use Rattle.std.proofs.Common.{◌≡◌, ◌≢◌, ℕ, zero, suc, ◌+◌, ◌<◌, ◌≤◌, ◌==◌, Bool, true, false, cond, Option, Some, None, List, [], ◌∷◌, ◌++◌, map, length, set, get_or, refl, ap, sym, ◌∙◌, subst, arith, append-nil, ltb-true, ltb-false}
+use Rattle.std.proofs.Common.{◌≡◌, ◌≢◌, ℕ, zero, suc, ◌+◌, ◌<◌, ◌≤◌, ◌==◌, Bool, true, false, cond, Some, List, [], ◌∷◌, ◌++◌, map, length, set, get_or, refl, ap, sym, ◌∙◌, arith, append-nil, ltb-true, ltb-false}
 use Rattle.std.specs.Prelude.{nat_lt}
 use Rattle.std.proofs.lemmas.Bool.{ne_eqb}
 use Rattle.lane_turn.specs.declared.line.Line.{Line}
 use Rattle.lane_turn.specs.declared.line.Event.TheVariants as events
-use Rattle.lane_turn.specs.Lane.{Lane, State, written}
+use Rattle.lane_turn.specs.Lane.{Lane, State}
 use Rattle.lane_turn.specs.Handover.{Handing, let_go, handed, moved as gone_over, without_context, taken_over}
 use Rattle.lane_turn.specs.Traces.{Grows, IsOf}
 use Rattle.account.specs.Within.{StandFrom}

@@ -1,5 +1,5 @@
 -- Moves that are told, by the fields that they change.
-use Rattle.std.proofs.Common.{◌≡◌, ℕ, zero, suc, ◌+◌, ◌-◌, ◌<◌, ◌≤◌, true, false, Option, Some, None, is_some, unwrap_or, List, [], ◌∷◌, ◌++◌, length, take, drop, get_or, refl, ap, sym, ◌∙◌, subst, arith}
+use Rattle.std.proofs.Common.{◌≡◌, ℕ, zero, suc, ◌+◌, ◌-◌, ◌<◌, Option, Some, None, unwrap_or, List, [], ◌∷◌, length, take, drop, get_or, refl, ap, sym, ◌∙◌, subst, arith}
 use Rattle.std.proofs.lemmas.List.{drop_more, length-take-le, length-drop}
 use Rattle.loop_script.specs.declared.plan.Plan.{Plan}
 use Rattle.post_office.specs.declared.letter.Letter.{Letter}
@@ -10,17 +10,16 @@ use Rattle.lane_turn.specs.Traces.{Grows, IsOf}
 use Rattle.lane_turn.proofs.Adds.{grows_none, grows_trans}
 use Rattle.lane_turn.proofs.Traced.{of_tick}
 use Rattle.lane_turn.proofs.Turns.{kept_finish}
-use Rattle.tick_stepper.specs.Account.{Place, Turning, Giving, Bringing, moved, lanes_in}
+use Rattle.tick_stepper.specs.Account.{Turning, Bringing, moved, lanes_in}
 use Rattle.account.specs.declared.turns.Begun.{Begun}
 use Rattle.account.specs.declared.going.Going.{Going}
-use Rattle.account.specs.declared.going.Phase.{Phase}
 use Rattle.account.specs.declared.going.Phase.TheVariants as phases
 use Rattle.account.specs.declared.moment.Deed.{Deed}
 use Rattle.account.specs.declared.moment.Deed.TheVariants as deeds
 use Rattle.account.specs.declared.moment.Moment.{Moment}
 use Rattle.account.specs.Within.{polled}
-use Rattle.account.specs.Standing.{lanes_of, turn_in, turning_from, turning, turning_after, bringing, place_at, place_of}
-use Rattle.account.specs.Told.{did_step, Told, told, told_move, trace_at, GrowsAt, TellsLines, IsMoment}
+use Rattle.account.specs.Standing.{lanes_of, turn_in, turning_from, place_of}
+use Rattle.account.specs.Told.{did_step, told, told_move, trace_at, GrowsAt, TellsLines, IsMoment}
 use Rattle.account.proofs.States.{drop_here, lanes_length}
 use Rattle.account.proofs.Goings.{place_same, lanes_in_place}
 
@@ -44,7 +43,7 @@ step_grows script tick t = by (step script tick t) refl
 abbrev pub moment_of : ℕ → ℕ → Deed → List Lane → List Lane → Moment
 moment_of tick n deed lanes now = record { tick = tick; lane = n; deed = deed; from = length (trace_at n lanes); to = length (trace_at n now) }
 
-tells_lines : (tick n : ℕ) (deed : Deed) (g h : Going) → GrowsAt tick n (lanes_of g.lanes.items) (lanes_of h.lanes.items)
+pub tells_lines : (tick n : ℕ) (deed : Deed) (g h : Going) → GrowsAt tick n (lanes_of g.lanes.items) (lanes_of h.lanes.items)
     → TellsLines (moment_of tick n deed (lanes_of g.lanes.items) (lanes_of h.lanes.items)) (lanes_in (place_of g)) (lanes_in (place_of h))
 tells_lines tick n deed g h grows =
     let m : Moment = moment_of tick n deed (lanes_of g.lanes.items) (lanes_of h.lanes.items) in

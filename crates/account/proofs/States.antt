@@ -1,5 +1,5 @@
 -- The lanes of states, and what a call of one of them does.
-use Rattle.std.proofs.Common.{◌≡◌, ℕ, zero, suc, ◌+◌, ◌*◌, ◌^◌, ◌<◌, ◌≤◌, Bool, true, false, Option, Some, None, is_some, unwrap_or, List, [], ◌∷◌, ◌++◌, map, length, take, drop, set, get_or, refl, ap, sym, ◌∙◌, subst, arith}
+use Rattle.std.proofs.Common.{◌≡◌, ℕ, zero, suc, ◌+◌, ◌^◌, ◌<◌, Bool, false, Option, Some, None, is_some, unwrap_or, List, [], ◌∷◌, ◌++◌, length, take, drop, set, get_or, refl, ap, sym, ◌∙◌, subst, arith}
 use Rattle.std.specs.List.{AllByRecursion}
 use Rattle.std.proofs.lemmas.List.{length-map, drop_more, take-set, drop-set, drop-set-lt, take_more_set}
 use Rattle.loop_script.specs.declared.plan.Plan.{Plan}
@@ -11,7 +11,7 @@ use Rattle.lane_turn.specs.Deliver.{received, received_all}
 use Rattle.lane_turn.specs.Meaning.{IsTurnOf}
 use Rattle.lane_turn.specs.Sound.{IsReady, IsGoing}
 use Rattle.lane_turn.proofs.Delivered.{ready_weaker}
-use Rattle.tick_stepper.specs.Account.{Place, Turning, Giving, Bringing, turned_on, moved}
+use Rattle.tick_stepper.specs.Account.{Turning, Bringing, turned_on, moved}
 use Rattle.account.specs.declared.turns.Begun.{Begun}
 use Rattle.account.specs.Within.{MayTake, AllMayTake, polled}
 use Rattle.account.specs.Standing.{unspent, lanes_of, AreUnspent, turn_in, OwnsTurn, IsInTurn, turning_from, turning, turning_after, bringing}

@@ -11,16 +11,16 @@ use Rattle.lane_turn.specs.Handover.{handed_over, handing_of, moved as gone_over
 use Rattle.lane_turn.specs.Tick.{posted_at, lanes_at}
 use Rattle.lane_turn.specs.Sound.{IsReady, IsTidy}
 use Rattle.lane_turn.proofs.Finish.{finished_on, finished_now}
-use Rattle.lane_turn.proofs.Turns.{Kept, tidy_on, begun_tidy, ready-turned}
+use Rattle.lane_turn.proofs.Turns.{tidy_on, begun_tidy, ready-turned}
 use Rattle.lane_turn.proofs.Polls.{polls_as_steps, polls_at_once, polls_keep}
 use Rattle.lane_turn.proofs.Delivered.{ready_received, ready_weaker}
 use Rattle.lane_turn.proofs.GoingOver.{ready_over}
 use Rattle.lane_turn.proofs.Places.{Counted}
 use Rattle.lane_turn.proofs.Runs.{most_at, AllReady, ready_at, posted_fits}
-use Rattle.tick_stepper.specs.Account.{Place, Turning, Giving, Bringing, started, turned_on, moved, lanes_in, held_lanes, held_end, held_posted, all_brought, end_of}
+use Rattle.tick_stepper.specs.Account.{Place, Turning, Giving, Bringing, started, turned_on, moved, all_brought, end_of}
 use Rattle.tick_stepper.proofs.Lined.{first_over, none_left, counted_moved}
-use Rattle.tick_stepper.proofs.Counted.{counted_at, counted_turned}
-use Rattle.account.specs.Within.{IsHeld, TakesTurns, GoesOver, MayTake, AllMayTake, Brings, IsWithin, StandFrom, polled}
+use Rattle.tick_stepper.proofs.Counted.{counted_turned}
+use Rattle.account.specs.Within.{TakesTurns, GoesOver, MayTake, AllMayTake, Brings, IsWithin, StandFrom, polled}
 
 same_place : (p q : Place) → Some p ≡ Some q → p ≡ q
 same_place p q e = cc

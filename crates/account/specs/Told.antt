@@ -1,5 +1,5 @@
 -- What is told of a run: its moves one after another, and what each of them does.
-use Rattle.std.specs.Prelude.{◌≡◌, ◌≢◌, Bool, true, false, ℕ, zero, suc, ◌+◌, ◌-◌, Option, Some, None, is_some, is_none, List, [], ◌∷◌, length, slice_get, if◌then◌else◌}
+use Rattle.std.specs.Prelude.{◌≡◌, ◌≢◌, Bool, true, false, ℕ, zero, suc, ◌+◌, ◌-◌, Option, Some, None, is_some, List, [], ◌∷◌, length, slice_get, if◌then◌else◌}
 use Rattle.std.specs.Option.{option_map_or, option_and_then}
 use Rattle.loop_script.specs.declared.plan.Plan.{Plan}
 use Rattle.loop_script.specs.declared.action.Action.{Action}
@@ -7,7 +7,6 @@ use Rattle.loop_script.specs.declared.body.Body.{Body}
 use Rattle.loop_script.specs.Parts.{actions_of}
 use Rattle.loop_script.specs.Units.{Tick, LaneNumber, ContextNumber, SourceId}
 use Rattle.source_rows.specs.declared.row.Row.{Row}
-use Rattle.post_office.specs.declared.letter.Letter.{Letter}
 use Rattle.lane_turn.specs.declared.layer.Top.{Top}
 use Rattle.lane_turn.specs.declared.layer.Top.TheVariants as tops
 use Rattle.lane_turn.specs.declared.line.Line.{Line}
@@ -168,13 +167,32 @@ pub record IsMoment (script : Plan) (tick : Tick) (before now : Place) (moment :
   pub when : moment.tick ≡ tick
   pub lines : TellsLines moment (lanes_in before) (lanes_in now)
 
+-- a run comes from one place in a tick to another by moves of which nothing is told, and which change no lane, and then the one of a moment
+pub record TellsNext (script : Plan) (tick : Tick) (before now : Place) (moment : Moment) : Type 0 where
+  pub place : Place
+  pub quiet : IsQuietTo script (record { tick = tick; place = before }) (record { tick = tick; place = place })
+  pub lanes : lanes_in place ≡ lanes_in before
+  pub is : IsMoment script tick place now moment
+
+-- it comes to the end of the tick by such moves alone
+pub record TellsNothing (script : Plan) (tick : Tick) (before now : Place) : Type 0 where
+  pub quiet : IsQuietTo script (record { tick = tick; place = before }) (record { tick = tick; place = now })
+  pub lanes : lanes_in now ≡ lanes_in before
+  pub none : told script tick now ≡ None
+  pub last : moved script tick now ≡ None
+
 -- the spot of a run
 abbrev pub spot_of : Course → Spot
 spot_of course = record { tick = course.tick; place = course.place }
 
--- after moves of which nothing is told, and which change no lane, the run has made the one of the moment
+-- moves of which nothing is told, and which change no lane
+pub record HasPassed (old new : Course) : Type 0 where
+  pub quiet : IsQuietTo new.script (spot_of old) (spot_of new)
+  pub lanes : lanes_in new.place ≡ lanes_in old.place
+
+-- after such moves the run has made the one of the moment
 pub record HasGone (old new : Course) (moment : Moment) : Type 0 where
-  pub before : Place
-  pub quiet : IsQuietTo new.script (spot_of old) (record { tick = new.tick; place = before })
-  pub lanes : lanes_in before ≡ lanes_in old.place
-  pub is : IsMoment new.script new.tick before new.place moment
+  pub place : Place
+  pub quiet : IsQuietTo new.script (spot_of old) (record { tick = new.tick; place = place })
+  pub lanes : lanes_in place ≡ lanes_in old.place
+  pub is : IsMoment new.script new.tick place new.place moment

@@ -4,6 +4,7 @@ ghost use Rattle.std.specs.Option.{option_copied};
 ghost use Rattle.loop_script.specs.Bounds.{most_lanes};
 ghost use Rattle.lane_turn.specs.Tick.{opened, lanes_at};
 ghost use Rattle.tick_stepper.specs.Account.{started, lanes_in, end_of};
+ghost use Rattle.account.specs.Told.{HasGone, HasPassed};
 ghost use Rattle.account.specs.Standing.{lanes_of, place_of, AreUnspent};
 
 use crate::fault::{AccountFault, OutOfMemory};
@@ -84,6 +85,8 @@ impl Account {
     ///
     /// After `OutOfMemory` the account is spent: each later call answers `Spent`, and changes nothing.
     pub fn next(&mut self) -> Result<Option<Moment>, AccountFault>
+        ensures gone { IfOk result (λ found. IfSome found (HasGone self.old self.new)) }
+        ensures passed { result ≡ Ok None → HasPassed self.old self.new }
         ensures leads { OnOk result (end_of self.new.script self.new.tick self.new.place ≡ lanes_at self.new.script (self.new.tick + 1)) }
         ensures over { result ≡ Ok None → self.new.tick ≡ self.new.script.ticks }
         ensures ran { result ≡ Ok None → lanes_in self.new.place ≡ lanes_at self.new.script self.new.script.ticks }
@@ -108,6 +111,8 @@ impl Account {
     fn go_on(&mut self) -> Result<Option<Moment>, OutOfMemory>
         requires unspent { self.old.spent ≡ false }
         requires left { self.old.tick < self.old.script.ticks }
+        ensures gone { IfOk result (λ found. IfSome found (HasGone self.old self.new)) }
+        ensures passed { result ≡ Ok None → HasPassed self.old self.new }
         ensures leads { OnOk result (end_of self.new.script self.new.tick self.new.place ≡ lanes_at self.new.script (self.new.tick + 1)) }
         ensures tick { IfOk result (λ moment. IsSome moment → self.new.tick ≡ self.old.tick) }
         ensures over { result ≡ Ok None → self.new.tick ≡ self.old.tick + 1 }

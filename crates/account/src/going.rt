@@ -1,10 +1,10 @@
 //! A tick of a run in progress.
-ghost use Rattle.std.specs.Prelude.{◌≡◌, ◌+◌, ◌<◌, ◌≤◌, ◌++◌, Ok, None, Some, length, IfOk, OnOk};
+ghost use Rattle.std.specs.Prelude.{◌≡◌, ◌+◌, ◌<◌, ◌≤◌, ◌++◌, Ok, None, Some, length, IfOk, IfSome, OnOk};
 ghost use Rattle.loop_script.specs.declared.plan.Plan.{Plan};
 ghost use Rattle.loop_script.specs.Bounds.{most_lanes, most_ticks};
 ghost use Rattle.lane_turn.specs.Tick.{lanes_at};
 ghost use Rattle.tick_stepper.specs.Account.{started, moved};
-ghost use Rattle.account.specs.Told.{trace_at, IsMoment};
+ghost use Rattle.account.specs.Told.{trace_at, told, IsMoment, TellsNext, TellsNothing};
 ghost use Rattle.account.specs.Standing.{lanes_of, AreUnspent, AreLined, place_of, Stands};
 
 use crate::fault::OutOfMemory;
@@ -51,6 +51,8 @@ impl Going {
         requires stands { Stands script.now tick self.old }
         ensures stands { OnOk result (Stands script.now tick self.new) }
         ensures over { result ≡ Ok None → lanes_of self.new.lanes.items ≡ lanes_at script.now (tick + 1) }
+        ensures moment { IfOk result (λ found. IfSome found (TellsNext script.now tick (place_of self.old) (place_of self.new))) }
+        ensures passed { result ≡ Ok None → TellsNothing script.now tick (place_of self.old) (place_of self.new) }
     {
         match self.phase {
             Phase::Turning(lane) => {
@@ -189,6 +191,8 @@ impl Going {
         requires phase { self.old.phase ≡ Phase.Giving first }
         ensures stands { OnOk result (Stands script.now tick self.new) }
         ensures over { result ≡ Ok None → lanes_of self.new.lanes.items ≡ lanes_at script.now (tick + 1) }
+        ensures moment { IfOk result (λ found. IfSome found (TellsNext script.now tick (place_of self.old) (place_of self.new))) }
+        ensures passed { result ≡ Ok None → TellsNothing script.now tick (place_of self.old) (place_of self.new) }
     {
         for place in first..self.letters.len() {
             if let Some(moment) = self.hand(tick, place)? {
@@ -209,6 +213,9 @@ impl Going {
         ensures letters { OnOk result (self.new.letters ≡ self.old.letters) }
         ensures unspent { OnOk result (AreUnspent self.new.lanes.items) }
         ensures count { OnOk result (length self.new.lanes.items ≡ length self.old.lanes.items) }
+        ensures moment { IfOk result (λ found. IfSome found (λ m. (script : Plan) → IsMoment script tick (place_of self.old) (place_of self.new) m)) }
+        ensures quiet { result ≡ Ok None → (script : Plan) → told script tick (place_of self.old) ≡ None }
+        ensures still { result ≡ Ok None → lanes_of self.new.lanes.items ≡ lanes_of self.old.lanes.items }
     {
         self.phase = Phase::Giving(place + 1);
         let Some(gift) = gift_of(&self.letters[place]) else {
@@ -239,6 +246,8 @@ impl Going {
         requires phase { self.old.phase ≡ Phase.Bringing first letter }
         ensures stands { OnOk result (Stands script.now tick self.new) }
         ensures over { result ≡ Ok None → lanes_of self.new.lanes.items ≡ lanes_at script.now (tick + 1) }
+        ensures moment { IfOk result (λ found. IfSome found (TellsNext script.now tick (place_of self.old) (place_of self.new))) }
+        ensures passed { result ≡ Ok None → TellsNothing script.now tick (place_of self.old) (place_of self.new) }
     {
         let mut letter = letter;
         for lane in first..self.lanes.len() {

@@ -59,7 +59,7 @@ fn first_moment(k: u32) -> Moment {
         lane: 0,
         deed: first_deed(k),
         from: first_lines(k),
-        to: first_lines(k + 1),
+        to: first_lines(k.saturating_add(1)),
     }
 }
 

@@ -1,4 +1,4 @@
-use Rattle.std.proofs.Common.{◌≡◌, [], ◌∷◌, ap, sym, ◌∙◌}
+use Rattle.std.proofs.Common.{[], ◌∷◌, ap, sym, ◌∙◌}
 use Rattle.lane_turn.specs.declared.in_progress.Activity.{Activity}
 use Rattle.lane_turn.specs.Frames.{top_of}
 use Rattle.lane_turn.specs.InProgress.{frame_shown}

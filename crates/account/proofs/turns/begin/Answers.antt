@@ -1,4 +1,4 @@
-use Rattle.std.proofs.Common.{◌≡◌, ◌^◌, ap, sym, subst, ◌∙◌, List, [], arith, get_or}
+use Rattle.std.proofs.Common.{◌^◌, ap, sym, subst, ◌∙◌, List, arith, get_or}
 use Rattle.post_office.specs.declared.letter.Letter.{Letter}
 use Rattle.lane_turn.specs.Lane.{Lane, State, Turn}
 use Rattle.lane_turn.specs.Turn.{begun_polled}

@@ -1,4 +1,4 @@
-use Rattle.std.proofs.Common.{◌^◌, ◌+◌, get_or, is_some, ap, ◌∙◌, sym, subst, arith}
+use Rattle.std.proofs.Common.{get_or, is_some, ap, ◌∙◌, sym, subst, arith}
 use Rattle.lane_turn.specs.Lane.{State, Turn}
 use Rattle.lane_turn.specs.Step.{step}
 use Rattle.lane_turn.specs.Turn.{stepped}

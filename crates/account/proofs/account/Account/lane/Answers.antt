@@ -1,6 +1,5 @@
-use Rattle.std.proofs.Common.{◌≡◌, ap, sym, ◌∙◌, List}
+use Rattle.std.proofs.Common.{ap, sym, ◌∙◌, List}
 use Rattle.std.specs.Prelude.{slice_get, option_map}
-use Rattle.std.specs.Option.{option_copied}
 use Rattle.lane_turn.specs.Lane.{Lane, State}
 use Rattle.tick_stepper.specs.Account.{lanes_in}
 use Rattle.account.specs.Course.{Course}

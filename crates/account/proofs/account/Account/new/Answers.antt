@@ -1,4 +1,4 @@
-use Rattle.std.proofs.Common.{◌≡◌, None, refl, ◌∙◌, ap, arith}
+use Rattle.std.proofs.Common.{None, refl, ◌∙◌, ap, arith}
 use Rattle.tick_stepper.specs.Account.{started}
 use Rattle.account.specs.declared.going.Going.{Going}
 use Rattle.account.specs.declared.going.Phase.TheVariants as phases

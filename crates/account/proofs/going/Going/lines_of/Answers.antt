@@ -1,4 +1,4 @@
-use Rattle.std.proofs.Common.{◌≡◌, length, ap, sym, subst, ◌∙◌, List}
+use Rattle.std.proofs.Common.{length, ap, sym, ◌∙◌, List}
 use Rattle.lane_turn.specs.Lane.{State}
 use Rattle.account.specs.Standing.{lanes_of}
 use Rattle.account.specs.Told.{trace_at}

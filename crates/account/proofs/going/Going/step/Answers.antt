@@ -1,4 +1,4 @@
-use Rattle.std.proofs.Common.{◌≡◌, ◌+◌, Bool, true, false, not, eqb, is_some, None, Some, length, get_or, ap, sym, ◌∙◌, subst, refl, List, arith, take_at}
+use Rattle.std.proofs.Common.{◌≡◌, Bool, true, false, not, eqb, is_some, Some, length, get_or, ap, sym, ◌∙◌, subst, refl, List, arith, take_at}
 use Rattle.std.specs.Vec.{with_items}
 use Rattle.lane_turn.specs.Lane.{Lane, State, Turn}
 use Rattle.lane_turn.specs.Frames.{top_of}
