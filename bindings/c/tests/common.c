@@ -33,16 +33,16 @@ struct bytes file(const char *path) {
     return bytes;
 }
 
-struct bytes text_of(run_function *run, struct bytes script) {
+struct bytes text_of(struct call call, struct bytes script) {
     struct bytes room = {room_of(FIRST_ROOM), FIRST_ROOM};
     size_t needed;
-    uint32_t answer = run(script.at, script.size, room.at, room.size, &needed);
+    uint32_t answer = call.function(script.at, script.size, room.at, room.size, &needed);
     if (answer == MAINCTX_SHORT_ROOM) {
         free(room.at);
         room = (struct bytes){room_of(needed), needed};
-        answer = run(script.at, script.size, room.at, room.size, &needed);
+        answer = call.function(script.at, script.size, room.at, room.size, &needed);
     }
-    if (answer != MAINCTX_TEXT) wrong("the answer is %u", (unsigned)answer);
+    if (answer != call.whole) wrong("the answer is %u", (unsigned)answer);
     return (struct bytes){room.at, needed};
 }
 

@@ -11,7 +11,15 @@ struct bytes {
     size_t size;
 };
 
-typedef uint32_t run_function(const uint8_t *, size_t, uint8_t *, size_t, size_t *);
+typedef uint32_t library_function(const uint8_t *, size_t, uint8_t *, size_t, size_t *);
+
+/* a call of the library, and what it answers where the whole of its text is in the room */
+struct call {
+    library_function *function;
+    uint32_t whole;
+};
+
+static const struct call RUN = {mainctx_run, MAINCTX_TEXT}, CHECK = {mainctx_check, MAINCTX_FAULTS};
 
 /* ends the test: what is wrong, as printf says it */
 noreturn void wrong(const char *what, ...);
@@ -19,8 +27,8 @@ noreturn void wrong(const char *what, ...);
 /* a whole file */
 struct bytes file(const char *path);
 
-/* the text of a script that has one */
-struct bytes text_of(run_function *run, struct bytes script);
+/* the text that a call leaves of a script */
+struct bytes text_of(struct call call, struct bytes script);
 
 /* ends the test where the text is another than is wanted */
 void same(const char *what, struct bytes text, struct bytes wanted);

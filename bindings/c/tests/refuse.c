@@ -1,5 +1,5 @@
-/* refuse SCRIPT..: each request for memory of a run is refused in turn. Then the answer is MAINCTX_MEMORY, or what it would have been where
-   the run can do without; and no block is left taken. Linked with -Wl,--wrap=malloc,--wrap=realloc,--wrap=free. */
+/* refuse SCRIPT..: each request for memory of each call is refused in turn. Then the answer is MAINCTX_MEMORY, or what it would have been
+   where the call can do without; and no block is left taken. Linked with -Wl,--wrap=malloc,--wrap=realloc,--wrap=free. */
 #include "common.h"
 #include <stdio.h>
 #include <stdlib.h>
@@ -35,38 +35,38 @@ struct outcome {
     struct bytes text;
 };
 
-/* a run into a room, in which one request is refused; 0 refuses none */
-static struct outcome run(struct bytes script, struct bytes room, size_t refuse) {
+/* a call with a room, in which one request is refused; 0 refuses none */
+static struct outcome called(struct call call, struct bytes script, struct bytes room, size_t refuse) {
     struct outcome outcome = {.text.at = room.at};
     size_t before = held;
     asked = 0;
     refused_at = refuse;
-    outcome.answer = mainctx_run(script.at, script.size, room.at, room.size, &outcome.text.size);
+    outcome.answer = call.function(script.at, script.size, room.at, room.size, &outcome.text.size);
     refused_at = 0;
     if (held != before) wrong("request %zu: %zu blocks are left", refuse, held - before);
     return outcome;
 }
 
-static size_t refuse_each(const char *path) {
+static size_t refuse_each(struct call call, const char *path) {
     struct bytes script = file(path), wanted = {NULL, 0}, room;
     size_t memory = 0, requests;
-    uint32_t answer = mainctx_run(script.at, script.size, (uint8_t[1]){0}, 0, &wanted.size);
+    uint32_t answer = call.function(script.at, script.size, (uint8_t[1]){0}, 0, &wanted.size);
     room = (struct bytes){malloc(wanted.size + 1), wanted.size};
-    if (answer == MAINCTX_SHORT_ROOM) wanted = text_of(mainctx_run, script);
-    answer = run(script, room, 0).answer;
+    if (answer == MAINCTX_SHORT_ROOM) wanted = text_of(call, script);
+    answer = called(call, script, room, 0).answer;
     requests = asked;
     for (size_t refuse = 1; refuse <= requests; refuse++) {
-        struct outcome got = run(script, room, refuse);
+        struct outcome got = called(call, script, room, refuse);
         if (got.answer == MAINCTX_MEMORY) {
             if (got.text.size != 0) wrong("%s: request %zu: %zu are needed", path, refuse, got.text.size);
             memory++;
         } else if (got.answer != answer) {
             wrong("%s: request %zu: %u", path, refuse, (unsigned)got.answer);
-        } else if (answer == MAINCTX_TEXT) {
+        } else if (answer == call.whole) {
             same(path, got.text, wanted);
         }
     }
-    if (memory == 0) wrong("%s: no refusal ended the run", path);
+    if (memory == 0) wrong("%s: no refusal ended the call", path);
     free(script.at);
     free(room.at);
     free(wanted.at);
@@ -75,7 +75,7 @@ static size_t refuse_each(const char *path) {
 
 int main(int count, char **words) {
     size_t requests = 0;
-    for (int word = 1; word < count; word++) requests += refuse_each(words[word]);
+    for (int word = 1; word < count; word++) requests += refuse_each(RUN, words[word]) + refuse_each(CHECK, words[word]);
     printf("%zu requests refused\n", requests);
     return 0;
 }

@@ -1,4 +1,4 @@
-/* rooms SCRIPT TEXT: a room of each length from none to more than the text's. Behind the script and behind each room lies a page that
+/* rooms SCRIPT TEXT FAULTY: a room of each length from none to more than the text's, and than what mainctx_check tells of FAULTY. Behind the script and behind each room lies a page that
    may not be touched, and where the room is longer than the text its rest has to stay. */
 #define _DEFAULT_SOURCE
 #include "common.h"
@@ -18,24 +18,34 @@ static uint8_t *before_the_end(size_t size) {
     return at + whole;
 }
 
-static void try_room(struct bytes script, struct bytes text, uint8_t *end, size_t size) {
+static void try_room(struct call call, struct bytes script, struct bytes text, uint8_t *end, size_t size) {
     uint8_t *room = end - size;
     size_t needed = SIZE_MAX, taken = size < text.size ? size : text.size;
     memset(room, FILLED, size);
-    uint32_t answer = mainctx_run(script.at, script.size, room, size, &needed);
-    if (answer != (size < text.size ? MAINCTX_SHORT_ROOM : MAINCTX_TEXT)) wrong("a room of %zu: %u", size, (unsigned)answer);
+    uint32_t answer = call.function(script.at, script.size, room, size, &needed);
+    if (answer != (size < text.size ? MAINCTX_SHORT_ROOM : call.whole)) wrong("a room of %zu: %u", size, (unsigned)answer);
     if (needed != text.size) wrong("a room of %zu: %zu are needed", size, needed);
     if (memcmp(room, text.at, taken) != 0) wrong("a room of %zu has another text", size);
     for (size_t at = taken; at < size; at++)
         if (room[at] != FILLED) wrong("a room of %zu: byte %zu, behind the text, was changed", size, at);
 }
 
-/* one that is refused leaves its room as it was, whatever its length */
-static void try_refused(uint8_t *end, const char *script, uint32_t wanted) {
+/* a room of each length, for a call whose text is known */
+static void try_rooms(struct call call, struct bytes read, struct bytes text) {
+    struct bytes script = {before_the_end(read.size) - read.size, read.size};
+    memcpy(script.at, read.at, read.size);
+    uint8_t *end = before_the_end(text.size + LONGER);
+    for (size_t size = 0; size <= text.size + LONGER; size++) try_room(call, script, text, end, size);
+    if (memcmp(script.at, read.at, read.size) != 0) wrong("the script was changed");
+}
+
+/* a call that leaves no text leaves its room as it was, whatever its length */
+static void try_none(library_function *function, const char *script, uint32_t wanted) {
+    uint8_t *end = before_the_end(LONGER);
     for (size_t size = 0; size <= LONGER; size++) {
         size_t needed = SIZE_MAX;
         memset(end - size, FILLED, size);
-        uint32_t answer = mainctx_run((const uint8_t *)script, strlen(script), end - size, size, &needed);
+        uint32_t answer = function((const uint8_t *)script, strlen(script), end - size, size, &needed);
         if (answer != wanted || needed != 0) wrong("%s: %u, and %zu are needed", script, (unsigned)answer, needed);
         for (size_t at = 0; at < size; at++)
             if (end[(ptrdiff_t)at - (ptrdiff_t)size] != FILLED) wrong("%s: the room was changed", script);
@@ -43,16 +53,16 @@ static void try_refused(uint8_t *end, const char *script, uint32_t wanted) {
 }
 
 int main(int count, char **words) {
-    if (count != 3) wrong("usage: rooms SCRIPT TEXT");
-    struct bytes read = file(words[1]), text = file(words[2]);
-    struct bytes script = {before_the_end(read.size) - read.size, read.size};
-    memcpy(script.at, read.at, read.size);
-    uint8_t *end = before_the_end(text.size + LONGER);
-    for (size_t size = 0; size <= text.size + LONGER; size++) try_room(script, text, end, size);
-    if (memcmp(script.at, read.at, read.size) != 0) wrong("the script was changed");
-    try_refused(end, "", MAINCTX_NOT_JSON);
-    try_refused(end, "{}", MAINCTX_SHAPE);
-    free(read.at);
+    if (count != 4) wrong("usage: rooms SCRIPT TEXT FAULTY");
+    struct bytes script = file(words[1]), text = file(words[2]), faulty = file(words[3]), faults = text_of(CHECK, faulty);
+    try_rooms(RUN, script, text);
+    try_rooms(CHECK, faulty, faults);
+    try_none(mainctx_run, "", MAINCTX_NOT_JSON);
+    try_none(mainctx_run, "{}", MAINCTX_SHAPE);
+    try_none(mainctx_check, "{\"version\":1,\"ticks\":1,\"tick_us\":1,\"lanes\":[{\"contexts\":1,\"start\":[]}]}", MAINCTX_TEXT);
+    free(script.at);
     free(text.at);
+    free(faulty.at);
+    free(faults.at);
     return 0;
 }

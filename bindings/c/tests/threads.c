@@ -19,7 +19,7 @@ static void *rounds(void *first) {
     pthread_barrier_wait(&begin);
     for (int round = 0; round < ROUNDS * tasks_count; round++) {
         struct task *task = &tasks[(*(int *)first + round) % tasks_count];
-        struct bytes text = text_of(mainctx_run, task->script);
+        struct bytes text = text_of(RUN, task->script);
         same(task->path, text, task->text);
         free(text.at);
     }
@@ -32,7 +32,7 @@ int main(int count, char **words) {
     if (count < 2 || count - 1 > SCRIPTS_MOST) wrong("usage: threads SCRIPT..");
     for (tasks_count = 0; tasks_count < count - 1; tasks_count++) {
         struct bytes script = file(words[tasks_count + 1]);
-        tasks[tasks_count] = (struct task){words[tasks_count + 1], script, text_of(mainctx_run, script)};
+        tasks[tasks_count] = (struct task){words[tasks_count + 1], script, text_of(RUN, script)};
     }
     pthread_barrier_init(&begin, NULL, THREADS);
     for (int thread = 0; thread < THREADS; thread++) {

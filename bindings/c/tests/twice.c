@@ -6,20 +6,20 @@
 
 struct library {
     void *handle;
-    run_function *run;
+    library_function *run;
 };
 
 static struct library opened(const char *path) {
     void *handle = dlopen(path, RTLD_NOW | RTLD_LOCAL);
     if (handle == NULL) wrong("%s", dlerror());
     /* POSIX has a function's address in a pointer to void */
-    union { void *symbol; run_function *run; } found = {dlsym(handle, "mainctx_run")};
+    union { void *symbol; library_function *run; } found = {dlsym(handle, "mainctx_run")};
     if (found.symbol == NULL) wrong("%s", dlerror());
     return (struct library){handle, found.run};
 }
 
 static void try_it(const char *what, struct library library, struct bytes script, struct bytes wanted) {
-    struct bytes text = text_of(library.run, script);
+    struct bytes text = text_of((struct call){library.run, MAINCTX_TEXT}, script);
     same(what, text, wanted);
     free(text.at);
 }
