@@ -11,6 +11,16 @@ pub(crate) enum Command {
     Steps,
 }
 
+impl Command {
+    /// Whether it can tell of some threads and ticks alone.
+    fn takes_window(self) -> bool {
+        match self {
+            Command::Why | Command::Account | Command::Steps => true,
+            Command::Text | Command::Summary => false,
+        }
+    }
+}
+
 /// What to tell, and of what.
 #[derive(Clone, Copy, Debug, PartialEq, Eq)]
 pub(crate) struct Order<'a> {
@@ -123,8 +133,8 @@ fn read_word<'a>(order: &mut Order<'a>, wanted: Wanted, text: &'a str) -> Option
 fn read_flag<'a>(order: &mut Order<'a>, text: &'a str) -> Option<Wanted> {
     match text {
         "--" => Some(Wanted::File),
-        "--lane" if order.command != Command::Text => Some(Wanted::Lane),
-        "--ticks" if order.command != Command::Text => Some(Wanted::Ticks),
+        "--lane" if order.command.takes_window() => Some(Wanted::Lane),
+        "--ticks" if order.command.takes_window() => Some(Wanted::Ticks),
         "--source" if order.command == Command::Why => Some(Wanted::Source),
         _ if text.len() > 1 && text.starts_with("-") => None,
         _ => read_file(order, text, Wanted::Any),
