@@ -14,6 +14,8 @@ pub(crate) enum Failure {
     Read,
     TooLong,
     Write,
+    /// The reader of the output has closed it: nothing is said.
+    Closed,
 }
 
 impl From<AllocError> for Failure {
@@ -44,7 +46,7 @@ impl Failure {
         match self {
             Failure::Usage | Failure::NotThere => 1,
             Failure::Memory => 3,
-            Failure::Read | Failure::TooLong | Failure::Write => 4,
+            Failure::Read | Failure::TooLong | Failure::Write | Failure::Closed => 4,
         }
     }
 
@@ -59,6 +61,7 @@ impl Failure {
             Failure::Read => "read\n",
             Failure::TooLong => "read: a script has 4194304 bytes at most\n",
             Failure::Write => "write\n",
+            Failure::Closed => "",
         }
     }
 }

@@ -69,6 +69,7 @@ fn bytes_of(rt: &HostRuntime, file: Option<&str>) -> Result<Vec<u8>, Failure> {
 fn write_out(rt: &HostRuntime, text: &str) -> Result<(), Failure> {
     match rt.stdout().write_all(text.as_bytes()) {
         Ok(()) => Ok(()),
+        Err(fault) if fault.kind() == io::ErrorKind::BrokenPipe => Err(Failure::Closed),
         Err(_) => Err(Failure::Write),
     }
 }
