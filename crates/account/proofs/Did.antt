@@ -1,4 +1,4 @@
--- What a step does, as it is seen before it and by the lines that it writes.
+-- What is innermost, as it is seen when all of what is in progress was looked at.
 use Rattle.std.proofs.Common.{◌≡◌, ◌≢◌, ℕ, Bool, true, false, Option, Some, None, is_some, unwrap_or, List, [], ◌∷◌, ◌++◌, map, length, reverse, refl, ap, sym, ◌∙◌, arith, length-append, option_map, not, eqb}
 use Rattle.std.specs.Prelude.{slice_get, if◌then◌else◌}
 use Rattle.std.proofs.lemmas.List.{reverse-append}
@@ -26,64 +26,6 @@ use Rattle.lane_turn.specs.Lane.{Lane, Turn, is_running, row_of}
 use Rattle.lane_turn.specs.Step.{step, step_going, step_top}
 use Rattle.account.specs.declared.moment.Deed.TheVariants as deeds
 use Rattle.account.specs.Told.{did_call, did_id, did_iteration, did_top, did_step, foreseen_top, by_lines, done}
-
--- ---- a line tells of a loop alone
-
-by_call : (w : Bool) (body : Body) (place : ℕ) (o : Option Action) → by_lines w (did_call body place o) ≡ did_call body place o
-by_call true body place None = refl
-by_call true body place (Some action) = refl
-by_call false body place o = refl
-
-by_id : (w : Bool) (context id : ℕ) (o : Option Row) → by_lines w (did_id context id o) ≡ did_id context id o
-by_id true context id None = refl
-by_id true context id (Some row) = refl
-by_id false context id o = refl
-
-by_iteration : (w : Bool) (lane : Lane) (context : ℕ) (next : Option ℕ) → by_lines w (did_iteration lane context next) ≡ did_iteration lane context next
-by_iteration true lane context None = refl
-by_iteration true lane context (Some id) = by_id true context id (row_of context id lane)
-by_iteration false lane context next = refl
-
--- whether a turn's lane has another number of lines than before
-abbrev pub Wrote : (wrote : Bool) (lines now : List Line) → Type 0
-Wrote true lines now = length now ≢ length lines
-Wrote false lines now = length now ≡ length lines
-
-more_lines : (lines : List Line) (line : Line) → length (lines ++ line ∷ []) ≡ length lines → ⊥
-more_lines lines line e = absurd (omega (arith, e, length-append lines (line ∷ [])))
-
--- a loop
-of_loop : (script : Plan) (tick : ℕ) (t : Turn) (number context : ℕ) (runs iterated wrote : Bool) → is_running number t.lane ≡ runs → t.iterated ≡ iterated
-    → Wrote wrote t.lane.trace (unwrap_or (step_top script tick t (tops.Loop number context)) t).lane.trace
-    → (if is_some (step_top script tick t (tops.Loop number context)) then did_top script t.lane (tops.Loop number context) else deeds.Rests)
-    ≡ done (foreseen_top script t.lane (tops.Loop number context)) (is_some (step_top script tick t (tops.Loop number context))) wrote
-of_loop script tick t number context true true wrote r i w = rw (r, i) refl
-of_loop script tick t number context true false true r i w = absurd ((rw (r, i) at w) refl)
-of_loop script tick t number context true false false r i w = rw (r, i) refl
-of_loop script tick t number context false iterated true r i w = rw r refl
-of_loop script tick t number context false iterated false r i w = absurd (more_lines _ _ (rw r at w))
-
--- what is innermost
-of_top : (script : Plan) (tick : ℕ) (t : Turn) (top : Top) (wrote : Bool) → Wrote wrote t.lane.trace (unwrap_or (step_top script tick t top) t).lane.trace
-    → (if is_some (step_top script tick t top) then did_top script t.lane top else deeds.Rests) ≡ done (foreseen_top script t.lane top) (is_some (step_top script tick t top)) wrote
-of_top script tick t tops.Nothing wrote w = refl
-of_top script tick t (tops.Call call) wrote w = sym (by_call wrote call.body call.place (slice_get (actions_of script call.body) call.place))
-of_top script tick t (tops.Iteration context next asker) wrote w = sym (by_iteration wrote t.lane context next)
-of_top script tick t (tops.Loop number context) wrote w = of_loop script tick t number context (is_running number t.lane) t.iterated wrote refl refl w
-
-of_status : (script : Plan) (tick : ℕ) (t : Turn) (s : Status) (wrote : Bool) → Wrote wrote t.lane.trace (unwrap_or (step_going script tick t s) t).lane.trace
-    → (if is_some (step_going script tick t s) then did_top script t.lane (top_of t.lane.frames) else deeds.Rests) ≡ done (foreseen_top script t.lane (top_of t.lane.frames)) (is_some (step_going script tick t s)) wrote
-of_status script tick t statuses.GoesOn wrote w = of_top script tick t (top_of t.lane.frames) wrote w
-of_status script tick t statuses.Ended wrote w = refl
-of_status script tick t statuses.Halted wrote w = refl
-
--- a turn whose tasks were polled
-pub did_is : (script : Plan) (tick : ℕ) (lane : Lane) (left : ℕ) (iterated : Bool) (sent : ℕ) (posted : List Letter) (wrote : Bool)
-    → Wrote wrote lane.trace (unwrap_or (step script tick (record { lane = lane; unpolled = []; left = left; iterated = iterated; sent = sent; posted = posted })) (record { lane = lane; unpolled = []; left = left; iterated = iterated; sent = sent; posted = posted })).lane.trace
-    → did_step script tick (record { lane = lane; unpolled = []; left = left; iterated = iterated; sent = sent; posted = posted })
-    ≡ done (foreseen_top script lane (top_of lane.frames)) (is_some (step script tick (record { lane = lane; unpolled = []; left = left; iterated = iterated; sent = sent; posted = posted }))) wrote
-did_is script tick lane left iterated sent posted wrote w =
-    of_status script tick (record { lane = lane; unpolled = []; left = left; iterated = iterated; sent = sent; posted = posted }) lane.status wrote w
 
 -- ---- the innermost
 
@@ -135,11 +77,3 @@ nothing_seen frames s xs e d l = top_none frames (sym (last_shown xs frames (dra
 
 pub seen : (frames s : List Frame) (xs : List Activity) (a : Activity) → s ≡ reverse frames → Drains (TakesFirst frame_shown) s xs → Some a ≡ last_or None xs → top_of frames ≡ top_of (frame_shown a ∷ [])
 seen frames s xs a e d l = top_some frames (frame_shown a) (sym (last_shown xs frames (drained s xs d ∙ e)) ∙ ap (option_map frame_shown) (sym l))
-
--- whether the lines are as many as before
-pub wrote_by : (a b : ℕ) (lines now : List Line) → a ≡ length now → b ≡ length lines → Wrote (not (eqb a b)) lines now
-wrote_by a b lines now p q = by (eqb a b) refl
-  where
-    by : (t : Bool) → eqb a b ≡ t → Wrote (not t) lines now
-    by true e = sym p ∙ (eqb-true a b e ∙ q)
-    by false e = λ k. let no : true ≡ false = sym (eq-eqb a b (p ∙ (k ∙ sym q))) ∙ e in cc

@@ -52,32 +52,6 @@ did_top script lane (tops.Loop number context) = if is_running number lane then 
 abbrev pub did_step : Plan → Tick → Turn → Deed
 did_step script tick t = if is_some (step script tick t) then did_top script t.lane (top_of t.lane.frames) else deeds.Rests
 
--- what is foreseen of it, where it is not looked up whether a loop runs
-abbrev pub foreseen_top : Plan → Lane → Top → Deed
-foreseen_top script lane tops.Nothing = deeds.Rests
-foreseen_top script lane (tops.Call call) = did_call call.body call.place (slice_get (actions_of script call.body) call.place)
-foreseen_top script lane (tops.Iteration context next asker) = did_iteration lane context next
-foreseen_top script lane (tops.Loop number context) = deeds.Iterated number context
-
--- a loop that was quit writes a line, and one that goes on none
-abbrev pub by_lines : Bool → Deed → Deed
-by_lines false deed = deed
-by_lines true (deeds.Iterated number context) = deeds.LoopEnded number context
-by_lines true deeds.Polled = deeds.Polled
-by_lines true (deeds.Acted body place) = deeds.Acted body place
-by_lines true (deeds.Returned body) = deeds.Returned body
-by_lines true (deeds.Dispatched context source) = deeds.Dispatched context source
-by_lines true (deeds.PassedOver context source) = deeds.PassedOver context source
-by_lines true (deeds.IterationEnded context) = deeds.IterationEnded context
-by_lines true (deeds.LoopEnded number context) = deeds.LoopEnded number context
-by_lines true deeds.Rests = deeds.Rests
-by_lines true (deeds.HandedOver context from) = deeds.HandedOver context from
-by_lines true (deeds.Received letter sender) = deeds.Received letter sender
-
--- by what was foreseen of a step, whether there was one, and whether it wrote
-abbrev pub done : Deed → (more wrote : Bool) → Deed
-done foreseen more wrote = if more then by_lines wrote foreseen else deeds.Rests
-
 -- ---- what a move does
 
 -- whose move it is, and what it does

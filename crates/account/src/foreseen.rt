@@ -1,16 +1,18 @@
 //! What a lane's next step does.
-ghost use Rattle.std.specs.Prelude.{◌≡◌, slice_get};
+ghost use Rattle.std.specs.Prelude.{◌≡◌, slice_get, if◌then◌else◌};
 ghost use Rattle.loop_script.specs.Parts.{actions_of};
 ghost use Rattle.lane_turn.specs.Frames.{top_of};
-ghost use Rattle.account.specs.Told.{did_call, did_iteration, foreseen_top, done};
+ghost use Rattle.lane_turn.specs.Lane.{is_running};
+ghost use Rattle.account.specs.declared.moment.Deed.TheVariants.{Iterated, LoopEnded, Rests};
+ghost use Rattle.account.specs.Told.{did_call, did_iteration, did_top};
 
 use crate::moment::Deed;
 use lane_turn::{Activity, LaneState};
 use loop_script::{Body, Script};
 
-/// What the next step of a lane's turn does, where there is one. Of the run of a loop it is told as if it began an iteration.
+/// What the next step of a lane's turn does, where there is one.
 pub(crate) fn foreseen(script: &Script, lane: &LaneState) -> Deed
-    ensures { result ≡ foreseen_top script.now lane.now.lane (top_of lane.now.lane.frames) }
+    ensures { result ≡ did_top script.now lane.now.lane (top_of lane.now.lane.frames) }
 {
     match lane.frames().last() {
         None => Deed::Rests,
@@ -20,10 +22,7 @@ pub(crate) fn foreseen(script: &Script, lane: &LaneState) -> Deed
             context,
             left.first().copied(),
         ),
-        Some(Activity::Loop { number, context }) => Deed::Iterated {
-            loop_number: number,
-            context,
-        },
+        Some(Activity::Loop { number, context }) => of_loop(lane, number, context),
     }
 }
 
@@ -57,21 +56,26 @@ fn of_iteration(lane: &LaneState, context: u32, next: Option<u64>) -> Deed
     }
 }
 
-/// What a step did, by what was foreseen of it, whether there was one, and whether it wrote: a loop that was quit does.
-pub(crate) fn done(foreseen: Deed, more: bool, wrote: bool) -> Deed
-    ensures { result ≡ done foreseen more wrote }
+/// A loop that runs begins an iteration, and one that was quit ends.
+fn of_loop(lane: &LaneState, loop_number: u32, context: u32) -> Deed
+    ensures { result ≡ (if is_running loop_number lane.now.lane then Iterated loop_number context else LoopEnded loop_number context) }
 {
-    if !more {
-        return Deed::Rests;
-    }
-    match foreseen {
+    if lane.is_running(loop_number) {
         Deed::Iterated {
             loop_number,
             context,
-        } if wrote => Deed::LoopEnded {
+        }
+    } else {
+        Deed::LoopEnded {
             loop_number,
             context,
-        },
-        deed => deed,
+        }
     }
+}
+
+/// What a step did, by what was foreseen of it and whether there was one.
+pub(crate) fn done(foreseen: Deed, more: bool) -> Deed
+    ensures { result ≡ (if more then foreseen else Rests) }
+{
+    if more { foreseen } else { Deed::Rests }
 }

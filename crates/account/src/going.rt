@@ -154,7 +154,7 @@ impl Going {
         let from = self.lines_of(lane);
         let ahead = foreseen(script, &self.lanes[lane]);
         let more = step(script, tick, self.lanes.as_mut_slice(), lane, &mut begun)?;
-        let deed = done(ahead, more, self.lines_of(lane) != from);
+        let deed = done(ahead, more);
         if more {
             self.begun = Some(begun);
         } else {

@@ -65,6 +65,13 @@ impl Context {
         true
     }
 
+    /// How many times `acquire` was called and not taken back.
+    pub fn acquires(&self) -> u64
+        ensures { result ≡ self.now.acquires }
+    {
+        self.acquires
+    }
+
     /// Whether an `acquire` was not taken back.
     pub fn is_owned(&self) -> bool
         ensures { result ≡ is_acquired self.now }

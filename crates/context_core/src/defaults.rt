@@ -1,17 +1,19 @@
 //! The thread-default contexts of a lane.
 ghost use Rattle.std.specs.Prelude.{◌≡◌, [], OnOk, OnErr};
 ghost use Rattle.context_core.specs.Defaults.{top_of, is_on_top, is_pushed, pushed, popped};
+ghost use Rattle.context_core.specs.Pushed.{contexts_of};
 
 use std::alloc::{AllocError, Global};
 use std::collections::BTreeSet;
 use std::marker::Model;
 
 /// A context that was pushed.
-#[derive(Clone, Copy, Debug)]
-struct Pushed {
-    context: u32,
+#[derive(Clone, Copy, Debug, PartialEq, Eq)]
+pub struct Pushed {
+    /// Its number.
+    pub context: u32,
     /// Whether it stood on the stack already.
-    again: bool,
+    pub again: bool,
 }
 
 /// The contexts that a lane has pushed as its thread-default ones, the last one on top
@@ -88,6 +90,13 @@ impl DefaultStack {
             None => None,
             Some(top) => Some(top.context),
         }
+    }
+
+    /// What was pushed and not popped since, the last one on top. It takes no memory.
+    pub fn pushed(&self) -> &[Pushed]
+        ensures { contexts_of result.now ≡ self.now }
+    {
+        self.pushed.as_slice()
     }
 
     /// Whether a context was pushed and not popped since, on top or below.

@@ -16,6 +16,6 @@ mod ready;
 mod standing;
 
 pub use context::Context;
-pub use defaults::DefaultStack;
+pub use defaults::{DefaultStack, Pushed};
 pub use interest::{Interest, Prepared};
 pub use standing::Standing;

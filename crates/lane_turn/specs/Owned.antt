@@ -14,6 +14,7 @@ use Rattle.lane_turn.specs.declared.line.Invoked.TheVariants.{Direct, Attached, 
 use Rattle.lane_turn.specs.declared.line.Word.TheVariants as words
 use Rattle.lane_turn.specs.declared.layer.Origin.TheVariants.{Invoke}
 use Rattle.lane_turn.specs.declared.lane.Status.TheVariants.{Halted}
+use Rattle.lane_turn.specs.declared.owned.Grounds.{Grounds}
 use Rattle.lane_turn.specs.Frames.{CallOf, owns, calls_in_progress}
 use Rattle.lane_turn.specs.Lane.{Lane, written, pushed as begun, stopped, context_at, is_own, with_context, edited}
 use Rattle.lane_turn.specs.Limits.{most_calls}
@@ -31,6 +32,20 @@ has_ground context (Some c) lane = is_acquired c || is_pushed context lane.defau
 -- whether the lane has a context and owns it
 abbrev pub is_owned : ContextNumber → Lane → Bool
 is_owned context lane = has_ground context (context_at context lane) lane
+
+-- by what the lane owns one of its contexts
+abbrev pub grounds_in : ContextNumber → Option Context → Lane → Option Grounds
+grounds_in context None lane = None
+grounds_in context (Some c) lane = Some (record { acquires = c.acquires; pushed = is_pushed context lane.defaults; in_progress = list_any (owns context) lane.frames })
+
+-- the same by its number; none of another lane's
+abbrev pub grounds : ContextNumber → Lane → Option Grounds
+grounds context lane = grounds_in context (context_at context lane) lane
+
+-- whether there is one
+abbrev pub has_any : Option Grounds → Bool
+has_any None = false
+has_any (Some g) = nat_lt 0 g.acquires || g.pushed || g.in_progress
 
 -- what was acquired can be released
 abbrev pub may_release : Option Context → Bool

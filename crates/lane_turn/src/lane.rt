@@ -5,11 +5,12 @@ ghost use Rattle.std.specs.Option.{option_copied, option_copied_mut};
 ghost use Rattle.lane_turn.specs.Lane.{written, set_running, is_running, context_at, is_own, held, place_at, handler_at, set_slot, chosen, standings, stopped};
 ghost use Rattle.lane_turn.specs.Lending.{LendsContext};
 ghost use Rattle.lane_turn.specs.Acted.{missed};
+ghost use Rattle.lane_turn.specs.Replies.{reply_held};
 ghost use Rattle.lane_turn.specs.Meaning.{lane_of};
 
 use crate::frames::Frames;
 use crate::line::{Event, Line, Word};
-use crate::replies::Replies;
+use crate::replies::{Awaited, Replies};
 use crate::select::{select, stand};
 use crate::slot::{Named, Place};
 use context_core::{Context, DefaultStack, Standing};
@@ -89,6 +90,16 @@ impl Lane {
         match self.contexts.get(context as usize) {
             Some(Some(context)) => Some(context),
             _ => None,
+        }
+    }
+
+    /// The reply that a source of a context holds.
+    pub(crate) fn awaited(&self, context: u32, id: u64) -> Option<Awaited>
+        ensures { result ≡ reply_held context id self.now.replies.items }
+    {
+        match self.replies.get(context as usize) {
+            Some(held) => held.get(id),
+            None => None,
         }
     }
 

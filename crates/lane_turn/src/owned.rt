@@ -2,7 +2,7 @@
 ghost use Rattle.std.specs.Prelude.{◌≡◌, ◌≤◌, ◌^◌, true, false, None, OnOk};
 ghost use Rattle.context_core.specs.Defaults.{acquired, released};
 ghost use Rattle.lane_turn.specs.Lane.{context_at, with_context};
-ghost use Rattle.lane_turn.specs.Owned.{default_context, is_owned, may_release, push, pop, show_default, acquire, release, invoke_spec, called_at_once, invoke};
+ghost use Rattle.lane_turn.specs.Owned.{default_context, grounds, has_any, is_owned, may_release, push, pop, show_default, acquire, release, invoke_spec, called_at_once, invoke};
 ghost use Rattle.lane_turn.specs.Sound.{IsWithin};
 ghost use Rattle.lane_turn.specs.Meaning.{lane_of};
 ghost use Rattle.loop_script.specs.Bounds.{latest};
@@ -14,6 +14,17 @@ use crate::limits::MOST_CALLS;
 use crate::line::{Event, Invoked, Word};
 use loop_script::{Body, Kind, SourceSpec};
 use std::alloc::AllocError;
+
+/// By what a lane owns one of its contexts: it does where one of the three holds.
+#[derive(Clone, Copy, Debug, PartialEq, Eq)]
+pub struct Grounds {
+    /// How often it was acquired and not released (GMainContext: `g_main_context_acquire`).
+    pub acquires: u64,
+    /// Whether it is on the stack of thread-default contexts.
+    pub pushed: bool,
+    /// Whether something in progress owns it: an iteration of it, the run of a loop of it, or a call of an invoke that acquired it.
+    pub in_progress: bool,
+}
 
 /// The source of a procedure that is invoked where it can't be called at once.
 pub(crate) fn invoke_spec(proc: u32) -> SourceSpec
@@ -33,6 +44,21 @@ impl Lane {
         ensures { result ≡ default_context (lane_of self.now) }
     {
         self.defaults.top().unwrap_or(0)
+    }
+
+    /// By what the lane owns one of its contexts.
+    pub(crate) fn grounds(&self, context: u32) -> Option<Grounds>
+        ensures grounds { result ≡ grounds context (lane_of self.now) }
+        ensures owned { has_any result ≡ is_owned context (lane_of self.now) }
+    {
+        match self.context(context) {
+            Some(kept) => Some(Grounds {
+                acquires: kept.acquires(),
+                pushed: self.defaults.contains(context),
+                in_progress: self.frames.owns(context),
+            }),
+            None => None,
+        }
     }
 
     /// Whether the lane has a context and owns it.

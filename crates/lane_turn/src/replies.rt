@@ -50,6 +50,13 @@ impl Replies {
         Ok(())
     }
 
+    /// The reply that a source holds.
+    pub(crate) fn get(&self, id: u64) -> Option<Awaited>
+        ensures { result ≡ held_under id self.now }
+    {
+        self.held.get(&id).copied()
+    }
+
     /// The reply that a source holds, which it holds no more.
     pub(crate) fn take(&mut self, id: u64) -> Option<Awaited>
         ensures taken { result ≡ held_under id self.old }

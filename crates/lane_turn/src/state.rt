@@ -4,35 +4,25 @@ ghost use Rattle.loop_script.specs.Bounds.{tick_end};
 ghost use Rattle.lane_turn.specs.Step.{step};
 ghost use Rattle.lane_turn.specs.Lane.{context_at, standings};
 ghost use Rattle.std.specs.Option.{option_copied};
-ghost use Rattle.lane_turn.specs.Turn.{begun_with, begun_polled, finished, stepped, turned, out_of, opening, open_context, open_contexts, open_slots, open_loops, open_replies};
+ghost use Rattle.lane_turn.specs.Turn.{begun_with, begun_polled, finished, stepped, turned, out_of, opening};
 ghost use Rattle.lane_turn.specs.Deliver.{received_all};
 ghost use Rattle.lane_turn.specs.Handover.{handed_of, without_context, taken_over};
 ghost use Rattle.lane_turn.specs.Quiet.{at_tick, IsQuietUntil};
 ghost use Rattle.lane_watch.specs.Watch.{GivesNothing};
-ghost use Rattle.lane_watch.specs.Watch.{nothing_seen, no_tasks};
-ghost use Rattle.source_rows.specs.Rows.{level_count};
-ghost use Rattle.lane_turn.specs.Sources.{tree_levels};
 ghost use Rattle.lane_turn.specs.Meaning.{lane_of, turn_at, IsTurnOf};
 ghost use Rattle.lane_turn.specs.Sound.{IsReady, IsGoing};
 ghost use Rattle.lane_turn.specs.Limits.{half_count, most_letters, most_steps, turn_growth};
 
-use crate::frames::Frames;
 use crate::handover::Held;
 use crate::in_progress::InProgress;
 use crate::lane::{Lane, Status};
-use crate::layer::{Call, Origin};
-use crate::limits::SLOTS;
 use crate::line::Line;
-use crate::replies::Replies;
-use crate::slot::Named;
+use crate::start::boxed_lane;
 use crate::turn::Turn;
 use crate::wakes::{sooner, tick_of};
 use cancel_view::View;
-use context_core::{Context, DefaultStack, Standing};
-use lane_watch::Watch;
-use loop_script::{Body, Script};
+use loop_script::Script;
 use post_office::{Letter, Numbered, Post};
-use source_rows::{Levels, Rows};
 use std::alloc::{AllocError, Global};
 use std::marker::Model;
 use thiserror::Error;
@@ -77,9 +67,9 @@ pub enum HandFault {
 /// definition, and whether it is spent.
 #[derive(Drop)]
 pub struct LaneState {
-    alloc: Global,
+    pub(crate) alloc: Global,
     /// In a box, so that a lane that is handed on is not copied.
-    lane: Box<Lane>,
+    pub(crate) lane: Box<Lane>,
     spent: bool,
 }
 
@@ -94,119 +84,6 @@ impl Model for LaneState {
     ghost coded = { Prim.hlevel (codes, task_tree.the_row.coded) };
 
     ghost view = { λ s. record { lane = lane_of s.lane.value; spent = s.spent } };
-}
-
-/// The contexts of a script, of which those of the lane have no source yet.
-fn open_contexts(
-    alloc: Global,
-    script: &Script,
-    lane: u32,
-) -> Result<Vec<Option<Context>>, AllocError>
-    ensures { IfOk result (λ contexts. contexts.items ≡ open_contexts script.now lane) }
-{
-    let mut contexts = Vec::new(alloc);
-    for context in 0..script.contexts() {
-        contexts.push(open_context(alloc, script, lane, context))?;
-    }
-    Ok(contexts)
-}
-
-/// A context of a script, as the lane has it at first: none where it is another lane's.
-fn open_context(alloc: Global, script: &Script, lane: u32, context: u32) -> Option<Context>
-    ensures { result ≡ open_context script.now lane context }
-{
-    if script.home(context) == lane {
-        Some(Context::new(alloc, tree_levels(script)))
-    } else {
-        None
-    }
-}
-
-/// At how many levels the sources of a script stand at most.
-fn tree_levels(script: &Script) -> Levels
-    ensures { level_count result ≡ tree_levels script.now }
-{
-    if script.version() == 1 {
-        Levels::Two
-    } else {
-        Levels::Four
-    }
-}
-
-/// Slots that name nothing.
-fn open_slots(alloc: Global, slots: usize) -> Result<Vec<Option<Named>>, AllocError>
-    ensures { IfOk result (λ places. places.items ≡ open_slots slots) }
-{
-    let mut places = Vec::new(alloc);
-    for _ in 0..slots {
-        places.push(None)?;
-    }
-    Ok(places)
-}
-
-/// What a lane watches at first: nothing is cancelled, and no task was started.
-fn open_watch(alloc: Global, script: &Script) -> Result<Watch, AllocError>
-    ensures { IfOk result (λ watch. watch ≡ record { view = nothing_seen script.now.cancellables; tasks = no_tasks script.now.cancellables script.now.tick_us }) }
-{
-    match Watch::new(alloc, script.cancellables(), script.tick_us()) {
-        Ok(watch) => Ok(watch),
-        Err(_) => Err(AllocError),
-    }
-}
-
-/// Loops that do not run.
-fn open_loops(alloc: Global, loops: u32) -> Result<Vec<bool>, AllocError>
-    ensures { IfOk result (λ running. running.items ≡ open_loops loops) }
-{
-    let mut running = Vec::new(alloc);
-    for _ in 0..loops {
-        running.push(false)?;
-    }
-    Ok(running)
-}
-
-/// Replies of no source.
-fn open_replies(alloc: Global, contexts: u32) -> Result<Vec<Replies>, AllocError>
-    ensures { IfOk result (λ replies. replies.items ≡ open_replies contexts) }
-{
-    let mut replies = Vec::new(alloc);
-    for _ in 0..contexts {
-        replies.push(Replies::new(alloc))?;
-    }
-    Ok(replies)
-}
-
-/// A lane that holds its start call.
-fn open_lane(alloc: Global, script: &Script, lane: u32) -> Result<Lane, AllocError>
-    ensures { IfOk result (λ opened. lane_of opened ≡ opening script.now lane) }
-{
-    let mut frames = Frames::new(alloc);
-    frames.begin_call(Call {
-        origin: Origin::Start,
-        body: Body::Start(lane),
-        place: 0,
-    })?;
-    Ok(Lane {
-        number: lane,
-        contexts: open_contexts(alloc, script, lane)?,
-        given: open_loops(alloc, script.contexts())?,
-        slots: open_slots(alloc, SLOTS)?,
-        watch: open_watch(alloc, script)?,
-        frames,
-        running: open_loops(alloc, script.loops())?,
-        defaults: DefaultStack::new(alloc),
-        replies: open_replies(alloc, script.contexts())?,
-        trace: Vec::new(alloc),
-        status: Status::GoesOn,
-    })
-}
-
-/// The same in a box.
-fn boxed_lane(alloc: Global, script: &Script, lane: u32) -> Result<Box<Lane>, AllocError>
-    ensures { IfOk result (λ opened. lane_of opened.value ≡ opening script.now lane) }
-{
-    let opened = open_lane(alloc, script, lane)?;
-    Ok(Box::new(alloc, opened)?)
 }
 
 impl LaneState {
@@ -422,43 +299,6 @@ impl LaneState {
         Ok(())
     }
 
-    /// What an iteration of a context begun at a tick would do with each of its sources, and why, in the order of dispatch; none of
-    /// a context of another lane. The lane is not changed.
-    pub fn standings(
-        &self,
-        script: &Script,
-        tick: u32,
-        context: u32,
-    ) -> Result<Vec<Standing>, AllocError>
-        ensures { IfOk result (λ list. list.items ≡ standings script.now tick context self.now.lane) }
-    {
-        self.lane.stand(self.alloc, script, tick, context)
-    }
-
-    /// The sources of one of the lane's contexts; none of another lane's. It takes no memory.
-    pub fn sources(&self, context: u32) -> Option<&Rows>
-        ensures { option_copied result ≡ option_map (λ c. c.rows) (context_at context self.now.lane) }
-    {
-        match self.lane.context(context) {
-            None => None,
-            Some(context) => Some(context.rows()),
-        }
-    }
-
-    /// The cancellables that the lane has seen cancelled, and its handlers.
-    pub fn view(&self) -> &View
-        ensures { result.now ≡ self.now.lane.view }
-    {
-        self.lane.watch.view()
-    }
-
-    /// What is in progress, from the outermost inwards. It takes no memory.
-    pub fn frames(&self) -> InProgress<'_>
-        ensures { result ≡ reverse self.now.lane.frames }
-    {
-        self.lane.frames.inwards()
-    }
-
     /// Hands over a context that the lane gave in the tick's turn, as it stands: it is the lane's no more. `NotGiven` comes, and
     /// nothing is changed, where the lane gave no context of that number. It takes no memory.
     pub fn hand_over(&mut self, context: u32) -> Result<Held, HandFault>
@@ -501,20 +341,6 @@ impl LaneState {
                 Ok(())
             }
         }
-    }
-
-    /// What the lane wrote.
-    pub fn trace(&self) -> &[Line]
-        ensures { result.now ≡ self.now.lane.trace }
-    {
-        self.lane.trace.as_slice()
-    }
-
-    /// Whether the lane is halted: it takes no further step.
-    pub fn halted(&self) -> bool
-        ensures { IsTrue result ↔ (self.now.lane.status ≡ Status.Halted) }
-    {
-        self.lane.status == Status::Halted
     }
 }
 

@@ -7,8 +7,9 @@ use Rattle.lane_turn.specs.Turn.{stepped}
 use Rattle.tick_stepper.specs.Account.{moved}
 use Rattle.account.specs.declared.going.Going.{Going}
 use Rattle.account.specs.Standing.{lanes_of, turn_in, turning, turning_after, place_of, Stands}
-use Rattle.account.specs.Told.{trace_at, did_step, done, foreseen_top, IsMoment}
-use Rattle.account.proofs.Did.{did_is, wrote_by}
+use Rattle.std.specs.Prelude.{if◌then◌else◌}
+use Rattle.account.specs.declared.moment.Deed.TheVariants as deeds
+use Rattle.account.specs.Told.{trace_at, did_step, did_top, IsMoment}
 use Rattle.account.proofs.Lines.{at_here}
 use Rattle.account.proofs.Goings.{stands_stepped, stands_over, stepped_place, over_place}
 use Rattle.account.proofs.Moments.{step_moment, grows_between}
@@ -61,13 +62,9 @@ returns c =
     let t : Turn = turn_in lane b in
     let now = ap (trace_at n) (ap lanes_of same)
     ∙ (ok.trace d ∙ ap (λ (ss : List State). (stepped script tick (turn_in (get_or ss n d).lane b)).lane.trace) was) in
-    let wrote = wrote_by c.lines_of.result c.lines_of-from.result lane.trace (stepped script tick t).lane.trace (c.lines_of.ensures ∙ ap length now)
-    (c.lines_of-from.ensures ∙ ap length (at_here g.lanes.items n d c.requires.lane)) in
     let more : is_some (step script tick t) ≡ c.in_ok-more.more = sym (ok.more d ∙ ap (λ (ss : List State). is_some (step script tick (turn_in (get_or ss n d).lane b))) was) in
-    let ahead : foreseen_top script lane (top_of lane.frames) ≡ c.foreseen-ahead.result = sym (c.foreseen-ahead.ensures ∙ ap (λ (s : State). foreseen_top script s.lane (top_of s.lane.frames)) c.index.ensures) in
-    let did : did_step script tick t ≡ c.done-deed.result =
-    did_is script tick lane b.turn.progress.left b.turn.progress.iterated b.turn.progress.sent b.post (not (eqb c.lines_of.result c.lines_of-from.result)) wrote
-    ∙ ((λ j. done (ahead j) (more j) (not (eqb c.lines_of.result c.lines_of-from.result))) ∙ sym c.done-deed.ensures) in
+    let ahead : did_top script lane (top_of lane.frames) ≡ c.foreseen-ahead.result = sym (c.foreseen-ahead.ensures ∙ ap (λ (s : State). did_top script s.lane (top_of s.lane.frames)) c.index.ensures) in
+    let did : did_step script tick t ≡ c.done-deed.result = (λ j. if more j then ahead j else deeds.Rests) ∙ sym c.done-deed.ensures in
     let grows = grows_between tick n was (sym left.2) ok.grows in
     let found = c.moment.ensures ∙ (λ j. record { tick = tick; lane = n; deed = c.done-deed.result; from = c.lines_of-from.ensures j; to = length (trace_at n (lanes_of h.lanes.items)) }) in
     record {
