@@ -10,6 +10,8 @@
 extern "C" {
 #endif
 
+#define MAINCTX_VERSION 1 /* that of the calls below, as mainctx_version answers it: another library may answer another */
+
 /* What the calls answer. */
 enum {
     MAINCTX_TEXT = 0,       /* the whole text is in the room; of mainctx_check: nothing is wrong */
@@ -51,6 +53,32 @@ uint32_t mainctx_run(const uint8_t *script, size_t script_size, uint8_t *room, s
 
    All else is as of mainctx_run. */
 uint32_t mainctx_check(const uint8_t *script, size_t script_size, uint8_t *room, size_t room_size, size_t *needed);
+
+/* Runs a script, and tells what the run does, a move at a time: the account of the run as JSON, an object a line (docs/ACCOUNT.md), from the
+   move `first` on, counted from 0, and of `most` moves at most. The account's first line goes before them, and its last line, whose `did`
+   is "over", comes where the run is over behind them: who finds none asks again from `first + most` on. Each call runs the script anew.
+
+   It answers as mainctx_run does, with the lines in place of the text. They are UTF-8. */
+uint32_t mainctx_account(const uint8_t *script, size_t script_size, uint64_t first, uint64_t most, uint8_t *room, size_t room_size,
+                         size_t *needed);
+
+/* Runs a script, and tells in words why sources were dispatched or not: each iteration that is begun in the ticks from `first` to `last`,
+   with a table of its context's sources, as the program mainctx_inspect why tells it. The run ends behind the tick `last`.
+
+   It answers as mainctx_run does, with these words in place of the text. */
+uint32_t mainctx_why(const uint8_t *script, size_t script_size, uint32_t first, uint32_t last, uint8_t *room, size_t room_size,
+                     size_t *needed);
+
+/* Runs a script, and tells in words the life of the source with this id in a context, as the program mainctx_inspect why --source tells
+   it: attached by whom, each dispatch, each iteration in the ticks from `first` to `last` that left it out and why, destroyed by whom.
+
+   It answers as mainctx_run does, with these words in place of the text. */
+uint32_t mainctx_life(const uint8_t *script, size_t script_size, uint32_t context, uint64_t id, uint32_t first, uint32_t last,
+                      uint8_t *room, size_t room_size, size_t *needed);
+
+/* The version of these calls: MAINCTX_VERSION of the header with which the library was made. It rises where one of them is changed in a
+   way that a caller may notice. */
+uint32_t mainctx_version(void);
 
 #ifdef __cplusplus
 }

@@ -8,7 +8,7 @@ from pathlib import Path
 
 from .common import C, MOST, SCRIPT, SCRIPTS, TOP, Built, Fault, Missing, Test, ends, vectors
 
-EXPORTED = {"mainctx_check", "mainctx_run"}
+EXPORTED = {"mainctx_account", "mainctx_check", "mainctx_life", "mainctx_run", "mainctx_version", "mainctx_why"}
 INSTALLED = {"include/mainctx.h", "lib/libmainctx.a", "lib/libmainctx.so", "lib/libmainctx.so.0", "lib/pkgconfig/mainctx.pc"}
 SANITIZERS = ("-fsanitize=address,undefined", "-fno-sanitize-recover=all")
 WARNINGS = ("-std=c11", "-O1", "-g", "-Wall", "-Wextra", "-Werror")

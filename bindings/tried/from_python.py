@@ -2,6 +2,7 @@
 from __future__ import annotations
 
 import importlib
+import json
 import os
 import re
 import shutil
@@ -11,11 +12,13 @@ from concurrent.futures import ThreadPoolExecutor
 from functools import partial
 from pathlib import Path
 from types import ModuleType
+from typing import Any
 
 from .common import MOST, PYTHON, SCRIPT, SCRIPTS, Built, Count, Ended, Fault, Missing, Test, Variables, ended, ends, python_with
 from .from_c import LONG_TEXT, long_script
 
 THREADS, ROUNDS = 8, 25
+PART, FEW_MOVES = 7, 300  # the moves of a part, and of the runs whose account is asked for in parts
 
 RUNS = f"import mainctx, pathlib; print(mainctx.run(pathlib.Path({str(SCRIPT)!r})), end='')"
 TEXT = SCRIPT.with_suffix(".out").read_text()
@@ -42,8 +45,20 @@ def refused_rightly(mainctx: ModuleType, path: Path, refused: Exception) -> Faul
     return None if all(each.line and each.column for each in refused.faults) else "a fault without a place"
 
 
+def accounted(run: Any) -> Fault:
+    """the lines of a run's moves, thread by thread, are its text; and moves that are asked for in parts are those of the whole"""
+    moves = run.account()
+    lanes: dict[int, list[str]] = {number: [f"thread {number}"] for number in range(len(json.loads(run.script)["lanes"]))}
+    for move in moves:
+        lanes[move["lane"]] += move.get("lines", [])
+    if [line for lines in lanes.values() for line in lines] != run.text.splitlines():
+        return "the account's lines are not the text"
+    parts = [move for first in range(0, len(moves) + 1, PART) for move in run.account(first, PART)] if len(moves) <= FEW_MOVES else moves
+    return None if parts == moves else "in parts the account is another"
+
+
 def vector(mainctx: ModuleType, path: Path) -> Fault:
-    """the text, or the class; the text anew from its lines; and nothing is wrong with what runs"""
+    """the text, or the class; the text anew from its lines; its account; and nothing is wrong with what runs"""
     script, wanted = path.read_bytes(), path.with_suffix(".out")
     try:
         run = mainctx.run(script)
@@ -54,7 +69,7 @@ def vector(mainctx: ModuleType, path: Path) -> Fault:
     if not wanted.exists() or run.text != wanted.read_text():
         return "another text"
     lines = [line for line in run.text.splitlines() if not line.startswith("thread ")]
-    return None if [str(line) for line in run.lines] == lines else "its lines are written otherwise"
+    return accounted(run) if [str(line) for line in run.lines] == lines else "its lines are written otherwise"
 
 
 def all_vectors(built: Built) -> Count:

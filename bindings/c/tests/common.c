@@ -33,6 +33,18 @@ struct bytes file(const char *path) {
     return bytes;
 }
 
+uint32_t account(const uint8_t *script, size_t script_size, uint8_t *room, size_t room_size, size_t *needed) {
+    return mainctx_account(script, script_size, 0, UINT64_MAX, room, room_size, needed);
+}
+
+uint32_t why(const uint8_t *script, size_t script_size, uint8_t *room, size_t room_size, size_t *needed) {
+    return mainctx_why(script, script_size, 0, UINT32_MAX, room, room_size, needed);
+}
+
+uint32_t life(const uint8_t *script, size_t script_size, uint8_t *room, size_t room_size, size_t *needed) {
+    return mainctx_life(script, script_size, 0, 1, 0, UINT32_MAX, room, room_size, needed);
+}
+
 struct bytes text_of(struct call call, struct bytes script) {
     struct bytes room = {room_of(FIRST_ROOM), FIRST_ROOM};
     size_t needed;

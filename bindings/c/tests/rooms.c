@@ -1,4 +1,5 @@
-/* rooms SCRIPT TEXT FAULTY: a room of each length from none to more than the text's, and than what mainctx_check tells of FAULTY. Behind the script and behind each room lies a page that
+/* rooms SCRIPT TEXT FAULTY: a room of each length from none to more than the text's, than what mainctx_check tells of FAULTY, and than what the
+   other calls tell of SCRIPT. Behind the script and behind each room lies a page that
    may not be touched, and where the room is longer than the text its rest has to stay. */
 #define _DEFAULT_SOURCE
 #include "common.h"
@@ -52,11 +53,25 @@ static void try_none(library_function *function, const char *script, uint32_t wa
     }
 }
 
+/* the same where the text is told by a first call */
+static void try_told(struct call call, struct bytes script) {
+    struct bytes told = text_of(call, script);
+    try_rooms(call, script, told);
+    free(told.at);
+}
+
 int main(int count, char **words) {
+    if (mainctx_version() != MAINCTX_VERSION) wrong("it is version %u", (unsigned)mainctx_version());
     if (count != 4) wrong("usage: rooms SCRIPT TEXT FAULTY");
     struct bytes script = file(words[1]), text = file(words[2]), faulty = file(words[3]), faults = text_of(CHECK, faulty);
     try_rooms(RUN, script, text);
     try_rooms(CHECK, faulty, faults);
+    try_told(ACCOUNT, script);
+    try_told(WHY, script);
+    try_told(LIFE, script);
+    try_none(account, "{}", MAINCTX_SHAPE);
+    try_none(why, "", MAINCTX_NOT_JSON);
+    try_none(life, "[]", MAINCTX_SHAPE);
     try_none(mainctx_run, "", MAINCTX_NOT_JSON);
     try_none(mainctx_run, "{}", MAINCTX_SHAPE);
     try_none(mainctx_check, "{\"version\":1,\"ticks\":1,\"tick_us\":1,\"lanes\":[{\"contexts\":1,\"start\":[]}]}", MAINCTX_TEXT);

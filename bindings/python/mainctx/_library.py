@@ -1,4 +1,4 @@
-"""The shared library: where it is found, and the two calls that are made of it."""
+"""The shared library: where it is found, and the calls that are made of it."""
 from __future__ import annotations
 
 import ctypes
@@ -7,6 +7,7 @@ import os
 from collections.abc import Callable
 from functools import lru_cache
 from pathlib import Path
+from typing import Any
 
 from .errors import Fault, LibraryNotFound, ScriptError, ScriptFault
 
@@ -20,6 +21,16 @@ BUILT = CHECKOUT / "c" / "out" / NAME  # where make of bindings/c leaves it
 
 TEXT, MEMORY, SHORT_ROOM, FAULTS = 0, 6, 7, 8  # what a call answers beside the numbers of faults (mainctx.h)
 FIRST_ROOM = 65536
+ALL = 2**64 - 1  # as many moves as a run has
+EVER = 2**32 - 1  # no run has so many ticks
+
+CALLS: dict[str, list[Any]] = {  # what each call takes between the script and the room
+    "mainctx_run": [],
+    "mainctx_check": [],
+    "mainctx_account": [ctypes.c_uint64, ctypes.c_uint64],
+    "mainctx_why": [ctypes.c_uint32, ctypes.c_uint32],
+    "mainctx_life": [ctypes.c_uint32, ctypes.c_uint64, ctypes.c_uint32, ctypes.c_uint32],
+}
 
 
 def _places() -> list[str]:
@@ -42,20 +53,21 @@ def library() -> ctypes.CDLL:
             tried.append(str(fault))
             continue
         size, pointer = ctypes.c_size_t, ctypes.c_char_p
-        for call in (loaded.mainctx_run, loaded.mainctx_check):
+        for name, asked in CALLS.items():
+            call = getattr(loaded, name)
             call.restype = ctypes.c_uint32
-            call.argtypes = [pointer, size, pointer, size, ctypes.POINTER(size)]
+            call.argtypes = [pointer, size, *asked, pointer, size, ctypes.POINTER(size)]
         return loaded
     raise LibraryNotFound(tried)
 
 
-def _answer(call: Callable[..., int], script: bytes) -> tuple[int, bytes]:
+def _answer(call: Callable[..., int], script: bytes, *asked: int) -> tuple[int, bytes]:
     """What a call answers of a script, and the text that it leaves. Other threads of Python go on meanwhile."""
     __tracebackhide__ = True
     room, needed = FIRST_ROOM, ctypes.c_size_t()
     while True:
         text = ctypes.create_string_buffer(room)
-        answer = call(script, len(script), text, room, ctypes.byref(needed))
+        answer = call(script, len(script), *asked, text, room, ctypes.byref(needed))
         if answer == MEMORY:
             raise MemoryError("mainctx: a request for memory was refused")
         if answer != SHORT_ROOM:
@@ -63,13 +75,38 @@ def _answer(call: Callable[..., int], script: bytes) -> tuple[int, bytes]:
         room = needed.value
 
 
+def _told(name: str, script: bytes, *asked: int) -> str:
+    """What a call tells of the run of a script."""
+    __tracebackhide__ = True
+    answer, text = _answer(getattr(library(), name), script, *asked)
+    if answer != TEXT:
+        raise ScriptError(Fault.by_number(answer), faults_of(script))
+    return text.decode("utf-8")
+
+
 def text_of(script: bytes) -> str:
     """The text of a script."""
     __tracebackhide__ = True
-    answer, text = _answer(library().mainctx_run, script)
-    if answer != TEXT:
-        raise ScriptError(Fault.by_number(answer), faults_of(script))
-    return text.decode("ascii")
+    return _told("mainctx_run", script)
+
+
+def account_of(script: bytes, first: int, most: int) -> list[dict[str, Any]]:
+    """So many moves of a run, as the account tells them, from one on; neither its first line nor its last."""
+    __tracebackhide__ = True
+    lines = [json.loads(line) for line in _told("mainctx_account", script, first, most).splitlines()[1:]]
+    return [line for line in lines if line["did"] != "over"]
+
+
+def why_of(script: bytes, first: int, last: int) -> str:
+    """Why sources were dispatched or not in these ticks, in words."""
+    __tracebackhide__ = True
+    return _told("mainctx_why", script, first, last)
+
+
+def life_of(script: bytes, context: int, source: int, first: int, last: int) -> str:
+    """The life of a source in these ticks, in words."""
+    __tracebackhide__ = True
+    return _told("mainctx_life", script, context, source, first, last)
 
 
 def faults_of(script: bytes) -> tuple[ScriptFault, ...]:

@@ -9,7 +9,7 @@ from functools import cached_property
 from pathlib import Path
 from typing import Any, SupportsIndex, TypeVar, Union, overload
 
-from ._library import faults_of, text_of
+from ._library import ALL, EVER, account_of, faults_of, life_of, text_of, why_of
 from .errors import Fault, ScriptError, ScriptFault
 from .lines import Dispatch, Line, Source, read_lines
 from .timeline import draw
@@ -121,6 +121,21 @@ class Run:
             if line.thread != thread:
                 raise ValueError(f"in tick {line.tick} threads {thread} and {line.thread} both dispatch: that has no order")
         return Found([found[place].pair for place in places], self, places, asked)
+
+    def account(self, first: int = 0, most: int | None = None) -> list[dict[str, Any]]:
+        """What the run does, a move at a time, as dicts with the keys of docs/ACCOUNT.md: from a move on, counted from 0, so many at most.
+
+        A run is made anew for it. Whoever wants a long run in parts asks again from `first + most` on, until nothing comes.
+        """
+        return account_of(self.script, first, ALL if most is None else most)
+
+    def why(self, source: tuple[int, int] | None = None, tick: int | None = None) -> str:
+        """Why sources were dispatched or not, in words: each iteration of a tick, or of all, with its sources in a table.
+
+        Of one source, a pair of a context and a number: its life, with each iteration that left it out and why.
+        """
+        first, last = (0, EVER) if tick is None else (tick, tick)
+        return why_of(self.script, first, last) if source is None else life_of(self.script, *source, first, last)
 
     def timeline(self, *sources: tuple[int, int], around: int = 0) -> str:
         """A picture of the dispatches in each tick, with a row for each source, and for these sources though nothing dispatches them.

@@ -30,3 +30,10 @@ def test_a_socket_at_the_redraws_priority_lets_it_run() -> None:
     loop["lanes"][0]["start"][0][3]["priority"] = 120  # type: ignore[index]
     run = mainctx.run(loop)
     assert run.when(mainctx.Dispatch, context=0, source=2) == list(range(40))
+
+
+def test_why_says_who_goes_first() -> None:
+    run = mainctx.run(LOOP)
+    assert "ready, but source 1 of priority 0 goes first" in run.why(REDRAW, tick=3)
+    assert "source 2" in run.why(tick=25)
+    assert [move["did"] for move in run.account(0, 2)] == ["polled", "acted"]

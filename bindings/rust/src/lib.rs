@@ -32,9 +32,11 @@ mod fault;
 
 pub use fault::Fault;
 
-/// What a call answers where the whole text is in the room, and where the room is too short (mainctx.h). The others are faults.
+/// What a call answers where the whole text is in the room, where the room is too short, and where faults are told (mainctx.h). The
+/// others are faults.
 const TEXT: u32 = 0;
 const SHORT_ROOM: u32 = 7;
+const FAULTS: u32 = 8;
 
 /// The bytes of the first room, which is enough for most texts.
 const FIRST_ROOM: usize = 65_536;
@@ -43,6 +45,34 @@ extern "C" {
     fn mainctx_run(
         script: *const u8,
         script_size: usize,
+        room: *mut u8,
+        room_size: usize,
+        needed: *mut usize,
+    ) -> u32;
+
+    fn mainctx_check(
+        script: *const u8,
+        script_size: usize,
+        room: *mut u8,
+        room_size: usize,
+        needed: *mut usize,
+    ) -> u32;
+
+    fn mainctx_account(
+        script: *const u8,
+        script_size: usize,
+        first: u64,
+        most: u64,
+        room: *mut u8,
+        room_size: usize,
+        needed: *mut usize,
+    ) -> u32;
+
+    fn mainctx_why(
+        script: *const u8,
+        script_size: usize,
+        first: u32,
+        last: u32,
         room: *mut u8,
         room_size: usize,
         needed: *mut usize,
@@ -58,33 +88,95 @@ fn room_of(size: usize) -> Result<Vec<u8>, Fault> {
     Ok(room)
 }
 
+/// What a call leaves in a room that is long enough. The call answers of the room it is given, and notes how much is needed.
+fn told(call: impl Fn(&mut [u8], &mut usize) -> u32) -> Result<String, Fault> {
+    let mut text = room_of(FIRST_ROOM)?;
+    loop {
+        let mut needed = 0;
+        match call(&mut text, &mut needed) {
+            TEXT | FAULTS => {
+                text.truncate(needed);
+                return Ok(String::from_utf8(text).expect("what is told is UTF-8"));
+            }
+            SHORT_ROOM => text = room_of(needed)?,
+            number => return Err(Fault::of(number)),
+        }
+    }
+}
+
 /// Runs a script to its end in the caller's thread, and answers its text.
 ///
 /// # Errors
 ///
 /// The first class of which the script has a fault, or `OutOfMemory`; then nothing is left of the run.
 pub fn run(script: &[u8]) -> Result<String, Fault> {
-    let mut text = room_of(FIRST_ROOM)?;
-    loop {
-        let mut needed = 0;
-        // SAFETY: the three are apart, the library reads and writes within their sizes and keeps none of them, and no pointer is null,
-        // not even of an empty slice.
-        let answer = unsafe {
-            mainctx_run(
-                script.as_ptr(),
-                script.len(),
-                text.as_mut_ptr(),
-                text.len(),
-                &mut needed,
-            )
-        };
-        match answer {
-            TEXT => {
-                text.truncate(needed);
-                return Ok(String::from_utf8(text).expect("a text is ASCII"));
-            }
-            SHORT_ROOM => text = room_of(needed)?,
-            number => return Err(Fault::of(number)),
-        }
-    }
+    // SAFETY: the three are apart, the library reads and writes within their sizes and keeps none of them, and no pointer is null,
+    // not even of an empty slice. So it is of each call below.
+    told(|room, needed| unsafe {
+        mainctx_run(
+            script.as_ptr(),
+            script.len(),
+            room.as_mut_ptr(),
+            room.len(),
+            needed,
+        )
+    })
+}
+
+/// Tells what is wrong with a script: each fault as a JSON object on a line, with its class, its place and what was wanted, 100 at
+/// most; nothing exactly where [`run`] runs it.
+///
+/// # Errors
+///
+/// `OutOfMemory` alone.
+pub fn check(script: &[u8]) -> Result<String, Fault> {
+    told(|room, needed| unsafe {
+        mainctx_check(
+            script.as_ptr(),
+            script.len(),
+            room.as_mut_ptr(),
+            room.len(),
+            needed,
+        )
+    })
+}
+
+/// Tells what the run of a script does, a move at a time, each as a JSON object on a line (docs/ACCOUNT.md of the repository): from the
+/// move `first` on, counted from 0, and `most` of them at most, between the account's first line and, where the run is over behind
+/// them, its last.
+///
+/// # Errors
+///
+/// As of [`run`].
+pub fn account(script: &[u8], first: u64, most: u64) -> Result<String, Fault> {
+    told(|room, needed| unsafe {
+        mainctx_account(
+            script.as_ptr(),
+            script.len(),
+            first,
+            most,
+            room.as_mut_ptr(),
+            room.len(),
+            needed,
+        )
+    })
+}
+
+/// Tells in words why sources were dispatched or not: each iteration in these ticks, with a table of its sources.
+///
+/// # Errors
+///
+/// As of [`run`].
+pub fn why(script: &[u8], ticks: std::ops::RangeInclusive<u32>) -> Result<String, Fault> {
+    told(|room, needed| unsafe {
+        mainctx_why(
+            script.as_ptr(),
+            script.len(),
+            *ticks.start(),
+            *ticks.end(),
+            room.as_mut_ptr(),
+            room.len(),
+            needed,
+        )
+    })
 }

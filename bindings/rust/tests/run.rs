@@ -54,6 +54,23 @@ fn each_class_of_fault() {
     }
 }
 
+/// In a run of one tick the lane polls, attaches, begins its loop, iterates, dispatches, logs, returns and rests.
+#[test]
+fn what_is_asked_of_a_run() -> Result<(), Fault> {
+    let script = script_of(1);
+    assert_eq!(mainctx::check(&script)?, "");
+    assert!(mainctx::check(b"{}")?.contains(r#""class":"shape""#));
+    let account = mainctx::account(&script, 0, u64::MAX)?;
+    assert!(account.contains(r#""did":"dispatched","context":0,"source":1,"lines":["0 dispatch ctx 0 source 1 priority 200 depth 1"]"#));
+    assert_eq!(
+        mainctx::account(&script, 1, 1)?.lines().nth(1),
+        account.lines().nth(2)
+    );
+    assert!(mainctx::why(&script, 0..=0)?.contains("to be dispatched"));
+    assert_eq!(mainctx::why(b"", 0..=0), Err(Fault::NotJson));
+    Ok(())
+}
+
 #[test]
 fn a_fault_is_an_error() {
     let fault: Box<dyn std::error::Error + Send + Sync> = Fault::Limit.into();

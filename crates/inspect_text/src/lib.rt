@@ -4,6 +4,7 @@
 
 mod action_words;
 mod alike;
+mod asked;
 mod begun;
 mod block;
 mod counts;
@@ -20,6 +21,7 @@ mod why;
 mod window;
 mod words;
 
+pub use asked::{Asked, push_asked};
 pub use life::Life;
 pub use moments::Moments;
 pub use steps::Steps;

@@ -45,3 +45,13 @@ pub record HoldsFront (bytes room : List ℕ) (needed : ℕ) : Type 0 where
   pub read : IsScriptOf bytes script
   pub long : needed ≡ length (text_of script)
   pub front : HasFront (text_of script) room
+
+-- the bytes are those of a script
+pub record IsAScripts (bytes : List ℕ) : Type 0 where
+  pub script : Plan
+  pub read : IsScriptOf bytes script
+
+-- so much stands first in a room, and what is behind it is as before
+pub record LeavesRest (needed : ℕ) (before room : List ℕ) : Type 0 where
+  pub fits : needed ≤ length room
+  pub rest : drop needed room ≡ drop needed before

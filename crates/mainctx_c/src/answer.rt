@@ -23,6 +23,9 @@ pub(crate) const SHORT_ROOM: u32 = 7;
 /// Something is wrong with the script, and all of it is told in the room.
 pub(crate) const FAULTS: u32 = 8;
 
+/// The version of the calls.
+pub(crate) const VERSION: u32 = 1;
+
 /// The number of a class of fault.
 pub(crate) fn class_of(fault: ScriptFault) -> u32
     ensures { result ≡ class_of fault }

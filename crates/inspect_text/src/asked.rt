@@ -1,0 +1,107 @@
+//! What is asked of a run, answered as one text.
+use crate::life::Life;
+use crate::moments::Moments;
+use crate::why::Why;
+use crate::window::{SourceName, Window};
+use account::{Account, Moment};
+use loop_script::Script;
+use std::alloc::{AllocError, Global};
+
+/// What is asked of a run.
+#[derive(Clone, Copy, Debug, PartialEq, Eq)]
+pub enum Asked {
+    /// The account of the run, from a move on, by its place in the run, from 0, and of so many moves at most.
+    Account { first: u64, most: u64 },
+    /// Why sources are dispatched or not.
+    Why(Window),
+    /// The life of one source.
+    Life(SourceName, Window),
+}
+
+/// The next moment of a run; none where it is over.
+fn next_of(account: &mut Account) -> Result<Option<Moment>, AllocError> {
+    match account.next() {
+        Ok(found) => Ok(found),
+        Err(_) => Err(AllocError),
+    }
+}
+
+/// A run before its first moment.
+fn open(alloc: Global, script: Script) -> Result<Account, AllocError> {
+    match Account::new(alloc, script) {
+        Ok(account) => Ok(account),
+        Err(_) => Err(AllocError),
+    }
+}
+
+/// Adds what is asked of the run of a script.
+pub fn push_asked(
+    alloc: Global,
+    script: Script,
+    asked: Asked,
+    out: &mut String,
+) -> Result<(), AllocError> {
+    match asked {
+        Asked::Account { first, most } => push_account(alloc, script, first, most, out),
+        Asked::Why(window) => push_why(alloc, script, window, out),
+        Asked::Life(name, window) => push_life(alloc, script, name, window, out),
+    }
+}
+
+/// Adds the first line of the account, the moments that are asked for, and the last line where the run is over behind them.
+fn push_account(
+    alloc: Global,
+    script: Script,
+    first: u64,
+    most: u64,
+    out: &mut String,
+) -> Result<(), AllocError> {
+    let mut moments = Moments::begin(alloc, &script, Window::whole(), out)?;
+    let mut account = open(alloc, script)?;
+    for place in 0..first.saturating_add(most) {
+        let Some(moment) = next_of(&mut account)? else {
+            return moments.end(&account, out);
+        };
+        if place >= first {
+            moments.tell(&account, &moment, out)?;
+        }
+    }
+    Ok(())
+}
+
+/// Adds why sources are dispatched or not.
+fn push_why(
+    alloc: Global,
+    script: Script,
+    window: Window,
+    out: &mut String,
+) -> Result<(), AllocError> {
+    let mut why = Why::new(alloc, &script, window)?;
+    let mut account = open(alloc, script)?;
+    for _ in 0..u64::MAX {
+        match next_of(&mut account)? {
+            Some(moment) if moment.tick <= window.last => why.tell(&account, &moment, out)?,
+            _ => break,
+        }
+    }
+    why.end(&account, out)
+}
+
+/// Adds the life of one source.
+fn push_life(
+    alloc: Global,
+    script: Script,
+    name: SourceName,
+    window: Window,
+    out: &mut String,
+) -> Result<(), AllocError> {
+    let mut life = Life::new(name, window);
+    let mut account = open(alloc, script)?;
+    for _ in 0..u64::MAX {
+        match next_of(&mut account)? {
+            Some(moment) => life.tell(&account, &moment, out)?,
+            None => break,
+        }
+    }
+    life.end(&account, out)
+}
