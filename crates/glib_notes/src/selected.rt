@@ -1,0 +1,146 @@
+//! What GLib would select where an iteration or a question looks at what is ready.
+use crate::difference::Difference;
+use crate::kept::{ContextKept, SourceKept};
+use crate::notes::{Note, Scene};
+use crate::shared::Shared;
+use cancel_view::View;
+use context_core::Standing;
+use loop_script::Kind;
+use source_rows::Row;
+use std::alloc::AllocError;
+
+/// Why it is looked at what is ready.
+#[derive(Clone, Copy, PartialEq, Eq)]
+pub(crate) enum Look {
+    /// What is ready is dispatched.
+    Iteration,
+    /// It is asked whether anything is ready, and nothing is dispatched.
+    Question,
+}
+
+/// Whether a source is ready.
+pub(crate) fn is_ready(standing: Standing) -> bool {
+    matches!(standing, Standing::Selected | Standing::LessUrgent { .. })
+}
+
+fn is_blocked(standing: Standing) -> bool {
+    matches!(standing, Standing::Blocked { .. })
+}
+
+/// Whether a source is ready of itself, before its descriptor is asked.
+fn is_ready_of_itself(row: &Row, now: u64, view: &View) -> bool {
+    match row.kind {
+        Kind::Idle => true,
+        Kind::Cancel(cancellable) if view.is_cancelled(cancellable) => true,
+        _ => row.ready >= 0 && row.ready as u64 <= now,
+    }
+}
+
+/// The more urgent of two priorities.
+fn urgent(one: Option<i32>, other: i32) -> Option<i32> {
+    match one {
+        Some(priority) if priority <= other => Some(priority),
+        _ => Some(other),
+    }
+}
+
+/// The most urgent priorities of what is ready: of all, and of what is ready of itself.
+#[derive(Clone, Copy)]
+struct Urgent {
+    all: Option<i32>,
+    itself: Option<i32>,
+}
+
+impl Urgent {
+    fn add(&mut self, row: &Row, standing: Standing, now: u64, view: &View) {
+        if is_ready(standing) {
+            self.all = urgent(self.all, row.priority);
+            if is_ready_of_itself(row, now, view) {
+                self.itself = urgent(self.itself, row.priority);
+            }
+        }
+    }
+
+    /// Whether GLib would dispatch, or tell of, a source of a priority that is not ready here.
+    fn lets(&self, priority: i32, look: Look) -> bool {
+        match self.all {
+            None => true,
+            Some(cut) => look == Look::Iteration && priority <= cut,
+        }
+    }
+}
+
+/// Looks at what is ready in a context of the lane, and keeps what GLib keeps of it.
+pub(crate) fn look_over(
+    scene: &Scene<'_>,
+    context: u32,
+    look: Look,
+    kept: &mut ContextKept,
+    shared: &Shared,
+    found: &mut Vec<Note>,
+) -> Result<(), AllocError> {
+    kept.latest = scene.moment.tick;
+    if shared.is_posted(context) {
+        found.push(scene.note(Difference::InvokeAttachesAtOnce, Some(context), None))?;
+    }
+    let Some(rows) = scene.lane.sources(context) else {
+        return Ok(());
+    };
+    let list = scene
+        .lane
+        .standings(scene.script, scene.moment.tick, context)?;
+    let now = scene.script.now(scene.moment.tick);
+    let mut most = Urgent {
+        all: None,
+        itself: None,
+    };
+    for (row, standing) in rows.in_order().zip(list.as_slice().iter()) {
+        most.add(row, *standing, now, scene.lane.view());
+    }
+    for (row, standing) in rows.in_order().zip(list.as_slice().iter()) {
+        let lets = most.lets(row.priority, look);
+        if let Some(difference) = parts(scene, row, *standing, kept.source(row.id), lets, shared) {
+            found.push(scene.note(difference, Some(context), Some(row.id)))?;
+        }
+        if is_ready(*standing)
+            && (most.all == Some(row.priority) || most.itself == Some(row.priority))
+        {
+            let mut source = kept.source(row.id);
+            source.flagged = true;
+            kept.keep(row.id, source)?;
+        }
+    }
+    Ok(())
+}
+
+/// How GLib parts from the rules in what it does with a source.
+fn parts(
+    scene: &Scene<'_>,
+    row: &Row,
+    standing: Standing,
+    source: SourceKept,
+    lets: bool,
+    shared: &Shared,
+) -> Option<Difference> {
+    if let Kind::Cancel(cancellable) = row.kind {
+        if shared.is_news_of(cancellable, scene.lane) {
+            return Some(Difference::CancelAtOnce);
+        }
+        let again = source.dispatched && scene.lane.view().is_cancelled(cancellable);
+        if again && !is_blocked(standing) {
+            return Some(Difference::CancellableSourceOnce);
+        }
+    }
+    if is_ready(standing) || is_blocked(standing) || !lets {
+        return None;
+    }
+    if source.flagged {
+        return Some(Difference::ReadyFlagStays);
+    }
+    match source.due {
+        Some(due) if due <= scene.script.now(scene.moment.tick) => {
+            Some(Difference::TimeoutCachedTime)
+        }
+        _ => None,
+    }
+}
