@@ -1,5 +1,13 @@
 //! The arguments.
-use inspect_text::{SourceName, Window};
+use inspect_text::{Point, SourceName, Window};
+
+/// How many characters a line of a picture has where none are named: those of a usual terminal.
+const USUAL_COLUMNS: u32 = 80;
+
+/// How many a line has at least, so that there is room beside the longest name of a row, and at most.
+const LEAST_COLUMNS: u32 = 50;
+
+const MOST_COLUMNS: u32 = 9999;
 
 /// What of a run is asked for.
 #[derive(Clone, Copy, Debug, PartialEq, Eq)]
@@ -9,14 +17,29 @@ pub(crate) enum Command {
     Summary,
     Account,
     Steps,
+    Stack,
+    Timeline,
 }
 
 impl Command {
-    /// Whether it can tell of some threads and ticks alone.
-    fn takes_window(self) -> bool {
+    /// Whether it can tell of some ticks alone.
+    fn takes_ticks(self) -> bool {
         match self {
-            Command::Why | Command::Account | Command::Steps => true,
-            Command::Text | Command::Summary => false,
+            Command::Why | Command::Account | Command::Steps | Command::Timeline => true,
+            Command::Text | Command::Summary | Command::Stack => false,
+        }
+    }
+
+    /// Whether it can tell of one thread alone.
+    fn takes_lane(self) -> bool {
+        self.takes_ticks() || self == Command::Stack
+    }
+
+    /// Whether it can end after some lines.
+    fn takes_most_lines(self) -> bool {
+        match self {
+            Command::Text | Command::Why | Command::Account | Command::Steps => true,
+            Command::Summary | Command::Stack | Command::Timeline => false,
         }
     }
 }
@@ -27,8 +50,32 @@ pub(crate) struct Order<'a> {
     pub command: Command,
     pub window: Window,
     pub source: Option<SourceName>,
+    /// The tick of one turn.
+    pub tick: Option<u32>,
+    /// The number of a step of that turn; None is its end.
+    pub step: Option<u64>,
+    /// How many characters a line of a picture has at most.
+    pub columns: u32,
+    /// After how many lines to end; None is after the last.
+    pub most_lines: Option<u32>,
     /// None is standard input.
     pub file: Option<&'a str>,
+}
+
+impl Order<'_> {
+    /// The moment of a turn of which is asked, where a thread and a tick are named.
+    pub(crate) fn point(&self) -> Option<Point> {
+        Some(Point {
+            lane: self.window.lane?,
+            tick: self.tick?,
+            step: self.step,
+        })
+    }
+
+    /// Whether it says all that its command needs.
+    fn is_whole(&self) -> bool {
+        self.command != Command::Stack || self.point().is_some()
+    }
 }
 
 /// What the arguments ask for.
@@ -48,6 +95,8 @@ fn command_of(word: &str) -> Option<Command> {
         "summary" => Some(Command::Summary),
         "account" => Some(Command::Account),
         "steps" => Some(Command::Steps),
+        "stack" => Some(Command::Stack),
+        "timeline" => Some(Command::Timeline),
         _ => None,
     }
 }
@@ -73,6 +122,10 @@ enum Wanted {
     Lane,
     Ticks,
     Source,
+    Tick,
+    Step,
+    Columns,
+    MostLines,
     /// A file alone.
     File,
 }
@@ -83,6 +136,10 @@ fn read_rest(command: Command, words: &[String]) -> Asked<'_> {
         command,
         window: Window::whole(),
         source: None,
+        tick: None,
+        step: None,
+        columns: USUAL_COLUMNS,
+        most_lines: None,
         file: None,
     };
     let mut wanted = Wanted::Any;
@@ -96,7 +153,8 @@ fn read_rest(command: Command, words: &[String]) -> Asked<'_> {
             None => return Asked::Wrong,
         }
     }
-    if wanted == Wanted::Any || wanted == Wanted::File {
+    let is_read = wanted == Wanted::Any || wanted == Wanted::File;
+    if is_read && order.is_whole() {
         Asked::Run(order)
     } else {
         Asked::Wrong
@@ -125,6 +183,22 @@ fn read_word<'a>(order: &mut Order<'a>, wanted: Wanted, text: &'a str) -> Option
             });
             Some(Wanted::Any)
         }
+        Wanted::Tick => {
+            order.tick = Some(number_of(text)?);
+            Some(Wanted::Any)
+        }
+        Wanted::Step => {
+            order.step = Some(u64::from(number_of(text)?));
+            Some(Wanted::Any)
+        }
+        Wanted::Columns => {
+            order.columns = columns_of(text)?;
+            Some(Wanted::Any)
+        }
+        Wanted::MostLines => {
+            order.most_lines = Some(number_of(text)?);
+            Some(Wanted::Any)
+        }
         Wanted::File => read_file(order, text, Wanted::File),
     }
 }
@@ -133,9 +207,13 @@ fn read_word<'a>(order: &mut Order<'a>, wanted: Wanted, text: &'a str) -> Option
 fn read_flag<'a>(order: &mut Order<'a>, text: &'a str) -> Option<Wanted> {
     match text {
         "--" => Some(Wanted::File),
-        "--lane" if order.command.takes_window() => Some(Wanted::Lane),
-        "--ticks" if order.command.takes_window() => Some(Wanted::Ticks),
+        "--lane" if order.command.takes_lane() => Some(Wanted::Lane),
+        "--ticks" if order.command.takes_ticks() => Some(Wanted::Ticks),
         "--source" if order.command == Command::Why => Some(Wanted::Source),
+        "--tick" if order.command == Command::Stack => Some(Wanted::Tick),
+        "--step" if order.command == Command::Stack => Some(Wanted::Step),
+        "--columns" if order.command == Command::Timeline => Some(Wanted::Columns),
+        "--most-lines" if order.command.takes_most_lines() => Some(Wanted::MostLines),
         _ if text.len() > 1 && text.starts_with("-") => None,
         _ => read_file(order, text, Wanted::Any),
     }
@@ -148,6 +226,16 @@ fn read_file<'a>(order: &mut Order<'a>, text: &'a str, next: Wanted) -> Option<W
     }
     order.file = Some(text);
     Some(next)
+}
+
+/// How many characters a line is to have.
+fn columns_of(text: &str) -> Option<u32> {
+    let columns = number_of(text)?;
+    if LEAST_COLUMNS <= columns && columns <= MOST_COLUMNS {
+        Some(columns)
+    } else {
+        None
+    }
 }
 
 /// A number in 1 to 9 decimal digits.

@@ -3,6 +3,7 @@
 
 mod arguments;
 mod failure;
+mod first_lines;
 mod help;
 mod program;
 mod teller;

@@ -1,9 +1,11 @@
 //! What the program does, and its exit status.
 use crate::arguments::{Asked, Command, Order, read_words};
-use crate::failure::Failure;
+use crate::failure::{Failure, Numbered};
+use crate::first_lines::FirstLines;
 use crate::help::help_text;
 use crate::teller::Teller;
 use account::Account;
+use inspect_text::{Point, Reach, Stack};
 use loop_script::{Script, ScriptFault};
 use mainctx::{MainFault, OverWrite, run_alone};
 use script_report::{Form, check_script, read_input};
@@ -22,7 +24,7 @@ pub(crate) fn run(rt: &HostRuntime) -> u8 {
     match attempt(rt) {
         Ok(status) => status,
         Err(failure) => {
-            let _ = rt.stderr().write_all(failure.line().as_bytes());
+            failure.write(&mut rt.stderr());
             failure.status()
         }
     }
@@ -66,20 +68,34 @@ fn bytes_of(rt: &HostRuntime, file: Option<&str>) -> Result<Vec<u8>, Failure> {
     }
 }
 
-fn write_out(rt: &HostRuntime, text: &str) -> Result<(), Failure> {
-    match rt.stdout().write_all(text.as_bytes()) {
-        Ok(()) => Ok(()),
-        Err(fault) if fault.kind() == io::ErrorKind::BrokenPipe => Err(Failure::Closed),
-        Err(_) => Err(Failure::Write),
+/// Writes some text to a writer.
+fn write_to<W: Write>(out: &mut FirstLines<W>, text: &str) -> Result<(), Failure> {
+    let Err(fault) = out.write_all(text.as_bytes()) else {
+        return Ok(());
+    };
+    match out.ended_after() {
+        Some(lines) => Err(Failure::Ended { lines }),
+        None if fault.kind() == io::ErrorKind::BrokenPipe => Err(Failure::Closed),
+        None => Err(Failure::Write),
     }
+}
+
+/// Writes a whole text.
+fn write_out(rt: &HostRuntime, text: &str) -> Result<(), Failure> {
+    write_to(&mut FirstLines::new(rt.stdout(), None), text)
 }
 
 /// Writes the text of the run.
 fn write_text(rt: &HostRuntime, order: &Order<'_>, bytes: &[u8]) -> Result<u8, Failure> {
-    match run_alone(rt.alloc(), bytes, &mut OverWrite::new(rt.stdout())) {
+    let lines = FirstLines::new(rt.stdout(), order.most_lines);
+    let mut out = OverWrite::new(lines);
+    match run_alone(rt.alloc(), bytes, &mut out) {
         Ok(()) => Ok(0),
         Err(MainFault::Script(_)) => refuse(rt, order, bytes),
-        Err(MainFault::Write) => Err(Failure::Write),
+        Err(MainFault::Write) => match out.into_inner().ended_after() {
+            Some(lines) => Err(Failure::Ended { lines }),
+            None => Err(Failure::Write),
+        },
         Err(MainFault::Setup(_)) | Err(MainFault::OutOfMemory) => Err(Failure::Memory),
     }
 }
@@ -96,16 +112,26 @@ fn refuse(rt: &HostRuntime, order: &Order<'_>, bytes: &[u8]) -> Result<u8, Failu
     Ok(REFUSED)
 }
 
-/// Runs a script, and writes what is asked of it tick by tick.
+/// Reads a script, and writes what is asked of its run.
 fn tell(rt: &HostRuntime, order: &Order<'_>, bytes: &[u8]) -> Result<u8, Failure> {
     let script = match Script::read(rt.alloc(), bytes) {
         Ok(script) => script,
         Err(ScriptFault::OutOfMemory) => return Err(Failure::Memory),
         Err(_) => return refuse(rt, order, bytes),
     };
+    match order.point() {
+        Some(point) => tell_point(rt, point, script)?,
+        None => tell_run(rt, order, script)?,
+    }
+    Ok(0)
+}
+
+/// Runs a script, and writes what is asked of it tick by tick.
+fn tell_run(rt: &HostRuntime, order: &Order<'_>, script: Script) -> Result<(), Failure> {
     if !are_there(order, &script) {
         return Err(Failure::NotThere);
     }
+    let mut lines = FirstLines::new(rt.stdout(), order.most_lines);
     let mut out = String::new(rt.alloc());
     let mut teller = Teller::begin(rt.alloc(), order, &script, &mut out)?;
     let mut account = Account::new(rt.alloc(), script)?;
@@ -116,14 +142,51 @@ fn tell(rt: &HostRuntime, order: &Order<'_>, bytes: &[u8]) -> Result<u8, Failure
         };
         if moment.tick != shown || out.len() >= FULL {
             shown = moment.tick;
-            write_out(rt, out.as_str())?;
+            write_to(&mut lines, out.as_str())?;
             out.clear();
         }
         teller.tell(&account, &moment, &mut out)?;
     }
     teller.end(&account, &mut out)?;
-    write_out(rt, out.as_str())?;
-    Ok(0)
+    write_to(&mut lines, out.as_str())
+}
+
+/// Runs a script up to one moment, and writes what a thread is in the middle of there.
+fn tell_point(rt: &HostRuntime, point: Point, script: Script) -> Result<(), Failure> {
+    within(Numbered::Thread, point.lane, script.lanes())?;
+    within(Numbered::Tick, point.tick, script.ticks())?;
+    let mut out = String::new(rt.alloc());
+    let mut stack = Stack::new(point);
+    let mut account = Account::new(rt.alloc(), script)?;
+    for _ in 0..u64::MAX {
+        let Some(moment) = account.next()? else {
+            break;
+        };
+        match stack.tell(&account, &moment, &mut out)? {
+            Reach::Before => {}
+            Reach::There => break,
+            Reach::Over { steps } => {
+                return Err(Failure::Beyond {
+                    what: Numbered::Step,
+                    asked: point.step.unwrap_or(steps),
+                    last: steps,
+                });
+            }
+        }
+    }
+    write_out(rt, out.as_str())
+}
+
+/// Refuses a number that is not among so many from 0 on.
+fn within(what: Numbered, asked: u32, count: u32) -> Result<(), Failure> {
+    if asked < count {
+        return Ok(());
+    }
+    Err(Failure::Beyond {
+        what,
+        asked: u64::from(asked),
+        last: u64::from(count.saturating_sub(1)),
+    })
 }
 
 /// Whether the script has the thread and the context of which is asked.

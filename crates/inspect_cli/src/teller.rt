@@ -1,7 +1,7 @@
 //! What is told of a run, moment by moment.
 use crate::arguments::{Command, Order};
 use account::{Account, Moment};
-use inspect_text::{Life, Moments, Steps, Summary, Why};
+use inspect_text::{Life, Moments, Steps, Summary, Timeline, Why};
 use loop_script::Script;
 use std::alloc::{AllocError, Global};
 
@@ -13,6 +13,7 @@ pub(crate) enum Teller {
     Summary(Summary),
     Moments(Moments),
     Steps(Steps),
+    Timeline(Timeline),
 }
 
 impl Teller {
@@ -29,6 +30,12 @@ impl Teller {
                 alloc, script, window, out,
             )?)),
             (Command::Summary, _) => Ok(Teller::Summary(Summary::new(alloc, script)?)),
+            (Command::Timeline, _) => Ok(Teller::Timeline(Timeline::new(
+                alloc,
+                script,
+                window,
+                order.columns,
+            )?)),
             (Command::Steps, _) => Ok(Teller::Steps(Steps::new(alloc, window))),
             (_, Some(name)) => Ok(Teller::Life(Life::new(name, window))),
             (_, None) => Ok(Teller::Why(Why::new(alloc, script, window)?)),
@@ -46,6 +53,7 @@ impl Teller {
             Teller::Why(why) => why.tell(account, moment, out),
             Teller::Life(life) => life.tell(account, moment, out),
             Teller::Summary(summary) => summary.tell(account, moment),
+            Teller::Timeline(timeline) => timeline.tell(account, moment),
             Teller::Moments(moments) => moments.tell(account, moment, out),
             Teller::Steps(steps) => steps.tell(account, moment, out),
         }
@@ -58,6 +66,7 @@ impl Teller {
             Teller::Life(life) => life.end(account, out),
             Teller::Summary(summary) => summary.end(account, out),
             Teller::Moments(moments) => moments.end(account, out),
+            Teller::Timeline(timeline) => timeline.end(account, out),
             Teller::Steps(_) => Ok(()),
         }
     }

@@ -29,7 +29,7 @@ pub(crate) enum Caller {
 }
 
 /// What made a call of this origin.
-fn caller_of(origin: Origin) -> Caller {
+pub(crate) fn caller_of(origin: Origin) -> Caller {
     match origin {
         Origin::Start => Caller::Start,
         Origin::Source(caller) => Caller::Source(SourceName {

@@ -179,7 +179,7 @@ fn push_unended(
 }
 
 /// Adds when and why a thread halted.
-fn push_halt(
+pub(crate) fn push_halt(
     out: &mut String,
     script: &Script,
     number: u32,

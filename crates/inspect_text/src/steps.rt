@@ -102,7 +102,7 @@ impl Steps {
 }
 
 /// Whether a move is a step of a turn.
-fn is_step(deed: Deed) -> bool {
+pub(crate) fn is_step(deed: Deed) -> bool {
     match deed {
         Deed::Polled | Deed::Rests | Deed::HandedOver { .. } | Deed::Received { .. } => false,
         _ => true,
@@ -110,7 +110,7 @@ fn is_step(deed: Deed) -> bool {
 }
 
 /// Adds spaces up to a column, and one at least where the row has something.
-fn push_to(row: &mut String, column: usize) -> Result<(), AllocError> {
+pub(crate) fn push_to(row: &mut String, column: usize) -> Result<(), AllocError> {
     if row.len() >= column {
         return row.push_str("  ");
     }
@@ -121,7 +121,7 @@ fn push_to(row: &mut String, column: usize) -> Result<(), AllocError> {
 }
 
 /// Adds what a move does.
-fn push_done(row: &mut String, script: &Script, deed: Deed) -> Result<(), AllocError> {
+pub(crate) fn push_done(row: &mut String, script: &Script, deed: Deed) -> Result<(), AllocError> {
     match deed {
         Deed::Polled => row.push_str("the tasks are polled"),
         Deed::Acted { body, place } => match script.actions(body).get(place) {
@@ -150,7 +150,7 @@ fn push_done(row: &mut String, script: &Script, deed: Deed) -> Result<(), AllocE
 }
 
 /// Adds what is in progress, from the outermost inwards.
-fn push_stack(row: &mut String, lane: &LaneState) -> Result<(), AllocError> {
+pub(crate) fn push_stack(row: &mut String, lane: &LaneState) -> Result<(), AllocError> {
     let mut some = false;
     for one in lane.frames() {
         if some {

@@ -6,7 +6,7 @@ use std::alloc::AllocError;
 const MILLISECOND: u64 = 1000;
 
 /// Adds a time in microseconds as a number of milliseconds.
-fn push_milliseconds(out: &mut String, us: u64) -> Result<(), AllocError> {
+pub(crate) fn push_milliseconds(out: &mut String, us: u64) -> Result<(), AllocError> {
     let whole = us / MILLISECOND;
     let part = us % MILLISECOND;
     write!(out, "{whole}")?;
