@@ -19,6 +19,7 @@ pub(crate) enum Command {
     Steps,
     Stack,
     Timeline,
+    Notes,
 }
 
 impl Command {
@@ -26,7 +27,7 @@ impl Command {
     fn takes_ticks(self) -> bool {
         match self {
             Command::Why | Command::Account | Command::Steps | Command::Timeline => true,
-            Command::Text | Command::Summary | Command::Stack => false,
+            Command::Text | Command::Summary | Command::Stack | Command::Notes => false,
         }
     }
 
@@ -39,7 +40,7 @@ impl Command {
     fn takes_most_lines(self) -> bool {
         match self {
             Command::Text | Command::Why | Command::Account | Command::Steps => true,
-            Command::Summary | Command::Stack | Command::Timeline => false,
+            Command::Summary | Command::Stack | Command::Timeline | Command::Notes => false,
         }
     }
 }
@@ -58,6 +59,8 @@ pub(crate) struct Order<'a> {
     pub columns: u32,
     /// After how many lines to end; None is after the last.
     pub most_lines: Option<u32>,
+    /// Whether the text says where GLib does otherwise.
+    pub notes: bool,
     /// None is standard input.
     pub file: Option<&'a str>,
 }
@@ -97,6 +100,7 @@ fn command_of(word: &str) -> Option<Command> {
         "steps" => Some(Command::Steps),
         "stack" => Some(Command::Stack),
         "timeline" => Some(Command::Timeline),
+        "notes" => Some(Command::Notes),
         _ => None,
     }
 }
@@ -140,6 +144,7 @@ fn read_rest(command: Command, words: &[String]) -> Asked<'_> {
         step: None,
         columns: USUAL_COLUMNS,
         most_lines: None,
+        notes: false,
         file: None,
     };
     let mut wanted = Wanted::Any;
@@ -214,6 +219,10 @@ fn read_flag<'a>(order: &mut Order<'a>, text: &'a str) -> Option<Wanted> {
         "--step" if order.command == Command::Stack => Some(Wanted::Step),
         "--columns" if order.command == Command::Timeline => Some(Wanted::Columns),
         "--most-lines" if order.command.takes_most_lines() => Some(Wanted::MostLines),
+        "--notes" if order.command == Command::Text => {
+            order.notes = true;
+            Some(Wanted::Any)
+        }
         _ if text.len() > 1 && text.starts_with("-") => None,
         _ => read_file(order, text, Wanted::Any),
     }

@@ -9,14 +9,17 @@ Runs a script, and tells what the run did and why; without FILE, of standard inp
   account   each move of the run as JSON, an object a line
   steps     each step of each turn, with what is in progress after it, as a table
   stack     what one thread is in the middle of at one moment
-  timeline  a picture of the run: a row for each source, loop, task and cancellable, with time going right\n
+  timeline  a picture of the run: a row for each source, loop, task and cancellable, with time going right
+  notes     where the real GLib would do otherwise, and by which of its ways\n
 mainctx_inspect COMMAND --help says more.\n
   mainctx_inspect why examples/ten_lines.json\n
 Status: 0 told, 1 other arguments, 2 the script is refused, which is told as by mainctx_check, 3 no memory, 4 the script could not be
 read or the answer not written.\n";
 
-const TEXT: &str = "usage: mainctx_inspect text [--most-lines N] [FILE]\n
+const TEXT: &str = "usage: mainctx_inspect text [--notes] [--most-lines N] [FILE]\n
 Writes the text of the run, as mainctx writes it.\n
+  --notes          with a line behind what a move writes where the real GLib does otherwise in it, as notes tells it; it
+                   comes when the run is over
   --most-lines N   N lines at most: then it ends\n
   mainctx_inspect text examples/ten_lines.json\n";
 
@@ -72,6 +75,11 @@ wait are told in one line. The line above has times in milliseconds, and the las
   --columns N    lines of N characters at most, 50 to 9999; else 80\n
   mainctx_inspect timeline --columns 120 examples/task_ends.json\n";
 
+const NOTES: &str = "usage: mainctx_inspect notes [FILE]\n
+Tells where the real GLib would do otherwise than the rules, at the move at which it does, by a row of docs/GLIB.md: each row once for each
+thread and context. From the first note on its text may be another. Nothing is run by it: ./beside-glib asks the library itself.\n
+  mainctx_inspect notes beside_glib/differences/pending-refills.json\n";
+
 /// The help for a command, or for all.
 pub(crate) fn help_text(command: Option<Command>) -> &'static str {
     match command {
@@ -83,5 +91,6 @@ pub(crate) fn help_text(command: Option<Command>) -> &'static str {
         Some(Command::Steps) => STEPS,
         Some(Command::Stack) => STACK,
         Some(Command::Timeline) => TIMELINE,
+        Some(Command::Notes) => NOTES,
     }
 }

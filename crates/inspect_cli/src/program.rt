@@ -40,7 +40,7 @@ fn attempt(rt: &HostRuntime) -> Result<u8, Failure> {
         }
         Asked::Run(order) => {
             let bytes = bytes_of(rt, order.file)?;
-            if order.command == Command::Text {
+            if order.command == Command::Text && !order.notes {
                 write_text(rt, &order, bytes.as_slice())
             } else {
                 tell(rt, &order, bytes.as_slice())

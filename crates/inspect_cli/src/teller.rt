@@ -1,7 +1,7 @@
 //! What is told of a run, moment by moment.
 use crate::arguments::{Command, Order};
 use account::{Account, Moment};
-use inspect_text::{Life, Moments, Steps, Summary, Timeline, Why};
+use inspect_text::{Life, Moments, NoteList, NotedText, Steps, Summary, Timeline, Why};
 use loop_script::Script;
 use std::alloc::{AllocError, Global};
 
@@ -14,6 +14,8 @@ pub(crate) enum Teller {
     Moments(Moments),
     Steps(Steps),
     Timeline(Timeline),
+    Notes(NoteList),
+    NotedText(NotedText),
 }
 
 impl Teller {
@@ -36,6 +38,8 @@ impl Teller {
                 window,
                 order.columns,
             )?)),
+            (Command::Notes, _) => Ok(Teller::Notes(NoteList::new(alloc, script)?)),
+            (Command::Text, _) => Ok(Teller::NotedText(NotedText::new(alloc, script)?)),
             (Command::Steps, _) => Ok(Teller::Steps(Steps::new(alloc, window))),
             (_, Some(name)) => Ok(Teller::Life(Life::new(name, window))),
             (_, None) => Ok(Teller::Why(Why::new(alloc, script, window)?)),
@@ -54,6 +58,8 @@ impl Teller {
             Teller::Life(life) => life.tell(account, moment, out),
             Teller::Summary(summary) => summary.tell(account, moment),
             Teller::Timeline(timeline) => timeline.tell(account, moment),
+            Teller::Notes(notes) => notes.tell(account, moment, out),
+            Teller::NotedText(text) => text.tell(account, moment),
             Teller::Moments(moments) => moments.tell(account, moment, out),
             Teller::Steps(steps) => steps.tell(account, moment, out),
         }
@@ -67,6 +73,8 @@ impl Teller {
             Teller::Summary(summary) => summary.end(account, out),
             Teller::Moments(moments) => moments.end(account, out),
             Teller::Timeline(timeline) => timeline.end(account, out),
+            Teller::Notes(notes) => notes.end(out),
+            Teller::NotedText(text) => text.end(out),
             Teller::Steps(_) => Ok(()),
         }
     }

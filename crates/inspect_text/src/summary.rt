@@ -1,9 +1,11 @@
 //! Each source and loop in one line, and what was silent.
 use crate::counts::Counts;
+use crate::noted::{Noted, push_note};
 use crate::silent::push_silent;
 use crate::span::push_many;
 use crate::time::push_ticks;
 use account::{Account, Moment};
+use glib_notes::Note;
 use loop_script::Script;
 use std::alloc::{AllocError, Global};
 
@@ -12,6 +14,9 @@ use std::alloc::{AllocError, Global};
 pub struct Summary {
     alloc: Global,
     counts: Counts,
+    noted: Noted,
+    /// Where GLib does otherwise.
+    notes: Vec<Note>,
 }
 
 impl Summary {
@@ -20,11 +25,16 @@ impl Summary {
         Ok(Summary {
             alloc,
             counts: Counts::new(alloc, script)?,
+            noted: Noted::new(alloc, script)?,
+            notes: Vec::new(alloc),
         })
     }
 
     /// Counts the latest moment of a run.
     pub fn tell(&mut self, account: &Account, moment: &Moment) -> Result<(), AllocError> {
+        for note in self.noted.look(account, moment)?.as_slice() {
+            self.notes.push(*note)?;
+        }
         self.counts.add(account, moment)
     }
 
@@ -41,7 +51,20 @@ impl Summary {
         for number in 0..script.loops() {
             self.push_loop(out, script, number)?;
         }
-        self.push_rest(account, out)
+        self.push_rest(account, out)?;
+        self.push_notes(script, out)
+    }
+
+    /// Adds where GLib does otherwise.
+    fn push_notes(&self, script: &Script, out: &mut String) -> Result<(), AllocError> {
+        if self.notes.is_empty() {
+            return Ok(());
+        }
+        out.push_str("\n")?;
+        for note in self.notes.as_slice() {
+            push_note(out, script, note)?;
+        }
+        Ok(())
     }
 
     /// Adds what was silent.

@@ -2,6 +2,7 @@
 use crate::alike::Alike;
 use crate::begun::{Begun, begun_by};
 use crate::block::block_of;
+use crate::noted::{Noted, push_note};
 use crate::rests::Rests;
 use crate::time::push_tick;
 use crate::window::Window;
@@ -18,6 +19,7 @@ pub struct Why {
     rests: Rests,
     /// Of each thread, the iterations that are not told yet.
     alike: Vec<Option<Alike>>,
+    noted: Noted,
 }
 
 impl Why {
@@ -32,12 +34,29 @@ impl Why {
             window,
             rests: Rests::new(alloc, script)?,
             alike,
+            noted: Noted::new(alloc, script)?,
         })
     }
 
     /// Adds what the latest moment of a run says. Iterations one after another that are alike are added together, when something
-    /// else comes of their thread.
+    /// else comes of their thread. Where GLib does otherwise a note says so, each way once for each thread and context.
     pub fn tell(
+        &mut self,
+        account: &Account,
+        moment: &Moment,
+        out: &mut String,
+    ) -> Result<(), AllocError> {
+        self.tell_move(account, moment, out)?;
+        for note in self.noted.look(account, moment)?.as_slice() {
+            if self.window.has(moment.lane, moment.tick) {
+                self.flush(account.script(), moment.lane, out)?;
+                push_note(out, account.script(), note)?;
+            }
+        }
+        Ok(())
+    }
+
+    fn tell_move(
         &mut self,
         account: &Account,
         moment: &Moment,

@@ -1,0 +1,108 @@
+//! Where GLib does otherwise, told at the move at which it does.
+use crate::time::push_tick;
+use account::{Account, Moment};
+use glib_notes::{Difference, Note, Notes};
+use loop_script::Script;
+use std::alloc::{AllocError, Global};
+
+/// A way in which GLib does otherwise in a thread, for one context or for none, which is told once.
+#[derive(Clone, Copy, PartialEq, Eq)]
+struct Told {
+    difference: Difference,
+    lane: u32,
+    context: Option<u32>,
+}
+
+/// Tells where GLib does otherwise: each way once for each thread and context, when it is first met.
+#[derive(Drop)]
+pub(crate) struct Noted {
+    alloc: Global,
+    notes: Notes,
+    told: Vec<Told>,
+}
+
+impl Noted {
+    pub(crate) fn new(alloc: Global, script: &Script) -> Result<Noted, AllocError> {
+        Ok(Noted {
+            alloc,
+            notes: Notes::new(alloc, script)?,
+            told: Vec::new(alloc),
+        })
+    }
+
+    /// What is new in the latest moment of a run.
+    pub(crate) fn look(
+        &mut self,
+        account: &Account,
+        moment: &Moment,
+    ) -> Result<Vec<Note>, AllocError> {
+        let mut new = Vec::new(self.alloc);
+        for note in self.notes.look(account, moment)? {
+            let told = Told {
+                difference: note.difference,
+                lane: note.lane,
+                context: note.context,
+            };
+            if !self.told.iter().any(|one| *one == told) {
+                self.told.push(told)?;
+                new.push(*note)?;
+            }
+        }
+        Ok(new)
+    }
+}
+
+/// Adds the line of a note.
+pub(crate) fn push_note(out: &mut String, script: &Script, note: &Note) -> Result<(), AllocError> {
+    out.push_str("note: ")?;
+    push_tick(out, script, note.tick)?;
+    let lane = note.lane;
+    write!(out, ", thread {lane}")?;
+    match (note.context, note.source) {
+        (Some(context), Some(source)) => write!(out, ", source {context}.{source}")?,
+        (Some(context), None) => write!(out, ", context {context}")?,
+        _ => {}
+    }
+    let told = note.difference.told();
+    let name = note.difference.name();
+    writeln!(out, ": GLib {told} (docs/GLIB.md, {name})")
+}
+
+/// Tells where GLib does otherwise, and nothing else.
+#[derive(Drop)]
+pub struct NoteList {
+    noted: Noted,
+    any: bool,
+}
+
+impl NoteList {
+    /// Nothing is told yet.
+    pub fn new(alloc: Global, script: &Script) -> Result<NoteList, AllocError> {
+        Ok(NoteList {
+            noted: Noted::new(alloc, script)?,
+            any: false,
+        })
+    }
+
+    /// Adds what the latest moment of a run says.
+    pub fn tell(
+        &mut self,
+        account: &Account,
+        moment: &Moment,
+        out: &mut String,
+    ) -> Result<(), AllocError> {
+        for note in self.noted.look(account, moment)?.as_slice() {
+            self.any = true;
+            push_note(out, account.script(), note)?;
+        }
+        Ok(())
+    }
+
+    /// Adds that there was nothing to tell, where that is so.
+    pub fn end(&self, out: &mut String) -> Result<(), AllocError> {
+        if self.any {
+            return Ok(());
+        }
+        out.push_str("Nothing is known in which GLib would do otherwise.\n")
+    }
+}
