@@ -8,7 +8,7 @@ use crate::why::halt_reason;
 use crate::words::push_standing;
 use account::Account;
 use context_core::Standing;
-use lane_turn::{Activity, LaneState, Line, Origin};
+use lane_turn::{Activity, Awaited, LaneState, Line, Origin};
 use loop_script::{Action, Body, Script};
 use std::alloc::AllocError;
 
@@ -44,7 +44,11 @@ fn push_undispatched(
 ) -> Result<(), AllocError> {
     let script = account.script();
     record.push_name(out)?;
-    if let Some(sender) = record.sender {
+    if let Some(awaited) = awaited_by(account, record) {
+        let sender = awaited.sender;
+        let task = awaited.reply.task;
+        write!(out, ", the reply of task {sender}.{task},")?;
+    } else if let Some(sender) = record.sender {
         write!(out, ", which thread {sender} sent,")?;
     }
     out.push_str(" was never dispatched: ")?;
@@ -81,6 +85,19 @@ fn push_latest(
         out.push_str(", but its thread came to no dispatch of it")?;
     }
     Ok(())
+}
+
+/// The reply that a source holds at the end of the run.
+fn awaited_by(account: &Account, record: &Record) -> Option<Awaited> {
+    for number in 0..account.script().lanes() {
+        if let Some(lane) = account.lane(number) {
+            let awaited = lane.awaited(record.context, record.row.id);
+            if awaited.is_some() {
+                return awaited;
+            }
+        }
+    }
+    None
 }
 
 /// Whether a source is still there.
