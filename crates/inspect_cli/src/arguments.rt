@@ -169,16 +169,13 @@ fn read_rest(command: Command, words: &[String]) -> Asked<'_> {
 /// Takes a word into what is asked for, and answers what the next has to be; None where the word is wrong.
 fn read_word<'a>(order: &mut Order<'a>, wanted: Wanted, text: &'a str) -> Option<Wanted> {
     match wanted {
-        Wanted::Any => read_flag(order, text),
-        Wanted::Lane => {
-            order.window.lane = Some(number_of(text)?);
-            Some(Wanted::Any)
-        }
+        Wanted::Any => return read_flag(order, text),
+        Wanted::File => return read_file(order, text, Wanted::File),
+        Wanted::Lane => order.window.lane = Some(number_of(text)?),
         Wanted::Ticks => {
             let (first, last) = text.split_once("..")?;
             order.window.first = number_of(first)?;
             order.window.last = number_of(last)?;
-            Some(Wanted::Any)
         }
         Wanted::Source => {
             let (context, id) = text.split_once(".")?;
@@ -186,26 +183,13 @@ fn read_word<'a>(order: &mut Order<'a>, wanted: Wanted, text: &'a str) -> Option
                 context: number_of(context)?,
                 id: u64::from(number_of(id)?),
             });
-            Some(Wanted::Any)
         }
-        Wanted::Tick => {
-            order.tick = Some(number_of(text)?);
-            Some(Wanted::Any)
-        }
-        Wanted::Step => {
-            order.step = Some(u64::from(number_of(text)?));
-            Some(Wanted::Any)
-        }
-        Wanted::Columns => {
-            order.columns = columns_of(text)?;
-            Some(Wanted::Any)
-        }
-        Wanted::MostLines => {
-            order.most_lines = Some(number_of(text)?);
-            Some(Wanted::Any)
-        }
-        Wanted::File => read_file(order, text, Wanted::File),
+        Wanted::Tick => order.tick = Some(number_of(text)?),
+        Wanted::Step => order.step = Some(u64::from(number_of(text)?)),
+        Wanted::Columns => order.columns = columns_of(text)?,
+        Wanted::MostLines => order.most_lines = Some(number_of(text)?),
     }
+    Some(Wanted::Any)
 }
 
 /// Takes a flag or a file.

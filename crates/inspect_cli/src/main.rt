@@ -6,6 +6,7 @@ mod failure;
 mod first_lines;
 mod help;
 mod program;
+mod progress;
 mod teller;
 
 use std::process::ExitCode;

@@ -3,6 +3,7 @@ use crate::arguments::{Asked, Command, Order, read_words};
 use crate::failure::{Failure, Numbered};
 use crate::first_lines::FirstLines;
 use crate::help::help_text;
+use crate::progress::Progress;
 use crate::teller::Teller;
 use account::Account;
 use inspect_text::{Point, Reach, Stack};
@@ -131,6 +132,19 @@ fn tell_run(rt: &HostRuntime, order: &Order<'_>, script: Script) -> Result<(), F
     if !are_there(order, &script) {
         return Err(Failure::NotThere);
     }
+    let mut progress = Progress::begin(rt, script.ticks());
+    let told = follow(rt, order, script, &mut progress);
+    progress.clear();
+    told
+}
+
+/// Runs a script, and writes what is asked of it, with how far it is.
+fn follow(
+    rt: &HostRuntime,
+    order: &Order<'_>,
+    script: Script,
+    progress: &mut Progress<'_>,
+) -> Result<(), Failure> {
     let mut lines = FirstLines::new(rt.stdout(), order.most_lines);
     let mut out = String::new(rt.alloc());
     let mut teller = Teller::begin(rt.alloc(), order, &script, &mut out)?;
@@ -142,12 +156,17 @@ fn tell_run(rt: &HostRuntime, order: &Order<'_>, script: Script) -> Result<(), F
         };
         if moment.tick != shown || out.len() >= FULL {
             shown = moment.tick;
-            write_to(&mut lines, out.as_str())?;
-            out.clear();
+            if !out.is_empty() {
+                progress.clear();
+                write_to(&mut lines, out.as_str())?;
+                out.clear();
+            }
         }
+        progress.show(moment.tick);
         teller.tell(&account, &moment, &mut out)?;
     }
     teller.end(&account, &mut out)?;
+    progress.clear();
     write_to(&mut lines, out.as_str())
 }
 
@@ -155,6 +174,19 @@ fn tell_run(rt: &HostRuntime, order: &Order<'_>, script: Script) -> Result<(), F
 fn tell_point(rt: &HostRuntime, point: Point, script: Script) -> Result<(), Failure> {
     within(Numbered::Thread, point.lane, script.lanes())?;
     within(Numbered::Tick, point.tick, script.ticks())?;
+    let mut progress = Progress::begin(rt, script.ticks());
+    let told = find(rt, point, script, &mut progress);
+    progress.clear();
+    write_out(rt, told?.as_str())
+}
+
+/// Runs a script up to one moment, and answers what a thread is in the middle of there.
+fn find(
+    rt: &HostRuntime,
+    point: Point,
+    script: Script,
+    progress: &mut Progress<'_>,
+) -> Result<String, Failure> {
     let mut out = String::new(rt.alloc());
     let mut stack = Stack::new(point);
     let mut account = Account::new(rt.alloc(), script)?;
@@ -162,6 +194,7 @@ fn tell_point(rt: &HostRuntime, point: Point, script: Script) -> Result<(), Fail
         let Some(moment) = account.next()? else {
             break;
         };
+        progress.show(moment.tick);
         match stack.tell(&account, &moment, &mut out)? {
             Reach::Before => {}
             Reach::There => break,
@@ -174,7 +207,7 @@ fn tell_point(rt: &HostRuntime, point: Point, script: Script) -> Result<(), Fail
             }
         }
     }
-    write_out(rt, out.as_str())
+    Ok(out)
 }
 
 /// Refuses a number that is not among so many from 0 on.
