@@ -107,7 +107,7 @@ agree p q [] h = refl
 agree p q (r ∷ rows) h = rw (h r) (ap (λ (xs : List Row). cond (q r) (r ∷ xs) xs) (agree p q rows h))
 
 -- what is selected, by the least ready priority
-selected_at : (ready : Row → Bool) (rows : List Row) (m : ℤ) → least_of (filter ready rows) ≡ Some m
+pub selected_at : (ready : Row → Bool) (rows : List Row) (m : ℤ) → least_of (filter ready rows) ≡ Some m
     → in_order (filter (is_most_urgent (filter ready rows)) (filter ready rows)) ≡ filter (λ q. upto m q && ready q) (in_order rows)
 selected_at ready rows m e =
     let k = least_above (filter ready rows) m e in
@@ -122,7 +122,7 @@ some_by ready m r rows true e ih (inl h) = inl (e, h)
 some_by ready m r rows true e ih (inr h) = inr (ih h)
 some_by ready m r rows false e ih h = inr (ih h)
 
-some_ready : (ready : Row → Bool) (m : ℤ) (rows : List Row) → HasAt m (filter ready rows) → SomeAt ready m rows
+pub some_ready : (ready : Row → Bool) (m : ℤ) (rows : List Row) → HasAt m (filter ready rows) → SomeAt ready m rows
 some_ready ready m [] h = h
 some_ready ready m (r ∷ rows) h = some_by ready m r rows (ready r) refl (some_ready ready m rows) h
 
@@ -147,7 +147,7 @@ some_placed : (ready : Row → Bool) (m : ℤ) (r : Row) (qs : List Row) → Som
 some_placed ready m r [] h = h
 some_placed ready m r (q ∷ qs) h = some_placed_by ready m r q qs (stands_before r q) (some_placed ready m r qs) h
 
-some_in_order : (ready : Row → Bool) (m : ℤ) (rows : List Row) → SomeAt ready m rows → SomeAt ready m (in_order rows)
+pub some_in_order : (ready : Row → Bool) (m : ℤ) (rows : List Row) → SomeAt ready m rows → SomeAt ready m (in_order rows)
 some_in_order ready m [] h = h
 some_in_order ready m (r ∷ rows) (inl h) = some_placed ready m r (in_order rows) (inl h)
 some_in_order ready m (r ∷ rows) (inr h) = some_placed ready m r (in_order rows) (inr (some_in_order ready m rows h))
@@ -173,7 +173,7 @@ none_ready_by : (ready : Row → Bool) (r : Row) (xs : List Row) (b : Bool) → 
 none_ready_by ready r xs true e h = cc
 none_ready_by ready r xs false e h = (e, h)
 
-none_ready : (ready : Row → Bool) (rows : List Row) → filter ready rows ≡ [] → AllByRecursion (λ r. ready r ≡ false) rows
+pub none_ready : (ready : Row → Bool) (rows : List Row) → filter ready rows ≡ [] → AllByRecursion (λ r. ready r ≡ false) rows
 none_ready ready [] h = tt
 none_ready ready (r ∷ rows) h = let t = none_ready_by ready r (filter ready rows) (ready r) refl h in (t.0, none_ready ready rows t.1)
 
@@ -268,7 +268,7 @@ or_right : (a d : Bool) → d ≡ true → (a || d) ≡ true
 or_right true d e = refl
 or_right false d e = e
 
-own_more : (g : ℕ → ℕ) (view : ℕ → Bool) (d : Bool) (k : Kind) → (kind_ready nothing_shown view k || d) ≡ true → (kind_ready g view k || d) ≡ true
+pub own_more : (g : ℕ → ℕ) (view : ℕ → Bool) (d : Bool) (k : Kind) → (kind_ready nothing_shown view k || d) ≡ true → (kind_ready g view k || d) ≡ true
 own_more g view d Idle h = refl
 own_more g view d (Timeout ms) h = h
 own_more g view d (ReadyTime us) h = h
@@ -289,13 +289,13 @@ pub and_more : (a b c : Bool) → (b ≡ true → c ≡ true) → (a && b) ≡ t
 and_more true b c f h = f h
 and_more false b c f h = h
 
-ready_more : (own0 own : Row → Bool) (busy : List ℕ) (rows : List Row) → ((r : Row) → own0 r ≡ true → own r ≡ true) → (r : Row) → is_ready own0 busy rows r ≡ true → is_ready own busy rows r ≡ true
+pub ready_more : (own0 own : Row → Bool) (busy : List ℕ) (rows : List Row) → ((r : Row) → own0 r ≡ true → own r ≡ true) → (r : Row) → is_ready own0 busy rows r ≡ true → is_ready own busy rows r ≡ true
 ready_more own0 own busy rows h r e =
     and_more (not (is_blocked busy r)) _ _
     (any_more (λ q. is_under r.id q && is_callable own0 busy q) (λ q. is_under r.id q && is_callable own busy q)
     (λ q k. and_more (is_under r.id q) _ _ (λ t. and_more (not (is_blocked busy q)) _ _ (h q) t) k) rows) e
 
-some_more : (f g : Row → Bool) (m : ℤ) → ((r : Row) → f r ≡ true → g r ≡ true) → (rows : List Row) → SomeAt f m rows → SomeAt g m rows
+pub some_more : (f g : Row → Bool) (m : ℤ) → ((r : Row) → f r ≡ true → g r ≡ true) → (rows : List Row) → SomeAt f m rows → SomeAt g m rows
 some_more f g m h [] s = s
 some_more f g m h (r ∷ rows) (inl s) = inl (h r s.0, s.1)
 some_more f g m h (r ∷ rows) (inr s) = inr (some_more f g m h rows s)

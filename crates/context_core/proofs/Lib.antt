@@ -1,5 +1,6 @@
 pub mod Walk
 pub mod Cutoff
+pub mod Selects
 pub mod Wait
 pub mod Called
 pub mod Lent

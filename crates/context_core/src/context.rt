@@ -1,7 +1,8 @@
 //! A context, and its three phases.
-ghost use Rattle.std.specs.Prelude.{◌≡◌, false, ◌≤◌, ◌<◌, ◌^◌, ◌==◌, ◌&&◌, ◌||◌, IfOk, OnOk, ℕ, filter, map, None};
+ghost use Rattle.std.specs.Prelude.{◌≡◌, false, ◌≤◌, ◌<◌, ◌^◌, ◌==◌, ◌&&◌, ◌||◌, IfOk, OnOk, IsSome, ℕ, ◌≢◌, [], filter, map, None};
 ghost use Rattle.std.specs.Borrow.{sem};
 ghost use Rattle.loop_script.specs.Bounds.{count_end, latest};
+ghost use Rattle.loop_script.specs.Units.{Descriptor, Bits};
 ghost use Rattle.context_core.specs.Lending.{LendsRows};
 ghost use Rattle.context_core.specs.Defaults.{acquired, released, is_acquired};
 ghost use Rattle.source_rows.specs.Rows.{no_rows, level_count, next_ready, in_order};
@@ -126,10 +127,11 @@ impl Context {
     }
 
     /// The least priority of what is ready before any descriptor is asked, as `prepare` tells it: for who does not wait, and needs no
-    /// time for a poll.
+    /// time for a poll. Where there is one, an iteration would dispatch something, whatever descriptors show.
     pub fn ready_priority(&self, now: u64, busy: &[u64], view: &View) -> Option<i32>
         requires { now ≤ latest }
-        ensures { result ≡ least_ready (in_view view.now) now busy.now self.now.rows.rows }
+        ensures priority { result ≡ least_ready (in_view view.now) now busy.now self.now.rows.rows }
+        ensures some { IsSome result → (level : Descriptor → Bits) → selected (own_ready level (in_view view.now) now) busy.now self.now.rows.rows ≢ [] }
     {
         let classes = classes_of_ids(busy);
         let busy = Busy::new(busy, &classes);

@@ -137,8 +137,7 @@ impl Lane {
     ) -> Result<(), AllocError>
         ensures { OnOk result (lane_of self.new ≡ pending script.now tick context (lane_of self.old)) }
     {
-        let ids = self.choose(alloc, script, tick, context)?;
-        let any = self.has(context) && !ids.is_empty();
+        let any = self.has(context) && self.chooses_any(alloc, script, tick, context)?;
         self.write(tick, Event::Pending(context, any))
     }
 

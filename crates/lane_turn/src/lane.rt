@@ -2,7 +2,7 @@
 ghost use Rattle.std.specs.Prelude.{◌≡◌, ◌^◌, ◌≤◌, IfOk, OnOk, IfSome, OnSome, None, true, false, is_some, is_none, slice_get};
 ghost use Rattle.std.specs.Borrow.{sem};
 ghost use Rattle.std.specs.Option.{option_copied, option_copied_mut};
-ghost use Rattle.lane_turn.specs.Lane.{written, set_running, is_running, context_at, is_own, held, place_at, handler_at, set_slot, chosen, standings, stopped};
+ghost use Rattle.lane_turn.specs.Lane.{written, set_running, is_running, context_at, is_own, held, place_at, handler_at, set_slot, chosen, is_any, standings, stopped};
 ghost use Rattle.lane_turn.specs.Lending.{LendsContext};
 ghost use Rattle.lane_turn.specs.Acted.{missed};
 ghost use Rattle.lane_turn.specs.Replies.{reply_held};
@@ -11,7 +11,7 @@ ghost use Rattle.lane_turn.specs.Meaning.{lane_of};
 use crate::frames::Frames;
 use crate::line::{Event, Line, Word};
 use crate::replies::{Awaited, Replies};
-use crate::select::{select, stand};
+use crate::select::{select, selects_any, stand};
 use crate::slot::{Named, Place};
 use context_core::{Context, DefaultStack, Standing};
 use lane_watch::Watch;
@@ -173,6 +173,23 @@ impl Lane {
         match self.context(context) {
             Some(context) => select(alloc, context, script, tick, &busy, self.watch.view()),
             None => Ok(Vec::new(alloc)),
+        }
+    }
+
+    /// Whether an iteration of a context would dispatch anything now.
+    pub(crate) fn chooses_any(
+        &self,
+        alloc: Global,
+        script: &Script,
+        tick: u32,
+        context: u32,
+    ) -> Result<bool, AllocError>
+        ensures { IfOk result (λ any. any ≡ is_any (chosen script.now tick context (lane_of self.now))) }
+    {
+        let busy = self.frames.busy(context)?;
+        match self.context(context) {
+            Some(context) => selects_any(alloc, context, script, tick, &busy, self.watch.view()),
+            None => Ok(false),
         }
     }
 

@@ -1,6 +1,7 @@
 //! What an iteration selects, by the three phases.
 ghost use Rattle.std.specs.Prelude.{◌≡◌, map, IfOk, Some};
 ghost use Rattle.loop_script.specs.Parts.{level_of};
+ghost use Rattle.lane_turn.specs.Lane.{is_any};
 ghost use Rattle.lane_turn.specs.Sources.{chosen_in, standings_in};
 
 use cancel_view::View;
@@ -46,6 +47,28 @@ pub(crate) fn select(
     let interests = context.query(alloc, &prepared, busy)?;
     let levels = poll(alloc, script, tick, &interests)?;
     context.check(alloc, &prepared, now, busy, view, &levels)
+}
+
+/// Whether an iteration of a context would dispatch anything at a tick. Where something is ready before any descriptor is asked, that is
+/// told without a list.
+pub(crate) fn selects_any(
+    alloc: Global,
+    context: &Context,
+    script: &Script,
+    tick: u32,
+    busy: &[u64],
+    view: &View,
+) -> Result<bool, AllocError>
+    ensures { IfOk result (λ any. any ≡ is_any (chosen_in script.now tick view.now busy.now (Some context.now))) }
+{
+    if context
+        .ready_priority(script.now(tick), busy, view)
+        .is_some()
+    {
+        return Ok(true);
+    }
+    let ids = select(alloc, context, script, tick, busy, view)?;
+    Ok(!ids.is_empty())
 }
 
 /// What an iteration of a context begun at a tick would do with each of its sources, in the order of dispatch.
