@@ -14,9 +14,12 @@ use Rattle.task_steps.specs.RunInside.{IsBy}
 use Rattle.task_steps.specs.Reply.{reply_of_task}
 use Rattle.task_steps.specs.Task.{Task, task_of, body_end, reply_in, is_late_in, MayComeTo, CanPoll, IsAnswer, IsPolledAt, is_done_stage, IsBefore, IsBegunBy, IsPolledStage}
 use Rattle.task_steps.specs.Book.{sees, IsIn, HasGrown, noticed_in, all_noticed, MayComeToAll, replies_in, late_in, goes_on, replies_next}
-use Rattle.task_steps.specs.BookInside.{IsWaitingAt, IsWaiting, AreWaiting, IsPassedBy, IsSeenBy, IsListed, AreListed, caught, caught_stage, caught_clear, shown, wake_of_stage, wake_of_entry, wake_of_all}
-use Rattle.task_steps.specs.Polls.{all_shown, Gives, HasPolledAll, CanPollAll, comes}
-use Rattle.task_steps.proofs.Marks.{sooner_none}
+use Rattle.task_steps.specs.BookInside.{IsWaitingAt, IsWaiting, AreWaiting, IsPassedBy, IsSeenBy, IsListed, AreListed, caught, caught_stage, caught_clear, heeds, mark_of, IsQuiet, shown, wake_of_stage, wake_of_entry, wake_of_all}
+use Rattle.task_steps.specs.Polls.{all_shown, Gives, HasPolledAll, CanPollAll, NoneComes, comes}
+use Rattle.task_steps.specs.declared.tasks.Mark.{Mark}
+use Rattle.task_steps.specs.declared.tasks.Round.{Round}
+use Rattle.task_steps.proofs.Marks.{any_joined}
+use Rattle.task_steps.proofs.Heeding.{none_heeds}
 use Rattle.task_steps.proofs.Wakes.{after_wake, after_both}
 use Rattle.task_steps.proofs.Quiet.{after_a, after_b, or-left, or-right, before_later, idle_one, IsIdleOne}
 use Rattle.task_steps.proofs.Passed.{shown_by}
@@ -275,3 +278,20 @@ passed_all tick polled view (e ∷ es) rs ls w p a g s =
     polled_joined
     (passed-one tick polled view e rs ls w.0 p (after_a tick (wake_of_entry e) (wake_of_all es) a) (g.0, g.1, tt) (or-left (comes view e) (list_any (comes view) es) s))
     (passed_all tick polled view es rs ls w.1 p (after_b tick (wake_of_entry e) (wake_of_all es) a) g.2 (or-right (comes view e) (list_any (comes view) es) s))
+
+-- ---- entries whose mark is quiet are passed over
+none-came-or-heeds : (came : Bool) (view : Seen) (es : List Entry) → NoneComes came view es → (came && list_any heeds es) ≡ false → list_any (comes view) es ≡ false
+none-came-or-heeds true view es n h = none_heeds view es h
+none-came-or-heeds false view es n h = n refl
+
+pub passed_quiet : (round : Round) (view : Seen) (mark : Mark) (es : List Entry) (rs : List Reply) (ls : List ℕ) → mark ≡ mark_of es → IsQuiet round mark → CanPollAll round.tick round.polled view es → NoneComes round.came view es → HasPolledAll round.tick round.polled view es es rs rs ls ls
+passed_quiet round view mark es rs ls m q can n =
+    let quiet : IsQuiet round (mark_of es) = subst (λ (x : Mark). IsQuiet round x) m q in
+    passed_all round.tick round.polled view es rs ls can.waiting can.past quiet.0 can.grown (none-came-or-heeds round.came view es n quiet.1)
+
+-- ---- what may come to two parts of entries
+pub comes_left : (came : Bool) (view : Seen) (es gs : List Entry) → NoneComes came view (es ++ gs) → NoneComes came view es
+comes_left came view es gs n = λ k. or-left (list_any (comes view) es) (list_any (comes view) gs) (sym (any_joined (comes view) es gs) ∙ n k)
+
+pub comes_right : (came : Bool) (view : Seen) (es gs : List Entry) → NoneComes came view (es ++ gs) → NoneComes came view gs
+comes_right came view es gs n = λ k. or-right (list_any (comes view) es) (list_any (comes view) gs) (sym (any_joined (comes view) es gs) ∙ n k)
