@@ -1,5 +1,5 @@
 -- Which entries heed a cancellable that is in the view.
-use Rattle.std.proofs.Common.{◌≡◌, ℕ, ◌==◌, ◌&&◌, ◌||◌, Bool, true, false, not, cond, Option, Some, None, is_some, List, [], ◌∷◌, ◌++◌, arith, refl, ap, sym, ◌∙◌}
+use Rattle.std.proofs.Common.{◌≡◌, ℕ, ◌==◌, ◌&&◌, ◌||◌, Bool, true, false, not, cond, Option, Some, None, is_some, List, [], ◌∷◌, arith, refl, ap, sym}
 use Rattle.std.specs.List.{list_any, filter}
 use Rattle.std.proofs.lemmas.Bool.Decides.{nat_tests}
 use Rattle.cancel_view.specs.Seen.{Seen, has}

@@ -1,15 +1,15 @@
 -- Lists of tasks in two parts.
-use Rattle.std.proofs.Common.{◌≡◌, ℕ, ◌+◌, ◌||◌, Bool, true, false, cond, Option, Some, None, List, [], ◌∷◌, ◌++◌, map, option_map, option_to_list, append_assoc, refl, ap, sym, ◌∙◌}
+use Rattle.std.proofs.Common.{◌≡◌, ℕ, ◌+◌, ◌||◌, Bool, true, false, cond, Option, Some, List, [], ◌∷◌, ◌++◌, map, option_map, option_to_list, append_assoc, refl, ap, sym, ◌∙◌}
 use Rattle.std.specs.List.{list_any, filter}
 use Rattle.cancel_view.specs.Seen.{Seen}
 use Rattle.task_steps.specs.declared.entry.Entry.{Entry}
 use Rattle.task_steps.specs.declared.entry.Reply.{Reply}
 use Rattle.task_steps.specs.Reply.{reply_of_task}
 use Rattle.task_steps.specs.Rest.{sooner}
-use Rattle.task_steps.specs.Run.{IsUpTo, IsAfter}
+use Rattle.task_steps.specs.Run.{IsUpTo}
 use Rattle.task_steps.specs.Task.{Task, body_end, reply_in, is_late_in}
 use Rattle.task_steps.specs.Book.{HasGrown, MayComeToAll, noticed_in, all_noticed, replies_in, late_in, goes_on}
-use Rattle.task_steps.specs.BookInside.{AreWaiting, AreListed, shown, wake_of_entry, wake_of_all}
+use Rattle.task_steps.specs.BookInside.{AreWaiting, AreListed, shown, wake_of_all}
 use Rattle.task_steps.specs.Polls.{all_shown, Gives, HasPolledAll, CanPollAll, comes}
 use Rattle.task_steps.proofs.Wakes.{up-a, up-b, after_both}
 use Rattle.task_steps.proofs.Marks.{wake_joined, any_joined}

@@ -1,8 +1,7 @@
 -- What is known of entries without a look at each.
-use Rattle.std.proofs.Common.{◌≡◌, ℕ, ◌||◌, ◌&&◌, Bool, true, false, not, is_some, Option, Some, None, List, [], ◌∷◌, ◌++◌, min, arith, refl, ap, sym, ◌∙◌}
+use Rattle.std.proofs.Common.{◌≡◌, ℕ, ◌||◌, Bool, true, false, Option, Some, None, List, [], ◌∷◌, ◌++◌, min, arith, refl, ap, sym, ◌∙◌}
 use Rattle.std.specs.List.{list_any}
 use Rattle.task_steps.specs.declared.entry.Entry.{Entry}
-use Rattle.task_steps.specs.declared.tasks.Mark.{Mark}
 use Rattle.task_steps.specs.Rest.{sooner}
 use Rattle.task_steps.specs.BookInside.{wake_of_entry, wake_of_all, heeds, mark_of, joined_mark}
 

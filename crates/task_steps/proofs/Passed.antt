@@ -1,5 +1,5 @@
 -- A tick before the wake of a book is passed over, and later polls give the same.
-use Rattle.std.proofs.Common.{◌≡◌, ℕ, ◌+◌, ◌≤◌, ◌<◌, ◌&&◌, Bool, true, false, not, Option, Some, None, is_some, List, [], ◌∷◌, map, cond, arith, refl, sym}
+use Rattle.std.proofs.Common.{◌≡◌, ℕ, ◌+◌, ◌≤◌, ◌<◌, ◌&&◌, Bool, true, false, not, Option, Some, None, is_some, List, [], ◌∷◌, cond, arith, refl, sym}
 use Rattle.std.specs.List.{list_any}
 use Rattle.cancel_view.specs.Seen.{Seen}
 use Rattle.task_steps.specs.declared.entry.Entry.{Entry}
@@ -7,9 +7,9 @@ use Rattle.task_steps.specs.declared.stage.Stage.{Stage}
 use Rattle.task_steps.specs.declared.stage.Stage.TheVariants.{Fresh, Set, Polled, Done}
 use Rattle.task_steps.specs.Run.{Run, MayCome, IsAfter, StaysSet, seen_from, clear_to}
 use Rattle.task_steps.specs.RunInside.{IsBy}
-use Rattle.task_steps.specs.Task.{Task, IsBefore, IsSeenExactly}
+use Rattle.task_steps.specs.Task.{IsBefore, IsSeenExactly}
 use Rattle.task_steps.specs.Book.{Book, IsNext, sees, all_noticed, HasGrown, MayComeToAll, replies_next, wake_under, OwesNone, IsAsPolled}
-use Rattle.task_steps.specs.BookInside.{IsWaitingAt, IsWaiting, AreWaiting, AreWaitingAfter, IsPolledBy, IsSeenBy, caught_clear, shown, wake_of_stage, wake_of_entry, wake_of_all}
+use Rattle.task_steps.specs.BookInside.{IsWaitingAt, AreWaiting, AreWaitingAfter, IsPolledBy, IsSeenBy, caught_clear, shown, wake_of_stage, wake_of_entry, wake_of_all}
 use Rattle.task_steps.specs.Polls.{all_shown}
 use Rattle.task_steps.proofs.Quiet.{or-left, or-right, not-next, after_a, after_b, before_later}
 

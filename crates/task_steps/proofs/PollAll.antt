@@ -1,7 +1,7 @@
 -- A poll of an entry, and of entries that are passed over.
-use Rattle.std.proofs.Common.{◌≡◌, ℕ, ◌+◌, ◌≤◌, ◌<◌, ◌==◌, ◌&&◌, ◌||◌, Bool, true, false, not, cond, Option, Some, None, is_some, List, [], ◌∷◌, ◌++◌, map, option_map, option_to_list, arith, refl, ap, sym, subst, ◌∙◌}
+use Rattle.std.proofs.Common.{◌≡◌, ℕ, ◌+◌, ◌≤◌, ◌&&◌, Bool, true, false, not, cond, Option, Some, None, is_some, List, [], ◌∷◌, ◌++◌, option_map, option_to_list, arith, refl, ap, sym, subst, ◌∙◌}
 use Rattle.std.specs.List.{list_any, filter}
-use Rattle.cancel_view.specs.Seen.{Seen, has}
+use Rattle.cancel_view.specs.Seen.{Seen}
 use Rattle.loop_script.specs.declared.outcome.Outcome.{Outcome}
 use Rattle.task_steps.specs.declared.entry.Entry.{Entry}
 use Rattle.task_steps.specs.declared.entry.Answer.{Answer}
@@ -9,19 +9,19 @@ use Rattle.task_steps.specs.declared.entry.Reply.{Reply}
 use Rattle.task_steps.specs.declared.stage.Stage.{Stage}
 use Rattle.task_steps.specs.declared.stage.Stage.TheVariants.{Fresh, Set, Polled, Done}
 use Rattle.task_steps.specs.Rest.{sooner}
-use Rattle.task_steps.specs.Run.{Run, NoneBefore, IsUpTo, IsAfter, IsLater, wakes_later, MaySet, MayPass, StaysSet, seen_from, clear_to, WakesLater}
+use Rattle.task_steps.specs.Run.{Run, NoneBefore, IsUpTo, IsAfter, IsLater, wakes_later, MaySet, StaysSet, seen_from, clear_to, WakesLater}
 use Rattle.task_steps.specs.RunInside.{IsBy}
 use Rattle.task_steps.specs.Reply.{reply_of_task}
 use Rattle.task_steps.specs.Task.{Task, task_of, body_end, reply_in, is_late_in, MayComeTo, CanPoll, IsAnswer, IsPolledAt, is_done_stage, IsBefore, IsBegunBy, IsPolledStage}
-use Rattle.task_steps.specs.Book.{sees, IsIn, HasGrown, noticed_in, all_noticed, MayComeToAll, replies_in, late_in, goes_on, replies_next}
-use Rattle.task_steps.specs.BookInside.{IsWaitingAt, IsWaiting, AreWaiting, IsPassedBy, IsSeenBy, IsListed, AreListed, caught, caught_stage, caught_clear, heeds, mark_of, IsQuiet, shown, wake_of_stage, wake_of_entry, wake_of_all}
+use Rattle.task_steps.specs.Book.{sees, IsNext, HasGrown, noticed_in, all_noticed, MayComeToAll, replies_in, late_in, goes_on}
+use Rattle.task_steps.specs.BookInside.{IsWaitingAt, IsWaiting, AreWaiting, AreWaitingAfter, IsPassedBy, IsPolledBy, IsSeenBy, IsListed, AreListed, caught, caught_stage, caught_clear, heeds, mark_of, IsQuiet, shown, wake_of_stage, wake_of_entry, wake_of_all}
 use Rattle.task_steps.specs.Polls.{all_shown, Gives, HasPolledAll, CanPollAll, NoneComes, comes}
 use Rattle.task_steps.specs.declared.tasks.Mark.{Mark}
 use Rattle.task_steps.specs.declared.tasks.Round.{Round}
 use Rattle.task_steps.proofs.Marks.{any_joined}
 use Rattle.task_steps.proofs.Heeding.{none_heeds}
-use Rattle.task_steps.proofs.Wakes.{after_wake, after_both}
-use Rattle.task_steps.proofs.Quiet.{after_a, after_b, or-left, or-right, before_later, idle_one, IsIdleOne}
+use Rattle.task_steps.proofs.Wakes.{after_wake, after_both, up-a, up-b}
+use Rattle.task_steps.proofs.Quiet.{after_a, after_b, or-left, or-right, before_later, polled_before, idle_one, IsIdleOne}
 use Rattle.task_steps.proofs.Passed.{shown_by}
 use Rattle.task_steps.proofs.Lists.{append_nil, polled_joined}
 
@@ -295,3 +295,37 @@ comes_left came view es gs n = λ k. or-left (list_any (comes view) es) (list_an
 
 pub comes_right : (came : Bool) (view : Seen) (es gs : List Entry) → NoneComes came view (es ++ gs) → NoneComes came view gs
 comes_right came view es gs n = λ k. or-right (list_any (comes view) es) (list_any (comes view) gs) (sym (any_joined (comes view) es gs) ∙ n k)
+
+-- ---- what a poll of all gives, by the tasks that the book showed
+pub poll_gives : {tick : ℕ} {polled : Option ℕ} {view : Seen} {es fs : List Entry} {rs ss : List Reply} {ls ms : List ℕ} → HasPolledAll tick polled view es fs rs ss ls ms → (ts : List Task) → all_shown polled es ≡ ts → rs ≡ [] → ls ≡ [] → (c : ℕ → Option ℕ) → MayComeToAll c (all_noticed tick view ts) → (ss ≡ replies_in tick c (all_noticed tick view ts)) × (ms ≡ late_in tick c (all_noticed tick view ts)) × (all_shown (Some tick) fs ≡ filter (goes_on tick c) (all_noticed tick view ts))
+poll_gives {tick} {polled} {view} {es} {fs} {rs} {ss} {ls} {ms} all ts e r l c m =
+    let noticed : all_noticed tick view (all_shown polled es) ≡ all_noticed tick view ts = ap (all_noticed tick view) e in
+    let gives = all.gives c (subst (λ (x : List Task). MayComeToAll c x) (sym noticed) m) in (
+      gives.replies ∙ (ap (λ (x : List Reply). x ++ replies_in tick c (all_noticed tick view (all_shown polled es))) r ∙ ap (replies_in tick c) noticed),
+      gives.late ∙ (ap (λ (x : List ℕ). x ++ late_in tick c (all_noticed tick view (all_shown polled es))) l ∙ ap (late_in tick c) noticed),
+      gives.going ∙ ap (filter (goes_on tick c)) noticed,
+    )
+
+-- ---- the entries wait for a tick that passes over no wake
+due-stage : (next tick first : ℕ) (run : Run) (stage : Stage) → IsWaitingAt next first stage → next ≤ tick → IsUpTo tick (wake_of_stage first run stage) → IsWaitingAt tick first stage
+due-stage next tick first run Fresh w n k = omega (arith, w)
+due-stage next tick first run (Set begun at) w n k = absurd w
+due-stage next tick first run (Polled begun at) w n k = w
+due-stage next tick first run Done w n k = absurd w
+
+waiting-from : (next tick : ℕ) (polled : Option ℕ) (es : List Entry) → AreWaiting next polled es → next ≤ tick → IsUpTo tick (wake_of_all es) → AreWaiting tick polled es
+waiting-from next tick polled [] w n k = tt
+waiting-from next tick polled (e ∷ es) w n k = (
+  record {
+    stage = due-stage next tick e.first e.run e.run.stage w.0.stage n (up-a tick (wake_of_entry e) (wake_of_all es) k);
+    passed = w.0.passed;
+    before = before_later next tick e.run.cancelled n w.0.before;
+    clear = w.0.clear;
+    end = w.0.end;
+  },
+  waiting-from next tick polled es w.1 n (up-b tick (wake_of_entry e) (wake_of_all es) k),
+)
+
+pub can_poll_all : (tick : ℕ) (last polled : Option ℕ) (view : Seen) (es : List Entry) → AreWaitingAfter last polled es → IsPolledBy last polled → IsNext tick last → IsUpTo tick (wake_of_all es) → HasGrown view (all_shown polled es) → CanPollAll tick polled view es
+can_poll_all tick None polled view es w p n k g = record { waiting = rw w tt; past = rw p tt; wake = k; grown = g }
+can_poll_all tick (Some last) polled view es w p n k g = record { waiting = waiting-from (last + 1) tick polled es w (omega arith) k; past = polled_before last tick polled n p; wake = k; grown = g }

@@ -1,5 +1,5 @@
 -- The entries of a book.
-use Rattle.std.proofs.Common.{◌≡◌, ℕ, ◌+◌, ◌≤◌, ◌<◌, ◌==◌, ◌||◌, arith, Bool, true, false, cond, Option, Some, None, List, [], ◌∷◌, ◌++◌, map, refl, ap, sym, subst, ◌∙◌}
+use Rattle.std.proofs.Common.{◌≡◌, ℕ, ◌+◌, ◌≤◌, ◌<◌, ◌==◌, ◌||◌, arith, Bool, true, false, cond, Option, Some, None, List, [], ◌∷◌, ◌++◌, refl, ap, sym, subst, ◌∙◌}
 use Rattle.std.specs.List.{list_any}
 use Rattle.std.proofs.lemmas.Bool.Decides.{nat_tests}
 use Rattle.loop_script.specs.declared.task.TaskSpec.{TaskSpec}
@@ -48,6 +48,10 @@ pub waiting_added : (tick_us tick ctx number : ℕ) (spec : TaskSpec) (last poll
 waiting_added tick_us tick ctx number spec None polled es e w s h k = rw w (fresh-waiting tick_us tick ctx number polled spec e h k)
 waiting_added tick_us tick ctx number spec (Some last) polled es e w s h k =
     waiting-more (tick + 1) polled es e (rw s at w) (fresh-waiting tick_us tick ctx number polled spec e h k)
+
+pub polled_start : (tick : ℕ) (last polled : Option ℕ) → IsPolledBy last polled → IsStart tick last → IsPolledBy (Some tick) polled
+polled_start tick None polled p s = rw p tt
+polled_start tick (Some last) polled p s = rw (← s) p
 
 -- ---- what a book shows of a task that is added
 map-added : (polled : Option ℕ) (es : List Entry) (e : Entry) → all_shown polled (es ++ e ∷ []) ≡ all_shown polled es ++ shown polled e ∷ []
@@ -142,3 +146,8 @@ spent_forgets us next last polled spent heeded tasks b s k e =
 
 pub going_on : {X : Type 0} {spent : Bool} → spent ≡ false → spent ≡ true → X
 going_on h k = absurd (cc)
+
+-- a book that shows no task has no entry
+pub none_shown : (polled : Option ℕ) (es : List Entry) → all_shown polled es ≡ [] → es ≡ []
+none_shown polled [] h = refl
+none_shown polled (e ∷ es) h = absurd (cc)

@@ -75,7 +75,8 @@ impl Model for TaskBook {
 }
 
 impl TaskBook {
-    ghost use Rattle.task_steps.specs.Book.{with_task, exhausted, IsStart, IsNext, HasGrown, MayComeToAll, all_noticed, replies_in, late_in, goes_on, wake_under, IsQuietTo, IsIdle, passed, OwesNone, IsAsPolled};
+    ghost use Rattle.std.specs.List.{list_any};
+    ghost use Rattle.task_steps.specs.Book.{with_task, exhausted, IsStart, IsNext, HasGrown, MayComeToAll, all_noticed, replies_in, late_in, goes_on, wake_under, IsQuietTo, IsIdle, passed, replies_next, OwesNone, IsAsPolled};
     ghost use Rattle.cancel_view.specs.Seen.{Seen};
     ghost use Rattle.loop_script.specs.Bounds.{count_end, longest_tick, tick_end};
     ghost use Rattle.loop_script.specs.Units.{Tick, TaskNumber};
@@ -226,10 +227,20 @@ impl TaskBook {
         ensures later { IsAfter tick result }
         ensures quiet { IsQuietTo result tick view.now self.now.tasks }
     {
-        if some_came(&self.heeded, view) && self.tasks.reply_next(view) {
+        if self.owes_reply(view) {
             Some(u64::from(tick) + 1)
         } else {
             self.tasks.mark().wake
         }
+    }
+
+    /// Whether the next poll replies that a task is cancelled.
+    fn owes_reply(&self, view: &View) -> bool
+        ensures { result ≡ list_any (replies_next view.now) self.now.tasks }
+    {
+        if some_came(&self.heeded, view) {
+            return self.tasks.reply_next(view);
+        }
+        false
     }
 }

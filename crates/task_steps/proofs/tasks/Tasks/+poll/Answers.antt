@@ -1,6 +1,5 @@
-use Rattle.std.proofs.Common.{◌≡◌, ◌∙◌, ◌++◌, ◌+◌, ◌<◌, ℕ, [], List, Bool, ap, sym, subst, arith, rules}
+use Rattle.std.proofs.Common.{◌≡◌, ◌∙◌, ◌++◌, ◌+◌, [], List, ap, sym, subst, arith, rules}
 use Rattle.task_steps.specs.declared.entry.Entry.{Entry}
-use Rattle.task_steps.specs.declared.tasks.Mark.{Mark}
 use Rattle.task_steps.specs.declared.tasks.Tasks.{Tasks}
 use Rattle.task_steps.specs.BookInside.{entries_of, mark_of, joined_mark, IsMarked}
 use Rattle.task_steps.specs.Polls.{CanPollAll, HasPolledAll, NoneComes}
@@ -27,8 +26,7 @@ poll-requires t c =
     let all : nodes c.args.self.now ≡ nodes c.in-Two.left.value + nodes c.in-Two.right.value + 1 = ap nodes c.in-Two.is in
     let marked = subst (λ (x : Tasks). IsMarked x) c.in-Two.is c.requires.marked in
     let can = subst (λ (l : List Entry). CanPollAll c.args.round.tick c.args.round.polled c.args.view.now l) is c.requires.can in
-    let came = subst (λ (l : List Entry). NoneComes c.args.round.came c.args.view.now l) is c.requires.came in
-    (
+    let came = subst (λ (l : List Entry). NoneComes c.args.round.came c.args.view.now l) is c.requires.came in (
       omega (arith, all, c.decreases, ap nodes same),
       (
         subst (λ (x : Tasks). IsMarked x) (sym same) marked.1,
@@ -46,8 +44,7 @@ poll-requires-in-Two t c =
     let all : nodes c.args.self.now ≡ nodes c.in-Two.left.value + nodes c.in-Two.right.value + 1 = ap nodes c.in-Two.is in
     let marked = subst (λ (x : Tasks). IsMarked x) c.in-Two.is c.requires.marked in
     let can = subst (λ (l : List Entry). CanPollAll c.args.round.tick c.args.round.polled c.args.view.now l) is c.requires.can in
-    let came = subst (λ (l : List Entry). NoneComes c.args.round.came c.args.view.now l) is c.requires.came in
-    (
+    let came = subst (λ (l : List Entry). NoneComes c.args.round.came c.args.view.now l) is c.requires.came in (
       omega (arith, all, c.decreases, ap nodes same),
       (
         subst (λ (x : Tasks). IsMarked x) (sym same) marked.2,
