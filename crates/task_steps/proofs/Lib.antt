@@ -1,10 +1,12 @@
 pub mod Late
 pub mod Wakes
 pub mod Replies
-pub mod Waiting
-pub mod PollSteps
-pub mod PollAll
-pub mod Soonest
+pub mod Nodes
+pub mod Marks
 pub mod Quiet
 pub mod Passed
+pub mod Lists
+pub mod Heeding
+pub mod PollAll
+pub mod Waiting
 pub mod Once

@@ -1,190 +1,63 @@
--- A poll of all entries gives the replies and late numbers of a tick.
-use Rattle.std.proofs.Common.{◌≡◌, ℕ, ◌+◌, ◌<◌, Bool, true, false, not, cond, Option, Some, None, List, [], ◌∷◌, ◌++◌, map, option_map, option_to_list, append_assoc, length, length-append, arith, refl, ap, sym, subst, ◌∙◌}
-use Rattle.std.specs.List.{filter}
+-- A poll of an entry, and of entries that are passed over.
+use Rattle.std.proofs.Common.{◌≡◌, ℕ, ◌+◌, ◌≤◌, ◌&&◌, Bool, true, false, not, cond, Option, Some, None, is_some, List, [], ◌∷◌, ◌++◌, option_map, option_to_list, arith, refl, ap, sym, subst, ◌∙◌}
+use Rattle.std.specs.List.{list_any, filter}
 use Rattle.cancel_view.specs.Seen.{Seen}
 use Rattle.loop_script.specs.declared.outcome.Outcome.{Outcome}
 use Rattle.task_steps.specs.declared.entry.Entry.{Entry}
+use Rattle.task_steps.specs.declared.entry.Answer.{Answer}
 use Rattle.task_steps.specs.declared.entry.Reply.{Reply}
 use Rattle.task_steps.specs.declared.stage.Stage.{Stage}
 use Rattle.task_steps.specs.declared.stage.Stage.TheVariants.{Fresh, Set, Polled, Done}
 use Rattle.task_steps.specs.Rest.{sooner}
-use Rattle.task_steps.specs.Run.{Run, NoneBefore, IsUpTo, IsAfter, wakes_later, MaySet, StaysSet, seen_from, clear_to, WakesLater}
-use Rattle.task_steps.specs.Reply.{reply_of_task}
-use Rattle.task_steps.specs.Task.{Task, task_of, body_end, reply_in, is_late_in, MayComeTo, is_waiting, is_done_stage, IsBefore, IsBegunBy, IsPolledStage}
-use Rattle.task_steps.specs.Book.{sees, IsNext, HasGrown, noticed_in, all_noticed, MayComeToAll, replies_in, late_in, goes_on}
-use Rattle.task_steps.specs.BookInside.{IsWaitingAt, IsWaiting, AreWaiting, AreWaitingAfter, wake_of_stage, wake_of_entry, wake_of_all}
+use Rattle.task_steps.specs.Run.{Run, NoneBefore, IsUpTo, IsAfter, IsLater, wakes_later, MaySet, StaysSet, seen_from, clear_to, WakesLater}
 use Rattle.task_steps.specs.RunInside.{IsBy}
-use Rattle.task_steps.specs.Polls.{CanPollAll, HasPolledAll, replies_of, late_of, none, more}
-use Rattle.task_steps.proofs.Waiting.{map_added}
-use Rattle.task_steps.proofs.Wakes.{up-a, up-b, after_both, after_wake}
-use Rattle.task_steps.proofs.Soonest.{sooner_none, sooner_assoc}
+use Rattle.task_steps.specs.Reply.{reply_of_task}
+use Rattle.task_steps.specs.Task.{Task, task_of, body_end, reply_in, is_late_in, MayComeTo, CanPoll, IsAnswer, IsPolledAt, is_done_stage, IsBefore, IsBegunBy, IsPolledStage}
+use Rattle.task_steps.specs.Book.{sees, IsNext, HasGrown, noticed_in, all_noticed, MayComeToAll, replies_in, late_in, goes_on}
+use Rattle.task_steps.specs.BookInside.{IsWaitingAt, IsWaiting, AreWaiting, AreWaitingAfter, IsPassedBy, IsPolledBy, IsSeenBy, IsListed, AreListed, caught, caught_stage, caught_clear, heeds, mark_of, IsQuiet, shown, wake_of_stage, wake_of_entry, wake_of_all}
+use Rattle.task_steps.specs.Polls.{all_shown, Gives, HasPolledAll, CanPollAll, NoneComes, comes}
+use Rattle.task_steps.specs.declared.tasks.Mark.{Mark}
+use Rattle.task_steps.specs.declared.tasks.Round.{Round}
+use Rattle.task_steps.proofs.Marks.{any_joined}
+use Rattle.task_steps.proofs.Heeding.{none_heeds}
+use Rattle.task_steps.proofs.Wakes.{after_wake, after_both, up-a, up-b}
+use Rattle.task_steps.proofs.Quiet.{after_a, after_b, or-left, or-right, before_later, polled_before, idle_one, IsIdleOne}
+use Rattle.task_steps.proofs.Passed.{shown_by}
+use Rattle.task_steps.proofs.Lists.{append_nil, polled_joined}
 
--- ---- each entry can be polled in the next tick
-may-set : (last tick first : ℕ) (run : Run) (stage : Stage) → IsWaitingAt last first stage → last < tick → IsUpTo tick (wake_of_stage first run stage) → MaySet tick stage run.wake × IsBegunBy first stage tick
-may-set last tick first run Fresh w n k = (tt, omega arith)
-may-set last tick first run (Set begun at) w n k = absurd w
-may-set last tick first run (Polled begun at) w n k = ((omega (arith, w.1), k), w.0)
-may-set last tick first run Done w n k = absurd w
+-- ---- an entry can be polled in the next tick, once it has caught up
+may-set : (tick first : ℕ) (polled cancelled : Option ℕ) (run : Run) (stage : Stage) → IsWaitingAt tick first stage → IsPassedBy polled run.wake stage → IsBefore tick polled → IsUpTo tick (wake_of_stage first run stage) → MaySet tick (caught_stage polled cancelled stage) run.wake × IsBegunBy first (caught_stage polled cancelled stage) tick
+may-set tick first None cancelled run Fresh w p n k = (tt, w)
+may-set tick first (Some at) None run Fresh w p n k = (tt, w)
+may-set tick first (Some at) (Some from) run Fresh w p n k = (tt, w)
+may-set tick first polled cancelled run (Set begun at) w p n k = absurd w
+may-set tick first None cancelled run (Polled begun at) w p n k = absurd p
+may-set tick first (Some last) None run (Polled begun at) w p n k = ((n, k), w)
+may-set tick first (Some last) (Some from) run (Polled begun at) w p n k = ((omega (arith, p.0), k), w)
+may-set tick first polled cancelled run Done w p n k = absurd w
 
-before-next : (last tick : ℕ) (c : Option ℕ) → last < tick → IsBefore (last + 1) c → IsBefore tick c
-before-next last tick None n h = tt
-before-next last tick (Some from) n h = omega arith
+up-one : (tick : ℕ) (a : Option ℕ) → IsUpTo tick (sooner a None) → IsUpTo tick a
+up-one tick None h = tt
+up-one tick (Some a) h = h
 
-can-poll : (tick_us last tick : ℕ) (view : Seen) (es : List Entry) → AreWaiting tick_us last es → last < tick → IsUpTo tick (wake_of_all es) → HasGrown view (map task_of es) → CanPollAll tick view es
-can-poll tick_us last tick view [] w n k g = tt
-can-poll tick_us last tick view (e ∷ es) w n k g =
-    let up = up-a tick (wake_of_entry e) (wake_of_all es) k in
-    let set = may-set last tick e.first e.run e.run.stage w.0.stage n up in (
-      g.0,
-      (set.0, g.1, before-next last tick e.run.cancelled n w.0.before, set.1),
-      can-poll tick_us last tick view es w.1 n (up-b tick (wake_of_entry e) (wake_of_all es) k) g.2,
-    )
+pub can_poll : (tick : ℕ) (polled : Option ℕ) (view : Seen) (e : Entry) → CanPollAll tick polled view (e ∷ []) → CanPoll tick (sees view e.cancel) (caught polled e)
+can_poll tick polled view e h =
+    let w = h.waiting.0 in
+    let set = may-set tick e.first polled e.run.cancelled e.run e.run.stage w.stage w.passed h.past (up-one tick (wake_of_entry e) h.wake) in
+    (set.0, h.grown.1, w.before, set.1)
 
-pub can_poll_all : (tick_us tick : ℕ) (last : Option ℕ) (view : Seen) (es : List Entry) → AreWaitingAfter tick_us last es → IsNext tick last → IsUpTo tick (wake_of_all es) → HasGrown view (map task_of es) → CanPollAll tick view es
-can_poll_all tick_us tick None view es w n k g = rw w tt
-can_poll_all tick_us tick (Some last) view es w n k g = can-poll tick_us last tick view es w n k g
-
--- ---- one more at the end
-append-nil : {X : Type 0} (xs : List X) → xs ++ [] ≡ xs
-append-nil [] = refl
-append-nil (x ∷ xs) = ap (λ l. x ∷ l) (append-nil xs)
-
-map-last : (g : Task → Task) (ts : List Task) (t : Task) → map g (ts ++ t ∷ []) ≡ map g ts ++ g t ∷ []
-map-last g [] t = refl
-map-last g (x ∷ xs) t = ap (λ (l : List Task). g x ∷ l) (map-last g xs t)
-
-may-split : (c : ℕ → Option ℕ) (ts : List Task) (t : Task) → MayComeToAll c (ts ++ t ∷ []) → MayComeToAll c ts × MayComeTo t (c t.number)
-may-split c [] t h = (tt, h.0)
-may-split c (x ∷ xs) t h = let r = may-split c xs t h.1 in ((h.0, r.0), r.1)
-
-abbrev pub replies_now : ℕ → (ℕ → Option ℕ) → Task → List Reply
-replies_now tick c t = option_to_list (option_map (reply_of_task t) (reply_in tick t.return_on_cancel (c t.number) (body_end t (c t.number))))
-
-abbrev pub late_now : ℕ → (ℕ → Option ℕ) → Task → List ℕ
-late_now tick c t = cond (is_late_in tick t.return_on_cancel (c t.number) (body_end t (c t.number))) (t.number ∷ []) []
-
-joined-on : {X : Type 0} (here rest part now : List X) → rest ≡ part ++ now → here ++ rest ≡ (here ++ part) ++ now
-joined-on here rest part now h = ap (λ l. here ++ l) h ∙ sym (append_assoc here part now)
-
-replies-more : (tick : ℕ) (c : ℕ → Option ℕ) (ts : List Task) (t : Task) → replies_in tick c (ts ++ t ∷ []) ≡ replies_in tick c ts ++ replies_now tick c t
-replies-more tick c [] t = append-nil (replies_now tick c t)
-replies-more tick c (x ∷ xs) t =
-    joined-on (replies_now tick c x) (replies_in tick c (xs ++ t ∷ [])) (replies_in tick c xs) (replies_now tick c t) (replies-more tick c xs t)
-
-late-more : (tick : ℕ) (c : ℕ → Option ℕ) (ts : List Task) (t : Task) → late_in tick c (ts ++ t ∷ []) ≡ late_in tick c ts ++ late_now tick c t
-late-more tick c [] t = append-nil (late_now tick c t)
-late-more tick c (x ∷ xs) t =
-    joined-on (late_now tick c x) (late_in tick c (xs ++ t ∷ [])) (late_in tick c xs) (late_now tick c t) (late-more tick c xs t)
-
-join-more : {X : Type 0} (rs ss part all now here : List X) → ss ≡ rs ++ part → now ≡ here → all ≡ part ++ here → ss ++ now ≡ rs ++ all
-join-more rs ss part all now here h k n = cc (append_assoc rs part here)
-
-filter-more : {X : Type 0} (p : X → Bool) (xs : List X) (x : X) → filter p (xs ++ x ∷ []) ≡ filter p xs ++ cond (p x) (x ∷ []) []
-filter-more p [] x = refl
-filter-more p (y ∷ ys) x = elim (p y) as (λ b. cond b (y ∷ filter p (ys ++ x ∷ [])) (filter p (ys ++ x ∷ [])) ≡ cond b (y ∷ filter p ys) (filter p ys) ++ cond (p x) (x ∷ []) []) [ true ↦ ap (λ l. y ∷ l) (filter-more p ys x) | false ↦ filter-more p ys x ]
-
-map-cond : (b : Bool) (f : Entry) → map task_of (cond b (f ∷ []) []) ≡ cond b (task_of f ∷ []) []
-map-cond true f = refl
-map-cond false f = refl
-
-map-join : (xs ys : List Entry) → map task_of (xs ++ ys) ≡ map task_of xs ++ map task_of ys
-map-join [] ys = refl
-map-join (x ∷ xs) ys = ap (λ (ts : List Task). task_of x ∷ ts) (map-join xs ys)
-
--- ---- what all polls give
-pub tasks_noticed : {tick : ℕ} {view : Seen} {es fs : List Entry} {rs ss : List Reply} {ls ms : List ℕ} → HasPolledAll tick view es fs rs ss ls ms → map task_of fs ≡ map (noticed_in tick view) (map task_of es)
-tasks_noticed none = refl
-tasks_noticed {tick} {view} (more {es} {fs} e f a all one) =
-    map_added fs f ∙ (ap (λ (ts : List Task). ts ++ task_of f ∷ []) (tasks_noticed all) ∙ (ap (λ (t : Task). map (noticed_in tick view) (map task_of es) ++ t ∷ []) one.task ∙ (sym (map-last (noticed_in tick view) (map task_of es) (task_of e)) ∙ ap (map (noticed_in tick view)) (sym (map_added es e)))))
-
-pub record Gives (tick : ℕ) (c : ℕ → Option ℕ) (fs : List Entry) (rs ss : List Reply) (ls ms : List ℕ) : Type 0 where
-  pub replies : ss ≡ rs ++ replies_in tick c (map task_of fs)
-  pub late : ms ≡ ls ++ late_in tick c (map task_of fs)
-  pub going : map task_of (filter is_waiting fs) ≡ filter (goes_on tick c) (map task_of fs)
-
-pub all_give : {tick : ℕ} {view : Seen} {es fs : List Entry} {rs ss : List Reply} {ls ms : List ℕ} → HasPolledAll tick view es fs rs ss ls ms → (c : ℕ → Option ℕ) → MayComeToAll c (map task_of fs) → Gives tick c fs rs ss ls ms
-all_give (none {rs} {ls}) c m = record { replies = sym (append-nil rs); late = sym (append-nil ls); going = refl }
-all_give {tick} {view} (more {es} {fs} {rs} {ss} {ls} {ms} e f a all one) c m =
-    let split = may-split c (map task_of fs) (task_of f) (rw (map_added fs f) at m) in
-    let before = all_give all c split.0 in
-    let now = one.answers (c f.number) split.1 in
-    let ts = map task_of fs in
-    let t = task_of f in
-    let all_replies : replies_in tick c (map task_of (fs ++ f ∷ [])) ≡ replies_in tick c ts ++ replies_now tick c t = ap (replies_in tick c) (map_added fs f) ∙ replies-more tick c ts t in
-    let all_late : late_in tick c (map task_of (fs ++ f ∷ [])) ≡ late_in tick c ts ++ late_now tick c t = ap (late_in tick c) (map_added fs f) ∙ late-more tick c ts t in
-    record {
-      replies = join-more rs ss (replies_in tick c ts) (replies_in tick c (map task_of (fs ++ f ∷ []))) (replies_of f a) (replies_now tick c t) before.replies (ap (λ (x : Option Outcome). option_to_list (option_map (reply_of_task t) x)) now.0) all_replies;
-      late = join-more ls ms (late_in tick c ts) (late_in tick c (map task_of (fs ++ f ∷ []))) (late_of f a) (late_now tick c t) before.late (ap (λ (b : Bool). cond {A = List ℕ} b (f.number ∷ []) []) now.1) all_late;
-      going = ap (map task_of) (filter-more is_waiting fs f) ∙ (map-join (filter is_waiting fs) (cond (is_waiting f) (f ∷ []) []) ∙ (ap (λ (l : List Task). l ++ map task_of (cond (is_waiting f) (f ∷ []) [])) before.going ∙ (ap (λ (l : List Task). filter (goes_on tick c) (map task_of fs) ++ l) (map-cond (is_waiting f) f ∙ ap (λ (b : Bool). cond (not b) (task_of f ∷ []) []) now.2) ∙ (sym (filter-more (goes_on tick c) (map task_of fs) (task_of f)) ∙ ap (filter (goes_on tick c)) (sym (map_added fs f))))));
-    }
-
--- ---- those that go on wait for the next tick
-waiting-split : (tick_us last : ℕ) (es : List Entry) (e : Entry) → AreWaiting tick_us last (es ++ e ∷ []) → AreWaiting tick_us last es × IsWaiting tick_us last e
-waiting-split tick_us last [] e h = (tt, h.0)
-waiting-split tick_us last (x ∷ xs) e h = let r = waiting-split tick_us last xs e h.1 in ((h.0, r.0), r.1)
-
-waits-on : (first tick : ℕ) (stage : Stage) → IsPolledStage first tick stage → not (is_done_stage stage) ≡ true → IsWaitingAt tick first stage
+-- ---- an entry that was polled and goes on waits for the next tick
+waits-on : (first tick : ℕ) (stage : Stage) → IsPolledStage first tick stage → not (is_done_stage stage) ≡ true → IsWaitingAt (tick + 1) first stage
 waits-on first tick Fresh h k = absurd h
 waits-on first tick (Set begun at) h k = absurd h
-waits-on first tick (Polled begun at) h k = (h.0, omega (arith, h.1))
+waits-on first tick (Polled begun at) h k = h.0
 waits-on first tick Done h k = absurd (cc)
 
-seen-by : (tick : ℕ) (flag : Bool) (c : Option ℕ) → IsBefore tick c → IsBefore (tick + 1) (seen_from tick flag c)
-seen-by tick true None h = omega arith
-seen-by tick false None h = tt
-seen-by tick flag (Some from) h = omega arith
-
-clear-by : (last tick : ℕ) (flag : Bool) (clear : Option ℕ) → last < tick → IsBy last clear → IsBy tick (clear_to tick flag clear)
-clear-by last tick true None h k = tt
-clear-by last tick true (Some at) h k = omega arith
-clear-by last tick false clear h k = omega arith
-
-waiting-one : (tick_us tick : ℕ) (f : Entry) (b : Bool) → b ≡ is_waiting f → IsPolledStage f.first tick f.run.stage → IsBefore (tick + 1) f.run.cancelled → f.run.tick_us ≡ tick_us → IsBy tick f.run.clear → WakesLater f.run → NoneBefore f.run f.run.wake → AreWaiting tick_us tick (cond b (f ∷ []) [])
-waiting-one tick_us tick f true b h k n l w e = (record { stage = waits-on f.first tick f.run.stage h (sym b); before = k; tick_us = n; clear = l; wakes = w; end = e }, tt)
-waiting-one tick_us tick f false b h k n l w e = tt
-
-waiting-join : (tick_us tick : ℕ) (es fs : List Entry) → AreWaiting tick_us tick es → AreWaiting tick_us tick fs → AreWaiting tick_us tick (es ++ fs)
-waiting-join tick_us tick [] fs h k = k
-waiting-join tick_us tick (x ∷ xs) fs h k = (h.0, waiting-join tick_us tick xs fs h.1 k)
-
-still-waiting : {tick : ℕ} {view : Seen} {es fs : List Entry} {rs ss : List Reply} {ls ms : List ℕ} (tick_us last : ℕ) → HasPolledAll tick view es fs rs ss ls ms → last < tick → AreWaiting tick_us last es → AreWaiting tick_us tick (filter is_waiting fs)
-still-waiting tick_us last none below w = tt
-still-waiting {tick} {view} tick_us last (more {es} {fs} e f a all one) below w =
-    let split = waiting-split tick_us last es e w in
-    let clear : IsBy tick f.run.clear = rw (ap (λ (t : Task). t.clear) one.task) (clear-by last tick (sees view e.cancel) e.run.clear below split.1.clear) in
-    let before : IsBefore (tick + 1) f.run.cancelled = rw (ap (λ (t : Task). t.cancelled) one.task) (seen-by tick (sees view e.cancel) e.run.cancelled one.before) in
-    rw (filter-more is_waiting fs f)
-    (waiting-join tick_us tick (filter is_waiting fs) (cond (is_waiting f) (f ∷ []) []) (still-waiting tick_us last all below split.0)
-    (waiting-one tick_us tick f (is_waiting f) refl one.stage before (ap (λ (t : Task). t.tick_us) one.task ∙ split.1.tick_us) clear one.wakes one.end))
-
-none-polled : {tick : ℕ} {view : Seen} {es fs : List Entry} {rs ss : List Reply} {ls ms : List ℕ} → HasPolledAll tick view es fs rs ss ls ms → length es ≡ length fs
-none-polled none = refl
-none-polled (more {es} {fs} e f a all one) = omega (arith, length-append es (e ∷ []), length-append fs (f ∷ []), none-polled all)
-
-empty-of : (fs : List Entry) → 0 ≡ length fs → fs ≡ []
-empty-of [] h = refl
-empty-of (x ∷ xs) h = absurd (omega arith)
-
-pub waiting_after : {tick : ℕ} {view : Seen} {es fs : List Entry} {rs ss : List Reply} {ls ms : List ℕ} (tick_us : ℕ) (last : Option ℕ) → HasPolledAll tick view es fs rs ss ls ms → IsNext tick last → AreWaitingAfter tick_us last es → AreWaiting tick_us tick (filter is_waiting fs)
-waiting_after tick_us (Some last) all below w = still-waiting tick_us last all below w
-waiting_after {tick} {view} {es} {fs} tick_us None all below w =
-    let no : fs ≡ [] = empty-of fs (ap (λ (l : List Entry). length l) (sym w) ∙ none-polled all) in rw no tt
-
--- ---- they wake later
-pub after_a : (tick : ℕ) (a b : Option ℕ) → IsAfter tick (sooner a b) → IsAfter tick a
-after_a tick None b h = tt
-after_a tick (Some a) None h = h
-after_a tick (Some a) (Some b) h = omega arith
-
-pub after_b : (tick : ℕ) (a b : Option ℕ) → IsAfter tick (sooner a b) → IsAfter tick b
-after_b tick None b h = h
-after_b tick (Some a) None h = tt
-after_b tick (Some a) (Some b) h = omega arith
-
-after-join : (tick : ℕ) (es fs : List Entry) → IsAfter tick (wake_of_all es) → IsAfter tick (wake_of_all fs) → IsAfter tick (wake_of_all (es ++ fs))
-after-join tick [] fs h k = k
-after-join tick (e ∷ es) fs h k =
-    after_both tick (wake_of_entry e) (wake_of_all (es ++ fs)) (after_a tick (wake_of_entry e) (wake_of_all es) h) (after-join tick es fs (after_b tick (wake_of_entry e) (wake_of_all es) h) k)
+passed-now : (first tick : ℕ) (wake : Option ℕ) (stage : Stage) → IsPolledStage first tick stage → not (is_done_stage stage) ≡ true → wakes_later stage wake → IsPassedBy (Some tick) wake stage
+passed-now first tick wake Fresh h k w = absurd h
+passed-now first tick wake (Set begun at) h k w = absurd h
+passed-now first tick wake (Polled begun at) h k w = (omega (arith, h.1), subst (λ (n : ℕ). IsLater n wake) h.1 w)
+passed-now first tick wake Done h k w = absurd (cc)
 
 later-stage : (first tick : ℕ) (run : Run) (stage : Stage) → IsPolledStage first tick stage → not (is_done_stage stage) ≡ true → wakes_later stage run.wake → IsAfter tick (wake_of_stage first run stage)
 later-stage first tick run Fresh h k w = absurd h
@@ -192,45 +65,267 @@ later-stage first tick run (Set begun at) h k w = absurd h
 later-stage first tick run (Polled begun at) h k w = rw (← h.1) (after_wake at run.wake w)
 later-stage first tick run Done h k w = absurd (cc)
 
-later-one : (tick : ℕ) (f : Entry) (b : Bool) → b ≡ is_waiting f → IsPolledStage f.first tick f.run.stage → wakes_later f.run.stage f.run.wake → IsAfter tick (wake_of_all (cond b (f ∷ []) []))
-later-one tick f true b h w = after_both tick (wake_of_entry f) None (later-stage f.first tick f.run f.run.stage h (sym b) w) tt
-later-one tick f false b h w = tt
+seen-by : (tick : ℕ) (flag : Bool) (c : Option ℕ) → IsBefore tick c → IsBefore (tick + 1) (seen_from tick flag c)
+seen-by tick true None h = omega arith
+seen-by tick false None h = tt
+seen-by tick flag (Some from) h = omega arith
 
-pub wakes_later_all : {tick : ℕ} {view : Seen} {es fs : List Entry} {rs ss : List Reply} {ls ms : List ℕ} → HasPolledAll tick view es fs rs ss ls ms → IsAfter tick (wake_of_all (filter is_waiting fs))
-wakes_later_all none = tt
-wakes_later_all {tick} (more {es} {fs} e f a all one) =
-    rw (filter-more is_waiting fs f)
-    (after-join tick (filter is_waiting fs) (cond (is_waiting f) (f ∷ []) []) (wakes_later_all all) (later-one tick f (is_waiting f) refl one.stage one.wakes))
+clear-by : (tick : ℕ) (flag : Bool) (clear : Option ℕ) → IsBy tick clear → IsBy tick (clear_to tick flag clear)
+clear-by tick true clear h = h
+clear-by tick false clear h = omega arith
 
--- ---- the view has what the tasks have seen
 sees-on : (tick : ℕ) (flag : Bool) (c : Option ℕ) → StaysSet c flag → StaysSet (seen_from tick flag c) flag
 sees-on tick true None h = refl
 sees-on tick false None h = tt
 sees-on tick flag (Some from) h = h
 
-grown-noticed : (tick : ℕ) (view : Seen) (ts : List Task) → HasGrown view ts → HasGrown view (map (noticed_in tick view) ts)
-grown-noticed tick view [] h = tt
-grown-noticed tick view (t ∷ ts) h = (h.0, sees-on tick (sees view t.cancel) t.cancelled h.1, grown-noticed tick view ts h.2)
+comes-no-more : (tick : ℕ) (flag : Bool) (c : Option ℕ) → (flag && not (is_some (seen_from tick flag c))) ≡ false
+comes-no-more tick true None = refl
+comes-no-more tick false None = refl
+comes-no-more tick true (Some from) = refl
+comes-no-more tick false (Some from) = refl
 
-grown-filter : (view : Seen) (p : Entry → Bool) (fs : List Entry) → HasGrown view (map task_of fs) → HasGrown view (map task_of (filter p fs))
-grown-filter view p [] h = tt
-grown-filter view p (f ∷ fs) h =
-    let rest = grown-filter view p fs h.2 in
-    elim (p f) as (λ b. HasGrown view (map task_of (cond b (f ∷ filter p fs) (filter p fs)))) [ true ↦ (h.0, h.1, rest) | false ↦ rest ]
+listed-on : (tick : ℕ) (flag : Bool) (cs : List ℕ) (cancel cancelled : Option ℕ) → IsListed cs cancel cancelled → IsListed cs cancel (seen_from tick flag cancelled)
+listed-on tick flag cs None cancelled h = tt
+listed-on tick true cs (Some c) None h = tt
+listed-on tick false cs (Some c) None h = h
+listed-on tick flag cs (Some c) (Some from) h = tt
 
-pub grown_after : {tick : ℕ} {view : Seen} {es fs : List Entry} {rs ss : List Reply} {ls ms : List ℕ} → HasPolledAll tick view es fs rs ss ls ms → HasGrown view (map task_of es) → HasGrown view (map task_of (filter is_waiting fs))
-grown_after {tick} {view} {es} {fs} all h = grown-filter view is_waiting fs (rw (tasks_noticed all) (grown-noticed tick view (map task_of es) h))
+-- the book shows it as it is
+clear-now : (tick : ℕ) (flag : Bool) (x y clear cancelled : Option ℕ) (stage : Stage) → clear ≡ clear_to tick flag x → cancelled ≡ seen_from tick flag y → caught_clear (Some tick) cancelled stage clear ≡ clear
+clear-now tick flag x y clear (Some from) stage h k = refl
+clear-now tick true x None clear None stage h k = absurd (cc)
+clear-now tick true x (Some from) clear None stage h k = absurd (cc)
+clear-now tick false x y clear None Fresh h k = refl
+clear-now tick false x y clear None (Set begun at) h k = refl
+clear-now tick false x y clear None (Polled begun at) h k = sym h
+clear-now tick false x y clear None Done h k = refl
 
-pub wake_added : (es : List Entry) (e : Entry) → wake_of_all (es ++ e ∷ []) ≡ sooner (wake_of_all es) (wake_of_entry e)
-wake_added [] e = sooner_none (wake_of_entry e)
-wake_added (x ∷ xs) e = ap (λ w. sooner (wake_of_entry x) w) (wake_added xs e) ∙ sym (sooner_assoc (wake_of_entry x) (wake_of_all xs) (wake_of_entry e))
+-- what is known of an entry that was polled
+pub record WasPolled (tick : ℕ) (polled : Option ℕ) (view : Seen) (e f : Entry) (a : Answer) : Type 0 where
+  pub task : task_of f ≡ noticed_in tick view (shown polled e)
+  pub answer : IsAnswer tick f a
+  pub stage : IsPolledAt tick f
+  pub wakes : WakesLater f.run
+  pub end : NoneBefore f.run f.run.wake
 
--- ---- what a poll of all tasks gives, by the tasks that it found
-pub poll_gives : {tick : ℕ} {view : Seen} {es fs : List Entry} {rs ss : List Reply} {ls ms : List ℕ} → HasPolledAll tick view es fs rs ss ls ms → (ts : List Task) → map task_of es ≡ ts → rs ≡ [] → ls ≡ [] → (c : ℕ → Option ℕ) → MayComeToAll c (all_noticed tick view ts) → (ss ≡ replies_in tick c (all_noticed tick view ts)) × (ms ≡ late_in tick c (all_noticed tick view ts)) × (map task_of (filter is_waiting fs) ≡ filter (goes_on tick c) (all_noticed tick view ts))
-poll_gives {tick} {view} {es} {fs} all ts e r l c m =
-    let is : map task_of fs ≡ all_noticed tick view ts = tasks_noticed all ∙ ap (all_noticed tick view) e in
-    let gives = all_give all c (subst (λ (x : List Task). MayComeToAll c x) (sym is) m) in (
-      gives.replies ∙ (ap (λ (x : List Reply). x ++ replies_in tick c (map task_of fs)) r ∙ ap (replies_in tick c) is),
-      gives.late ∙ (ap (λ (x : List ℕ). x ++ late_in tick c (map task_of fs)) l ∙ ap (late_in tick c) is),
-      gives.going ∙ ap (filter (goes_on tick c)) is,
+shown-now : {tick : ℕ} {polled : Option ℕ} {view : Seen} {e f : Entry} {a : Answer} → WasPolled tick polled view e f a → shown (Some tick) f ≡ noticed_in tick view (shown polled e)
+shown-now {tick} {polled} {view} {e} {f} {a} w =
+    let clear = clear-now tick (sees view e.cancel) (shown polled e).clear e.run.cancelled f.run.clear f.run.cancelled f.run.stage (ap (λ (t : Task). t.clear) w.task) (ap (λ (t : Task). t.cancelled) w.task) in
+    ap (λ (x : Option ℕ). record (task_of f) { clear = x }) clear ∙ w.task
+
+waiting-one : {tick : ℕ} {polled : Option ℕ} {view : Seen} {e f : Entry} {a : Answer} → WasPolled tick polled view e f a → IsWaiting tick polled e → IsBefore tick polled → not (is_done_stage f.run.stage) ≡ true → IsWaiting (tick + 1) (Some tick) f
+waiting-one {tick} {polled} {view} {e} {f} {a} w h p k = record {
+  stage = waits-on f.first tick f.run.stage w.stage k;
+  passed = passed-now f.first tick f.run.wake f.run.stage w.stage k w.wakes;
+  before = rw (ap (λ (t : Task). t.cancelled) w.task) (seen-by tick (sees view e.cancel) e.run.cancelled h.before);
+  clear = rw (ap (λ (t : Task). t.clear) w.task) (clear-by tick (sees view e.cancel) (shown polled e).clear (shown_by tick polled e.run.clear e.run.cancelled e.run.stage p h.clear));
+  end = w.end;
+}
+
+abbrev kept_if : Bool → Entry → List Entry
+kept_if b f = cond b (f ∷ []) []
+
+waiting-if : {tick : ℕ} {polled : Option ℕ} {view : Seen} {e f : Entry} {a : Answer} (b : Bool) → b ≡ not (is_done_stage f.run.stage) → WasPolled tick polled view e f a → IsWaiting tick polled e → IsBefore tick polled → AreWaiting (tick + 1) (Some tick) (kept_if b f)
+waiting-if true b w h p = (waiting-one w h p (sym b), tt)
+waiting-if false b w h p = tt
+
+later-if : {tick : ℕ} {polled : Option ℕ} {view : Seen} {e f : Entry} {a : Answer} (b : Bool) → b ≡ not (is_done_stage f.run.stage) → WasPolled tick polled view e f a → IsAfter tick (wake_of_all (kept_if b f))
+later-if {tick} {polled} {view} {e} {f} true b w = after_both tick (wake_of_entry f) None (later-stage f.first tick f.run f.run.stage w.stage (sym b) w.wakes) tt
+later-if false b w = tt
+
+grown-if : {tick : ℕ} {polled : Option ℕ} {view : Seen} {e f : Entry} {a : Answer} (b : Bool) → WasPolled tick polled view e f a → HasGrown view (all_shown polled (e ∷ [])) → HasGrown view (all_shown (Some tick) (kept_if b f))
+grown-if {tick} {polled} {view} {e} {f} {a} true w h =
+    subst (λ (t : Task). HasGrown view (t ∷ [])) (sym (shown-now w)) (h.0, sees-on tick (sees view e.cancel) e.run.cancelled h.1, tt)
+grown-if false w h = tt
+
+comes-now : {tick : ℕ} {polled : Option ℕ} {view : Seen} {e f : Entry} {a : Answer} → WasPolled tick polled view e f a → comes view f ≡ false
+comes-now {tick} {polled} {view} {e} {f} {a} w =
+    ap (λ (t : Task). sees view t.cancel && not (is_some t.cancelled)) w.task ∙ comes-no-more tick (sees view e.cancel) e.run.cancelled
+
+noticed-if : {tick : ℕ} {polled : Option ℕ} {view : Seen} {e f : Entry} {a : Answer} (b : Bool) → WasPolled tick polled view e f a → list_any (comes view) (kept_if b f) ≡ false
+noticed-if {tick} {polled} {view} {e} {f} {a} true w = rw (comes-now w) refl
+noticed-if false w = refl
+
+listed-if : {tick : ℕ} {polled : Option ℕ} {view : Seen} {e f : Entry} {a : Answer} (b : Bool) (cs : List ℕ) → WasPolled tick polled view e f a → AreListed cs (e ∷ []) → AreListed cs (kept_if b f)
+listed-if {tick} {polled} {view} {e} {f} {a} true cs w h =
+    (subst (λ (t : Task). IsListed cs t.cancel t.cancelled) (sym w.task) (listed-on tick (sees view e.cancel) cs e.cancel e.run.cancelled h.0), tt)
+listed-if false cs w h = tt
+
+going-if : (tick : ℕ) (c : ℕ → Option ℕ) (b d : Bool) (f : Entry) (t : Task) → shown (Some tick) f ≡ t → b ≡ d → all_shown (Some tick) (kept_if b f) ≡ cond d (t ∷ []) []
+going-if tick c true true f t h k = ap (λ (x : Task). x ∷ []) h
+going-if tick c false false f t h k = refl
+going-if tick c true false f t h k = absurd (cc)
+going-if tick c false true f t h k = absurd (cc)
+
+gives-one : {tick : ℕ} {polled : Option ℕ} {view : Seen} {e f : Entry} {a : Answer} (b : Bool) (rs ss : List Reply) (ls ms : List ℕ) → WasPolled tick polled view e f a → b ≡ not (is_done_stage f.run.stage) → ss ≡ rs ++ option_to_list (option_map (reply_of_task (task_of f)) a.reply) → ms ≡ ls ++ cond a.late (f.number ∷ []) []
+    → (c : ℕ → Option ℕ) → MayComeToAll c (noticed_in tick view (shown polled e) ∷ []) → Gives tick c (noticed_in tick view (shown polled e) ∷ []) (kept_if b f) rs ss ls ms
+gives-one {tick} {polled} {view} {e} {f} {a} b rs ss ls ms w k r l c m =
+    let t = noticed_in tick view (shown polled e) in
+    let may : MayComeTo (task_of f) (c f.number) = subst (λ (x : Task). MayComeTo x (c x.number)) (sym w.task) m.0 in
+    let now = w.answer (c f.number) may in
+    let reply : option_to_list (option_map (reply_of_task (task_of f)) a.reply) ≡ replies_in tick c (task_of f ∷ []) =
+    ap (λ (x : Option Outcome). option_to_list (option_map (reply_of_task (task_of f)) x)) now.0 ∙ sym (append_nil (option_to_list (option_map (reply_of_task (task_of f)) (reply_in tick f.return_on_cancel (c f.number) (body_end (task_of f) (c f.number)))))) in
+    let late : cond {A = List ℕ} a.late (f.number ∷ []) [] ≡ late_in tick c (task_of f ∷ []) =
+    ap (λ (x : Bool). cond {A = List ℕ} x (f.number ∷ []) []) now.1 ∙ sym (append_nil (cond {A = List ℕ} (is_late_in tick f.return_on_cancel (c f.number) (body_end (task_of f) (c f.number))) (f.number ∷ []) [])) in
+    let goes : b ≡ goes_on tick c (task_of f) = k ∙ ap not now.2 in
+    record {
+      replies = r ∙ ap (λ (x : List Reply). rs ++ x) (reply ∙ ap (λ (x : Task). replies_in tick c (x ∷ [])) w.task);
+      late = l ∙ ap (λ (x : List ℕ). ls ++ x) (late ∙ ap (λ (x : Task). late_in tick c (x ∷ [])) w.task);
+      going = going-if tick c b (goes_on tick c t) f t (shown-now w) (goes ∙ ap (goes_on tick c) w.task);
+    }
+
+pub polled_one : {tick : ℕ} {polled : Option ℕ} {view : Seen} {e f : Entry} {a : Answer} (b : Bool) (rs ss : List Reply) (ls ms : List ℕ) → CanPollAll tick polled view (e ∷ []) → WasPolled tick polled view e f a → b ≡ not (is_done_stage f.run.stage) → ss ≡ rs ++ option_to_list (option_map (reply_of_task (task_of f)) a.reply) → ms ≡ ls ++ cond a.late (f.number ∷ []) []
+    → HasPolledAll tick polled view (e ∷ []) (cond b (f ∷ []) []) rs ss ls ms
+polled_one {tick} {polled} {view} {e} {f} {a} b rs ss ls ms h w k r l = record {
+  gives = gives-one b rs ss ls ms w k r l;
+  waiting = waiting-if b k w h.waiting.0 h.past;
+  wake = later-if b k w;
+  grown = grown-if b w h.grown;
+  noticed = noticed-if b w;
+  listed = λ cs x. listed-if b cs w x;
+}
+
+-- ---- an entry that is passed over
+clear-same : (tick first : ℕ) (flag : Bool) (polled cancelled clear : Option ℕ) (run : Run) (stage : Stage) → IsWaitingAt tick first stage → IsPassedBy polled run.wake stage → IsAfter tick (wake_of_stage first run stage) → (flag && not (is_some cancelled)) ≡ false → StaysSet cancelled flag
+    → caught_clear (Some tick) cancelled stage clear ≡ clear_to tick flag (caught_clear polled cancelled stage clear)
+clear-same tick first flag polled cancelled clear run Fresh w p a s g = absurd (omega (arith, w))
+clear-same tick first flag polled cancelled clear run (Set begun at) w p a s g = absurd w
+clear-same tick first flag None cancelled clear run (Polled begun at) w p a s g = absurd p
+clear-same tick first true (Some last) None clear run (Polled begun at) w p a s g = absurd (cc)
+clear-same tick first false (Some last) None clear run (Polled begun at) w p a s g = refl
+clear-same tick first true (Some last) (Some from) clear run (Polled begun at) w p a s g = refl
+clear-same tick first false (Some last) (Some from) clear run (Polled begun at) w p a s g = absurd (cc)
+clear-same tick first flag polled cancelled clear run Done w p a s g = absurd w
+
+seen-same : (tick : ℕ) (flag : Bool) (cancelled : Option ℕ) → (flag && not (is_some cancelled)) ≡ false → cancelled ≡ seen_from tick flag cancelled
+seen-same tick true None s = absurd (cc)
+seen-same tick false None s = refl
+seen-same tick flag (Some from) s = refl
+
+stage-same : (tick first : ℕ) (run : Run) (stage : Stage) → IsWaitingAt tick first stage → IsAfter tick (wake_of_stage first run stage) → IsWaitingAt (tick + 1) first stage
+stage-same tick first run Fresh w a = absurd (omega (arith, w))
+stage-same tick first run (Set begun at) w a = absurd w
+stage-same tick first run (Polled begun at) w a = w
+stage-same tick first run Done w a = absurd w
+
+later-same : (tick : ℕ) (wake : Option ℕ) (at : ℕ) → IsLater at wake → IsAfter tick wake → IsLater tick wake
+later-same tick None at l a = absurd l
+later-same tick (Some wake) at l a = a
+
+passed-same : (tick first : ℕ) (polled : Option ℕ) (run : Run) (stage : Stage) → IsWaitingAt tick first stage → IsPassedBy polled run.wake stage → IsBefore tick polled → IsAfter tick (wake_of_stage first run stage) → IsPassedBy (Some tick) run.wake stage
+passed-same tick first polled run Fresh w p b a = tt
+passed-same tick first polled run (Set begun at) w p b a = absurd w
+passed-same tick first None run (Polled begun at) w p b a = absurd p
+passed-same tick first (Some last) run (Polled begun at) w p b a = (omega (arith, p.0), later-same tick run.wake last p.1 a)
+passed-same tick first polled run Done w p b a = absurd w
+
+seen-on : (tick : ℕ) (polled clear : Option ℕ) → IsBefore tick polled → IsSeenBy polled clear → IsBy tick clear
+seen-on tick polled None p s = tt
+seen-on tick None (Some a) p s = absurd (cc)
+seen-on tick (Some last) (Some a) p s = omega arith
+
+none-next : (rc b : Bool) → b ≡ false → (rc && b) ≡ false
+none-next true b h = h
+none-next false b h = refl
+
+shown-same : (tick : ℕ) (polled : Option ℕ) (view : Seen) (e : Entry) → IsWaiting tick polled e → IsAfter tick (wake_of_entry e) → HasGrown view (all_shown polled (e ∷ [])) → comes view e ≡ false → shown (Some tick) e ≡ noticed_in tick view (shown polled e)
+shown-same tick polled view e w a g s =
+    let clear = clear-same tick e.first (sees view e.cancel) polled e.run.cancelled e.run.clear e.run e.run.stage w.stage w.passed a s g.1 in
+    let seen = seen-same tick (sees view e.cancel) e.run.cancelled s in
+    λ i. record (task_of e) { clear = clear i; cancelled = seen i }
+
+gives-none : (tick : ℕ) (polled : Option ℕ) (view : Seen) (e : Entry) (rs : List Reply) (ls : List ℕ) (c : ℕ → Option ℕ) → shown (Some tick) e ≡ noticed_in tick view (shown polled e) → IsIdleOne tick (c e.number) (shown polled e) → Gives tick c (noticed_in tick view (shown polled e) ∷ []) (e ∷ []) rs rs ls ls
+gives-none tick polled view e rs ls c same idle =
+    let t = noticed_in tick view (shown polled e) in
+    let replies : replies_in tick c (t ∷ []) ≡ [] = ap (λ (x : Option Outcome). option_to_list (option_map (reply_of_task t) x) ++ []) idle.0 in
+    let late : late_in tick c (t ∷ []) ≡ [] = ap (λ (x : Bool). cond {A = List ℕ} x (e.number ∷ []) [] ++ []) idle.1 in
+    record {
+      replies = sym (ap (λ (x : List Reply). rs ++ x) replies ∙ append_nil rs);
+      late = sym (ap (λ (x : List ℕ). ls ++ x) late ∙ append_nil ls);
+      going = ap (λ (x : Task). x ∷ []) same ∙ sym (ap (λ (x : Bool). cond {A = List Task} x (t ∷ []) []) idle.2);
+    }
+
+passed-one : (tick : ℕ) (polled : Option ℕ) (view : Seen) (e : Entry) (rs : List Reply) (ls : List ℕ) → IsWaiting tick polled e → IsBefore tick polled → IsAfter tick (wake_of_entry e) → HasGrown view (all_shown polled (e ∷ [])) → comes view e ≡ false → HasPolledAll tick polled view (e ∷ []) (e ∷ []) rs rs ls ls
+passed-one tick polled view e rs ls w p a g s = record {
+  gives = λ c m. gives-none tick polled view e rs ls c (shown-same tick polled view e w a g s) (idle_one tick tick polled view (c e.number) e w (omega arith) p a (none-next e.return_on_cancel (comes view e) s) m.0);
+  waiting = (
+    record {
+      stage = stage-same tick e.first e.run e.run.stage w.stage a;
+      passed = passed-same tick e.first polled e.run e.run.stage w.stage w.passed p a;
+      before = before_later tick (tick + 1) e.run.cancelled (omega arith) w.before;
+      clear = seen-on tick polled e.run.clear p w.clear;
+      end = w.end;
+    },
+    tt,
+  );
+  wake = after_both tick (wake_of_entry e) None a tt;
+  grown = (g.0, g.1, tt);
+  noticed = rw s refl;
+  listed = λ cs h. h;
+}
+
+pub passed_all : (tick : ℕ) (polled : Option ℕ) (view : Seen) (es : List Entry) (rs : List Reply) (ls : List ℕ) → AreWaiting tick polled es → IsBefore tick polled → IsAfter tick (wake_of_all es) → HasGrown view (all_shown polled es) → list_any (comes view) es ≡ false → HasPolledAll tick polled view es es rs rs ls ls
+passed_all tick polled view [] rs ls w p a g s = record {
+  gives = λ c m. record { replies = sym (append_nil rs); late = sym (append_nil ls); going = refl };
+  waiting = tt;
+  wake = tt;
+  grown = tt;
+  noticed = refl;
+  listed = λ cs h. h;
+}
+passed_all tick polled view (e ∷ es) rs ls w p a g s =
+    polled_joined
+    (passed-one tick polled view e rs ls w.0 p (after_a tick (wake_of_entry e) (wake_of_all es) a) (g.0, g.1, tt) (or-left (comes view e) (list_any (comes view) es) s))
+    (passed_all tick polled view es rs ls w.1 p (after_b tick (wake_of_entry e) (wake_of_all es) a) g.2 (or-right (comes view e) (list_any (comes view) es) s))
+
+-- ---- entries whose mark is quiet are passed over
+none-came-or-heeds : (came : Bool) (view : Seen) (es : List Entry) → NoneComes came view es → (came && list_any heeds es) ≡ false → list_any (comes view) es ≡ false
+none-came-or-heeds true view es n h = none_heeds view es h
+none-came-or-heeds false view es n h = n refl
+
+pub passed_quiet : (round : Round) (view : Seen) (mark : Mark) (es : List Entry) (rs : List Reply) (ls : List ℕ) → mark ≡ mark_of es → IsQuiet round mark → CanPollAll round.tick round.polled view es → NoneComes round.came view es → HasPolledAll round.tick round.polled view es es rs rs ls ls
+passed_quiet round view mark es rs ls m q can n =
+    let quiet : IsQuiet round (mark_of es) = subst (λ (x : Mark). IsQuiet round x) m q in
+    passed_all round.tick round.polled view es rs ls can.waiting can.past quiet.0 can.grown (none-came-or-heeds round.came view es n quiet.1)
+
+-- ---- what may come to two parts of entries
+pub comes_left : (came : Bool) (view : Seen) (es gs : List Entry) → NoneComes came view (es ++ gs) → NoneComes came view es
+comes_left came view es gs n = λ k. or-left (list_any (comes view) es) (list_any (comes view) gs) (sym (any_joined (comes view) es gs) ∙ n k)
+
+pub comes_right : (came : Bool) (view : Seen) (es gs : List Entry) → NoneComes came view (es ++ gs) → NoneComes came view gs
+comes_right came view es gs n = λ k. or-right (list_any (comes view) es) (list_any (comes view) gs) (sym (any_joined (comes view) es gs) ∙ n k)
+
+-- ---- what a poll of all gives, by the tasks that the book showed
+pub poll_gives : {tick : ℕ} {polled : Option ℕ} {view : Seen} {es fs : List Entry} {rs ss : List Reply} {ls ms : List ℕ} → HasPolledAll tick polled view es fs rs ss ls ms → (ts : List Task) → all_shown polled es ≡ ts → rs ≡ [] → ls ≡ [] → (c : ℕ → Option ℕ) → MayComeToAll c (all_noticed tick view ts) → (ss ≡ replies_in tick c (all_noticed tick view ts)) × (ms ≡ late_in tick c (all_noticed tick view ts)) × (all_shown (Some tick) fs ≡ filter (goes_on tick c) (all_noticed tick view ts))
+poll_gives {tick} {polled} {view} {es} {fs} {rs} {ss} {ls} {ms} all ts e r l c m =
+    let noticed : all_noticed tick view (all_shown polled es) ≡ all_noticed tick view ts = ap (all_noticed tick view) e in
+    let gives = all.gives c (subst (λ (x : List Task). MayComeToAll c x) (sym noticed) m) in (
+      gives.replies ∙ (ap (λ (x : List Reply). x ++ replies_in tick c (all_noticed tick view (all_shown polled es))) r ∙ ap (replies_in tick c) noticed),
+      gives.late ∙ (ap (λ (x : List ℕ). x ++ late_in tick c (all_noticed tick view (all_shown polled es))) l ∙ ap (late_in tick c) noticed),
+      gives.going ∙ ap (filter (goes_on tick c)) noticed,
     )
+
+-- ---- the entries wait for a tick that passes over no wake
+due-stage : (next tick first : ℕ) (run : Run) (stage : Stage) → IsWaitingAt next first stage → next ≤ tick → IsUpTo tick (wake_of_stage first run stage) → IsWaitingAt tick first stage
+due-stage next tick first run Fresh w n k = omega (arith, w)
+due-stage next tick first run (Set begun at) w n k = absurd w
+due-stage next tick first run (Polled begun at) w n k = w
+due-stage next tick first run Done w n k = absurd w
+
+waiting-from : (next tick : ℕ) (polled : Option ℕ) (es : List Entry) → AreWaiting next polled es → next ≤ tick → IsUpTo tick (wake_of_all es) → AreWaiting tick polled es
+waiting-from next tick polled [] w n k = tt
+waiting-from next tick polled (e ∷ es) w n k = (
+  record {
+    stage = due-stage next tick e.first e.run e.run.stage w.0.stage n (up-a tick (wake_of_entry e) (wake_of_all es) k);
+    passed = w.0.passed;
+    before = before_later next tick e.run.cancelled n w.0.before;
+    clear = w.0.clear;
+    end = w.0.end;
+  },
+  waiting-from next tick polled es w.1 n (up-b tick (wake_of_entry e) (wake_of_all es) k),
+)
+
+pub can_poll_all : (tick : ℕ) (last polled : Option ℕ) (view : Seen) (es : List Entry) → AreWaitingAfter last polled es → IsPolledBy last polled → IsNext tick last → IsUpTo tick (wake_of_all es) → HasGrown view (all_shown polled es) → CanPollAll tick polled view es
+can_poll_all tick None polled view es w p n k g = record { waiting = rw w tt; past = rw p tt; wake = k; grown = g }
+can_poll_all tick (Some last) polled view es w p n k g = record { waiting = waiting-from (last + 1) tick polled es w (omega arith) k; past = polled_before last tick polled n p; wake = k; grown = g }

@@ -201,3 +201,20 @@ pub pends : (tick_us : ℕ) (tree : Tree) (s : Steps) (clear cancelled : Option 
 pends tick_us tree s clear cancelled stage begun tick wake e h =
     subst (λ (x : Stage). Answered (record { tree = tree; tick_us = tick_us; stage = x; clear = clear; cancelled = cancelled; wake = wake_in x s }) None) (sym e)
     (λ c may. let late = h.answer c may in (none_due tick (end_of tick_us tree begun c) late, omega arith))
+
+-- ---- a tick that passes in place of a poll
+
+pub up_to_next : (tick : ℕ) (wake : Option ℕ) → IsLater tick wake → IsUpTo (tick + 1) wake
+up_to_next tick None l = tt
+up_to_next tick (Some wake) l = omega arith
+
+clear-on : (at tick : ℕ) (clear c : Option ℕ) → clear ≡ Some at → at ≤ tick → MayCome (Some tick) None c → MayCome clear None c
+clear-on at tick clear c e le m = rw e ((λ t below. m.0 t (omega arith)), tt)
+
+pub held_passed : (tick_us : ℕ) (tree : Tree) (s : Steps) (clear cancelled : Option ℕ) (begun at tick : ℕ) (wake : Option ℕ) → IsHeld tick_us tree s clear cancelled (Polled begun at) wake → at ≤ tick → IsLater tick (wake_of s) → cancelled ≡ None
+    → IsHeld tick_us tree s (Some tick) cancelled (Polled begun tick) wake
+held_passed tick_us tree s clear None begun at tick wake h le l n = record {
+  carried = (in_time (at + 1) (tick + 1) s h.carried.0 (up_to_next tick (wake_of s) l), refl, λ c next may. h.carried.2 c next (clear-on at tick clear c h.carried.1 le may));
+  noted = h.noted;
+}
+held_passed tick_us tree s clear (Some from) begun at tick wake h le l n = absurd (cc)

@@ -1,47 +1,80 @@
 -- How a book's entries stand between two calls.
-use Rattle.std.specs.Prelude.{◌≡◌, ◌+◌, ◌<◌, ◌≤◌, Bool, true, Option, Some, None, List, [], ◌∷◌}
+use Rattle.std.specs.Prelude.{◌≡◌, ◌+◌, ◌<◌, ◌≤◌, ◌==◌, ◌&&◌, ◌||◌, Bool, true, false, not, is_some, Option, Some, None, List, [], ◌∷◌, ◌++◌, if◌then◌else◌}
+use Rattle.std.specs.List.{list_any}
 use Rattle.loop_script.specs.Bounds.{longest_tick}
-use Rattle.loop_script.specs.Units.{Tick, Microseconds}
+use Rattle.loop_script.specs.Units.{Tick, Microseconds, CancellableNumber}
 use Rattle.task_steps.specs.declared.entry.Entry.{Entry}
 use Rattle.task_steps.specs.declared.stage.Stage.{Stage}
 use Rattle.task_steps.specs.declared.stage.Stage.TheVariants.{Fresh, Set, Polled, Done}
+use Rattle.task_steps.specs.declared.tasks.Mark.{Mark}
+use Rattle.task_steps.specs.declared.tasks.Round.{Round}
+use Rattle.task_steps.specs.declared.tasks.Tasks.{Tasks, Gone, One, Two'}
 use Rattle.task_steps.specs.Rest.{sooner}
-use Rattle.task_steps.specs.Run.{Run, NoneBefore, WakesLater}
+use Rattle.task_steps.specs.Run.{Run, IsAfter, IsLater, NoneBefore, stage_to, clear_passed}
 use Rattle.task_steps.specs.RunInside.{IsBy}
-use Rattle.task_steps.specs.Task.{IsBefore}
+use Rattle.task_steps.specs.Task.{Task, task_of, IsBefore}
 
--- a task not begun is begun in the tick after the last, and one in progress was polled in the last or in one before it
+-- ---- an entry that polls of all passed over
+
+-- the stage of a run in the last poll of all, where that passed it over; one seen as cancelled stays as it is
+abbrev pub caught_stage : Option Tick → Option Tick → Stage → Stage
+caught_stage None cancelled stage = stage
+caught_stage (Some tick) (Some from) stage = stage
+caught_stage (Some tick) None stage = stage_to tick stage
+
+-- up to which tick it was not seen as cancelled
+abbrev pub caught_clear : Option Tick → Option Tick → Stage → Option Tick → Option Tick
+caught_clear None cancelled stage clear = clear
+caught_clear (Some tick) (Some from) stage clear = clear
+caught_clear (Some tick) None stage clear = clear_passed tick stage clear
+
+-- an entry as the last poll of all would have left it, had it not passed it over
+abbrev pub caught : Option Tick → Entry → Entry
+caught polled e = record e { run = record e.run { stage = caught_stage polled e.run.cancelled e.run.stage; clear = caught_clear polled e.run.cancelled e.run.stage e.run.clear } }
+
+-- the task that a book shows for an entry
+abbrev pub shown : Option Tick → Entry → Task
+shown polled e = task_of (caught polled e)
+
+-- an entry in progress was polled in the last poll of all, or sleeps on after it
+abbrev pub IsPassedBy : Option Tick → Option Tick → Stage → Type 0
+IsPassedBy polled wake Fresh = Unit {0}
+IsPassedBy polled wake (Set begun at) = ⊥
+IsPassedBy None wake (Polled begun at) = ⊥
+IsPassedBy (Some tick) wake (Polled begun at) = (at ≤ tick) × IsLater tick wake
+IsPassedBy polled wake Done = ⊥
+
+-- ---- entries that are polled again
+
+-- what was seen as not cancelled was seen in the last poll of all or before it
+abbrev pub IsSeenBy : Option Tick → Option Tick → Type 0
+IsSeenBy None clear = clear ≡ None
+IsSeenBy (Some tick) clear = IsBy tick clear
+
+-- a task not begun is begun in the next tick, and one in progress was last polled before it
 abbrev pub IsWaitingAt : Tick → Tick → Stage → Type 0
-IsWaitingAt last first Fresh = first ≡ last + 1
-IsWaitingAt last first (Set begun at) = ⊥
-IsWaitingAt last first (Polled begun at) = (begun ≡ first) × (at ≤ last)
-IsWaitingAt last first Done = ⊥
+IsWaitingAt next first Fresh = first ≡ next
+IsWaitingAt next first (Set begun at) = ⊥
+IsWaitingAt next first (Polled begun at) = begun ≡ first
+IsWaitingAt next first Done = ⊥
 
--- an entry that is polled again
-pub record IsWaiting (length : Microseconds) (last : Tick) (e : Entry) : Type 0 where
-  pub stage : IsWaitingAt last e.first e.run.stage
-  pub before : IsBefore (last + 1) e.run.cancelled
-  pub tick_us : e.run.tick_us ≡ length
-  pub clear : IsBy last e.run.clear
-  pub wakes : WakesLater e.run
+-- an entry that is polled again in a tick or after it
+pub record IsWaiting (next : Tick) (polled : Option Tick) (e : Entry) : Type 0 where
+  pub stage : IsWaitingAt next e.first e.run.stage
+  pub passed : IsPassedBy polled e.run.wake e.run.stage
+  pub before : IsBefore next e.run.cancelled
+  pub clear : IsSeenBy polled e.run.clear
   pub end : NoneBefore e.run e.run.wake
 
 -- the same of all
-abbrev pub AreWaiting : Microseconds → Tick → List Entry → Type 0
-AreWaiting tick_us last [] = Unit {0}
-AreWaiting tick_us last (e ∷ es) = IsWaiting tick_us last e × AreWaiting tick_us last es
+abbrev pub AreWaiting : Tick → Option Tick → List Entry → Type 0
+AreWaiting next polled [] = Unit {0}
+AreWaiting next polled (e ∷ es) = IsWaiting next polled e × AreWaiting next polled es
 
--- the same after the last poll, where there was one
-abbrev pub AreWaitingAfter : Microseconds → Option Tick → List Entry → Type 0
-AreWaitingAfter tick_us None es = es ≡ []
-AreWaitingAfter tick_us (Some last) es = AreWaiting tick_us last es
-
--- a tick is some time, the entries wait for the next one, and a spent book has forgotten them
-pub record IsKept (tick_us : Microseconds) (last : Option Tick) (spent : Bool) (es : List Entry) : Type 0 where
-  pub some : 0 < tick_us
-  pub short : tick_us ≤ longest_tick
-  pub waiting : AreWaitingAfter tick_us last es
-  pub forgotten : spent ≡ true → (last ≡ None) × (es ≡ [])
+-- the same after the last tick, where there was one
+abbrev pub AreWaitingAfter : Option Tick → Option Tick → List Entry → Type 0
+AreWaitingAfter None polled es = es ≡ []
+AreWaitingAfter (Some last) polled es = AreWaiting (last + 1) polled es
 
 -- when a run in a stage may give something next
 abbrev pub wake_of_stage : Tick → Run → Stage → Option Tick
@@ -58,3 +91,72 @@ wake_of_entry e = wake_of_stage e.first e.run e.run.stage
 abbrev pub wake_of_all : List Entry → Option Tick
 wake_of_all [] = None
 wake_of_all (e ∷ es) = sooner (wake_of_entry e) (wake_of_all es)
+
+-- ---- cancellables that are heeded
+
+-- whether an entry has a cancellable that no poll saw as cancelled
+abbrev pub heeds : Entry → Bool
+heeds e = is_some e.cancel && not (is_some e.run.cancelled)
+
+-- whether a cancellable is one of a list
+abbrev pub is_heeded : CancellableNumber → List CancellableNumber → Bool
+is_heeded c cs = list_any (λ x. x == c) cs
+
+-- a list with one more, if it is not there
+abbrev pub heeding : Option CancellableNumber → List CancellableNumber → List CancellableNumber
+heeding None cs = cs
+heeding (Some c) cs = if is_heeded c cs then cs else cs ++ c ∷ []
+
+-- a cancellable that was not seen as cancelled is one of a list
+abbrev pub IsListed : List CancellableNumber → Option CancellableNumber → Option Tick → Type 0
+IsListed cs None cancelled = Unit {0}
+IsListed cs (Some c) None = is_heeded c cs ≡ true
+IsListed cs (Some c) (Some from) = Unit {0}
+
+-- the same of all entries
+abbrev pub AreListed : List CancellableNumber → List Entry → Type 0
+AreListed cs [] = Unit {0}
+AreListed cs (e ∷ es) = IsListed cs e.cancel e.run.cancelled × AreListed cs es
+
+-- ---- a tree of entries
+
+-- its entries, in start order
+abbrev pub entries_of : Tasks → List Entry
+entries_of Gone = []
+entries_of (One e) = e.value ∷ []
+entries_of (Two' mark p a q b) = entries_of a ++ entries_of b
+
+-- what is known of some entries
+abbrev pub mark_of : List Entry → Mark
+mark_of es = record { wake = wake_of_all es; heeds = list_any heeds es }
+
+-- what is known of two lists together
+abbrev pub joined_mark : Mark → Mark → Mark
+joined_mark a b = record { wake = sooner a.wake b.wake; heeds = a.heeds || b.heeds }
+
+-- each node's mark is that of the entries below it
+abbrev pub IsMarked : Tasks → Type 0
+IsMarked Gone = Unit {0}
+IsMarked (One e) = Unit {0}
+IsMarked (Two' mark p a q b) = (mark ≡ mark_of (entries_of a ++ entries_of b)) × IsMarked a × IsMarked b
+
+-- no entry of a mark wakes in a round, or heeds what may have come
+abbrev pub IsQuiet : Round → Mark → Type 0
+IsQuiet round mark = IsAfter round.tick mark.wake × ((round.came && mark.heeds) ≡ false)
+
+-- ---- a book
+
+-- the last poll of all was in the last tick or before it
+abbrev pub IsPolledBy : Option Tick → Option Tick → Type 0
+IsPolledBy None polled = polled ≡ None
+IsPolledBy (Some last) polled = IsBy last polled
+
+-- a tick is some time, the entries wait for the next one, what they heed is listed, and a spent book has forgotten them
+pub record IsKept (tick_us : Microseconds) (last polled : Option Tick) (spent : Bool) (heeded : List CancellableNumber) (tasks : Tasks) : Type 0 where
+  pub some : 0 < tick_us
+  pub short : tick_us ≤ longest_tick
+  pub waiting : AreWaitingAfter last polled (entries_of tasks)
+  pub past : IsPolledBy last polled
+  pub marked : IsMarked tasks
+  pub listed : AreListed heeded (entries_of tasks)
+  pub forgotten : spent ≡ true → (last ≡ None) × (entries_of tasks ≡ [])

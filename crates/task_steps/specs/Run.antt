@@ -129,3 +129,24 @@ none_before Done r wake = Unit {0}
 abbrev pub NoneBefore : Run → Option Tick → Type 0
 NoneBefore r None = Unit {0}
 NoneBefore r (Some wake) = none_before r.stage r wake
+
+-- a later tick may stand for a poll that found a run pending: none but one that was not seen as cancelled, before its wake
+abbrev pub MayPass : Tick → Option Tick → Option Tick → Stage → Type 0
+MayPass tick cancelled wake Fresh = Unit {0}
+MayPass tick cancelled wake (Set begun at) = Unit {0}
+MayPass tick cancelled wake (Polled begun at) = (at ≤ tick) × IsLater tick wake × (cancelled ≡ None)
+MayPass tick cancelled wake Done = Unit {0}
+
+-- the stage once a tick has passed
+abbrev pub stage_to : Tick → Stage → Stage
+stage_to tick Fresh = Fresh
+stage_to tick (Set begun at) = Set begun at
+stage_to tick (Polled begun at) = Polled begun tick
+stage_to tick Done = Done
+
+-- up to which tick it was not seen as cancelled, once a tick has passed
+abbrev pub clear_passed : Tick → Stage → Option Tick → Option Tick
+clear_passed tick Fresh clear = clear
+clear_passed tick (Set begun at) clear = clear
+clear_passed tick (Polled begun at) clear = Some tick
+clear_passed tick Done clear = clear

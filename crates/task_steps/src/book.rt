@@ -1,9 +1,10 @@
 //! The tasks of a lane.
 ghost use Rattle.std.specs.Prelude.{◌≡◌, ℕ, ◌+◌, ◌<◌, ◌≤◌, ◌^◌, ◌↔◌, [], Option, None, Some, false, IsTrue, IsOk, IfOk, OnOk, OnErr, filter};
 
-use crate::entries::{add_entry, keep_waiting, new_entry};
-use crate::entry::{Entry, Reply};
-use crate::polls::{poll_each, reply_next, wake_of_each};
+use crate::entries::new_entry;
+use crate::entry::Reply;
+use crate::heeded::{forget_seen, heed, some_came};
+use crate::tasks::{Round, Tasks};
 use cancel_view::View;
 use loop_script::{Items, TaskSpec};
 use std::alloc::{AllocError, Global};
@@ -46,9 +47,13 @@ impl Polled {
 pub struct TaskBook {
     alloc: Global,
     tick_us: u64,
-    entries: Vec<Entry>,
+    tasks: Tasks,
+    /// The cancellables of which a task waits that no poll of it saw as cancelled.
+    heeded: Vec<u32>,
     next: u64,
     last: Option<u32>,
+    /// The tick of the last poll of all tasks. Tasks that did not wake in it were seen in it as they are.
+    polled: Option<u32>,
     spent: bool,
 }
 
@@ -62,16 +67,16 @@ impl Model for TaskBook {
 
     ghost coded = { Prim.hlevel (codes, tree_code) };
 
-    ghost use Rattle.task_steps.specs.Task.{task_of};
-    ghost use Rattle.task_steps.specs.BookInside.{IsKept, wake_of_all};
+    ghost use Rattle.task_steps.specs.BookInside.{IsKept, entries_of, shown, wake_of_all};
 
-    ghost view = { λ b. record { tick_us = b.tick_us; tasks = map task_of b.entries.items; next = b.next; last = b.last; wake = wake_of_all b.entries.items; spent = b.spent } };
+    ghost view = { λ b. record { tick_us = b.tick_us; tasks = map (shown b.polled) (entries_of b.tasks); next = b.next; last = b.last; wake = wake_of_all (entries_of b.tasks); spent = b.spent } };
 
-    ghost invariant = { λ b. IsKept b.tick_us b.last b.spent b.entries.items };
+    ghost invariant = { λ b. IsKept b.tick_us b.last b.polled b.spent b.heeded.items b.tasks };
 }
 
 impl TaskBook {
-    ghost use Rattle.task_steps.specs.Book.{with_task, exhausted, IsStart, IsNext, HasGrown, MayComeToAll, all_noticed, replies_in, late_in, goes_on, wake_under, IsQuietTo, IsIdle, passed, OwesNone, IsAsPolled};
+    ghost use Rattle.std.specs.List.{list_any};
+    ghost use Rattle.task_steps.specs.Book.{with_task, exhausted, IsStart, IsNext, HasGrown, MayComeToAll, all_noticed, replies_in, late_in, goes_on, wake_under, IsQuietTo, IsIdle, passed, replies_next, OwesNone, IsAsPolled};
     ghost use Rattle.cancel_view.specs.Seen.{Seen};
     ghost use Rattle.loop_script.specs.Bounds.{count_end, longest_tick, tick_end};
     ghost use Rattle.loop_script.specs.Units.{Tick, TaskNumber};
@@ -87,9 +92,11 @@ impl TaskBook {
         TaskBook {
             alloc,
             tick_us,
-            entries: Vec::new(alloc),
+            tasks: Tasks::Gone,
+            heeded: Vec::new(alloc),
             next: 0,
             last: None,
+            polled: None,
             spent: false,
         }
     }
@@ -117,18 +124,21 @@ impl TaskBook {
         Ok(number)
     }
 
-    /// Adds a task to a book that is not spent.
-    #[tactic(auto, using(crate::proofs::Waiting::waiting_added, crate::proofs::Waiting::map_added, crate::proofs::PollAll::wake_added))]
+    /// Adds a task to a book that is not spent. After an error it has none.
     fn add(&mut self, spec: &TaskSpec, ctx: u32, tick: u32) -> Result<(), AllocError>
         requires room { self.old.next < count_end }
         requires tick { tick < tick_end }
         requires last { IsStart tick self.old.last }
         requires goes_on { self.old.spent ≡ false }
         ensures ok { OnOk result (self.new ≡ with_task spec.now ctx tick self.old) }
-        ensures err { OnErr result (self.new ≡ self.old) }
+        ensures err { OnErr result (exhausted self.new ≡ exhausted self.old) }
     {
         let entry = new_entry(self.alloc, spec, ctx, tick, self.next, self.tick_us)?;
-        add_entry(&mut self.entries, entry)?;
+        let one = Tasks::One(Box::new(self.alloc, entry)?);
+        heed(&mut self.heeded, spec.cancel)?;
+        let mut tasks = mem::replace(&mut self.tasks, Tasks::Gone);
+        tasks.append(self.alloc, self.next.trailing_ones(), one)?;
+        self.tasks = tasks;
         self.next += 1;
         self.last = Some(tick);
         Ok(())
@@ -138,13 +148,16 @@ impl TaskBook {
     fn exhaust(&mut self)
         ensures { self.new ≡ exhausted self.old }
     {
-        self.entries = Vec::new(self.alloc);
+        self.tasks = Tasks::Gone;
         self.last = None;
+        self.polled = None;
         self.spent = true;
     }
 
-    /// Polls each task in start order. Where there is none, that takes no memory. After `OutOfMemory` the book is spent.
-    #[tactic(auto, using(crate::proofs::PollAll::wakes_later_all, crate::proofs::Waiting::kept_none, crate::proofs::Waiting::spent_forgets))]
+    /// Polls the tasks in start order: those that wake, and where a cancellable that a task heeds has come since, all those
+    /// that heed one. A poll of the others would give nothing. Where there is none, that takes no memory. After
+    /// `OutOfMemory` the book is spent.
+    #[tactic(auto, using(crate::proofs::Waiting::kept_none, crate::proofs::Waiting::spent_forgets))]
     pub fn poll_all(&mut self, alloc: Global, tick: u32, view: &View) -> Result<Polled, BookFault>
         requires tick { tick < tick_end }
         requires last { IsNext tick self.old.last }
@@ -168,14 +181,20 @@ impl TaskBook {
         }
         let mut replies = Vec::new(alloc);
         let mut late = Vec::new(alloc);
-        let mut entries = mem::replace(&mut self.entries, Vec::new(self.alloc));
-        let Ok(()) = poll_each(&mut entries, tick, view, &mut replies, &mut late) else {
+        let round = Round {
+            tick,
+            polled: self.polled,
+            came: some_came(&self.heeded, view),
+        };
+        let mut tasks = mem::replace(&mut self.tasks, Tasks::Gone);
+        let Ok(()) = tasks.poll(round, view, &mut replies, &mut late) else {
             self.exhaust();
             return Err(BookFault::OutOfMemory);
         };
-        keep_waiting(&mut entries);
-        self.entries = entries;
+        forget_seen(&mut self.heeded, view);
+        self.tasks = tasks;
         self.last = Some(tick);
+        self.polled = Some(tick);
         Ok(Polled {
             replies: Items::from_vec(replies),
             late: Items::from_vec(late),
@@ -208,10 +227,20 @@ impl TaskBook {
         ensures later { IsAfter tick result }
         ensures quiet { IsQuietTo result tick view.now self.now.tasks }
     {
-        if reply_next(&self.entries, view) {
+        if self.owes_reply(view) {
             Some(u64::from(tick) + 1)
         } else {
-            wake_of_each(&self.entries)
+            self.tasks.mark().wake
         }
+    }
+
+    /// Whether the next poll replies that a task is cancelled.
+    fn owes_reply(&self, view: &View) -> bool
+        ensures { result ≡ list_any (replies_next view.now) self.now.tasks }
+    {
+        if some_came(&self.heeded, view) {
+            return self.tasks.reply_next(view);
+        }
+        false
     }
 }

@@ -1,7 +1,7 @@
-//! Lists of tasks.
-ghost use Rattle.std.specs.Prelude.{◌≡◌, ◌+◌, ◌<◌, ◌≤◌, ◌^◌, ◌++◌, ◌∷◌, [], IfOk, OnOk, OnErr, filter};
+//! Tasks that are started.
+ghost use Rattle.std.specs.Prelude.{◌≡◌, ◌+◌, ◌<◌, ◌≤◌, ◌^◌, IfOk};
 ghost use Rattle.loop_script.specs.Bounds.{longest_tick, tick_end};
-ghost use Rattle.task_steps.specs.Task.{task_of, is_waiting};
+ghost use Rattle.task_steps.specs.Task.{task_of};
 ghost use Rattle.task_steps.specs.Book.{started};
 ghost use Rattle.task_steps.specs.declared.stage.Stage.TheVariants.{Fresh};
 
@@ -37,20 +37,4 @@ pub(crate) fn new_entry(
         return_on_cancel: spec.return_on_cancel,
         run,
     })
-}
-
-/// Adds a task at the end.
-pub(crate) fn add_entry(entries: &mut Vec<Entry>, entry: Entry) -> Result<(), AllocError>
-    ensures ok { OnOk result (entries.new.items ≡ entries.old.items ++ entry ∷ []) }
-    ensures err { OnErr result (entries.new.items ≡ entries.old.items) }
-{
-    entries.push(entry)?;
-    Ok(())
-}
-
-/// Removes the tasks whose body has ended.
-pub(crate) fn keep_waiting(entries: &mut Vec<Entry>)
-    ensures { entries.new.items ≡ filter is_waiting entries.old.items }
-{
-    entries.retain(|e| !e.run.is_done());
 }

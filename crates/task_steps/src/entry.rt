@@ -70,10 +70,29 @@ fn given(returns: bool, cancelled: bool, before: bool, end: Option<Outcome>) -> 
 
 impl Entry {
     ghost use Rattle.std.specs.Prelude.{option_map};
-    ghost use Rattle.task_steps.specs.BookInside.{wake_of_entry};
+    ghost use Rattle.task_steps.specs.BookInside.{wake_of_entry, caught, heeds, IsPassedBy};
     ghost use Rattle.task_steps.specs.Run.{WakesLater, NoneBefore};
     ghost use Rattle.task_steps.specs.Reply.{reply_of_task};
     ghost use Rattle.task_steps.specs.Task.{task_of, noticed, CanPoll, IsAnswer, IsPolledAt};
+
+    /// Notes that it was not cancelled in the last poll of all, which passed it over.
+    pub(crate) fn catch_up(&mut self, polled: Option<u32>)
+        requires { IsPassedBy polled self.old.run.wake self.old.run.stage }
+        ensures { self.new ≡ caught polled self.old }
+    {
+        if let Some(tick) = polled
+            && !self.run.was_cancelled()
+        {
+            self.run.pass_to(tick);
+        }
+    }
+
+    /// Whether it has a cancellable that no poll saw as cancelled.
+    pub(crate) fn heeds(&self) -> bool
+        ensures { result ≡ heeds self.now }
+    {
+        self.cancel.is_some() && !self.run.was_cancelled()
+    }
 
     /// Polls the task in a tick in which its cancellable is seen as cancelled or not.
     pub(crate) fn poll(&mut self, tick: u32, cancelled: bool) -> Answer

@@ -4,11 +4,13 @@
 mod book;
 mod entries;
 mod entry;
+mod heeded;
 pub mod laws;
 mod polls;
 mod run;
 mod stage;
 mod steps;
+mod tasks;
 mod time;
 mod wait;
 

@@ -1,19 +1,15 @@
-//! One poll of all tasks.
-ghost use Rattle.std.specs.Prelude.{◌≡◌, ◌+◌, ◌<◌, ◌++◌, ◌∷◌, [], if◌then◌else◌, option_to_list, length, IsOk, OnOk, map};
-ghost use Rattle.task_steps.specs.Book.{IsIn, HasGrown, replies_next, sees};
-ghost use Rattle.task_steps.specs.BookInside.{wake_of_all};
-ghost use Rattle.task_steps.specs.Task.{task_of};
-ghost use Rattle.std.specs.List.{list_any};
-ghost use Rattle.task_steps.specs.Polls.{CanPollAll, HasPolledAll};
+//! One poll of a task.
+ghost use Rattle.std.specs.Prelude.{◌≡◌, ◌++◌, ◌∷◌, [], if◌then◌else◌, option_to_list, IfOk, OnOk};
+ghost use Rattle.task_steps.specs.Book.{sees};
+ghost use Rattle.task_steps.specs.Polls.{CanPollAll, HasPolledAll, owes_reply};
 
 use crate::entry::{Entry, Reply};
-use crate::steps::sooner;
+use crate::tasks::Round;
 use cancel_view::View;
 use std::alloc::AllocError;
 
 /// Whether the view has the cancellable.
 fn sees(view: &View, cancel: Option<u32>) -> bool
-    requires { IsIn view.now cancel }
     ensures { result ≡ sees view.now cancel }
 {
     match cancel {
@@ -42,52 +38,29 @@ fn add_late(late: &mut Vec<u64>, is_late: bool, number: u64) -> Result<(), Alloc
     Ok(())
 }
 
-/// Polls each task, and adds its reply and its late number.
-pub(crate) fn poll_each(
-    entries: &mut Vec<Entry>,
-    tick: u32,
+/// Polls a task, and adds its reply and its late number; whether it goes on.
+pub(crate) fn poll_entry(
+    entry: &mut Entry,
+    round: Round,
     view: &View,
     replies: &mut Vec<Reply>,
     late: &mut Vec<u64>,
-) -> Result<(), AllocError>
-    requires { CanPollAll tick view.now entries.old.items }
-    ensures polled { OnOk result (HasPolledAll tick view.now entries.old.items entries.new.items replies.old.items replies.new.items late.old.items late.new.items) }
-    ensures none { entries.old.items ≡ [] → IsOk result }
+) -> Result<bool, AllocError>
+    requires { CanPollAll round.tick round.polled view.now (entry.old ∷ []) }
+    ensures { IfOk result (λ goes. HasPolledAll round.tick round.polled view.now (entry.old ∷ []) (if goes then entry.new ∷ [] else []) replies.old.items replies.new.items late.old.items late.new.items) }
 {
-    let count = entries.len();
-    for i in 0..count {
-        let entry = &mut entries[i];
-        let cancelled = sees(view, entry.cancel);
-        let answer = entry.poll(tick, cancelled);
-        let reply = entry.reply(answer.reply);
-        let number = entry.number;
-        add_reply(replies, reply)?;
-        add_late(late, answer.late, number)?;
-    }
-    Ok(())
+    entry.catch_up(round.polled);
+    let cancelled = sees(view, entry.cancel);
+    let answer = entry.poll(round.tick, cancelled);
+    let reply = entry.reply(answer.reply);
+    add_reply(replies, reply)?;
+    add_late(late, answer.late, entry.number)?;
+    Ok(!entry.run.is_done())
 }
 
-/// Whether the next poll replies that a task is cancelled.
-pub(crate) fn reply_next(entries: &[Entry], view: &View) -> bool
-    requires { HasGrown view.now (map task_of entries.now) }
-    ensures { result ≡ list_any (replies_next view.now) (map task_of entries.now) }
+/// Whether the next poll replies that the task is cancelled.
+pub(crate) fn owes_reply(entry: &Entry, view: &View) -> bool
+    ensures { result ≡ owes_reply view.now entry.now }
 {
-    for entry in entries {
-        if entry.return_on_cancel && sees(view, entry.cancel) && !entry.run.was_cancelled() {
-            return true;
-        }
-    }
-    false
-}
-
-#[tactic(auto, using(crate::proofs::Soonest::sooner_taken, crate::proofs::Soonest::sooner_none))]
-/// The least tick in which a task is begun or a wait ends.
-pub(crate) fn wake_of_each(entries: &[Entry]) -> Option<u64>
-    ensures { result ≡ wake_of_all entries.now }
-{
-    let mut wake = None;
-    for entry in entries {
-        wake = sooner(wake, entry.wake());
-    }
-    wake
+    entry.return_on_cancel && sees(view, entry.cancel) && !entry.run.was_cancelled()
 }

@@ -43,7 +43,7 @@ impl Model for TaskRun {
 
 impl TaskRun {
     ghost use Rattle.loop_script.specs.Bounds.{longest_tick};
-    ghost use Rattle.task_steps.specs.Run.{MaySet, StaysSet, IsSet, Answered, WakesLater, NoneBefore, set_to, seen_from, clear_to, stage_after};
+    ghost use Rattle.task_steps.specs.Run.{MaySet, StaysSet, IsSet, Answered, WakesLater, NoneBefore, MayPass, stage_to, clear_passed, set_to, seen_from, clear_to, stage_after};
     ghost use Rattle.task_steps.specs.declared.stage.Stage.TheVariants.{Fresh, Done};
 
     /// A task that no poll has begun, with all the memory that it will take; a tick is so many microseconds long.
@@ -74,6 +74,19 @@ impl TaskRun {
         self.stage = set_to(self.stage, tick);
         self.clear = clear_to(tick, cancelled, self.clear);
         self.cancelled = seen_from(tick, cancelled, self.cancelled);
+    }
+
+    /// Notes a tick before its wake as one in which a poll would have seen it as not cancelled and found it pending, in place
+    /// of that poll. One that no poll has begun stays as it is.
+    #[tactic(auto, using(crate::proofs::Wakes::up_to_next))]
+    pub(crate) fn pass_to(&mut self, tick: u32)
+        requires { MayPass tick self.old.cancelled self.old.wake self.old.stage }
+        ensures { self.new ≡ record self.old { stage = stage_to tick self.old.stage; clear = clear_passed tick self.old.stage self.old.clear } }
+    {
+        if let Stage::Polled { begun, .. } = self.stage {
+            self.stage = Stage::Polled { begun, tick };
+            self.clear = Some(tick);
+        }
     }
 
     /// Whether a tick was set as cancelled.

@@ -1,36 +1,55 @@
-use Rattle.std.proofs.Common.{◌≡◌, ◌∙◌, map, subst, sym, ap}
+use Rattle.std.proofs.Common.{◌≡◌, ◌∙◌, ℕ, List, [], subst, sym, ap, arith, rules}
+use Rattle.std.specs.List.{list_any}
+use Rattle.cancel_view.specs.Seen.{has}
+use Rattle.task_steps.specs.declared.tasks.Tasks.{Tasks}
 use Rattle.task_steps.specs.Book.{Book, IsNext, HasGrown}
-use Rattle.task_steps.specs.BookInside.{AreWaitingAfter, wake_of_all}
-use Rattle.task_steps.specs.Polls.{CanPollAll}
+use Rattle.task_steps.specs.BookInside.{AreListed, entries_of, wake_of_all, IsMarked}
+use Rattle.task_steps.specs.Polls.{CanPollAll, NoneComes, all_shown}
 use Rattle.task_steps.specs.Run.{IsUpTo}
-use Rattle.task_steps.specs.Task.{task_of}
-use Rattle.task_steps.proofs.PollAll.{can_poll_all, waiting_after, poll_gives, grown_after}
-use Rattle.task_steps.proofs.Waiting.{going_on}
+use Rattle.task_steps.proofs.Heeding.{none_came, listed_unseen}
+use Rattle.task_steps.proofs.PollAll.{can_poll_all, poll_gives}
+use Rattle.task_steps.proofs.Waiting.{going_on, none_shown}
 use Rattle.task_steps.proofs.book.TaskBook.poll_all.Goals as goal
 
-pub poll_each-requires : goal.poll_each-requires
-poll_each-requires c =
+pub poll-requires : goal.poll-requires
+poll-requires c =
     let b = c.self.inside in
+    let es = entries_of b.tasks in
+    let view = c.args.view.now in
     let next : IsNext c.args.tick b.last = subst (λ (x : Book). IsNext c.args.tick x.last) (sym c.self.view_is) c.requires.last in
-    let wake : IsUpTo c.args.tick (wake_of_all b.entries.items) = subst (λ (x : Book). IsUpTo c.args.tick x.wake) (sym c.self.view_is) c.requires.wake in
-    let grown : HasGrown c.args.view.now (map task_of b.entries.items) = subst (λ (x : Book). HasGrown c.args.view.now x.tasks) (sym c.self.view_is) c.requires.view in
-    let can : CanPollAll c.args.tick c.args.view.now b.entries.items = can_poll_all b.tick_us c.args.tick b.last c.args.view.now b.entries.items c.self.invariant.waiting next wake grown in
-    rw c.replace-entries.ensures.value can
+    let wake : IsUpTo c.args.tick (wake_of_all es) = subst (λ (x : Book). IsUpTo c.args.tick x.wake) (sym c.self.view_is) c.requires.wake in
+    let grown : HasGrown view (all_shown b.polled es) = subst (λ (x : Book). HasGrown view x.tasks) (sym c.self.view_is) c.requires.view in
+    let can : CanPollAll c.args.tick b.polled view es = can_poll_all c.args.tick b.last b.polled view es c.self.invariant.waiting c.self.invariant.past next wake grown in
+    let listed : c.deref.result.now ≡ b.heeded.items = search rules in
+    let some : c.some_came.result ≡ list_any (λ (x : ℕ). has x view) b.heeded.items = c.some_came.ensures ∙ ap (λ (l : List ℕ). list_any (λ (x : ℕ). has x view) l) listed in
+    let came : NoneComes c.some_came.result view es = λ k. none_came view b.heeded.items es (sym some ∙ k) c.self.invariant.listed in
+    let same : c.replace-tasks.result ≡ b.tasks = c.replace-tasks.ensures.value in
+    record {
+      marked = subst (λ (x : Tasks). IsMarked x) (sym same) c.self.invariant.marked;
+      can = subst (λ (x : Tasks). CanPollAll c.args.tick b.polled view (entries_of x)) (sym same) can;
+      came = subst (λ (x : Tasks). NoneComes c.some_came.result view (entries_of x)) (sym same) came;
+    }
 
 pub invariant_of-self-2 : goal.invariant_of-self-2
 invariant_of-self-2 c =
     let b = c.self.inside in
-    let waiting : AreWaitingAfter b.tick_us b.last c.replace-entries.result.items = rw c.replace-entries.ensures.value c.self.invariant.waiting in
-    let next : IsNext c.args.tick b.last = subst (λ (x : Book). IsNext c.args.tick x.last) (sym c.self.view_is) c.requires.last in
+    let view = c.args.view.now in
+    let same : c.replace-tasks.result ≡ b.tasks = c.replace-tasks.ensures.value in
+    let listed : AreListed b.heeded.items (entries_of c.replace-tasks.result) = subst (λ (x : Tasks). AreListed b.heeded.items (entries_of x)) (sym same) c.self.invariant.listed in
     record {
       some = c.self.invariant.some;
       short = c.self.invariant.short;
-      waiting = rw c.keep_waiting.ensures (waiting_after b.tick_us b.last c.in-Ok.ensures.polled next waiting);
+      waiting = c.in-Ok.ensures.polled.waiting;
+      past = omega arith;
+      marked = c.in-Ok.ensures.marked;
+      listed = rw c.forget_seen.ensures (listed_unseen view b.heeded.items _ c.in-Ok.ensures.polled.noticed (c.in-Ok.ensures.polled.listed b.heeded.items listed));
       forgotten = going_on c.if-self.false;
     }
 
-found : (c : goal.After-from_vec-2) → map task_of c.replace-entries.result.items ≡ c.args.self.now.tasks
-found c = rw c.replace-entries.ensures.value (ap (λ (x : Book). x.tasks) c.self.view_is)
+found : (c : goal.After-from_vec-2) → all_shown c.self.inside.polled (entries_of c.replace-tasks.result) ≡ c.args.self.now.tasks
+found c =
+    let same : c.replace-tasks.result ≡ c.self.inside.tasks = c.replace-tasks.ensures.value in
+    ap (λ (x : Tasks). all_shown c.self.inside.polled (entries_of x)) same ∙ ap (λ (x : Book). x.tasks) c.self.view_is
 
 pub returns-clause-replies : goal.returns-clause-replies
 returns-clause-replies c = λ f m.
@@ -42,9 +61,11 @@ returns-clause-late c = λ f m.
 
 pub returns-clause-tasks : goal.returns-clause-tasks
 returns-clause-tasks c = λ f m.
-    ap (map task_of) c.keep_waiting.ensures ∙ (poll_gives c.in-Ok.ensures.polled c.args.self.now.tasks (found c) c.new-replies.ensures.items c.new-late.ensures.items f m).2
+    (poll_gives c.in-Ok.ensures.polled c.args.self.now.tasks (found c) c.new-replies.ensures.items c.new-late.ensures.items f m).2
 
-pub returns-clause-view : goal.returns-clause-view
-returns-clause-view c =
-    let grown : HasGrown c.args.view.now (map task_of c.replace-entries.result.items) = rw (found c) c.requires.view in
-    rw c.keep_waiting.ensures (grown_after c.in-Ok.ensures.polled grown)
+pub returns-in_default-clause-none : goal.returns-in_default-clause-none
+returns-in_default-clause-none c = λ s e.
+    let b = c.self.inside in
+    let same : c.replace-tasks.result ≡ b.tasks = c.replace-tasks.ensures.value in
+    let shown : all_shown b.polled (entries_of b.tasks) ≡ [] = ap (λ (x : Book). x.tasks) c.self.view_is ∙ e in
+    c.in_default.ensures.none (ap entries_of same ∙ none_shown b.polled (entries_of b.tasks) shown)

@@ -1,0 +1,213 @@
+//! Tasks in start order, of which a poll looks at those alone that wake or are cancelled.
+ghost use Rattle.std.specs.Prelude.{◌≡◌, ◌+◌, ◌<◌, ◌++◌, [], IsOk, IfOk, OnOk, false, true, IsTrue, ◌↔◌, map};
+ghost use Rattle.std.specs.List.{list_any};
+ghost use Rattle.task_steps.specs.BookInside.{entries_of, mark_of, joined_mark, shown, IsMarked, IsQuiet};
+ghost use Rattle.task_steps.specs.Polls.{CanPollAll, HasPolledAll, NoneComes, owes_reply};
+
+use crate::entry::{Entry, Reply};
+use crate::polls::{owes_reply, poll_entry};
+use crate::steps::sooner;
+use cancel_view::View;
+use std::alloc::{AllocError, Global};
+use std::mem;
+
+/// What is known of some tasks without a look at each.
+#[derive(Clone, Copy)]
+pub(crate) struct Mark {
+    /// The least tick in which one is begun or a wait of it ends.
+    pub wake: Option<u64>,
+    /// Whether one has a cancellable that no poll of it saw as cancelled.
+    pub heeds: bool,
+}
+
+/// A poll of all tasks.
+#[derive(Clone, Copy)]
+pub(crate) struct Round {
+    pub tick: u32,
+    /// The tick of the last poll of all.
+    pub polled: Option<u32>,
+    /// Whether a cancellable that a task heeds may be in the view.
+    pub came: bool,
+}
+
+impl Mark {
+    /// The mark of two lists of tasks together.
+    pub(crate) fn join(&self, other: Mark) -> Mark
+        ensures { result ≡ joined_mark self.now other }
+    {
+        Mark {
+            wake: sooner(self.wake, other.wake),
+            heeds: self.heeds || other.heeds,
+        }
+    }
+
+    /// Whether a poll need look at none of the tasks.
+    fn is_quiet(&self, round: Round) -> bool
+        ensures { IsTrue result ↔ IsQuiet round self.now }
+    {
+        let sleeps = match self.wake {
+            None => true,
+            Some(wake) => u64::from(round.tick) < wake,
+        };
+        sleeps && !(round.came && self.heeds)
+    }
+}
+
+/// Tasks in start order. A node is as high as the logarithm of the number of the tasks that were added below it.
+#[derive(Drop)]
+pub(crate) enum Tasks {
+    /// No task, or none any more.
+    Gone,
+    One(Box<Entry>),
+    Two {
+        mark: Mark,
+        left: Box<Tasks>,
+        right: Box<Tasks>,
+    },
+}
+
+/// Two lists of tasks as one.
+#[tactic(auto, using(crate::proofs::Marks::mark_joined))]
+fn two(alloc: Global, left: Tasks, right: Tasks) -> Result<Tasks, AllocError>
+    requires left { IsMarked left }
+    requires right { IsMarked right }
+    ensures entries { IfOk result (λ t. entries_of t ≡ entries_of left ++ entries_of right) }
+    ensures marked { IfOk result (λ t. IsMarked t) }
+{
+    let mark = left.mark().join(right.mark());
+    let left = Box::new(alloc, left)?;
+    let right = Box::new(alloc, right)?;
+    Ok(Tasks::Two { mark, left, right })
+}
+
+/// The same, with no node where one of them has no task.
+fn pair(alloc: Global, left: Tasks, right: Tasks) -> Result<Tasks, AllocError>
+    requires left { IsMarked left }
+    requires right { IsMarked right }
+    ensures entries { IfOk result (λ t. entries_of t ≡ entries_of left ++ entries_of right) }
+    ensures marked { IfOk result (λ t. IsMarked t) }
+{
+    if left.is_gone() {
+        Ok(right)
+    } else if right.is_gone() {
+        Ok(left)
+    } else {
+        two(alloc, left, right)
+    }
+}
+
+/// Whether neither has a task, as far as that is known without a look below.
+fn are_gone(left: &Tasks, right: &Tasks) -> bool
+    ensures { result ≡ true → entries_of left.now ++ entries_of right.now ≡ [] }
+{
+    left.is_gone() && right.is_gone()
+}
+
+impl Tasks {
+    /// Whether there is no task, as far as that is known without a look below.
+    fn is_gone(&self) -> bool
+        ensures { result ≡ true → entries_of self.now ≡ [] }
+    {
+        matches!(self, Tasks::Gone)
+    }
+
+    /// The mark of all tasks.
+    #[tactic(auto, using(crate::proofs::Marks::mark_one, crate::proofs::Marks::mark_joined))]
+    pub(crate) fn mark(&self) -> Mark
+        requires { IsMarked self.now }
+        ensures { result ≡ mark_of (entries_of self.now) }
+    {
+        match self {
+            Tasks::Gone => Mark {
+                wake: None,
+                heeds: false,
+            },
+            Tasks::One(entry) => Mark {
+                wake: entry.wake(),
+                heeds: entry.heeds(),
+            },
+            Tasks::Two { mark, .. } => *mark,
+        }
+    }
+
+    /// Adds tasks at the end, with so many of the last trees under one node. Where each call adds one task, and takes as many
+    /// trees as the number of those before it has ones at its end in binary, no tree is higher than that number's
+    /// logarithm. After an error nothing is known of the tasks.
+    pub(crate) fn append(
+        &mut self,
+        alloc: Global,
+        trees: u32,
+        tasks: Tasks,
+    ) -> Result<(), AllocError>
+        requires marked { IsMarked self.old }
+        requires tasks { IsMarked tasks }
+        ensures entries { OnOk result (entries_of self.new ≡ entries_of self.old ++ entries_of tasks) }
+        ensures marked { OnOk result (IsMarked self.new) }
+    {
+        match self {
+            Tasks::Two { left, right, .. } if trees > 0 => {
+                let last = mem::replace(&mut **right, Tasks::Gone);
+                let tasks = pair(alloc, last, tasks)?;
+                left.append(alloc, trees - 1, tasks)?;
+                let all = mem::replace(&mut **left, Tasks::Gone);
+                *self = all;
+            }
+            _ => {
+                let before = mem::replace(self, Tasks::Gone);
+                *self = two(alloc, before, tasks)?;
+            }
+        }
+        Ok(())
+    }
+
+    /// Polls the tasks that wake or may be seen as cancelled, and adds their replies and late numbers. Those that end go.
+    pub(crate) fn poll(
+        &mut self,
+        round: Round,
+        view: &View,
+        replies: &mut Vec<Reply>,
+        late: &mut Vec<u64>,
+    ) -> Result<(), AllocError>
+        requires marked { IsMarked self.old }
+        requires can { CanPollAll round.tick round.polled view.now (entries_of self.old) }
+        requires came { NoneComes round.came view.now (entries_of self.old) }
+        ensures polled { OnOk result (HasPolledAll round.tick round.polled view.now (entries_of self.old) (entries_of self.new) replies.old.items replies.new.items late.old.items late.new.items) }
+        ensures marked { OnOk result (IsMarked self.new) }
+        ensures none { entries_of self.old ≡ [] → IsOk result }
+    {
+        match self {
+            Tasks::Gone => {}
+            Tasks::One(entry) => {
+                if !poll_entry(entry, round, view, replies, late)? {
+                    *self = Tasks::Gone;
+                }
+            }
+            Tasks::Two { mark, left, right } => {
+                if mark.is_quiet(round) {
+                    return Ok(());
+                }
+                left.poll(round, view, replies, late)?;
+                right.poll(round, view, replies, late)?;
+                *mark = left.mark().join(right.mark());
+                if are_gone(left, right) {
+                    *self = Tasks::Gone;
+                }
+            }
+        }
+        Ok(())
+    }
+
+    /// Whether the next poll replies that a task is cancelled.
+    pub(crate) fn reply_next(&self, view: &View) -> bool
+        requires marked { IsMarked self.now }
+        ensures { result ≡ list_any (owes_reply view.now) (entries_of self.now) }
+    {
+        match self {
+            Tasks::Gone => false,
+            Tasks::One(entry) => owes_reply(entry, view),
+            Tasks::Two { mark, left, right } => {
+                mark.heeds && (left.reply_next(view) || right.reply_next(view))
+            }
+        }
+    }
+}
