@@ -2,6 +2,9 @@
 use crate::mark::Mark;
 use std::alloc::{AllocError, Global};
 
+/// How many characters stand beside the words of a mark: a space, the mark, and the comma behind.
+const BESIDE: usize = 3;
+
 /// The marks but dispatches, in the order in which they are told.
 const ORDER: [Mark; 8] = [
     Mark::Ready,
@@ -42,33 +45,59 @@ impl Legend {
         Ok(())
     }
 
-    /// Adds a line that says what each mark means; none where there is none.
-    pub(crate) fn push(&self, out: &mut String) -> Result<(), AllocError> {
-        let mut some = self.deepest != 0;
+    /// Adds what each mark means, in a line, or where that would have more characters than this in several.
+    pub(crate) fn push(
+        &self,
+        alloc: Global,
+        columns: usize,
+        out: &mut String,
+    ) -> Result<(), AllocError> {
+        let mut line = String::new(alloc);
         match self.deepest {
             0 => {}
-            1 => out.push_str("1 dispatched")?,
-            _ => out.push_str("1 2 .. dispatched at that depth")?,
+            1 => line.push_str("1 dispatched")?,
+            _ => line.push_str("1 2 .. dispatched at that depth")?,
         }
         for mark in ORDER {
             if self.others.as_slice().contains(&mark) {
-                if some {
-                    out.push_str(", ")?;
-                }
-                some = true;
-                out.push(mark.character())?;
-                out.push_str(meaning(mark))?;
+                push_part(&mut line, mark, columns, out)?;
             }
         }
-        out.push_str(if some { "\n" } else { "" })
+        if line.is_empty() {
+            return Ok(());
+        }
+        out.push_str(line.as_str())?;
+        out.push_str("\n")
     }
+}
+
+/// Adds what a mark means to a line, which goes out where it has no room for that.
+fn push_part(
+    line: &mut String,
+    mark: Mark,
+    columns: usize,
+    out: &mut String,
+) -> Result<(), AllocError> {
+    let words = meaning(mark);
+    if !line.is_empty() {
+        line.push_str(",")?;
+        if line.len().saturating_add(BESIDE + words.len()) > columns {
+            out.push_str(line.as_str())?;
+            out.push_str("\n")?;
+            line.clear();
+        } else {
+            line.push_str(" ")?;
+        }
+    }
+    line.push(mark.character())?;
+    line.push_str(words)
 }
 
 /// What a mark means.
 fn meaning(mark: Mark) -> &'static str {
     match mark {
         Mark::Dispatched(_) => " dispatched",
-        Mark::Ready => " ready but not dispatched",
+        Mark::Ready => " ready, not dispatched",
         Mark::Waits => " waits",
         Mark::Runs => " runs",
         Mark::Starts => " starts",

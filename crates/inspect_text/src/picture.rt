@@ -3,9 +3,9 @@ use crate::legend::Legend;
 use crate::mark::Mark;
 use crate::row_name::{RowName, Thing};
 use crate::scale::Scale;
-use crate::silent::push_halt;
+use crate::silent::halt_of;
 use crate::steps::push_to;
-use crate::time::{push_milliseconds, push_ticks};
+use crate::time::{push_milliseconds, push_tick, push_ticks};
 use crate::timeline::Attached;
 use crate::track::Track;
 use crate::waiting::Waiting;
@@ -108,7 +108,7 @@ impl Picture<'_> {
         out: &mut String,
     ) -> Result<(), AllocError> {
         let mut legend = Legend::new(self.alloc);
-        let mut waiting = Waiting::new(self.alloc);
+        let mut waiting = Waiting::new(self.alloc, self.columns as usize);
         let mut line = String::new(self.alloc);
         let mut next = 0u32;
         for (row, track) in self.tracks.iter() {
@@ -133,7 +133,7 @@ impl Picture<'_> {
         }
         waiting.flush(out)?;
         self.push_without(next, account.script().lanes(), out)?;
-        legend.push(out)
+        legend.push(self.alloc, self.columns as usize, out)
     }
 
     /// Adds the names of the threads from one on and before another, which have no row.
@@ -225,12 +225,16 @@ fn show(cell: &mut Option<Mark>, mark: Mark) {
     }
 }
 
-/// Adds the name of a thread, and where it halted when and why.
+/// Adds the name of a thread, and where it halted when.
 fn push_heading(account: &Account, number: u32, out: &mut String) -> Result<(), AllocError> {
-    match account.lane(number) {
-        Some(lane) if lane.halted() => push_halt(out, account.script(), number, lane),
-        _ => writeln!(out, "thread {number}"),
+    write!(out, "thread {number}")?;
+    if let Some(lane) = account.lane(number) {
+        if let Some(halt) = halt_of(lane) {
+            out.push_str(" halted in ")?;
+            push_tick(out, account.script(), halt.tick)?;
+        }
     }
+    out.push_str("\n")
 }
 
 /// Adds the words of a kind, as scripts write it.

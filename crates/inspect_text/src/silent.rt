@@ -185,9 +185,7 @@ fn push_unended(
             )?;
         }
     }
-    if lane.halted() {
-        push_halt(out, script, number, lane)?;
-    }
+    push_halt(out, script, number, lane)?;
     let left = in_progress(lane);
     match left.place {
         Some(place) => push_rest(out, script, number, place, lane.halted(), left.outermost),
@@ -195,22 +193,40 @@ fn push_unended(
     }
 }
 
-/// Adds when and why a thread halted.
+/// When and why a thread halted.
+#[derive(Clone, Copy)]
+pub(crate) struct Halt {
+    pub tick: u32,
+    pub reason: &'static str,
+}
+
+/// When and why a thread halted, if it did.
+pub(crate) fn halt_of(lane: &LaneState) -> Option<Halt> {
+    if !lane.halted() {
+        return None;
+    }
+    for line in lane.trace().iter().rev() {
+        let Line { tick, event } = *line;
+        if let Some(reason) = halt_reason(event) {
+            return Some(Halt { tick, reason });
+        }
+    }
+    None
+}
+
+/// Adds when and why a thread halted, if it did.
 pub(crate) fn push_halt(
     out: &mut String,
     script: &Script,
     number: u32,
     lane: &LaneState,
 ) -> Result<(), AllocError> {
-    for line in lane.trace().iter().rev() {
-        let Line { tick, event } = *line;
-        if let Some(reason) = halt_reason(event) {
-            write!(out, "thread {number} halted in ")?;
-            push_tick(out, script, tick)?;
-            return writeln!(out, ": {reason}");
-        }
-    }
-    Ok(())
+    let Some(Halt { tick, reason }) = halt_of(lane) else {
+        return Ok(());
+    };
+    write!(out, "thread {number} halted in ")?;
+    push_tick(out, script, tick)?;
+    writeln!(out, ": {reason}")
 }
 
 /// Adds to what of its start list a thread did not come.

@@ -7,7 +7,7 @@ use crate::steps::{is_step, push_done, push_stack};
 use crate::time::push_tick;
 use account::{Account, Deed, Moment};
 use lane_turn::{Activity, Call, LaneState, Origin};
-use loop_script::{Body, Script};
+use loop_script::Script;
 use std::alloc::AllocError;
 
 /// A moment of the turn of a thread.
@@ -69,10 +69,7 @@ impl Stack {
             self.push_heading(script, moment, out)?;
             push_drawn(lane, out)?;
             push_each(script, lane, out)?;
-            if lane.halted() {
-                out.push_str("  ")?;
-                push_halt(out, script, moment.lane, lane)?;
-            }
+            push_halt(out, script, moment.lane, lane)?;
         }
         Ok(reach)
     }
@@ -133,11 +130,16 @@ fn push_drawn(lane: &LaneState, out: &mut String) -> Result<(), AllocError> {
 /// Adds a line for each thing in progress, from the outermost inwards.
 fn push_each(script: &Script, lane: &LaneState, out: &mut String) -> Result<(), AllocError> {
     let mut outside = Outside::Nothing;
-    for one in lane.frames() {
+    let innermost = lane.frames().count().saturating_sub(1);
+    for (place, one) in lane.frames().enumerate() {
         out.push_str("  ")?;
         match one {
             Activity::Call(call) => {
-                push_call(script, call, out)?;
+                push_call(call, out)?;
+                if place != innermost {
+                    push_inside(script, call, out)?;
+                }
+                push_next(script, call, out)?;
                 outside = Outside::Call(call);
             }
             Activity::Loop { number, context } => {
@@ -156,10 +158,10 @@ fn push_each(script: &Script, lane: &LaneState, out: &mut String) -> Result<(), 
     Ok(())
 }
 
-/// Adds who calls what, and the action that comes next.
-fn push_call(script: &Script, call: Call, out: &mut String) -> Result<(), AllocError> {
+/// Adds who calls what.
+fn push_call(call: Call, out: &mut String) -> Result<(), AllocError> {
     match call.origin {
-        Origin::Start => push_list(out, call.body)?,
+        Origin::Start => {}
         Origin::Source(caller) => {
             let context = caller.context;
             let id = caller.id;
@@ -168,33 +170,38 @@ fn push_call(script: &Script, call: Call, out: &mut String) -> Result<(), AllocE
                 out,
                 "source {context}.{id}, in dispatch {number} of it, calls "
             )?;
-            push_list(out, call.body)?;
         }
-        Origin::Invoke(acquired) => {
-            out.push_str("an invoke ")?;
-            if let Some(context) = acquired {
-                write!(out, "that acquired context {context} ")?;
-            }
-            out.push_str("calls ")?;
-            push_list(out, call.body)?;
+        Origin::Invoke(Some(context)) => {
+            write!(out, "an invoke that acquired context {context} calls ")?;
         }
+        Origin::Invoke(None) => out.push_str("an invoke calls ")?,
     }
-    push_next(script, call.body, call.place, out)
+    push_list(out, call.body)?;
+    out.push_str(": ")
 }
 
-/// Adds which action of a list comes next.
-fn push_next(
-    script: &Script,
-    body: Body,
-    place: usize,
-    out: &mut String,
-) -> Result<(), AllocError> {
-    match script.actions(body).get(place) {
+/// Adds the action of a call that is in progress: what is inside of it was begun by that.
+fn push_inside(script: &Script, call: Call, out: &mut String) -> Result<(), AllocError> {
+    let place = call.place.saturating_sub(1);
+    match script.actions(call.body).get(place) {
         Some(action) => {
-            write!(out, ": action {place} comes next, ")?;
+            write!(out, "in action {place}, ")?;
+            push_action(out, action)?;
+            out.push_str("; ")
+        }
+        None => Ok(()),
+    }
+}
+
+/// Adds which action of a call comes next.
+fn push_next(script: &Script, call: Call, out: &mut String) -> Result<(), AllocError> {
+    let place = call.place;
+    match script.actions(call.body).get(place) {
+        Some(action) => {
+            write!(out, "next is action {place}, ")?;
             push_action(out, action)
         }
-        None => out.push_str(": no action is left"),
+        None => out.push_str("no action is left"),
     }
 }
 
