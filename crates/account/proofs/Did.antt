@@ -1,31 +1,17 @@
 -- What is innermost, as it is seen when all of what is in progress was looked at.
-use Rattle.std.proofs.Common.{◌≡◌, ◌≢◌, ℕ, Bool, true, false, Option, Some, None, is_some, unwrap_or, List, [], ◌∷◌, ◌++◌, map, length, reverse, refl, ap, sym, ◌∙◌, arith, length-append, option_map, not, eqb}
-use Rattle.std.specs.Prelude.{slice_get, if◌then◌else◌}
+use Rattle.std.proofs.Common.{◌≡◌, Option, Some, None, List, [], ◌∷◌, ◌++◌, map, reverse, refl, ap, sym, ◌∙◌, option_map}
+use Rattle.std.specs.Prelude.{slice_get}
 use Rattle.std.proofs.lemmas.List.{reverse-append}
-use Rattle.std.proofs.lemmas.Bool.{eqb-true, eq-eqb}
 use Rattle.std.specs.List.{last_or}
 use Rattle.std.specs.Iterator.{Drains}
 use Rattle.std.specs.Map.Iter.{TakesFirst}
 use Rattle.std.proofs.iter.Yields.{gives_Drains}
 use Rattle.std.proofs.lemmas.Iterator.Consumers.{YieldsList-from_rest}
-use Rattle.loop_script.specs.declared.plan.Plan.{Plan}
-use Rattle.loop_script.specs.declared.action.Action.{Action}
-use Rattle.loop_script.specs.declared.body.Body.{Body}
-use Rattle.loop_script.specs.Parts.{actions_of}
-use Rattle.source_rows.specs.declared.row.Row.{Row}
-use Rattle.post_office.specs.declared.letter.Letter.{Letter}
 use Rattle.lane_turn.specs.declared.in_progress.Activity.{Activity}
-use Rattle.lane_turn.specs.declared.lane.Status.{Status}
-use Rattle.lane_turn.specs.declared.lane.Status.TheVariants as statuses
 use Rattle.lane_turn.specs.declared.layer.Top.{Top}
 use Rattle.lane_turn.specs.declared.layer.Top.TheVariants as tops
-use Rattle.lane_turn.specs.declared.line.Line.{Line}
 use Rattle.lane_turn.specs.Frames.{Frame, CallOf, IterOf, LoopOf, top_of}
 use Rattle.lane_turn.specs.InProgress.{frame_shown}
-use Rattle.lane_turn.specs.Lane.{Lane, Turn, is_running, row_of}
-use Rattle.lane_turn.specs.Step.{step, step_going, step_top}
-use Rattle.account.specs.declared.moment.Deed.TheVariants as deeds
-use Rattle.account.specs.Told.{did_call, did_id, did_iteration, did_top, did_step, foreseen_top, by_lines, done}
 
 -- ---- the innermost
 

@@ -1,5 +1,5 @@
 -- What is told of a run: its moves one after another, and what each of them does.
-use Rattle.std.specs.Prelude.{◌≡◌, ◌≢◌, Bool, true, false, ℕ, zero, suc, ◌+◌, ◌-◌, Option, Some, None, is_some, List, [], ◌∷◌, length, slice_get, if◌then◌else◌}
+use Rattle.std.specs.Prelude.{◌≡◌, ◌≢◌, ℕ, zero, suc, ◌+◌, ◌-◌, Option, Some, None, is_some, List, [], ◌∷◌, length, slice_get, if◌then◌else◌}
 use Rattle.std.specs.Option.{option_map_or, option_and_then}
 use Rattle.loop_script.specs.declared.plan.Plan.{Plan}
 use Rattle.loop_script.specs.declared.action.Action.{Action}

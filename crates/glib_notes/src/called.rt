@@ -89,10 +89,19 @@ fn begun_reply(
         thread.replies.push(ReplyKept {
             context: called.context,
             base: scene.lane.defaults().len(),
-            height: scene.lane.frames().count(),
+            height: height_of(scene.lane),
         })?;
     }
     Ok(())
+}
+
+/// How much is in progress.
+fn height_of(lane: &LaneState) -> u64 {
+    let mut height = 0u64;
+    for _ in lane.frames() {
+        height = height.saturating_add(1);
+    }
+    height
 }
 
 /// Calls of replies that are over: what they pushed has to be popped.
@@ -104,7 +113,7 @@ pub(crate) fn settle(
     let Some(reply) = thread.reply() else {
         return Ok(());
     };
-    if scene.lane.frames().count() >= reply.height {
+    if height_of(scene.lane) >= reply.height {
         return Ok(());
     }
     let _ = thread.replies.pop();

@@ -84,7 +84,7 @@ pub(crate) struct ReplyKept {
     /// How many contexts were pushed when it began.
     pub base: usize,
     /// How much was in progress when it had begun.
-    pub height: usize,
+    pub height: u64,
 }
 
 /// A source in a call.

@@ -37,7 +37,7 @@ fn is_ready_of_itself(row: &Row, now: u64, view: &View) -> bool {
 }
 
 /// The more urgent of two priorities.
-fn urgent(one: Option<i32>, other: i32) -> Option<i32> {
+fn more_urgent(one: Option<i32>, other: i32) -> Option<i32> {
     match one {
         Some(priority) if priority <= other => Some(priority),
         _ => Some(other),
@@ -54,9 +54,9 @@ struct Urgent {
 impl Urgent {
     fn add(&mut self, row: &Row, standing: Standing, now: u64, view: &View) {
         if is_ready(standing) {
-            self.all = urgent(self.all, row.priority);
+            self.all = more_urgent(self.all, row.priority);
             if is_ready_of_itself(row, now, view) {
-                self.itself = urgent(self.itself, row.priority);
+                self.itself = more_urgent(self.itself, row.priority);
             }
         }
     }

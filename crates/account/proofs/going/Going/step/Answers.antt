@@ -1,4 +1,4 @@
-use Rattle.std.proofs.Common.{◌≡◌, Bool, true, false, not, eqb, is_some, Some, length, get_or, ap, sym, ◌∙◌, subst, refl, List, arith, take_at}
+use Rattle.std.proofs.Common.{◌≡◌, Bool, true, false, is_some, Some, length, get_or, ap, sym, ◌∙◌, subst, refl, List, arith, take_at}
 use Rattle.std.specs.Vec.{with_items}
 use Rattle.lane_turn.specs.Lane.{Lane, State, Turn}
 use Rattle.lane_turn.specs.Frames.{top_of}
@@ -10,7 +10,6 @@ use Rattle.account.specs.Standing.{lanes_of, turn_in, turning, turning_after, pl
 use Rattle.std.specs.Prelude.{if◌then◌else◌}
 use Rattle.account.specs.declared.moment.Deed.TheVariants as deeds
 use Rattle.account.specs.Told.{trace_at, did_step, did_top, IsMoment}
-use Rattle.account.proofs.Lines.{at_here}
 use Rattle.account.proofs.Goings.{stands_stepped, stands_over, stepped_place, over_place}
 use Rattle.account.proofs.Moments.{step_moment, grows_between}
 use Rattle.account.proofs.going.Going.step.Goals as goal
