@@ -310,8 +310,8 @@ impl Timeline {
 
     /// Gives each task its row.
     fn note_tasks(&mut self) -> Result<(), AllocError> {
-        for (lane, tasks) in self.tasks.iter().enumerate() {
-            let lane = lane as u32;
+        for (place, tasks) in self.tasks.iter().enumerate() {
+            let lane = u32::try_from(place).unwrap_or(u32::MAX);
             if !self.window.has(lane, self.window.first) {
                 continue;
             }
