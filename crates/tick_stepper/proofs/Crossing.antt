@@ -13,10 +13,8 @@ use Rattle.loop_script.specs.contracts.tree.TaskTree as Tree
 use Rattle.loop_script.specs.contracts.action.Action as Action
 use Rattle.loop_script.specs.contracts.script.Script as Script
 use Rattle.task_steps.proofs.steps.Steps.TheLaws.TheKnot.{crosses as steps}
-use Rattle.task_steps.specs.contracts.steps.Steps as Steps
+use Rattle.task_steps.proofs.tasks.Tasks.TheLaws.TheKnot.{crosses as tasks}
 use Rattle.task_steps.specs.contracts.book.TaskBook as Book
-use Rattle.task_steps.specs.contracts.run.TaskRun as Run
-use Rattle.task_steps.specs.contracts.entry.Entry as Entry
 use Rattle.cancel_view.specs.contracts.handlers.Handlers as Handlers
 use Rattle.cancel_view.specs.contracts.view.View as View
 use Rattle.lane_watch.specs.contracts.watch.Watch as Watch
@@ -57,17 +55,8 @@ tree_send = search (trees, sendable, crosses) depth 40
 pub tree_sync : IsSync Tree.the_row
 tree_sync = search (trees, sendable, crosses) depth 40
 
-steps_send : IsSend Steps.the_row
-steps_send = search (steps, sendable, crosses) depth 40
-
-run_send : IsSend Run.the_row
-run_send = search (tree_send, steps_send, steps, sendable, crosses) depth 60 fits 10000
-
-entry_send : IsSend Entry.the_row
-entry_send = search (run_send, sendable, crosses) depth 60 fits 10000
-
 book_send : IsSend Book.the_row
-book_send = search (entry_send, sendable, crosses) depth 60 fits 10000
+book_send = search (tasks, trees, steps, sendable, crosses) depth 100 fits 20000
 
 handlers_send : IsSend Handlers.the_row
 handlers_send = search (BTreeMap-send, sendable, crosses) depth 60 fits 10000
