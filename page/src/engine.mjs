@@ -1,0 +1,40 @@
+// The engine of the page: in a worker where the browser starts one, else in the page itself.
+import { load } from "../../bindings/web/mainctx.mjs";
+import { open } from "../../bindings/web/remote.mjs";
+
+/** Moments beyond which no account is asked for. */
+export const MOST_MOMENTS = 1_000_000;
+
+const FIRST_MOMENTS = 8_192;
+const BYTES = "application/javascript";
+
+/** Loads the module of these bytes; `worker` is the text of the worker. */
+export async function begun(bytes, worker) {
+    try {
+        const remote = await open(bytes, URL.createObjectURL(new Blob([worker], { type: BYTES })));
+        return remote;
+    } catch {
+        return Object.assign(await load(bytes), { abort() {}, ready: async () => true });
+    }
+}
+
+/** The account of a run in pieces, each twice as long as the one before: a piece is made by a run from the beginning, so they cost twice the whole together.
+ * Whether more moments than the most were there is what it returns. */
+export async function* pieces(engine, script) {
+    let from = 0;
+    for (let most = FIRST_MOMENTS; from < MOST_MOMENTS; most *= 2) {
+        const wanted = Math.min(most, MOST_MOMENTS - from), lines = await engine.account(script, from, wanted);
+        const moves = lines.filter((line) => !isFrame(line));
+        yield from === 0 ? lines.filter((line) => !isLast(line)) : moves;
+        from += moves.length;
+        if (moves.length < wanted) {
+            yield lines.filter(isLast);
+            return false;
+        }
+    }
+    return (await engine.account(script, from, 1)).some((line) => !isFrame(line));
+}
+
+const isFirst = (line) => line.startsWith('{"format"');
+const isLast = (line) => line.includes('"did":"over"');
+const isFrame = (line) => isFirst(line) || isLast(line);
