@@ -6,15 +6,15 @@ import { open } from "../../bindings/web/remote.mjs";
 export const MOST_MOMENTS = 1_000_000;
 
 const FIRST_MOMENTS = 8_192;
-const BYTES = "application/javascript";
+const SCRIPT = "text/javascript";
 
 /** Loads the module of these bytes; `worker` is the text of the worker. */
 export async function begun(bytes, worker) {
     try {
-        const remote = await open(bytes, URL.createObjectURL(new Blob([worker], { type: BYTES })));
-        return remote;
+        return await open(bytes, URL.createObjectURL(new Blob([worker], { type: SCRIPT })));
     } catch {
-        return Object.assign(await load(bytes), { abort() {}, ready: async () => true });
+        const engine = await load(bytes);
+        return Object.assign(engine, { abort() {}, ready: async () => engine.tells });
     }
 }
 

@@ -30,7 +30,7 @@ const engine = await begun(Uint8Array.from(atob(given("module")), (letter) => le
 
 /** What is shown, for whoever tries the page: the job that is the latest, and what it came to. */
 const shown = { job: 0, isBusy: false, model: null, current: null, text: "", refused: null, firstPicture: 0 };
-globalThis.mainctxPage = { shown, editor, picture, go, run };
+globalThis.mainctxPage = { shown, editor, picture, engine, go, run };
 let timer = 0;
 
 function later() {
@@ -86,7 +86,7 @@ function waiting(begin) {
 async function show(script, told, isLatest, begin) {
     const words = JSON.parse(script);
     shown.text = told;
-    if (!(await engine.ready()) || engine.tells === false) {
+    if (!(await engine.ready())) {
         const model = new Model(words, Moments.ofText(told, words));
         model.take();
         present(model, isLatest, begin);
@@ -127,11 +127,17 @@ function present(model, isLatest, begin) {
 /** Says what a run came to, and what is left out of it. */
 function summed(model, isMore) {
     const { moments, dispatches } = model, notes = [];
+    if (moments.isOfText) notes.push("The engine gives no account: the picture is drawn from the lines of the text.");
     if (isMore) notes.push(`The picture has the first ${MOST_MOMENTS} moments; the text is whole.`);
     if (text.leftOut) notes.push(`The last ${text.leftOut} lines of the text are left out.`);
     if (!isMore && model.text() !== shown.text) notes.push("The account tells another text than the run: this is a fault, please report it.");
-    const kind = moments.action.length || moments.lines.length !== moments.count ? "moments" : "lines, from which the picture is drawn";
-    say([`${moments.ticks} ticks, ${moments.lanes} threads, ${moments.count} ${kind}, ${dispatches.length} dispatches.`, ...notes].join(" "));
+    const counts = [[moments.ticks, "tick"], [moments.lanes, "thread"], [moments.count, "moment"], [dispatches.length, "dispatch"]];
+    say([`${counts.map(counted).join(", ")}.`, ...notes].join(" "));
+}
+
+function counted([count, name]) {
+    const many = name.endsWith("h") ? `${name}es` : `${name}s`;
+    return `${count} ${count === 1 ? name : many}`;
 }
 
 /** Makes a moment the current one. */

@@ -40,6 +40,8 @@ export class Moments {
     lanes = 0;
     /** Whether the last line of the account was read. */
     isOver = false;
+    /** Whether only the lines of the text are known. */
+    isOfText = false;
     tick = new Column(Uint16Array);
     lane = new Column(Uint8Array);
     did = new Column(Uint8Array);
@@ -78,7 +80,8 @@ export class Moments {
     /** The moments that the lines of a text alone tell, where the engine gives no account: one for each line. */
     static ofText(text, script) {
         const moments = new Moments();
-        [moments.ticks, moments.tickUs, moments.lanes, moments.isOver] = [script.ticks, script.tick_us, script.lanes.length, true];
+        [moments.ticks, moments.tickUs, moments.lanes] = [script.ticks, script.tick_us, script.lanes.length];
+        moments.isOver = moments.isOfText = true;
         const told = [];
         let lane = -1;
         for (const line of text.split("\n").slice(0, -1)) {

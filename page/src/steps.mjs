@@ -24,7 +24,7 @@ export class Steps {
         const row = document.createElement("tr"), tick = moments.tick.at(place);
         row.dataset.place = place;
         if (isCurrent) row.setAttribute("aria-current", "step");
-        const cells = [`${tick}`, timeOf(moments, tick), `${moments.lane.at(place)}`, done(frames, place), stackWords(frames, place), (moments.lines[place] ?? []).join("\n")];
+        const cells = [`${tick}`, timeOf(moments, tick), `${moments.lane.at(place)}`, done(frames, place), stackWords(frames, place, true), (moments.lines[place] ?? []).join("\n")];
         row.append(...cells.map((words) => Object.assign(document.createElement("td"), { textContent: words })));
         return row;
     }

@@ -3,6 +3,7 @@ import { CALL, ITERATION } from "./frames.mjs";
 import { DID, NOTHING, START } from "./moments.mjs";
 
 const SHOWN_IDS = 12;
+const OUTER = 3, INNER = 4; // frames that a short stack has at both ends
 const SHOWN_WORDS = 60; // characters of an action
 const US_IN_MS = 1000;
 
@@ -54,9 +55,11 @@ export function frameWords(frames, frame, place) {
     return `iter [${ids.slice(0, SHOWN_IDS).join(" ")}${ids.length > SHOWN_IDS ? " …" : ""}]`;
 }
 
-/** What is in progress after a moment, the outermost first. */
-export function stackWords(frames, place) {
-    return frames.stack(place).map((frame) => frameWords(frames, frame, place)).join(", ") || "nothing";
+/** What is in progress after a moment, the outermost first; of a deep stack only the ends where it is to be short. */
+export function stackWords(frames, place, isShort = false) {
+    const words = frames.stack(place).map((frame) => frameWords(frames, frame, place)), more = words.length - OUTER - INNER;
+    if (isShort && more > 1) words.splice(OUTER, more, `… ${more} more …`);
+    return words.join(", ") || "nothing";
 }
 
 /** A moment in one sentence, for a reader of the screen. */
