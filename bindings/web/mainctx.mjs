@@ -6,19 +6,19 @@ const TEXT = 0, MEMORY = 6, SHORT_ROOM = 7, FAULTS = 8;
 /** The classes by which a script is refused, by their numbers. */
 const CLASSES = new Map([[1, "not json"], [2, "shape"], [3, "limit"], [4, "reference"], [5, "rule"]]);
 
-/** The bytes of the room that a text gets at first, and those of a size. */
-const ROOM = 65_536, SIZE = 8;
+/** The bytes of the room that a text gets at first, of that for a moment of an account, of the largest for a first try, and those of a size. */
+const ROOM = 65_536, ROOM_OF_A_MOMENT = 120, LARGE_ROOM = 16_777_216, SIZE = 8;
 
 /** Bytes of memory beyond which an instance is dropped after a call, since a module's memory never gets smaller. */
 const KEPT_AT_MOST = 268_435_456;
 
 /** How many moments an account has at most, where nothing is said of it. */
-const ALL = 4_294_967_295;
+const ALL = Number.MAX_SAFE_INTEGER;
 
 /** A call that gives no answer. `fault` says why: "not json", "shape", "limit", "reference" or "rule", where the script is refused; "memory";
  * "trap", where the module stopped; "account", where it can't give one; and of a worker "aborted". */
 export class MainctxError extends Error {
-    constructor(fault, message = CLASSES.has(fault) || [...CLASSES.values()].includes(fault) ? `script: ${fault}` : fault) {
+    constructor(fault, message = [...CLASSES.values()].includes(fault) ? `script: ${fault}` : fault) {
         super(message);
         this.name = "MainctxError";
         this.fault = fault;
@@ -70,13 +70,14 @@ export class Mainctx {
     /** The lines of the account of a run (docs/ACCOUNT.md), of the moments from the one of a number on, and of so many at most. */
     async account(script, from = 0, most = ALL) {
         if (!this.tells) throw new MainctxError("account", "this module gives no account");
-        return lines(this.#asked("mainctx_account", script, [BigInt(from), BigInt(most)]).text);
+        const room = Math.min(Math.max(ROOM, most * ROOM_OF_A_MOMENT), LARGE_ROOM);
+        return lines(this.#asked("mainctx_account", script, [BigInt(from), BigInt(most)], room).text);
     }
 
     /** One call, and a second one where the text is longer than the room. */
-    #asked(name, script, words) {
+    #asked(name, script, words, room = ROOM) {
         const bytes = typeof script === "string" ? new TextEncoder().encode(script) : script;
-        let answer = this.#guarded(name, bytes, words, ROOM);
+        let answer = this.#guarded(name, bytes, words, room);
         if (answer.status === SHORT_ROOM) answer = this.#guarded(name, bytes, words, answer.needed);
         if (answer.status === TEXT || answer.status === FAULTS) return answer;
         throw new MainctxError(CLASSES.get(answer.status) ?? "memory");

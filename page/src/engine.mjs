@@ -7,6 +7,7 @@ export const MOST_MOMENTS = 1_000_000;
 
 const FIRST_MOMENTS = 8_192;
 const SCRIPT = "text/javascript";
+const OVER = '"did":"over"'; // of the last line
 
 /** Loads the module of these bytes; `worker` is the text of the worker. */
 export async function begun(bytes, worker) {
@@ -19,22 +20,14 @@ export async function begun(bytes, worker) {
 }
 
 /** The account of a run in pieces, each twice as long as the one before: a piece is made by a run from the beginning, so they cost twice the whole together.
- * Whether more moments than the most were there is what it returns. */
+ * Returns whether more moments than the most were there. */
 export async function* pieces(engine, script) {
     let from = 0;
     for (let most = FIRST_MOMENTS; from < MOST_MOMENTS; most *= 2) {
         const wanted = Math.min(most, MOST_MOMENTS - from), lines = await engine.account(script, from, wanted);
-        const moves = lines.filter((line) => !isFrame(line));
-        yield from === 0 ? lines.filter((line) => !isLast(line)) : moves;
-        from += moves.length;
-        if (moves.length < wanted) {
-            yield lines.filter(isLast);
-            return false;
-        }
+        yield from === 0 ? lines : lines.slice(1);
+        if (lines.at(-1).includes(OVER)) return false;
+        from += wanted;
     }
-    return (await engine.account(script, from, 1)).some((line) => !isFrame(line));
+    return true;
 }
-
-const isFirst = (line) => line.startsWith('{"format"');
-const isLast = (line) => line.includes('"did":"over"');
-const isFrame = (line) => isFirst(line) || isLast(line);

@@ -90,18 +90,18 @@ async function show(script, told, isLatest, begin) {
         const model = new Model(words, Moments.ofText(told, words));
         model.take();
         present(model, isLatest, begin);
-        return summed(model, false);
+        return void summed(model, false);
     }
     const model = new Model(words), coming = pieces(engine, script);
     for (;;) {
         const { value, done } = await coming.next();
-        if (!isLatest()) return undefined;
-        if (done) return summed(model, value);
+        if (!isLatest()) return;
+        if (done) return void summed(model, value);
         for (let from = 0; from < value.length; from += SLICE) {
             model.read(value.slice(from, from + SLICE));
             present(model, isLatest, begin);
             await pause();
-            if (!isLatest()) return undefined;
+            if (!isLatest()) return;
         }
     }
 }
@@ -118,10 +118,9 @@ function present(model, isLatest, begin) {
     }
     if (model.moments.isOver || isNew) model.places.settle();
     picture.show(model);
-    if (!isNew) return steps.show(model, shown.current);
-    go(model.moments.count ? 0 : null, false);
+    if (!isNew) return void steps.show(model, shown.current);
+    go(0, false);
     requestAnimationFrame(() => isLatest() && (shown.firstPicture ||= performance.now() - begin));
-    return undefined;
 }
 
 /** Says what a run came to, and what is left out of it. */
@@ -131,13 +130,9 @@ function summed(model, isMore) {
     if (isMore) notes.push(`The picture has the first ${MOST_MOMENTS} moments; the text is whole.`);
     if (text.leftOut) notes.push(`The last ${text.leftOut} lines of the text are left out.`);
     if (!isMore && model.text() !== shown.text) notes.push("The account tells another text than the run: this is a fault, please report it.");
-    const counts = [[moments.ticks, "tick"], [moments.lanes, "thread"], [moments.count, "moment"], [dispatches.length, "dispatch"]];
-    say([`${counts.map(counted).join(", ")}.`, ...notes].join(" "));
-}
-
-function counted([count, name]) {
-    const many = name.endsWith("h") ? `${name}es` : `${name}s`;
-    return `${count} ${count === 1 ? name : many}`;
+    const counted = (count, name, end = "s") => `${count} ${name}${count === 1 ? "" : end}`;
+    const counts = [counted(moments.ticks, "tick"), counted(moments.lanes, "thread"), counted(moments.count, "moment"), counted(dispatches.length, "dispatch", "es")];
+    say([`${counts.join(", ")}.`, ...notes].join(" "));
 }
 
 /** Makes a moment the current one. */
@@ -154,10 +149,8 @@ function go(place, isTold) {
 
 /** The next dispatch, forwards or back. */
 function dispatch(step) {
-    const { dispatches } = shown.model, next = dispatches.findIndex((place) => place > shown.current);
-    if (step > 0) return next < 0 ? null : dispatches[next];
-    const before = dispatches.filter((place) => place < shown.current);
-    return before.at(-1) ?? null;
+    const { dispatches } = shown.model;
+    return (step > 0 ? dispatches.find((place) => place > shown.current) : dispatches.findLast((place) => place < shown.current)) ?? null;
 }
 
 /** The first moment of the next tick that has some, or of the one before. */
@@ -167,27 +160,20 @@ function tick(step) {
     return places.firstOf(moments.tick.at(Math.max(0, places.firstOf(now) - 1)));
 }
 
-const KEYS = {
-    ArrowRight: () => go(shown.current + 1, true),
-    ArrowLeft: () => go(shown.current - 1, true),
-    ArrowDown: () => go(dispatch(1), true),
-    ArrowUp: () => go(dispatch(-1), true),
-    PageDown: () => go(tick(1), true),
-    PageUp: () => go(tick(-1), true),
-    Home: () => go(0, true),
-    End: () => go(shown.model.moments.count - 1, true),
-    "+": () => picture.zoomBy(ZOOM),
-    "-": () => picture.zoomBy(1 / ZOOM),
-    0: () => picture.fit(),
-    "/": () => part("search").focus(),
+/** Where keys lead, and what others do. */
+const WAYS = {
+    ArrowRight: () => shown.current + 1, ArrowLeft: () => shown.current - 1, ArrowDown: () => dispatch(1), ArrowUp: () => dispatch(-1),
+    PageDown: () => tick(1), PageUp: () => tick(-1), Home: () => 0, End: () => shown.model.moments.count - 1,
 };
+const ACTS = { "+": () => picture.zoomBy(ZOOM), "-": () => picture.zoomBy(1 / ZOOM), 0: () => picture.fit(), "/": () => part("search").focus() };
 
 function key(event) {
     if (event.key === "Enter" && event.ctrlKey) return void run();
     if (event.target.closest("textarea, input, select, summary") || event.ctrlKey || event.altKey || event.metaKey) return;
-    if (!KEYS[event.key] || shown.current === null) return;
+    if (!(WAYS[event.key] ?? ACTS[event.key]) || shown.current === null) return;
     event.preventDefault();
-    KEYS[event.key]();
+    if (WAYS[event.key]) pick(WAYS[event.key]());
+    else ACTS[event.key]();
 }
 
 function search(step) {
@@ -223,14 +209,14 @@ const clicks = {
         part("stop").hidden = true;
         say(`stopped; ${shown.model?.moments.count ?? 0} moments are shown`);
     },
-    nearer: () => picture.zoomBy(ZOOM), farther: () => picture.zoomBy(1 / ZOOM), fit: () => picture.fit(),
-    before: () => KEYS.ArrowLeft(), next: () => KEYS.ArrowRight(), folds: () => shown.model && present(shown.model, () => false, 0),
+    nearer: ACTS["+"], farther: ACTS["-"], fit: ACTS[0], before: () => pick(WAYS.ArrowLeft()), next: () => pick(WAYS.ArrowRight()),
+    folds: () => shown.model && present(shown.model, () => false, 0),
     find: () => search(1), findBack: () => search(-1),
 };
 for (const [id, act] of Object.entries(clicks)) part(id).addEventListener("click", act);
 part("search").addEventListener("keydown", (event) => event.key === "Enter" && search(event.shiftKey ? -1 : 1));
 document.addEventListener("keydown", key);
-addEventListener("hashchange", async () => (await linked()) ?? undefined);
+addEventListener("hashchange", () => linked());
 
 async function linked() {
     try {

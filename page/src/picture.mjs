@@ -4,14 +4,15 @@ import { ROW } from "./rows.mjs";
 import { timeOf } from "./words.mjs";
 
 const HIGH = 20, AXIS = 36, LABELS = 132, NARROW_LABELS = 84, NARROW = 480; // pixels
-const LEAST_ZOOM = 0.002, FIRST_ZOOM = 14, MOST_ZOOM = 48; // pixels of a unit
+const LEAST_ZOOM = 0.002, LEGIBLE_ZOOM = 8, MOST_ZOOM = 32; // pixels of a unit
 const WIDEST = 15_000_000; // pixels that browsers scroll over
 const FAR = 200; // units to both sides within which arrows may be seen
+const FONT = "12px system-ui, sans-serif";
 const SIGN_FROM = 5; // pixels of a unit from which on signs are written
 const COLOURS = ["back", "band", "line", "ink", "soft", "mark", "fold", "arrow", "bar1", "bar2", "bar3", "span", "barink"];
 
 export class Picture {
-    zoom = FIRST_ZOOM;
+    zoom = LEGIBLE_ZOOM;
     current = null;
     #drawn = false;
 
@@ -27,11 +28,14 @@ export class Picture {
         this.restyle();
     }
 
-    /** Shows a model: {moments, frames, rows, places}. */
+    /** Shows a model, or what is new in it; a short run is as wide as the box at first. */
     show(model) {
-        this.model = model;
-        this.rows = model.rows.sorted();
+        const isNew = this.model !== model;
+        [this.model, this.rows] = [model, model.rows.sorted()];
         this.#resized();
+        if (!isNew) return;
+        this.fit();
+        this.zoomBy(Math.max(1, LEGIBLE_ZOOM / this.zoom), 0);
     }
 
     restyle() {
@@ -131,7 +135,7 @@ export class Picture {
         const { paper, colours, box, rows, labels } = this, { clientWidth: width, clientHeight: height } = box;
         paper.fillStyle = colours.back;
         paper.fillRect(0, 0, width, height);
-        paper.font = "12px system-ui, sans-serif";
+        paper.font = FONT;
         paper.textBaseline = "middle";
         const first = Math.max(0, Math.floor(box.scrollTop / HIGH)), last = Math.min(rows.length, first + Math.ceil(height / HIGH) + 1);
         const seen = { left: this.unitAt(labels), right: this.unitAt(width), width, height, first, last };
@@ -165,10 +169,9 @@ export class Picture {
     }
 
     #bands({ first, last, width }) {
-        const { paper, colours, rows } = this;
-        for (let n = first; n < last; n++) {
-            paper.fillStyle = rows[n].isHead ? colours.line : colours.band;
-            if (rows[n].isHead || rows[n].isContext) paper.fillRect(0, this.rowTop(n), width, rows[n].isHead ? 1 : HIGH);
+        for (const { place, isHead, isContext } of this.rows.slice(first, last)) {
+            this.paper.fillStyle = isHead ? this.colours.line : this.colours.band;
+            if (isHead || isContext) this.paper.fillRect(0, this.rowTop(place), width, isHead ? 1 : HIGH);
         }
     }
 
@@ -178,7 +181,8 @@ export class Picture {
         let free = -Infinity;
         for (let n = places.columnAt(left); n < columns.length && columns[n].x <= right; n++) {
             const column = columns[n], x = this.pixel(column.x), wide = column.width * this.zoom;
-            if (column.isFolded) this.#hatched(x, wide, height);
+            paper.fillStyle = colours.fold;
+            if (column.isFolded) paper.fillRect(x, AXIS, wide, height);
             if (wide > 3 || x > free) {
                 paper.fillStyle = colours.line;
                 paper.fillRect(Math.round(x), AXIS - 6, 1, height);
@@ -192,12 +196,6 @@ export class Picture {
             paper.fillText(time, x + 3, 25);
             free = x + Math.max(paper.measureText(name).width, paper.measureText(time).width) + 10;
         }
-    }
-
-    #hatched(x, wide, height) {
-        const { paper } = this;
-        paper.fillStyle = this.colours.fold;
-        paper.fillRect(x, AXIS, wide, height);
     }
 
     /** The bars and signs of a row that are seen. Where several begin in one pixel, one is drawn. */
@@ -245,12 +243,9 @@ export class Picture {
         for (let n = firstOf(marks.length, (it) => places.of(marks[it].place) >= seen.left - 4); n < marks.length; n++) {
             const x = this.pixel(places.of(marks[n].place));
             if (x > seen.width) break;
-            if (x < free) {
-                const next = places.of(marks[n].place) + 1 / this.zoom;
-                if (this.zoom < 1) n = Math.max(n, firstOf(marks.length, (it) => places.of(marks[it].place) >= next) - 1);
-                continue;
-            }
-            const isWritten = this.zoom >= SIGN_FROM;
+            const isWritten = this.zoom >= SIGN_FROM, next = places.of(marks[n].place) + 1 / this.zoom;
+            if (this.zoom < 1) n = Math.max(n, firstOf(marks.length, (it) => places.of(marks[it].place) >= next) - 1);
+            if (x < free) continue;
             if (isWritten) paper.fillText(marks[n].glyph, x + 2, y + HIGH / 2);
             else paper.fillRect(x, y + 6, 1, HIGH - 12);
             free = x + (isWritten ? paper.measureText(marks[n].glyph).width : 1);
@@ -303,10 +298,10 @@ export class Picture {
         paper.fillText("tick", 6, 10);
         paper.fillText("time", 6, 25);
         this.#clipped(0, AXIS, labels - 2, height, () => {
-            for (let n = first; n < last; n++) {
-                paper.font = `${rows[n].isHead ? "bold " : ""}12px system-ui, sans-serif`;
-                paper.fillStyle = rows[n].isHead || rows[n].isContext ? colours.ink : colours.soft;
-                paper.fillText(rows[n].label, rows[n].isHead ? 6 : rows[n].kind === ROW.source ? 22 : 14, this.rowTop(n) + HIGH / 2);
+            for (const { place, kind, label, isHead, isContext } of rows.slice(first, last)) {
+                paper.font = `${isHead ? "bold " : ""}${FONT}`;
+                paper.fillStyle = isHead || isContext ? colours.ink : colours.soft;
+                paper.fillText(label, isHead ? 6 : kind === ROW.source ? 22 : 14, this.rowTop(place) + HIGH / 2);
             }
         });
         paper.fillStyle = colours.line;
