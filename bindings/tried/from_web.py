@@ -9,12 +9,11 @@ from .common import BINDINGS, CLOSING, Count, Test
 
 def all_of_it() -> Count:
     done = subprocess.run([BINDINGS / "web" / "test"], stdout=subprocess.PIPE, stderr=subprocess.STDOUT, text=True)
-    *lines, last = done.stdout.splitlines() or [""]
-    for line in lines:
-        print(line, flush=True)
-    closing = CLOSING.fullmatch(last)
+    lines = done.stdout.splitlines()
+    closing = CLOSING.fullmatch(lines[-1]) if lines else None
+    print(*lines[:-1] if closing else lines, sep="\n", end="\n" if lines[1:] or not closing else "", flush=True)
     if closing is None:
-        return Count(0, 1, done.stdout)
+        return Count(0, int(done.returncode != 0), "bindings/web/test")
     return Count(int(closing[1]), int(closing[2]), "bindings/web/test")
 
 

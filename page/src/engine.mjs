@@ -14,8 +14,7 @@ export async function begun(bytes, worker) {
     try {
         return await open(bytes, URL.createObjectURL(new Blob([worker], { type: SCRIPT })));
     } catch {
-        const engine = await load(bytes);
-        return Object.assign(engine, { abort() {}, ready: async () => engine.tells });
+        return Object.assign(await load(bytes), { abort() {} });
     }
 }
 

@@ -23,7 +23,7 @@ export class Frames {
         const { moments, rows } = this, lane = moments.lane.at(place), lines = moments.lines[place] ?? [];
         if (this.#top[lane] === undefined) {
             this.#top[lane] = null;
-            if (moments.did.at(place) !== DID.line) this.#push(place, lane, { kind: CALL, of: START });
+            this.#push(place, lane, { kind: CALL, of: START });
         }
         this.#moved(place, lane, lines);
         this.innermost[place] = this.#top[lane];
@@ -51,8 +51,6 @@ export class Frames {
             case DID.iteration_ended:
             case DID.loop_ended:
                 return this.#drop(place, lane);
-            case DID.line:
-                return this.#lined(place, lane, lines);
         }
     }
 
@@ -83,14 +81,6 @@ export class Frames {
         this.#push(place, lane, { kind: CALL, of: undefined, context: moments.of.at(place), source: moments.at.at(place), depth: Number(words[8]) });
     }
 
-    /** Of the lines alone it is known how deep a dispatch is, but not when its call ends: it is shown up to the next that is not inside. */
-    #lined(place, lane, lines) {
-        const words = wordsOf(lines[0]);
-        const ends = (frame) => this.moments.tick.at(frame.from) !== this.moments.tick.at(place) || (words[0] === "dispatch" && frame.depth >= Number(words[8]));
-        while (this.#top[lane] && ends(this.#top[lane])) this.#drop(place - 1, lane);
-        this.#dispatched(place, lane, lines);
-    }
-
     #push(place, lane, frame) {
         Object.assign(frame, { lane, from: place, to: Infinity, below: this.#top[lane] });
         this.#top[lane] = frame;
@@ -100,7 +90,7 @@ export class Frames {
     #drop(place, lane) {
         const frame = this.#top[lane];
         if (!frame) return;
-        frame.to = Math.max(place, frame.from);
+        frame.to = place;
         this.#top[lane] = frame.below;
         this.rows.ended(frame);
     }

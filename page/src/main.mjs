@@ -5,7 +5,6 @@ import { Editor } from "./editor.mjs";
 import { MOST_MOMENTS, begun, pieces } from "./engine.mjs";
 import { packed, unpacked } from "./link.mjs";
 import { Model } from "./model.mjs";
-import { Moments } from "./moments.mjs";
 import { Picture } from "./picture.mjs";
 import { found } from "./search.mjs";
 import { Steps } from "./steps.mjs";
@@ -82,17 +81,10 @@ function waiting(begin) {
     part("stop").hidden = false;
 }
 
-/** Shows a run: the text at once, and the picture as the account comes. */
+/** Shows a run: its text, and the picture as the account comes. */
 async function show(script, told, isLatest, begin) {
-    const words = JSON.parse(script);
     shown.text = told;
-    if (!(await engine.ready())) {
-        const model = new Model(words, Moments.ofText(told, words));
-        model.take();
-        present(model, isLatest, begin);
-        return void summed(model, false);
-    }
-    const model = new Model(words), coming = pieces(engine, script);
+    const model = new Model(JSON.parse(script)), coming = pieces(engine, script);
     for (;;) {
         const { value, done } = await coming.next();
         if (!isLatest()) return;
@@ -126,7 +118,6 @@ function present(model, isLatest, begin) {
 /** Says what a run came to, and what is left out of it. */
 function summed(model, isMore) {
     const { moments, dispatches } = model, notes = [];
-    if (moments.isOfText) notes.push("The engine gives no account: the picture is drawn from the lines of the text.");
     if (isMore) notes.push(`The picture has the first ${MOST_MOMENTS} moments; the text is whole.`);
     if (text.leftOut) notes.push(`The last ${text.leftOut} lines of the text are left out.`);
     if (!isMore && model.text() !== shown.text) notes.push("The account tells another text than the run: this is a fault, please report it.");

@@ -11,21 +11,16 @@ export class Model {
     dispatches = [];
     #taken = 0;
 
-    /** `script` is what was run; `moments` what is known of it already. */
-    constructor(script, moments = new Moments()) {
-        [this.moments, this.rows] = [moments, new Rows()];
-        this.frames = new Frames(moments, script, this.rows);
-        this.places = new Places(moments);
+    /** `script` is what was run. */
+    constructor(script) {
+        [this.moments, this.rows] = [new Moments(), new Rows()];
+        this.frames = new Frames(this.moments, script, this.rows);
+        this.places = new Places(this.moments);
     }
 
-    /** Reads lines of the account. */
+    /** Reads lines of the account, and works out what follows from the moments that are new. */
     read(lines) {
         for (const line of lines) this.moments.read(line);
-        this.take();
-    }
-
-    /** Works out what follows from the moments that are new. */
-    take() {
         for (; this.#taken < this.moments.count; this.#taken++) {
             const place = this.#taken, lines = this.moments.lines[place];
             this.frames.take(place);

@@ -1,9 +1,9 @@
 // The moments of a run, read from the lines of its account (docs/ACCOUNT.md) into columns, since there may be a million of them.
 
-/** What a moment does, by the words of the account; `line` is one that is known by a line of the text alone. */
+/** What a moment does, by the words of the account. */
 export const DID = Object.freeze(
     Object.fromEntries(
-        ["polled", "acted", "returned", "dispatched", "passed_over", "iteration_ended", "iterated", "loop_ended", "rests", "handed_over", "received", "line", "other"]
+        ["polled", "acted", "returned", "dispatched", "passed_over", "iteration_ended", "iterated", "loop_ended", "rests", "handed_over", "received", "other"]
             .map((word, number) => [word, number]),
     ),
 );
@@ -40,8 +40,6 @@ export class Moments {
     lanes = 0;
     /** Whether the last line of the account was read. */
     isOver = false;
-    /** Whether only the lines of the text are known. */
-    isOfText = false;
     tick = new Column(Uint16Array);
     lane = new Column(Uint8Array);
     did = new Column(Uint8Array);
@@ -75,21 +73,6 @@ export class Moments {
         this.at.put(place, told.source ?? told.loop ?? told.place ?? told.from ?? told.sender ?? -1);
         if (told.action) this.action[place] = told.action;
         if (told.lines) this.lines[place] = told.lines;
-    }
-
-    /** The moments that the lines of a text alone tell, where the engine gives no account: one for each line. */
-    static ofText(text, script) {
-        const moments = new Moments();
-        [moments.ticks, moments.tickUs, moments.lanes] = [script.ticks, script.tick_us, script.lanes.length];
-        moments.isOver = moments.isOfText = true;
-        const told = [];
-        let lane = -1;
-        for (const line of text.split("\n").slice(0, -1)) {
-            if (line.startsWith("thread ")) lane++;
-            else told.push({ tick: Number.parseInt(line, 10), lane, did: "line", lines: [line], ...sourceIn(line) });
-        }
-        told.sort((one, other) => one.tick - other.tick || one.lane - other.lane).forEach((it) => moments.add(it));
-        return moments;
     }
 }
 

@@ -33,7 +33,6 @@ export function done(frames, place) {
         case DID.rests: return "the thread rests";
         case DID.handed_over: return `context ${of} comes from thread ${at}`;
         case DID.received: return `thread ${at} sent something`;
-        case DID.line: return "a line";
         default: return "a move that this page does not know";
     }
 }
