@@ -9,9 +9,10 @@ from .common import BINDINGS, CLOSING, Count, Test
 
 def all_of_it() -> Count:
     done = subprocess.run([BINDINGS / "web" / "test"], stdout=subprocess.PIPE, stderr=subprocess.STDOUT, text=True)
-    lines = done.stdout.splitlines()
-    closing = CLOSING.fullmatch(lines[-1]) if lines else None
-    print(*lines[:-1] if closing else lines, sep="\n", end="\n" if lines[1:] or not closing else "", flush=True)
+    *lines, last = done.stdout.splitlines() or [""]
+    closing = CLOSING.fullmatch(last)
+    for line in lines if closing else [*lines, last]:
+        print(line, flush=True)
     if closing is None:
         return Count(0, int(done.returncode != 0), "bindings/web/test")
     return Count(int(closing[1]), int(closing[2]), "bindings/web/test")

@@ -53,8 +53,7 @@ async function run() {
         const faults = await engine.check(script);
         if (!isLatest()) return;
         editor.mark(faults);
-        const ran = await engine.run(script);
-        if (isLatest()) await show(script, ran.text, isLatest, begin);
+        await show(script, isLatest, begin);
     } catch (thrown) {
         if (isLatest()) refused(thrown);
     } finally {
@@ -81,20 +80,21 @@ function waiting(begin) {
     part("stop").hidden = false;
 }
 
-/** Shows a run: its text, and the picture as the account comes. */
-async function show(script, told, isLatest, begin) {
-    shown.text = told;
-    const model = new Model(JSON.parse(script)), coming = pieces(engine, script);
-    for (;;) {
-        const { value, done } = await coming.next();
-        if (!isLatest()) return;
-        if (done) return void summed(model, value);
-        for (let from = 0; from < value.length; from += SLICE) {
-            model.read(value.slice(from, from + SLICE));
+/** Shows a run: the beginning of its account, its text, and the rest of the account. */
+async function show(script, isLatest, begin) {
+    const coming = pieces(engine, script);
+    for (let model = null, piece = await coming.next(); isLatest(); piece = await coming.next()) {
+        if (piece.done) return void summed(model, piece.value);
+        const isFirst = model === null;
+        model ??= new Model(JSON.parse(script));
+        for (let from = 0; from < piece.value.length && isLatest(); from += SLICE) {
+            model.read(piece.value.slice(from, from + SLICE));
             present(model, isLatest, begin);
             await pause();
-            if (!isLatest()) return;
         }
+        if (!isFirst) continue;
+        const ran = await engine.run(script);
+        if (isLatest()) text.show((shown.text = ran.text), model);
     }
 }
 
@@ -106,7 +106,7 @@ function present(model, isLatest, begin) {
     if (isNew) {
         part("picture").scrollTo(0, 0);
         picture.current = shown.current = null;
-        text.show(shown.text, model);
+        text.show((shown.text = ""), model);
     }
     if (model.moments.isOver || isNew) model.places.settle();
     picture.show(model);

@@ -3,7 +3,7 @@ import { DID } from "./moments.mjs";
 import { ROW } from "./rows.mjs";
 import { timeOf } from "./words.mjs";
 
-const HIGH = 20, AXIS = 36, LABELS = 132, NARROW_LABELS = 84, NARROW = 480; // pixels
+const HIGH = 20, AXIS = 36, LABELS = 132, NARROW_LABELS = 94, NARROW = 480; // pixels
 const LEAST_ZOOM = 0.002, LEGIBLE_ZOOM = 8, MOST_ZOOM = 32; // pixels of a unit
 const WIDEST = 15_000_000; // pixels that browsers scroll over
 const FAR = 200; // units to both sides within which arrows may be seen
@@ -187,7 +187,7 @@ export class Picture {
                 paper.fillStyle = colours.line;
                 paper.fillRect(Math.round(x), AXIS - 6, 1, height);
             }
-            const name = column.first === column.last ? `${column.first}` : `${column.first}–${column.last}`;
+            const name = `${column.first}${column.first === column.last ? "" : `–${column.last}`}${column.isFolded ? " ⋯" : ""}`;
             if (x < free) continue;
             paper.fillStyle = column.isFolded ? colours.soft : colours.ink;
             paper.fillText(name, x + 3, 10);
