@@ -8,7 +8,8 @@ export async function open(source, script = new URL("./worker.mjs", import.meta.
     return remote;
 }
 
-/** The engine in a worker. Calls are made one after another; after `abort` the next one starts a new worker. */
+/** The engine in a worker. Calls are made one after another; after `abort` the next one starts a new worker. In Node a worker without a call keeps
+ * no process from its end. */
 class Remote {
     #source;
     #script;
@@ -70,6 +71,7 @@ class Remote {
         return new Promise((give, refuse) => {
             if (!this.#worker) throw new MainctxError("aborted");
             this.#waiting.set(id, { give, refuse });
+            this.#worker.ref?.();
             this.#worker.postMessage({ id, call, words });
         });
     }
@@ -77,6 +79,7 @@ class Remote {
     #hear({ id, answer, fault, message }) {
         const call = this.#waiting.get(id);
         this.#waiting.delete(id);
+        if (this.#waiting.size === 0) this.#worker.unref?.();
         if (!call) return;
         if (fault) call.refuse(new MainctxError(fault, message));
         else call.give(answer);

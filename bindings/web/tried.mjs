@@ -7,6 +7,8 @@ const LONG_RUN = '{"version":1,"ticks":4096,"tick_us":1,"loops":[0],"procs":[{"d
     '["attach",0,0,{"kind":["idle"],"call":0}],'.repeat(250) + '["run",0]]}]}';
 const SHORT_RUN = '{"version":1,"ticks":1,"tick_us":1,"lanes":[{"contexts":1,"start":[["log",7]]}]}';
 const PAUSE = 50; // milliseconds
+/** A module whose run stops. */
+const STOPS = "AGFzbQEAAAABEwNgAX4BfmABfgBgBX5+fn5+AX8DBAMAAQIFAwEAAQc3BAZtZW1vcnkCAA1tYWluY3R4X2FsbG9jAAAMbWFpbmN0eF9mcmVlAAELbWFpbmN0eF9ydW4AAgoPAwUAQsAACwMAAQsDAAAL";
 
 class Count {
     passed = 0;
@@ -72,13 +74,20 @@ async function short(engine) {
     return (await engine.run(SHORT_RUN)).text === "thread 0\n0 log 7\n0 end\n" ? null : "no answer after it";
 }
 
+/** A module that stops says so, each time. */
+async function trapped() {
+    const engine = await load(bytesOf(STOPS)), run = () => engine.run(SHORT_RUN).then(() => "an answer", (thrown) => thrown.fault);
+    const faults = [await run(), await run()];
+    return faults.every((fault) => fault === "trap") ? null : `${faults}`;
+}
+
 export async function all(source, cases) {
     const count = new Count(), engine = await load(source), remote = await open(source);
     for (const it of cases) await count.take(it.name, () => vector(engine, it));
     for (const it of cases.filter(({ name }) => name.startsWith("examples/"))) await count.take(`${it.name} by a worker`, () => vector(remote, it));
     await count.take("a run that is stopped", () => stopped(remote));
     await count.take("a script that is too large for any memory", () => short(engine));
-    remote.abort();
+    await count.take("a module that stops", trapped);
     return { passed: count.passed, failed: count.failed, told: count.told };
 }
 
@@ -86,5 +95,4 @@ if (typeof process !== "undefined") {
     const { readFileSync } = await import("node:fs");
     const { source, cases } = JSON.parse(readFileSync(0, "utf8"));
     console.log(JSON.stringify(await all(new URL(source), cases)));
-    process.exit(0);
 }

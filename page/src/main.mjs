@@ -15,6 +15,7 @@ const WAIT = 250; // milliseconds from the last change to the run
 const LONG = 1000; // milliseconds from which on a run is said to go on
 const SLICE = 8_192; // lines that are read at once
 const ZOOM = 1.5;
+const LINK_AT_MOST = 100_000; // characters
 
 const part = (id) => document.getElementById(id);
 const given = (id) => part(id).textContent.trim();
@@ -63,7 +64,8 @@ async function run() {
             part("stop").hidden = true;
         }
     }
-    if (isLatest()) history.replaceState(null, "", await packed(script));
+    const link = await packed(script);
+    if (isLatest()) history.replaceState(null, "", link.length <= LINK_AT_MOST ? link : "#");
 }
 
 function refused(thrown) {
@@ -190,8 +192,9 @@ function gallery() {
 
 const clicks = {
     run, link: async () => {
-        await navigator.clipboard.writeText(location.href.split("#")[0] + (await packed(editor.script)));
-        say("the link is copied");
+        const link = location.href.split("#")[0] + (await packed(editor.script)), isShort = link.length <= LINK_AT_MOST;
+        const copied = isShort && navigator.clipboard?.writeText(link).then(() => "the link is copied", () => null);
+        say((await copied) || (isShort ? "the link stands in the address of this page" : "the script is too long for a link"));
     },
     stop: () => {
         shown.job++;
