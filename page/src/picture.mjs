@@ -8,8 +8,15 @@ const LEAST_ZOOM = 0.002, LEGIBLE_ZOOM = 8, MOST_ZOOM = 32; // pixels of a unit
 const WIDEST = 15_000_000; // pixels that browsers scroll over
 const FAR = 200; // units to both sides within which arrows may be seen
 const FONT = "12px system-ui, sans-serif";
+const TICK_LINE = 10, TIME_LINE = 25, PAD = 3, APART = 10; // pixels: the middles of the two lines above, what is left of a word, and between two
+const THREAD_INDENT = 6, INDENT = 14, SOURCE_INDENT = 22; // pixels
+const INSET = 2, INSET_OF_A_DEPTH = 2, MOST_INSET = 7; // pixels above and below a bar
+const FRAMED_FROM = 4, NUMBERED_FROM = 13; // pixels of a bar from which on it has a frame, and its depth
+const BARBS = [-0.4, 0.4], BARB = 8; // of an arrow: radians, pixels
+const SHADE = 0.15; // of the current moment
 const SIGN_FROM = 5; // pixels of a unit from which on signs are written
-const COLOURS = ["back", "band", "line", "ink", "soft", "mark", "fold", "arrow", "bar1", "bar2", "bar3", "span", "barink"];
+const BARS = ["bar1", "bar2", "bar3"];
+const COLOURS = ["back", "band", "line", "ink", "soft", "mark", "fold", "arrow", "span", "barink", ...BARS];
 
 export class Picture {
     zoom = LEGIBLE_ZOOM;
@@ -175,7 +182,7 @@ export class Picture {
         }
     }
 
-    /** The ticks with their times; what is folded is hatched. */
+    /** The ticks with their times; what is folded is shaded. */
     #ticks({ left, right, height }) {
         const { paper, colours } = this, { places, moments } = this.model, { columns } = places;
         let free = -Infinity;
@@ -183,18 +190,18 @@ export class Picture {
             const column = columns[n], x = this.pixel(column.x), wide = column.width * this.zoom;
             paper.fillStyle = colours.fold;
             if (column.isFolded) paper.fillRect(x, AXIS, wide, height);
-            if (wide > 3 || x > free) {
+            if (wide >= FRAMED_FROM || x > free) {
                 paper.fillStyle = colours.line;
                 paper.fillRect(Math.round(x), AXIS - 6, 1, height);
             }
             const name = `${column.first}${column.first === column.last ? "" : `–${column.last}`}${column.isFolded ? " ⋯" : ""}`;
             if (x < free) continue;
             paper.fillStyle = column.isFolded ? colours.soft : colours.ink;
-            paper.fillText(name, x + 3, 10);
+            paper.fillText(name, x + PAD, TICK_LINE);
             paper.fillStyle = colours.soft;
             const time = timeOf(moments, column.first);
-            paper.fillText(time, x + 3, 25);
-            free = x + Math.max(paper.measureText(name).width, paper.measureText(time).width) + 10;
+            paper.fillText(time, x + PAD, TIME_LINE);
+            free = x + Math.max(paper.measureText(name).width, paper.measureText(time).width) + APART;
         }
     }
 
@@ -221,18 +228,18 @@ export class Picture {
 
     #bar(span, y, left, right, seen) {
         const { paper, colours } = this, isDispatch = span.source !== undefined, depth = span.depth ?? 0;
-        const inset = isDispatch ? Math.min(2 + 2 * (depth - 1), 7) : 7;
-        const x = Math.max(left, -2), wide = Math.max(1, Math.min(right, seen.width + 2) - x - (this.zoom >= 4 ? 1 : 0)), high = HIGH - 2 * inset;
-        paper.fillStyle = isDispatch ? colours[`bar${((depth - 1) % 3) + 1}`] : colours.span;
+        const inset = isDispatch ? Math.min(INSET + INSET_OF_A_DEPTH * (depth - 1), MOST_INSET) : MOST_INSET;
+        const x = Math.max(left, -2), wide = Math.max(1, Math.min(right, seen.width + 2) - x - Number(this.zoom >= SIGN_FROM)), high = HIGH - 2 * inset;
+        paper.fillStyle = isDispatch ? colours[BARS[(depth - 1) % BARS.length]] : colours.span;
         paper.fillRect(x, y + inset, wide, high);
-        if (wide > 3) {
+        if (wide >= FRAMED_FROM) {
             paper.strokeStyle = colours.ink;
             paper.lineWidth = span.from === this.current ? 2.5 : isDispatch ? 1 : 0.5;
             paper.strokeRect(x + 0.5, y + inset + 0.5, wide - 1, high - 1);
         }
-        if (isDispatch && wide > 12) {
+        if (isDispatch && wide >= NUMBERED_FROM) {
             paper.fillStyle = colours.barink;
-            paper.fillText(String(depth), Math.max(x, this.labels) + 3, y + HIGH / 2 + 0.5);
+            paper.fillText(String(depth), Math.max(x, this.labels) + PAD, y + HIGH / 2);
         }
     }
 
@@ -275,7 +282,7 @@ export class Picture {
         paper.stroke();
         paper.beginPath();
         paper.moveTo(toX, toY);
-        for (const side of [-0.4, 0.4]) paper.lineTo(toX - 8 * Math.cos(turn + side), toY - 8 * Math.sin(turn + side));
+        for (const side of BARBS) paper.lineTo(toX - BARB * Math.cos(turn + side), toY - BARB * Math.sin(turn + side));
         paper.fill();
     }
 
@@ -283,7 +290,7 @@ export class Picture {
         if (this.current === null) return;
         const { paper, colours } = this, x = this.pixel(this.model.places.of(this.current)), wide = Math.max(this.zoom, 2);
         paper.fillStyle = paper.strokeStyle = colours.mark;
-        paper.globalAlpha = 0.15;
+        paper.globalAlpha = SHADE;
         paper.fillRect(x, AXIS, wide, height);
         paper.globalAlpha = 1;
         paper.lineWidth = 2;
@@ -295,13 +302,13 @@ export class Picture {
         paper.fillStyle = colours.back;
         paper.fillRect(0, 0, labels, height);
         paper.fillStyle = colours.soft;
-        paper.fillText("tick", 6, 10);
-        paper.fillText("time", 6, 25);
+        paper.fillText("tick", THREAD_INDENT, TICK_LINE);
+        paper.fillText("time", THREAD_INDENT, TIME_LINE);
         this.#clipped(0, AXIS, labels - 2, height, () => {
             for (const { place, kind, label, isHead, isContext } of rows.slice(first, last)) {
                 paper.font = `${isHead ? "bold " : ""}${FONT}`;
                 paper.fillStyle = isHead || isContext ? colours.ink : colours.soft;
-                paper.fillText(label, isHead ? 6 : kind === ROW.source ? 22 : 14, this.rowTop(place) + HIGH / 2);
+                paper.fillText(label, isHead ? THREAD_INDENT : kind === ROW.source ? SOURCE_INDENT : INDENT, this.rowTop(place) + HIGH / 2);
             }
         });
         paper.fillStyle = colours.line;
