@@ -43,7 +43,7 @@ async function fetched(url) {
     return readFile(url);
 }
 
-/** The engine over one module. A script is a text or its bytes. Calls take no turns: each ends before its promise is given. */
+/** The engine over one module. A script is a text or its bytes. A call holds up this thread until it ends. */
 export class Mainctx {
     #module;
     #calls = null;
@@ -59,34 +59,33 @@ export class Mainctx {
 
     /** Runs a script to its end, and answers its text; throws a MainctxError with the class of fault where it is refused. */
     async run(script) {
-        return { text: decoded(this.#asked("mainctx_run", script, []).text) };
+        return { text: decoded(await this.#asked("mainctx_run", script, [])) };
     }
 
     /** What is wrong with a script: each fault in the order of their places, with its class, pointer, line, column, byte, wanted and found. */
     async check(script) {
-        return lines(this.#asked("mainctx_check", script, []).text).map((line) => JSON.parse(line));
+        return lines(await this.#asked("mainctx_check", script, [])).map((line) => JSON.parse(line));
     }
 
     /** The lines of the account of a run (docs/ACCOUNT.md), of the moments from the one of a number on, and of so many at most. */
     async account(script, from = 0, most = ALL) {
         if (!this.tells) throw new MainctxError("account", "this module gives no account");
         const room = Math.min(Math.max(ROOM, most * ROOM_OF_A_MOMENT), LARGE_ROOM);
-        return lines(this.#asked("mainctx_account", script, [BigInt(from), BigInt(most)], room).text);
+        return lines(await this.#asked("mainctx_account", script, [BigInt(from), BigInt(most)], room));
     }
 
-    /** One call, and a second one where the text is longer than the room. */
-    #asked(name, script, words, room = ROOM) {
+    /** The text that a call gives: by a second one where it is longer than the room. */
+    async #asked(name, script, words, room = ROOM) {
         const bytes = typeof script === "string" ? new TextEncoder().encode(script) : script;
-        let answer = this.#guarded(name, bytes, words, room);
-        if (answer.status === SHORT_ROOM) answer = this.#guarded(name, bytes, words, answer.needed);
-        if (answer.status === TEXT || answer.status === FAULTS) return answer;
+        let answer = await this.#guarded(name, bytes, words, room);
+        if (answer.status === SHORT_ROOM) answer = await this.#guarded(name, bytes, words, answer.needed);
+        if (answer.status === TEXT || answer.status === FAULTS) return answer.text;
         throw new MainctxError(CLASSES.get(answer.status) ?? "memory");
     }
 
     /** A call after which no instance is kept that stopped, or whose memory is large. */
-    #guarded(name, bytes, words, room) {
-        this.#calls ??= new Calls(new WebAssembly.Instance(this.#module, {}).exports);
-        const calls = this.#calls;
+    async #guarded(name, bytes, words, room) {
+        const calls = this.#calls ?? new Calls((await WebAssembly.instantiate(this.#module, {})).exports);
         this.#calls = null;
         try {
             const answer = calls.call(name, bytes, words, room);
