@@ -1,0 +1,138 @@
+// Runs scripts of mainctx (docs/FORMAT.md) by its WebAssembly module, in this thread: worker.mjs does it in another.
+
+/** What a call of the module answers where it is no class of fault: as bindings/c/mainctx.h has it. */
+const TEXT = 0, MEMORY = 6, SHORT_ROOM = 7, FAULTS = 8;
+
+/** The classes by which a script is refused, by their numbers. */
+const CLASSES = new Map([[1, "not json"], [2, "shape"], [3, "limit"], [4, "reference"], [5, "rule"]]);
+
+/** The bytes of the room that a text gets at first, of that for a moment of an account, of the largest for a first try, and those of a size. */
+const ROOM = 65_536, ROOM_OF_A_MOMENT = 120, LARGE_ROOM = 16_777_216, SIZE = 8;
+
+/** Bytes of memory beyond which an instance is dropped after a call, since a module's memory never gets smaller. */
+const KEPT_AT_MOST = 268_435_456;
+
+/** How many moments an account has at most, where nothing is said of it. */
+const ALL = Number.MAX_SAFE_INTEGER;
+
+/** A call that gives no answer. `fault` says why: "not json", "shape", "limit", "reference" or "rule", where the script is refused; "memory";
+ * "trap", where the module stopped; "account", where it can't give one; and of a worker "aborted". */
+export class MainctxError extends Error {
+    constructor(fault, message = [...CLASSES.values()].includes(fault) ? `script: ${fault}` : fault) {
+        super(message);
+        this.name = "MainctxError";
+        this.fault = fault;
+    }
+}
+
+/** Loads the module, of its bytes, of a response or an address that is fetched, or compiled already. */
+export async function load(source) {
+    return new Mainctx(await compiled(source));
+}
+
+async function compiled(source) {
+    if (source instanceof WebAssembly.Module) return source;
+    if (typeof source === "string" || source instanceof URL) source = await fetched(new URL(source, import.meta.url));
+    if (typeof Response !== "undefined" && source instanceof Response) source = await source.arrayBuffer();
+    return WebAssembly.compile(source);
+}
+
+async function fetched(url) {
+    if (url.protocol !== "file:" || typeof process === "undefined") return fetch(url);
+    const { readFile } = await import("node:fs/promises");
+    return readFile(url);
+}
+
+/** The engine over one module. A script is a text or its bytes. A call holds up this thread until it ends. */
+export class Mainctx {
+    #module;
+    #calls = null;
+
+    constructor(module) {
+        this.#module = module;
+    }
+
+    /** Whether the module gives accounts. */
+    get tells() {
+        return WebAssembly.Module.exports(this.#module).some((it) => it.name === "mainctx_account");
+    }
+
+    /** Runs a script to its end, and answers its text; throws a MainctxError with the class of fault where it is refused. */
+    async run(script) {
+        return { text: decoded(await this.#asked("mainctx_run", script, [])) };
+    }
+
+    /** What is wrong with a script: each fault in the order of their places, with its class, pointer, line, column, byte, wanted and found. */
+    async check(script) {
+        return lines(await this.#asked("mainctx_check", script, [])).map((line) => JSON.parse(line));
+    }
+
+    /** The lines of the account of a run (docs/ACCOUNT.md), of the moments from the one of a number on, and of so many at most. */
+    async account(script, from = 0, most = ALL) {
+        if (!this.tells) throw new MainctxError("account", "this module gives no account");
+        const room = Math.min(Math.max(ROOM, most * ROOM_OF_A_MOMENT), LARGE_ROOM);
+        return lines(await this.#asked("mainctx_account", script, [BigInt(from), BigInt(most)], room));
+    }
+
+    /** The text that a call gives: by a second one where it is longer than the room. */
+    async #asked(name, script, words, room = ROOM) {
+        const bytes = typeof script === "string" ? new TextEncoder().encode(script) : script;
+        let answer = await this.#guarded(name, bytes, words, room);
+        if (answer.status === SHORT_ROOM) answer = await this.#guarded(name, bytes, words, answer.needed);
+        if (answer.status === TEXT || answer.status === FAULTS) return answer.text;
+        throw new MainctxError(CLASSES.get(answer.status) ?? "memory");
+    }
+
+    /** A call after which no instance is kept that stopped, or whose memory is large. */
+    async #guarded(name, bytes, words, room) {
+        const calls = this.#calls ?? new Calls((await WebAssembly.instantiate(this.#module, {})).exports);
+        this.#calls = null;
+        try {
+            const answer = calls.call(name, bytes, words, room);
+            if (calls.size <= KEPT_AT_MOST) this.#calls = calls;
+            return answer;
+        } catch (stopped) {
+            throw new MainctxError("trap", `the module stopped: ${stopped.message}`);
+        }
+    }
+}
+
+/** The calls of one instance, with what they take put into its memory. */
+class Calls {
+    #exports;
+
+    constructor(exports) {
+        this.#exports = exports;
+    }
+
+    get size() {
+        return this.#exports.memory.buffer.byteLength;
+    }
+
+    /** Makes a call of the module, and answers its status, the length that it tells, and the text where it is whole. Pointers and sizes are
+     * numbers of 64 bits. */
+    call(name, script, words, room) {
+        const { memory, mainctx_alloc: take, mainctx_free: give } = this.#exports;
+        const blocks = [script.length, room, SIZE].map((size) => take(BigInt(Math.max(size, 1))));
+        if (blocks.includes(0n)) {
+            blocks.forEach((block) => give(block));
+            return { status: MEMORY };
+        }
+        const [from, to, needed] = blocks;
+        new Uint8Array(memory.buffer, Number(from), script.length).set(script);
+        const status = this.#exports[name](from, BigInt(script.length), ...words, to, BigInt(room), needed);
+        const length = Number(new DataView(memory.buffer).getBigUint64(Number(needed), true));
+        const told = status === TEXT || status === FAULTS ? length : 0;
+        const text = new Uint8Array(memory.buffer, Number(to), told).slice();
+        blocks.forEach((block) => give(block));
+        return { status, needed: length, text };
+    }
+}
+
+function decoded(text) {
+    return new TextDecoder().decode(text);
+}
+
+function lines(text) {
+    return decoded(text).split("\n").slice(0, -1);
+}

@@ -1,0 +1,98 @@
+// What the test tries of the module, in Node and in a browser alike: answers {passed, failed, told}. A case is {name, script, wanted}, both bytes in base64.
+import { load, MainctxError } from "./mainctx.mjs";
+import { open } from "./remote.mjs";
+
+const CLASSES = ["not json", "shape", "limit", "reference", "rule"];
+const LONG_RUN = '{"version":1,"ticks":4096,"tick_us":1,"loops":[0],"procs":[{"do":[],"keep":null}],"lanes":[{"contexts":1,"start":[' +
+    '["attach",0,0,{"kind":["idle"],"call":0}],'.repeat(250) + '["run",0]]}]}';
+const SHORT_RUN = '{"version":1,"ticks":1,"tick_us":1,"lanes":[{"contexts":1,"start":[["log",7]]}]}';
+const PAUSE = 50; // milliseconds
+/** A module whose run stops. */
+const STOPS = "AGFzbQEAAAABEwNgAX4BfmABfgBgBX5+fn5+AX8DBAMAAQIFAwEAAQc3BAZtZW1vcnkCAA1tYWluY3R4X2FsbG9jAAAMbWFpbmN0eF9mcmVlAAELbWFpbmN0eF9ydW4AAgoPAwUAQsAACwMAAQsDAAAL";
+
+class Count {
+    passed = 0;
+    failed = 0;
+    told = [];
+
+    async take(name, test) {
+        let fault;
+        try {
+            fault = await test();
+        } catch (thrown) {
+            fault = String(thrown.stack ?? thrown);
+        }
+        if (!fault) return void this.passed++;
+        this.failed++;
+        this.told.push(`${name}: ${fault}`);
+    }
+}
+
+const bytesOf = (words) => Uint8Array.from(atob(words), (character) => character.charCodeAt(0));
+
+/** The text of a script, or the line that says its class of fault. */
+async function answer(engine, script) {
+    try {
+        return (await engine.run(script)).text;
+    } catch (refused) {
+        if (!(refused instanceof MainctxError)) throw refused;
+        return `${refused.message}\n`;
+    }
+}
+
+/** The text or the class to the byte; the faults that are told are of that class and of none before it; and so in the account, where there is one. */
+async function vector(engine, { script, wanted }) {
+    const bytes = bytesOf(script), told = await answer(engine, bytes), right = new TextDecoder().decode(bytesOf(wanted));
+    if (told !== right) return `${JSON.stringify(told.slice(0, 80))} in place of ${JSON.stringify(right.slice(0, 80))}`;
+    const first = Math.min(...(await engine.check(bytes)).map((fault) => CLASSES.indexOf(fault.class)));
+    const classOf = told.startsWith("script: ") ? CLASSES.indexOf(told.slice("script: ".length, -1)) : Infinity;
+    if (first !== classOf) return `faults of class ${first} in place of ${classOf}`;
+    if (!engine.tells || classOf !== Infinity) return null;
+    return textOf(await engine.account(bytes)) === right ? null : "another text by its account";
+}
+
+/** The text that an account's lines make. */
+function textOf(lines) {
+    const [first, ...moves] = lines.map((line) => JSON.parse(line));
+    const told = Array.from({ length: first.lanes }, (_, lane) => [`thread ${lane}`]);
+    for (const move of moves) if (move.lines) told[move.lane].push(...move.lines);
+    return told.flat().map((line) => `${line}\n`).join("");
+}
+
+/** A call that is stopped says so, and the next one has its answer by a new worker. */
+async function stopped(remote) {
+    const run = remote.run(LONG_RUN).then(() => "it was not stopped", (thrown) => (thrown.fault === "aborted" ? null : String(thrown)));
+    await new Promise((go) => setTimeout(go, PAUSE));
+    remote.abort();
+    return (await run) || ((await remote.run(SHORT_RUN)).text === "thread 0\n0 log 7\n0 end\n" ? null : "no answer after it");
+}
+
+/** A call that its instance can't end, for want of a room in its memory, leaves the next one as it was. */
+async function short(engine) {
+    const fault = await engine.run({ length: 2 ** 33 }).then(() => "an answer", (thrown) => thrown.fault);
+    if (fault !== "memory") return `${fault} for a script of 8 GiB`;
+    return (await engine.run(SHORT_RUN)).text === "thread 0\n0 log 7\n0 end\n" ? null : "no answer after it";
+}
+
+/** A module that stops says so, each time. */
+async function trapped() {
+    const engine = await load(bytesOf(STOPS)), run = () => engine.run(SHORT_RUN).then(() => "an answer", (thrown) => thrown.fault);
+    const faults = [await run(), await run()];
+    return faults.every((fault) => fault === "trap") ? null : `${faults}`;
+}
+
+export async function all(source, cases) {
+    const count = new Count(), engine = await load(source), remote = await open(source);
+    for (const it of cases) await count.take(it.name, () => vector(engine, it));
+    for (const it of cases.filter(({ name }) => name.startsWith("examples/"))) await count.take(`${it.name} by a worker`, () => vector(remote, it));
+    await count.take("a run that is stopped", () => stopped(remote));
+    await count.take("a script that is too large for any memory", () => short(engine));
+    await count.take("a module that stops", trapped);
+    return { passed: count.passed, failed: count.failed, told: count.told };
+}
+
+if (typeof process !== "undefined") {
+    const { readFileSync } = await import("node:fs");
+    const { source, cases } = JSON.parse(readFileSync(0, "utf8"));
+    console.log(JSON.stringify(await all(new URL(source), cases)));
+}

@@ -1,0 +1,29 @@
+// The script in the link: packed, in letters that a link may have, behind its #.
+const KEY = "#s=";
+const MOST = 4_194_304; // bytes of a script
+const PIECE = 8192;
+
+async function through(stream, bytes) {
+    const reader = new Blob([bytes]).stream().pipeThrough(stream).getReader(), parts = [];
+    for (let size = 0, it = await reader.read(); !it.done; it = await reader.read()) {
+        size += it.value.length;
+        if (size > MOST) throw new RangeError("the script of this link is too long");
+        parts.push(it.value);
+    }
+    return new Uint8Array(await new Blob(parts).arrayBuffer());
+}
+
+export async function packed(script) {
+    const bytes = await through(new CompressionStream("deflate-raw"), new TextEncoder().encode(script));
+    let letters = "";
+    for (let from = 0; from < bytes.length; from += PIECE) letters += String.fromCharCode(...bytes.subarray(from, from + PIECE));
+    return KEY + btoa(letters).replace(/\+/g, "-").replace(/\//g, "_").replace(/=+$/, "");
+}
+
+/** The script of a link, or null where it has none. */
+export async function unpacked(hash) {
+    if (!hash.startsWith(KEY)) return null;
+    const letters = atob(hash.slice(KEY.length).replace(/-/g, "+").replace(/_/g, "/"));
+    const bytes = await through(new DecompressionStream("deflate-raw"), Uint8Array.from(letters, (letter) => letter.charCodeAt(0)));
+    return new TextDecoder().decode(bytes);
+}

@@ -1,0 +1,94 @@
+// The moments of a run, read from the lines of its account (docs/ACCOUNT.md) into columns, since there may be a million of them.
+
+/** What a moment does, by the words of the account. */
+export const DID = Object.freeze(
+    Object.fromEntries(
+        ["polled", "acted", "returned", "dispatched", "passed_over", "iteration_ended", "iterated", "loop_ended", "rests", "handed_over", "received", "other"]
+            .map((word, number) => [word, number]),
+    ),
+);
+
+/** The lists of actions that are no procedure. */
+export const START = -1, NOTHING = -2;
+
+const FIRST_SIZE = 4096;
+
+class Column {
+    constructor(Numbers) {
+        this.Numbers = Numbers;
+        this.values = new Numbers(FIRST_SIZE);
+    }
+
+    put(place, value) {
+        if (place >= this.values.length) {
+            const more = new this.Numbers(this.values.length * 2);
+            more.set(this.values);
+            this.values = more;
+        }
+        this.values[place] = value;
+    }
+
+    at(place) {
+        return this.values[place];
+    }
+}
+
+export class Moments {
+    count = 0;
+    ticks = 0;
+    tickUs = 0;
+    lanes = 0;
+    /** Whether the last line of the account was read. */
+    isOver = false;
+    tick = new Column(Uint16Array);
+    lane = new Column(Uint8Array);
+    did = new Column(Uint8Array);
+    /** The context, or the list of a call. */
+    of = new Column(Int32Array);
+    /** The source, loop or lane, or the place of an action in its list. */
+    at = new Column(Float64Array);
+    /** The word of an action. */
+    action = [];
+    /** The lines that a moment writes, where it writes some. */
+    lines = [];
+
+    /** Reads a line of the account: its first one, a move, or its last one. */
+    read(line) {
+        const told = JSON.parse(line);
+        if (told.format) {
+            [this.ticks, this.tickUs, this.lanes] = [told.ticks, told.tick_us, told.lanes];
+        } else if (told.did === "over") {
+            this.isOver = true;
+        } else {
+            this.add(told);
+        }
+    }
+
+    add(told) {
+        const place = this.count++;
+        this.tick.put(place, told.tick);
+        this.lane.put(place, told.lane);
+        this.did.put(place, DID[told.did] ?? DID.other);
+        this.of.put(place, told.list ? listOf(told) : told.context ?? -1);
+        this.at.put(place, told.source ?? told.loop ?? told.place ?? told.from ?? told.sender ?? -1);
+        if (told.action) this.action[place] = told.action;
+        if (told.lines) this.lines[place] = told.lines;
+    }
+}
+
+function listOf(told) {
+    if (told.list === "procedure") return told.procedure;
+    return told.list === "start" ? START : NOTHING;
+}
+
+/** The context and the source of which a line speaks, where it speaks of one. */
+export function sourceIn(line) {
+    const words = line.split(" ");
+    if (words[2] !== "ctx") return {};
+    return words[4] === "source" ? { context: Number(words[3]), source: Number(words[5]) } : { context: Number(words[3]) };
+}
+
+/** The words of a line behind its tick. */
+export function wordsOf(line) {
+    return line.slice(line.indexOf(" ") + 1).split(" ");
+}

@@ -1,0 +1,31 @@
+// The moments round the current one as a table: what is done, what is in progress after it, what it writes. It is the picture for whoever reads it by ear.
+import { done, stackWords, timeOf } from "./words.mjs";
+
+const AROUND = 12; // moments before and behind the current one
+
+export class Steps {
+    constructor(body, pick) {
+        this.body = body;
+        body.addEventListener("click", (event) => {
+            const row = event.target.closest("tr");
+            if (row) pick(Number(row.dataset.place));
+        });
+    }
+
+    show(model, current) {
+        const rows = [], last = Math.min(model.moments.count - 1, (current ?? 0) + AROUND);
+        for (let place = Math.max(0, (current ?? 0) - AROUND); place <= last; place++) rows.push(this.#row(model, place, place === current));
+        this.body.replaceChildren(...rows);
+        const here = this.body.querySelector("[aria-current]"), box = this.body.closest(".scrolls");
+        if (here) box.scrollTop = here.offsetTop - box.clientHeight / 2;
+    }
+
+    #row({ moments, frames }, place, isCurrent) {
+        const row = document.createElement("tr"), tick = moments.tick.at(place);
+        row.dataset.place = place;
+        if (isCurrent) row.setAttribute("aria-current", "step");
+        const cells = [`${tick}`, timeOf(moments, tick), `${moments.lane.at(place)}`, done(frames, place), stackWords(frames, place, true), (moments.lines[place] ?? []).join("\n")];
+        row.append(...cells.map((words) => Object.assign(document.createElement("td"), { textContent: words })));
+        return row;
+    }
+}

@@ -1,0 +1,69 @@
+// Moments, stacks and times in words.
+import { CALL, ITERATION } from "./frames.mjs";
+import { DID, NOTHING, START } from "./moments.mjs";
+
+const SHOWN_IDS = 12;
+const OUTER = 3, INNER = 4; // frames that a short stack has at both ends
+const SHOWN_WORDS = 60; // characters of an action
+const US_IN_MS = 1000;
+
+/** A tick's time, in milliseconds. */
+export function timeOf(moments, tick) {
+    return `${Number(((tick * moments.tickUs) / US_IN_MS).toFixed(3))} ms`;
+}
+
+/** The name of a list of actions. */
+function listName(of) {
+    if (of === START) return "the start list";
+    return of === NOTHING ? "the call of a dummy" : `procedure ${of}`;
+}
+
+/** What a moment does. */
+export function done(frames, place) {
+    const { moments } = frames, of = moments.of.at(place), at = moments.at.at(place);
+    switch (moments.did.at(place)) {
+        case DID.polled: return "the turn begins, tasks are polled";
+        case DID.acted: return actionWords(frames.actionAt(place) ?? [moments.action[place]]);
+        case DID.returned: return `${listName(of)} is over`;
+        case DID.dispatched: return `source ${of}.${at} is dispatched`;
+        case DID.passed_over: return `source ${of}.${at} is passed over`;
+        case DID.iteration_ended: return "the iteration is over";
+        case DID.iterated: return `loop ${at} iterates context ${of}`;
+        case DID.loop_ended: return `loop ${at} ends`;
+        case DID.rests: return "the thread rests";
+        case DID.handed_over: return `context ${of} comes from thread ${at}`;
+        case DID.received: return `thread ${at} sent something`;
+        default: return "a move that this page does not know";
+    }
+}
+
+function actionWords(action) {
+    const words = action.map((part) => (typeof part === "object" ? JSON.stringify(part) : String(part))).join(" ");
+    return words.length > SHOWN_WORDS ? `${words.slice(0, SHOWN_WORDS)}…` : words;
+}
+
+/** A frame as docs/STEP.md draws it. Of an iteration those ids are told that it still comes to after the moment. */
+export function frameWords(frames, frame, place) {
+    const { moments } = frames;
+    if (frame.kind === CALL) {
+        if (frame.of === START) return "start";
+        return frame.of === undefined || frame.of === NOTHING ? "call" : `call ${frame.of}`;
+    }
+    if (frame.kind !== ITERATION) return `loop ${frame.of}`;
+    const ids = frame.items.filter((item) => item > place).map((item) => moments.at.at(item));
+    return `iter [${ids.slice(0, SHOWN_IDS).join(" ")}${ids.length > SHOWN_IDS ? " …" : ""}]`;
+}
+
+/** What is in progress after a moment, the outermost first; of a deep stack only the ends where it is to be short. */
+export function stackWords(frames, place, isShort = false) {
+    const words = frames.stack(place).map((frame) => frameWords(frames, frame, place)), more = words.length - OUTER - INNER;
+    if (isShort && more > 1) words.splice(OUTER, more, `… ${more} more …`);
+    return words.join(", ") || "nothing";
+}
+
+/** A moment in one sentence, for a reader of the screen. */
+export function sentence(frames, place) {
+    const { moments } = frames, tick = moments.tick.at(place), lines = moments.lines[place] ?? [];
+    const written = lines.length ? `; writes ${lines.join("; ")}` : "";
+    return `tick ${tick}, ${timeOf(moments, tick)}, thread ${moments.lane.at(place)}: ${done(frames, place)}; in progress: ${stackWords(frames, place)}${written}`;
+}
