@@ -20,6 +20,7 @@ const LINK_AT_MOST = 100_000; // characters
 
 const part = (id) => document.getElementById(id);
 const given = (id) => part(id).textContent.trim();
+const bytesOf = (words) => Uint8Array.from(atob(words), (letter) => letter.charCodeAt(0));
 const pause = (ms = 0) => new Promise((go) => setTimeout(go, ms));
 
 const examples = JSON.parse(given("examples"));
@@ -27,7 +28,7 @@ const pick = (place) => go(place, true);
 const picture = new Picture(part("picture"), pick), steps = new Steps(part("steps"), pick), text = new Text(part("text"), pick);
 const detail = new Detail(part("detail"), pick, new Why(ask));
 const editor = new Editor({ area: part("script"), back: part("back"), numbers: part("numbers"), list: part("faults") }, () => later());
-const engine = await begun(Uint8Array.from(atob(given("module")), (letter) => letter.charCodeAt(0)), part("worker").textContent);
+const engine = await begun(bytesOf(given("module")), part("worker").textContent);
 
 /** What is shown, for whoever tries the page: the job that is the latest, and what it came to. */
 const shown = { job: 0, isBusy: false, model: null, current: null, asks: 0, text: "", refused: null, firstPicture: 0 };
@@ -190,8 +191,7 @@ function search(step) {
 
 /** The script that `mainctx_inspect page` put into this page, or the first example. */
 function first() {
-    const packed = given("given");
-    return packed ? new TextDecoder().decode(Uint8Array.from(atob(packed), (letter) => letter.charCodeAt(0))) : examples[0].script;
+    return given("given") ? new TextDecoder().decode(bytesOf(given("given"))) : examples[0].script;
 }
 
 /** Shows an example, or the script of the link or of this page. */
