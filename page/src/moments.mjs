@@ -38,12 +38,11 @@ export class Moments {
         } else if (told.did === "over") {
             this.isOver = true;
         } else {
-            this.add(told);
+            this.#add(told, this.count++);
         }
     }
 
-    add(told) {
-        const place = this.count++;
+    #add(told, place) {
         this.tick[place] = told.tick;
         this.lane[place] = told.lane;
         this.did[place] = DID[told.did] ?? DID.other;
