@@ -119,10 +119,11 @@ function present(model, isLatest, begin) {
     requestAnimationFrame(() => isLatest() && (shown.firstPicture ||= performance.now() - begin));
 }
 
-/** The answer of a call of the engine of the script that is shown, once its run is told. */
+/** The answer of a call of the engine of the script that is shown, once its run is told; what was asked of the moment before is stopped. */
 async function ask(call, model, ...words) {
     while (shown.isBusy) await pause(WAIT);
     if (model !== shown.model) throw new MainctxError("aborted");
+    if (call === "why" && shown.asks) engine.abort();
     shown.asks++;
     try {
         return (await engine[call](model.script, ...words)).text;
