@@ -12,11 +12,11 @@ const ROOM = 65_536, ROOM_OF_A_MOMENT = 120, LARGE_ROOM = 16_777_216, SIZE = 8;
 /** Bytes of memory beyond which an instance is dropped after a call, since a module's memory never gets smaller. */
 const KEPT_AT_MOST = 268_435_456;
 
-/** How many moments an account has at most, where nothing is said of it. */
-const ALL = Number.MAX_SAFE_INTEGER;
+/** How many moments an account has at most, and which tick is the last of which is told, where nothing is said of it. */
+const ALL = Number.MAX_SAFE_INTEGER, LAST_TICK = 0xffff_ffff;
 
 /** A call that gives no answer. `fault` says why: "not json", "shape", "limit", "reference" or "rule", where the script is refused; "memory";
- * "trap", where the module stopped; "account", where it can't give one; and of a worker "aborted". */
+ * "trap", where the module stopped; "call", where it has no such call; and of a worker "aborted". */
 export class MainctxError extends Error {
     constructor(fault, message = [...CLASSES.values()].includes(fault) ? `script: ${fault}` : fault) {
         super(message);
@@ -54,7 +54,7 @@ export class Mainctx {
 
     /** Whether the module gives accounts. */
     get tells() {
-        return WebAssembly.Module.exports(this.#module).some((it) => it.name === "mainctx_account");
+        return this.#has("mainctx_account");
     }
 
     /** Runs a script to its end, and answers its text; throws a MainctxError with the class of fault where it is refused. */
@@ -69,13 +69,41 @@ export class Mainctx {
 
     /** The lines of the account of a run (docs/ACCOUNT.md), of the moments from the one of a number on, and of so many at most. */
     async account(script, from = 0, most = ALL) {
-        if (!this.tells) throw new MainctxError("account", "this module gives no account");
         const room = Math.min(Math.max(ROOM, most * ROOM_OF_A_MOMENT), LARGE_ROOM);
         return lines(await this.#asked("mainctx_account", script, [BigInt(from), BigInt(most)], room));
     }
 
+    /** Why sources were dispatched or not in the iterations of these ticks, both included, in words, as `mainctx_inspect why` tells it. */
+    async why(script, first = 0, last = LAST_TICK) {
+        return { text: decoded(await this.#asked("mainctx_why", script, [first, last])) };
+    }
+
+    /** The life of the source with this id (a number or a BigInt) in a context, as `mainctx_inspect why --source` tells it. */
+    async life(script, context, id, first = 0, last = LAST_TICK) {
+        return { text: decoded(await this.#asked("mainctx_life", script, [context, BigInt(id), first, last])) };
+    }
+
+    /** The version of the module's calls, as bindings/c/mainctx.h has it. */
+    async version() {
+        this.#needs("mainctx_version");
+        return (await this.#instance()).version;
+    }
+
+    #has(name) {
+        return WebAssembly.Module.exports(this.#module).some((it) => it.name === name);
+    }
+
+    #needs(name) {
+        if (!this.#has(name)) throw new MainctxError("call", `this module has no ${name}`);
+    }
+
+    async #instance() {
+        return this.#calls ?? new Calls((await WebAssembly.instantiate(this.#module, {})).exports);
+    }
+
     /** The text that a call gives: by a second one where it is longer than the room. */
     async #asked(name, script, words, room = ROOM) {
+        this.#needs(name);
         const bytes = typeof script === "string" ? new TextEncoder().encode(script) : script;
         let answer = await this.#guarded(name, bytes, words, room);
         if (answer.status === SHORT_ROOM) answer = await this.#guarded(name, bytes, words, answer.needed);
@@ -85,7 +113,7 @@ export class Mainctx {
 
     /** A call after which no instance is kept that stopped, or whose memory is large. */
     async #guarded(name, bytes, words, room) {
-        const calls = this.#calls ?? new Calls((await WebAssembly.instantiate(this.#module, {})).exports);
+        const calls = await this.#instance();
         this.#calls = null;
         try {
             const answer = calls.call(name, bytes, words, room);
@@ -103,6 +131,10 @@ class Calls {
 
     constructor(exports) {
         this.#exports = exports;
+    }
+
+    get version() {
+        return this.#exports.mainctx_version() >>> 0;
     }
 
     get size() {

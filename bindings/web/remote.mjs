@@ -37,6 +37,18 @@ class Remote {
         return this.#called("account", script, from, most);
     }
 
+    why(script, first, last) {
+        return this.#called("why", script, first, last);
+    }
+
+    life(script, context, id, first, last) {
+        return this.#called("life", script, context, id, first, last);
+    }
+
+    version() {
+        return this.#called("version");
+    }
+
     /** Waits until the module is loaded, and answers whether it gives accounts. */
     ready() {
         if (!this.#worker) this.#start();

@@ -81,10 +81,29 @@ async function trapped() {
     return faults.every((fault) => fault === "trap") ? null : `${faults}`;
 }
 
+/** A call that the module has not says so, and so does the worker; else `test` says what is wrong with what it answers. */
+async function told(engines, call, words, test) {
+    for (const engine of engines) {
+        const answer = await engine[call](...words).catch((thrown) => thrown);
+        const fault = answer instanceof MainctxError ? (answer.fault === "call" ? null : answer.fault) : test(answer.text ?? answer);
+        if (fault) return fault;
+    }
+    return null;
+}
+
+const has = (words) => (text) => (text.includes(words) ? null : `no ${words} in ${JSON.stringify(text.slice(0, 200))}`);
+const ends = (words) => (text) => (text.split("\n").at(-2)?.startsWith(words) ? null : `no ${words} at its end, ${JSON.stringify(text.slice(-200))}`);
+/** An example of which is told why, and its source that is told of. */
+const TOLD = "examples/nested_drop.json", CONTEXT = 0, SOURCE = 4n;
+
 export async function all(source, cases) {
     const count = new Count(), engine = await load(source), remote = await open(source);
     for (const it of cases) await count.take(it.name, () => vector(engine, it));
     for (const it of cases.filter(({ name }) => name.startsWith("examples/"))) await count.take(`${it.name} by a worker`, () => vector(remote, it));
+    const example = cases.find(({ name }) => name === TOLD), script = example && bytesOf(example.script), both = [engine, remote];
+    if (example) await count.take("why", () => told(both, "why", [script, 0, 0], has("to be dispatched")));
+    if (example) await count.take("a source's life", () => told(both, "life", [script, CONTEXT, SOURCE], ends("end of the run")));
+    await count.take("its version", () => told(both, "version", [], (version) => (version === 1 ? null : `it is ${version}`)));
     await count.take("a run that is stopped", () => stopped(remote));
     await count.take("a script that is too large for any memory", () => short(engine));
     await count.take("a module that stops", trapped);

@@ -8,8 +8,6 @@ export const CALL = "call", ITERATION = "iter", LOOP = "loop";
 export class Frames {
     /** The innermost frame after each moment, or null. */
     innermost = [];
-    /** How many frames are of a dispatch. */
-    dispatches = 0;
     #top;
 
     /** `script` is what was run, as JSON tells it; `rows` is told of each frame and of each moment. */
@@ -77,7 +75,6 @@ export class Frames {
         const words = lines.map(wordsOf).find((it) => it[0] === "dispatch");
         if (!words) return;
         const { moments } = this;
-        this.dispatches++;
         this.#push(place, lane, { kind: CALL, of: undefined, context: moments.of.at(place), source: moments.at.at(place), depth: Number(words[8]) });
     }
 

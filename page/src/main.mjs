@@ -9,6 +9,7 @@ import { Picture } from "./picture.mjs";
 import { found } from "./search.mjs";
 import { Steps } from "./steps.mjs";
 import { Text } from "./text.mjs";
+import { Why } from "./why.mjs";
 import { sentence } from "./words.mjs";
 
 const WAIT = 250; // milliseconds from the last change to the run
@@ -19,17 +20,18 @@ const LINK_AT_MOST = 100_000; // characters
 
 const part = (id) => document.getElementById(id);
 const given = (id) => part(id).textContent.trim();
-const pause = () => new Promise((go) => setTimeout(go));
+const bytesOf = (words) => Uint8Array.from(atob(words), (letter) => letter.charCodeAt(0));
+const pause = (ms = 0) => new Promise((go) => setTimeout(go, ms));
 
 const examples = JSON.parse(given("examples"));
 const pick = (place) => go(place, true);
 const picture = new Picture(part("picture"), pick), steps = new Steps(part("steps"), pick), text = new Text(part("text"), pick);
-const detail = new Detail(part("detail"), pick);
+const detail = new Detail(part("detail"), pick, new Why(ask));
 const editor = new Editor({ area: part("script"), back: part("back"), numbers: part("numbers"), list: part("faults") }, () => later());
-const engine = await begun(Uint8Array.from(atob(given("module")), (letter) => letter.charCodeAt(0)), part("worker").textContent);
+const engine = await begun(bytesOf(given("module")), part("worker").textContent);
 
 /** What is shown, for whoever tries the page: the job that is the latest, and what it came to. */
-const shown = { job: 0, isBusy: false, model: null, current: null, text: "", refused: null, firstPicture: 0 };
+const shown = { job: 0, isBusy: false, model: null, current: null, asks: 0, text: "", refused: null, firstPicture: 0 };
 globalThis.mainctxPage = { shown, editor, picture, engine, go, run };
 let timer = 0;
 
@@ -45,7 +47,7 @@ function say(words) {
 /** Looks at the script, runs it, and shows it; what went on before is stopped. */
 async function run() {
     clearTimeout(timer);
-    if (shown.isBusy) engine.abort();
+    if (shown.isBusy || shown.asks) engine.abort();
     const job = ++shown.job, script = editor.script, begin = performance.now();
     const isLatest = () => job === shown.job;
     Object.assign(shown, { isBusy: true, refused: null, firstPicture: 0 });
@@ -88,7 +90,7 @@ async function show(script, isLatest, begin) {
     for (let model = null, piece = await coming.next(); isLatest(); piece = await coming.next()) {
         if (piece.done) return void summed(model, piece.value);
         const isFirst = model === null;
-        model ??= new Model(JSON.parse(script));
+        model ??= new Model(script);
         for (let from = 0; from < piece.value.length && isLatest(); from += SLICE) {
             model.read(piece.value.slice(from, from + SLICE));
             present(model, isLatest, begin);
@@ -115,6 +117,19 @@ function present(model, isLatest, begin) {
     if (!isNew) return void steps.show(model, shown.current);
     go(0, false);
     requestAnimationFrame(() => isLatest() && (shown.firstPicture ||= performance.now() - begin));
+}
+
+/** The answer of a call of the engine of the script that is shown, once its run is told; what was asked of the moment before is stopped. */
+async function ask(call, model, ...words) {
+    while (shown.isBusy) await pause(WAIT);
+    if (model !== shown.model) throw new MainctxError("aborted");
+    if (call === "why" && shown.asks) engine.abort();
+    shown.asks++;
+    try {
+        return (await engine[call](model.script, ...words)).text;
+    } finally {
+        shown.asks--;
+    }
 }
 
 /** Says what a run came to, and what is left out of it. */
@@ -175,7 +190,12 @@ function search(step) {
     else go(place, true);
 }
 
-/** Shows an example, or the script of the link. */
+/** The script that `mainctx_inspect page` put into this page, or the first example. */
+function first() {
+    return given("given") ? new TextDecoder().decode(bytesOf(given("given"))) : examples[0].script;
+}
+
+/** Shows an example, or the script of the link or of this page. */
 function put(script) {
     editor.script = script;
     run();
@@ -223,4 +243,4 @@ async function linked() {
 }
 
 gallery();
-if ((await linked()) === null) put(examples[0].script);
+if ((await linked()) === null) put(first());

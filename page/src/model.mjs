@@ -9,12 +9,14 @@ export class Model {
     writers = [];
     /** The moments that dispatch. */
     dispatches = [];
+    /** What the engine said of why sources were dispatched, by tick. */
+    why = new Map();
     #taken = 0;
 
     /** `script` is what was run. */
     constructor(script) {
-        [this.moments, this.rows] = [new Moments(), new Rows()];
-        this.frames = new Frames(this.moments, script, this.rows);
+        [this.script, this.moments, this.rows] = [script, new Moments(), new Rows()];
+        this.frames = new Frames(this.moments, JSON.parse(script), this.rows);
         this.places = new Places(this.moments);
     }
 

@@ -11,28 +11,6 @@ export const DID = Object.freeze(
 /** The lists of actions that are no procedure. */
 export const START = -1, NOTHING = -2;
 
-const FIRST_SIZE = 4096;
-
-class Column {
-    constructor(Numbers) {
-        this.Numbers = Numbers;
-        this.values = new Numbers(FIRST_SIZE);
-    }
-
-    put(place, value) {
-        if (place >= this.values.length) {
-            const more = new this.Numbers(this.values.length * 2);
-            more.set(this.values);
-            this.values = more;
-        }
-        this.values[place] = value;
-    }
-
-    at(place) {
-        return this.values[place];
-    }
-}
-
 export class Moments {
     count = 0;
     ticks = 0;
@@ -40,13 +18,13 @@ export class Moments {
     lanes = 0;
     /** Whether the last line of the account was read. */
     isOver = false;
-    tick = new Column(Uint16Array);
-    lane = new Column(Uint8Array);
-    did = new Column(Uint8Array);
+    tick = [];
+    lane = [];
+    did = [];
     /** The context, or the list of a call. */
-    of = new Column(Int32Array);
+    of = [];
     /** The source, loop or lane, or the place of an action in its list. */
-    at = new Column(Float64Array);
+    at = [];
     /** The word of an action. */
     action = [];
     /** The lines that a moment writes, where it writes some. */
@@ -60,17 +38,16 @@ export class Moments {
         } else if (told.did === "over") {
             this.isOver = true;
         } else {
-            this.add(told);
+            this.#add(told, this.count++);
         }
     }
 
-    add(told) {
-        const place = this.count++;
-        this.tick.put(place, told.tick);
-        this.lane.put(place, told.lane);
-        this.did.put(place, DID[told.did] ?? DID.other);
-        this.of.put(place, told.list ? listOf(told) : told.context ?? -1);
-        this.at.put(place, told.source ?? told.loop ?? told.place ?? told.from ?? told.sender ?? -1);
+    #add(told, place) {
+        this.tick[place] = told.tick;
+        this.lane[place] = told.lane;
+        this.did[place] = DID[told.did] ?? DID.other;
+        this.of[place] = told.list ? listOf(told) : told.context ?? -1;
+        this.at[place] = told.source ?? told.loop ?? told.place ?? told.from ?? told.sender ?? -1;
         if (told.action) this.action[place] = told.action;
         if (told.lines) this.lines[place] = told.lines;
     }

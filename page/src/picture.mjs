@@ -1,5 +1,6 @@
 // The picture of a run: a canvas over what is seen of it, in a box that scrolls over the whole.
 import { DID } from "./moments.mjs";
+import { firstOf } from "./places.mjs";
 import { ROW } from "./rows.mjs";
 import { timeOf } from "./words.mjs";
 
@@ -315,15 +316,4 @@ export class Picture {
         paper.fillRect(labels - 1, 0, 1, height);
         paper.fillRect(0, AXIS - 1, this.box.clientWidth, 1);
     }
-}
-
-/** The first number from 0 on for which it holds, or the count: where it holds for one, it does for those behind it. */
-function firstOf(count, holds) {
-    let low = 0, high = count;
-    while (low < high) {
-        const middle = (low + high) >> 1;
-        if (holds(middle)) high = middle;
-        else low = middle + 1;
-    }
-    return low;
 }

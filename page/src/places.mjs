@@ -74,13 +74,7 @@ export class Places {
 
     /** The column of a unit. */
     columnAt(unit) {
-        let low = 0, high = this.columns.length - 1;
-        while (low < high) {
-            const middle = (low + high + 1) >> 1;
-            if (this.columns[middle].x <= unit) low = middle;
-            else high = middle - 1;
-        }
-        return low;
+        return Math.max(0, firstOf(this.columns.length, (it) => this.columns[it].x > unit) - 1);
     }
 
     /** The last moment of a lane that stands at a unit or before it in its column, or else the first of that column, or null. */
@@ -99,4 +93,15 @@ export class Places {
         for (let it = tick; it < this.#firsts.length; it++) if (this.#firsts[it] !== undefined) return this.#firsts[it];
         return this.moments.count;
     }
+}
+
+/** The first number from 0 on for which it holds, or the count: where it holds for one, it does for those behind it. */
+export function firstOf(count, holds) {
+    let low = 0, high = count;
+    while (low < high) {
+        const middle = (low + high) >> 1;
+        if (holds(middle)) high = middle;
+        else low = middle + 1;
+    }
+    return low;
 }

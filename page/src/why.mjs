@@ -1,0 +1,54 @@
+// What the engine says of why sources were dispatched or not: of a moment's tick, and of the life of a source.
+const STILL = 150; // milliseconds for which a moment is the current one before the engine is asked
+const KEPT = 64; // ticks
+const MOST_TOLD = 400;
+const HEADING = /^(?:note: )?ticks? .*?, thread (\d+)/, ITERATES = / iterates context (\d+)/, NOTE = "note: ";
+
+/** The lines that tell of a thread, and of iterations of one context where it is given: lines that are set in belong to the one above them that is not. */
+function linesOf(text, lane, context) {
+    let isKept = true;
+    return text.split("\n").slice(0, -1).filter((line) => {
+        if (line.startsWith(" ")) return isKept;
+        const thread = HEADING.exec(line)?.[1], of = ITERATES.exec(line)?.[1];
+        return (isKept = (thread === undefined || Number(thread) === lane) && (of === undefined || context === null || Number(of) === context));
+    });
+}
+
+export class Why {
+    #timer = 0;
+
+    /** `ask` makes a call of the engine of a model's script. */
+    constructor(ask) {
+        this.ask = ask;
+    }
+
+    /** Fills a part with what is said of the tick of a moment. */
+    tick(shown, model, place, context) {
+        const tick = model.moments.tick.at(place), known = model.why.get(tick);
+        const tell = (text) => told(shown, linesOf(text, model.moments.lane.at(place), context), "no iteration begins");
+        clearTimeout(this.#timer);
+        if (known !== undefined) return void tell(known);
+        this.#timer = setTimeout(() => this.#asked(shown, "why", [model, tick, tick], (text) => {
+            if (model.why.size >= KEPT) model.why.clear();
+            model.why.set(tick, text);
+            tell(text);
+        }), STILL);
+    }
+
+    life(shown, model, context, source) {
+        return this.#asked(shown, "life", [model, context, source], (text) => told(shown, text.split("\n").slice(0, -1), "nothing"));
+    }
+
+    #asked(shown, call, words, tell) {
+        return this.ask(call, ...words).then(tell, (thrown) => told(shown, [], `no answer: ${thrown.message}`));
+    }
+}
+
+function told(shown, lines, none) {
+    shown.replaceChildren(...lines.slice(0, MOST_TOLD).map((line) => {
+        const isNote = line.startsWith(NOTE);
+        return Object.assign(document.createElement("div"), { className: isNote ? "note" : "", textContent: isNote ? `≠ ${line}` : line });
+    }));
+    if (lines.length !== shown.children.length) shown.append(`and ${lines.length - MOST_TOLD} lines more`);
+    if (lines.length === 0) shown.textContent = none;
+}
