@@ -127,16 +127,27 @@ fn push_drawn(lane: &LaneState, out: &mut String) -> Result<(), AllocError> {
     out.push_str("\n")
 }
 
+/// How much is in progress.
+fn height_of(lane: &LaneState) -> u64 {
+    let mut height = 0u64;
+    for _ in lane.frames() {
+        height = height.saturating_add(1);
+    }
+    height
+}
+
 /// Adds a line for each thing in progress, from the outermost inwards.
 fn push_each(script: &Script, lane: &LaneState, out: &mut String) -> Result<(), AllocError> {
     let mut outside = Outside::Nothing;
-    let innermost = lane.frames().count().saturating_sub(1);
-    for (place, one) in lane.frames().enumerate() {
+    let height = height_of(lane);
+    let mut level = 0u64;
+    for one in lane.frames() {
+        level = level.saturating_add(1);
         out.push_str("  ")?;
         match one {
             Activity::Call(call) => {
                 push_call(call, out)?;
-                if place != innermost {
+                if level < height {
                     push_inside(script, call, out)?;
                 }
                 push_next(script, call, out)?;
