@@ -334,17 +334,14 @@ GROWTHS = {
 # What grows worse, and what is looked at each time.
 KNOWN = {
     "children that it gives its priority": "each set_priority, its children",
-    "pending beside sources that are ready": "each pending and iteration, the sources that are ready, or would be but for a call",
-    "pending in a call, beside its source's children": "the same",
+    "pending in a call, beside its source's children": "each pending and iteration, the sources that would be ready but for a call",
     "pending beside sources of descriptors": "each pending and iteration, the sources of descriptors",
     "ticks beside sources of a descriptor that shows other bits": "each tick with a turn, the sources of descriptors",
     "ticks beside sources of a cancellable": "each tick with a turn, the sources of cancellables",
     "ticks beside sources that wait for others": "each tick with a turn, the idle sources of a context that has had a descriptor's",
     "letters beside lanes that rest": "each tick with a letter, the sources of descriptors and cancellables of all lanes",
     "letters of more lanes": "each letter, the lanes: 64 at most",
-    "tasks that sleep, started in each tick": "each tick in which a task starts or may end, the lane's tasks",
-    "tasks that sleep beside one that ends": "the same",
-    "parts of a tree that end one by one": "the same, with all parts that have not ended",
+    "parts of a tree that end one by one": "each tick in which a task wakes, all its parts",
 }
 
 
