@@ -7,7 +7,7 @@ const TEXT = 0, MEMORY = 6, SHORT_ROOM = 7, FAULTS = 8;
 const CLASSES = new Map([[1, "not json"], [2, "shape"], [3, "limit"], [4, "reference"], [5, "rule"]]);
 
 /** The bytes of the room that a text gets at first, of that for a moment of an account, of the largest for a first try, and those of a size. */
-const ROOM = 65_536, ROOM_OF_A_MOMENT = 120, LARGE_ROOM = 16_777_216, SIZE = 8;
+const ROOM = 4_194_304, ROOM_OF_A_MOMENT = 120, LARGE_ROOM = 16_777_216, SIZE = 8;
 
 /** Bytes of memory beyond which an instance is dropped after a call, since a module's memory never gets smaller. */
 const KEPT_AT_MOST = 268_435_456;

@@ -20,10 +20,12 @@ export async function packed(script) {
     return KEY + btoa(letters).replace(/\+/g, "-").replace(/\//g, "_").replace(/=+$/, "");
 }
 
+/** The bytes that were packed; at most as many as a script may have. */
+export const inflated = (bytes) => through(new DecompressionStream("deflate-raw"), bytes);
+
 /** The script of a link, or null where it has none. */
 export async function unpacked(hash) {
     if (!hash.startsWith(KEY)) return null;
     const letters = atob(hash.slice(KEY.length).replace(/-/g, "+").replace(/_/g, "/"));
-    const bytes = await through(new DecompressionStream("deflate-raw"), Uint8Array.from(letters, (letter) => letter.charCodeAt(0)));
-    return new TextDecoder().decode(bytes);
+    return new TextDecoder().decode(await inflated(Uint8Array.from(letters, (letter) => letter.charCodeAt(0))));
 }

@@ -3,7 +3,7 @@ import { MainctxError } from "../../bindings/web/mainctx.mjs";
 import { Detail } from "./detail.mjs";
 import { Editor } from "./editor.mjs";
 import { MOST_MOMENTS, begun, pieces } from "./engine.mjs";
-import { packed, unpacked } from "./link.mjs";
+import { packed, inflated, unpacked } from "./link.mjs";
 import { Model } from "./model.mjs";
 import { Picture } from "./picture.mjs";
 import { found } from "./search.mjs";
@@ -28,7 +28,7 @@ const pick = (place) => go(place, true);
 const picture = new Picture(part("picture"), pick), steps = new Steps(part("steps"), pick), text = new Text(part("text"), pick);
 const detail = new Detail(part("detail"), pick, new Why(ask));
 const editor = new Editor({ area: part("script"), back: part("back"), numbers: part("numbers"), list: part("faults") }, () => later());
-const engine = await begun(bytesOf(given("module")), part("worker").textContent);
+const engine = await begun(await inflated(bytesOf(given("module"))), part("worker").textContent);
 
 /** What is shown, for whoever tries the page: the job that is the latest, and what it came to. */
 const shown = { job: 0, isBusy: false, model: null, current: null, asks: 0, text: "", refused: null, firstPicture: 0 };
