@@ -1,9 +1,12 @@
 //! Scripts with names: a form for people, and the script of numbers that it stands for.
 #![tactic(auto)]
 
+mod bits;
 mod names;
+mod scalar;
 mod sort;
 mod table;
+mod time;
 mod word;
 
 pub use sort::{Choice, Kind, Leaf, Object, Sort};
