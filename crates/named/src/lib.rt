@@ -3,11 +3,14 @@
 
 mod bits;
 mod names;
+mod numbered;
+mod piece;
 mod scalar;
 mod sort;
 mod table;
 mod time;
 mod word;
 
+pub use piece::Step;
 pub use sort::{Choice, Kind, Leaf, Object, Sort};
 pub use word::Word;

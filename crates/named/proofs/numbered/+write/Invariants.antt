@@ -1,0 +1,18 @@
+-- one level less at each value within; what was written, and what is left
+use Rattle.std.proofs.Common.{◌≡◌, ◌++◌, ◌+◌, ◌*◌, ◌-◌, List, drop, map}
+use Rattle.json.specs.Token.{Token}
+use Rattle.named.specs.Pieces.{Piece}
+use Rattle.named.specs.Views.{names_of, piece_view}
+use Rattle.named.specs.Written.{filled, together, written}
+use Rattle.named.proofs.numbered.+write.Given as goal
+
+abbrev pub decreases-write : goal.decreases-write
+decreases-write l = l.levels * 2
+
+abbrev pub decreases-write_piece : goal.decreases-write_piece
+decreases-write_piece l = l.levels * 2 + 1
+
+abbrev pub invariant-write-loop-piece : goal.invariant-write-loop-piece
+invariant-write-loop-piece l =
+    let each : Piece → List Token = filled (written (l.levels - 1) (names_of l.names)) in
+    l.writer.tokens ++ together each (map piece_view (drop l.piece-index l.piece-items)) ≡ l.initial.writer.tokens ++ together each (map piece_view l.piece-items)

@@ -1,0 +1,73 @@
+//! Writing a value with names as one of numbers.
+ghost use Rattle.std.specs.Prelude.{◌≡◌, ◌++◌, [], OnOk};
+ghost use Rattle.json.specs.Value.{value_view};
+ghost use Rattle.named.specs.Views.{names_of, piece_view, tokens_of};
+ghost use Rattle.named.specs.Written.{filled, together, written};
+
+use crate::names::Names;
+use crate::piece::{Piece, pieces_of};
+use crate::scalar::Scalar;
+use crate::sort::Sort;
+use json::{Value, Writer};
+use std::alloc::{AllocError, Global};
+
+/// Writes a value; so many levels of it are looked at.
+#[cycle(write)]
+#[tactic(auto, using(crate::proofs::Levels::written_step, crate::proofs::Levels::written_none))]
+pub(crate) fn write(
+    alloc: Global,
+    names: &Names<'_>,
+    sort: Sort,
+    value: &Value<'_>,
+    levels: u32,
+    writer: &mut Writer,
+) -> Result<(), AllocError>
+    ensures { OnOk result (writer.new.tokens ≡ writer.old.tokens ++ written levels (names_of names.now) sort (value_view value.now)) }
+{
+    if levels == 0 {
+        return writer.null();
+    }
+    let pieces = pieces_of(alloc, names, sort, value)?;
+    for piece in pieces.as_slice() {
+        write_piece(alloc, names, piece, levels - 1, writer)?;
+    }
+    Ok(())
+}
+
+#[cycle(write)]
+fn write_piece(
+    alloc: Global,
+    names: &Names<'_>,
+    piece: &Piece<'_, '_>,
+    levels: u32,
+    writer: &mut Writer,
+) -> Result<(), AllocError>
+    ensures { OnOk result (writer.new.tokens ≡ writer.old.tokens ++ filled (written levels (names_of names.now)) (piece_view piece.now)) }
+{
+    match piece {
+        Piece::BeginArray => writer.begin_array(),
+        Piece::EndArray => writer.end_array(),
+        Piece::BeginObject => writer.begin_object(),
+        Piece::EndObject => writer.end_object(),
+        Piece::Key(word) => writer.key(word.text()),
+        Piece::Text(word) => writer.string(word.text()),
+        Piece::Scalar(scalar) => write_scalar(scalar, writer),
+        Piece::Inner(inner) => write(alloc, names, inner.sort, inner.value, levels, writer),
+    }
+}
+
+fn write_scalar(scalar: &Scalar<'_>, writer: &mut Writer) -> Result<(), AllocError>
+    ensures { OnOk result (writer.new.tokens ≡ writer.old.tokens ++ tokens_of scalar.now) }
+{
+    match scalar {
+        Scalar::Nothing => Ok(()),
+        Scalar::Null => writer.null(),
+        Scalar::Bool(truth) => writer.boolean(*truth),
+        Scalar::Whole(number) => writer.u64(*number),
+        Scalar::Digits(text) => if json::is_number(text) {
+            writer.number(text)
+        } else {
+            Err(AllocError)
+        },
+    }
+}
