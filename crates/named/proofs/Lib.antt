@@ -1,3 +1,4 @@
 pub mod Adding
 pub mod Words
 pub mod Levels
+pub mod Causes

@@ -4,4 +4,5 @@ pub mod Names
 pub mod Leaf
 pub mod Pieces
 pub mod Written
+pub mod Faults
 pub mod Views

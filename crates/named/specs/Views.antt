@@ -11,6 +11,8 @@ use Rattle.named.specs.Names as names
 use Rattle.named.specs.Words.{text_of}
 use Rattle.named.specs.Pieces as pieces
 use Rattle.named.specs.Pieces.{under, nth, same, tokens, inner, one}
+use Rattle.named.specs.Faults.{Found}
+use Rattle.named.specs.declared.fault.Fault.{Fault}
 use Rattle.named.specs.declared.piece.Step.{Step}
 use Rattle.named.specs.declared.piece.Step.TheVariants as steps
 use Rattle.named.specs.declared.piece.Piece.{Piece}
@@ -61,3 +63,6 @@ piece_view (parts.Key w) = one (token.key (text_of w))
 piece_view (parts.Text w) = one (token.string (text_of w))
 piece_view (parts.Scalar s) = tokens (tokens_of s)
 piece_view (parts.Inner i) = inner (step_view i.step) i.sort (value_view i.value.now)
+
+abbrev pub found_of : Fault → Found
+found_of a = record { place = map step_view a.place.items; sort = a.sort; cause = a.cause }

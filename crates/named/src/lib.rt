@@ -2,8 +2,11 @@
 #![tactic(auto)]
 
 mod bits;
+mod check;
+mod fault;
 mod names;
 mod numbered;
+mod own;
 mod piece;
 mod scalar;
 mod sort;
@@ -11,6 +14,7 @@ mod table;
 mod time;
 mod word;
 
+pub use fault::{Cause, Fault};
 pub use piece::Step;
 pub use sort::{Choice, Kind, Leaf, Object, Sort};
 pub use word::Word;

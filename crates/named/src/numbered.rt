@@ -11,6 +11,9 @@ use crate::sort::Sort;
 use json::{Value, Writer};
 use std::alloc::{AllocError, Global};
 
+/// How many levels of a script are looked at: no value that is read has more, with those of an action's own object.
+pub(crate) const LEVELS: u32 = 160;
+
 /// Writes a value; so many levels of it are looked at.
 #[cycle(write)]
 #[tactic(auto, using(crate::proofs::Levels::written_step, crate::proofs::Levels::written_none))]
