@@ -8,13 +8,17 @@ mod names;
 mod numbered;
 mod own;
 mod piece;
+mod place;
 mod scalar;
 mod sort;
 mod table;
 mod time;
+mod translation;
 mod word;
 
 pub use fault::{Cause, Fault};
 pub use piece::Step;
+pub use place::{Numbered, origin};
 pub use sort::{Choice, Kind, Leaf, Object, Sort};
+pub use translation::{Translation, is_named, translate};
 pub use word::Word;

@@ -48,7 +48,7 @@ pub(crate) enum Piece<'v, 'a> {
 }
 
 impl At {
-    fn step<'a>(self) -> Step<'a>
+    pub(crate) fn step<'a>(self) -> Step<'a>
         ensures { step_view result ≡ step_of self }
     {
         match self {
