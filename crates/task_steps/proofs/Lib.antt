@@ -10,3 +10,4 @@ pub mod Heeding
 pub mod PollAll
 pub mod Waiting
 pub mod Once
+pub mod Shown
