@@ -83,7 +83,7 @@ impl TaskBook {
     ghost use Rattle.loop_script.specs.Units.{Tick, TaskNumber};
     ghost use Rattle.task_steps.specs.Run.{IsUpTo, IsAfter};
     ghost use Rattle.task_steps.specs.RunInside.{IsBy};
-    ghost use Rattle.task_steps.specs.Shown.{task_shown, wakeless, least_wake, WereSeenBy};
+    ghost use Rattle.task_steps.specs.Shown.{task_shown, wakeless, least_wake, WakeAsShown, WereSeenBy};
 
     /// A book with no task, for ticks of so many microseconds.
     pub fn new(alloc: Global, tick_us: u64) -> TaskBook
@@ -241,6 +241,7 @@ impl TaskBook {
     pub fn tasks(&self, alloc: Global) -> Result<Vec<TaskShown>, AllocError>
         ensures tasks { IfOk result (λ list. map wakeless list.items ≡ map task_shown self.now.tasks) }
         ensures wake { IfOk result (λ list. least_wake list.items ≡ self.now.wake) }
+        ensures ends { IfOk result (λ list. WakeAsShown self.now.last self.now.tasks list.items) }
         ensures seen { WereSeenBy self.now.last self.now.tasks }
     {
         let mut list = Vec::new(alloc);
