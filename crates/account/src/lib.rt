@@ -4,6 +4,7 @@
 mod account;
 mod fault;
 mod foreseen;
+mod gained;
 mod going;
 mod hand;
 mod letters;
