@@ -25,7 +25,7 @@ fn newest(rows: &Rows) -> u64
     ensures { result ≡ newest 0 (map (λ r. r.id) (in_order rows.now.rows)) }
 {
     let mut newest: u64 = 0;
-    for id in rows.ordered() {
+    'ids: for id in rows.ordered() {
         newest = newest.max(*id);
     }
     newest

@@ -7,6 +7,7 @@ mod foreseen;
 mod gained;
 mod going;
 mod hand;
+pub mod laws;
 mod letters;
 mod moment;
 mod turns;

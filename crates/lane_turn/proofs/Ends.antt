@@ -1,5 +1,5 @@
 -- When trees end: up to some tick the same, whatever is seen cancelled from then on.
-use Rattle.std.proofs.Common.{◌≡◌, ◌⊎◌, inl, inr, ℕ, ◌+◌, ◌≤◌, Bool, true, false, cond, Option, Some, None, refl, ap, ◌∙◌, arith, subst, leb-true, leb-false}
+use Rattle.std.proofs.Common.{◌≡◌, ◌⊎◌, inl, inr, ℕ, ◌+◌, ◌≤◌, Bool, true, false, cond, Some, None, refl, ap, ◌∙◌, arith, subst, leb-true, leb-false}
 use Rattle.std.specs.Prelude.{nat_le}
 use Rattle.loop_script.specs.Tree.{Tree, value, fail, sleep, check, seq, both, first, within}
 use Rattle.loop_script.specs.declared.outcome.Outcome.TheVariants.{TimedOut}
