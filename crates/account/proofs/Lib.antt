@@ -6,3 +6,4 @@ pub mod Lines
 pub mod Did
 pub mod Moments
 pub mod Quiet
+pub mod Attached

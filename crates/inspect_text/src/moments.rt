@@ -2,7 +2,7 @@
 use crate::action_words::action_word;
 use crate::window::Window;
 use account::{Account, Deed, Moment};
-use lane_turn::LaneState;
+use lane_turn::{LaneState, Place};
 use loop_script::{Body, Script};
 use mainctx::{OutOfMemory, add_text};
 use std::alloc::{AllocError, Global};
@@ -60,6 +60,7 @@ impl Moments {
         push_deed(out, account.script(), moment.deed)?;
         if let Some(lane) = account.lane(number) {
             push_lines(self.alloc, out, lane, moment)?;
+            push_gained(out, account.script(), lane, moment)?;
         }
         out.push_str("}\n")
     }
@@ -73,6 +74,40 @@ impl Moments {
             "{{\"tick\":{ticks},\"did\":\"over\",\"moments\":{told}}}"
         )
     }
+}
+
+/// Adds a list of ids.
+fn push_ids(out: &mut String, ids: &[u64]) -> Result<(), AllocError> {
+    out.push_str("[")?;
+    for (n, id) in ids.iter().enumerate() {
+        if n != 0 {
+            out.push_str(",")?;
+        }
+        write!(out, "{id}")?;
+    }
+    out.push_str("]")
+}
+
+/// Adds the keys of what a move leaves in its lane: the source that it attached, what an iteration selected, and how many calls are in
+/// progress.
+fn push_gained(
+    out: &mut String,
+    script: &Script,
+    lane: &LaneState,
+    moment: &Moment,
+) -> Result<(), AllocError> {
+    if let Some(Place { context, id }) = moment.attached(script, lane) {
+        write!(
+            out,
+            ",\"attached\":{{\"context\":{context},\"source\":{id}}}"
+        )?;
+    }
+    if let Some(ids) = moment.selected(script, lane) {
+        out.push_str(",\"selected\":")?;
+        push_ids(out, ids)?;
+    }
+    let depth = lane.calls();
+    write!(out, ",\"depth\":{depth}")
 }
 
 /// Adds the key and the list of what a moment wrote.
