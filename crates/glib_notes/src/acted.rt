@@ -2,7 +2,7 @@
 use crate::asked::{asked, looked_at};
 use crate::cancelled::{Connection, cancelled, connected};
 use crate::difference::Difference;
-use crate::notes::{Kept, Note, Scene, note};
+use crate::notes::{Kept, Note, Scene, add_note};
 use crate::owned::{acquired, given, invoked, released};
 use crate::sources::{attached, changed, child_added, priority_set, ready_set, renamed};
 use crate::stack::{default_used, popped, pushed, task_started};
@@ -46,7 +46,7 @@ fn look(
         Action::SetPriority(slot, _) => priority_set(kept, scene, *slot, found),
         Action::Iterate(context) => looked_at(kept, scene, *context, found),
         Action::Pending(context) => asked(kept, alloc, scene, *context, found),
-        Action::Run(_) if scene.has_missed(Word::Run) => note(
+        Action::Run(_) if scene.has_missed(Word::Run) => add_note(
             scene,
             Difference::AnyThreadAcquires,
             None,

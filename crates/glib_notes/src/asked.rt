@@ -1,6 +1,6 @@
 //! Contexts of which it is asked what is ready: `pending`, and an iteration of a context that is not the thread's.
 use crate::difference::Difference;
-use crate::notes::{Kept, Note, Scene, note};
+use crate::notes::{Kept, Note, Scene, add_note};
 use crate::selected::{Look, look_over};
 use crate::shared::{holder_of, is_free};
 use context_core::Standing;
@@ -34,7 +34,7 @@ pub(crate) fn looked_at(
     found: &mut Vec<Note>,
 ) -> Result<(), AllocError> {
     if is_there_for_all(kept, scene, context)? {
-        return note(scene, Difference::AnyThreadAcquires, Some(context), found);
+        return add_note(scene, Difference::AnyThreadAcquires, Some(context), found);
     }
     Ok(())
 }
@@ -64,7 +64,7 @@ pub(crate) fn asked(
     }
     match inner {
         Some(iteration) if refills(alloc, scene, context, iteration.taken)? => {
-            note(scene, Difference::PendingRefills, Some(context), found)
+            add_note(scene, Difference::PendingRefills, Some(context), found)
         }
         _ => Ok(()),
     }

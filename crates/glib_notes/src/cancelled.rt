@@ -1,7 +1,7 @@
 //! Cancellables that are cancelled, their handlers, and what those do.
 use crate::difference::Difference;
 use crate::kept::{hold, holds};
-use crate::notes::{Kept, Note, Scene, note};
+use crate::notes::{Kept, Note, Scene, add_note};
 use crate::sources::{changed, ready_set};
 use lane_turn::{Event, Named};
 use loop_script::{Action, Body};
@@ -45,7 +45,7 @@ pub(crate) fn cancelled(
     }
     kept.shared.cancel(cancellable);
     if heard {
-        note(scene, Difference::CancelAtOnce, None, found)?;
+        add_note(scene, Difference::CancelAtOnce, None, found)?;
     }
     handlers_called(kept, scene, found)
 }
@@ -57,7 +57,7 @@ pub(crate) fn connected(
     found: &mut Vec<Note>,
 ) -> Result<(), AllocError> {
     if kept.shared.is_news_of(wanted.cancellable, scene.lane) {
-        note(scene, Difference::CancelAtOnce, None, found)?;
+        add_note(scene, Difference::CancelAtOnce, None, found)?;
     }
     match scene.lane.slots().get(wanted.slot as usize) {
         Some(Some(Named::Handler(TOO_LATE))) => handler_called(

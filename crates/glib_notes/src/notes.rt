@@ -73,7 +73,7 @@ impl<'a> Scene<'a> {
 }
 
 /// Adds a note of a context, or of none.
-pub(crate) fn note(
+pub(crate) fn add_note(
     scene: &Scene<'_>,
     difference: Difference,
     context: Option<u32>,

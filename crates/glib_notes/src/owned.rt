@@ -1,6 +1,6 @@
 //! Contexts that are acquired, released and given, and what is invoked in them.
 use crate::difference::Difference;
-use crate::notes::{Kept, Note, Scene, note};
+use crate::notes::{Kept, Note, Scene, add_note};
 use crate::shared::{default_of, is_free, is_owned};
 use crate::stack::reply_of;
 use lane_turn::{Activity, Event, Invoked, LaneState, Origin, Word};
@@ -13,7 +13,7 @@ pub(crate) fn acquired(
     found: &mut Vec<Note>,
 ) -> Result<(), AllocError> {
     if !kept.shared.is_own(context, scene.lane) && is_free(scene.account, context) {
-        return note(scene, Difference::AnyThreadAcquires, Some(context), found);
+        return add_note(scene, Difference::AnyThreadAcquires, Some(context), found);
     }
     Ok(())
 }
@@ -28,7 +28,7 @@ pub(crate) fn released(
         && kept.shared.is_own(context, scene.lane)
         && is_owned(scene.lane, context)
     {
-        return note(scene, Difference::ReleaseAnyGround, Some(context), found);
+        return add_note(scene, Difference::ReleaseAnyGround, Some(context), found);
     }
     Ok(())
 }
@@ -58,12 +58,12 @@ pub(crate) fn invoked(
     match way_of(scene) {
         Some(Invoked::Posted) => {
             if default_of(scene.lane) == context && is_free(scene.account, context) {
-                note(scene, Difference::InvokeTakesDefault, Some(context), found)?;
+                add_note(scene, Difference::InvokeTakesDefault, Some(context), found)?;
             }
             kept.shared.post(context)
         }
         Some(Invoked::Attached) if kept.shared.is_posted(context) => {
-            note(
+            add_note(
                 scene,
                 Difference::InvokeAttachesAtOnce,
                 Some(context),
@@ -71,7 +71,7 @@ pub(crate) fn invoked(
             )
         }
         Some(Invoked::Direct) if has_taken_default(scene.lane) => match reply_of(kept, scene) {
-            Some(_) => note(scene, Difference::TaskCallbackContext, Some(context), found),
+            Some(_) => add_note(scene, Difference::TaskCallbackContext, Some(context), found),
             None => Ok(()),
         },
         _ => Ok(()),

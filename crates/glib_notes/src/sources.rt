@@ -1,6 +1,6 @@
 //! Sources that are made and changed, by an action or by a handler.
 use crate::difference::Difference;
-use crate::notes::{Kept, Note, Scene, note};
+use crate::notes::{Kept, Note, Scene, add_note};
 use crate::shared::holder_of;
 use lane_turn::{LaneState, Named, Place, Word};
 use loop_script::{Kind, SourceSpec};
@@ -16,11 +16,11 @@ fn made(
 ) -> Result<(), AllocError> {
     if let Kind::Cancel(cancellable) = spec.kind {
         if kept.shared.is_news_of(cancellable, scene.lane) {
-            note(scene, Difference::CancelAtOnce, Some(context), found)?;
+            add_note(scene, Difference::CancelAtOnce, Some(context), found)?;
         }
     }
     if kept.shared.is_posted(context) {
-        note(
+        add_note(
             scene,
             Difference::InvokeAttachesAtOnce,
             Some(context),
@@ -38,7 +38,7 @@ pub(crate) fn attached(
     found: &mut Vec<Note>,
 ) -> Result<(), AllocError> {
     if scene.has_missed(Word::Attach) {
-        return note(scene, Difference::AnyThreadAttaches, Some(context), found);
+        return add_note(scene, Difference::AnyThreadAttaches, Some(context), found);
     }
     made(kept, scene, context, spec, found)
 }
@@ -82,7 +82,7 @@ pub(crate) fn changed(
     found: &mut Vec<Note>,
 ) -> Result<(), AllocError> {
     match is_anothers(kept, scene, slot) {
-        Some(place) => note(
+        Some(place) => add_note(
             scene,
             Difference::AnyThreadAttaches,
             Some(place.context),

@@ -1,7 +1,7 @@
 //! The stack of thread-default contexts, which a task's callback has changed for GLib.
 use crate::difference::Difference;
 use crate::kept::{ReplyKept, ThreadKept, hold};
-use crate::notes::{Kept, Note, Scene, note};
+use crate::notes::{Kept, Note, Scene, add_note};
 use crate::shared::{default_of, is_free};
 use lane_turn::Word;
 use std::alloc::AllocError;
@@ -19,7 +19,7 @@ pub(crate) fn default_used(
 ) -> Result<(), AllocError> {
     match reply_of(kept, scene) {
         Some(reply) if default_of(scene.lane) != reply.context => {
-            note(
+            add_note(
                 scene,
                 Difference::TaskCallbackContext,
                 Some(reply.context),
@@ -41,7 +41,7 @@ pub(crate) fn task_started(
             hold(&mut thread.started, cancellable);
         }
         if kept.shared.is_news_of(cancellable, scene.lane) {
-            note(scene, Difference::CancelAtOnce, None, found)?;
+            add_note(scene, Difference::CancelAtOnce, None, found)?;
         }
     }
     default_used(kept, scene, found)
@@ -60,7 +60,7 @@ pub(crate) fn pushed(
         return Ok(());
     }
     if is_free(scene.account, context) {
-        return note(scene, Difference::AnyThreadAcquires, Some(context), found);
+        return add_note(scene, Difference::AnyThreadAcquires, Some(context), found);
     }
     Ok(())
 }
@@ -80,7 +80,7 @@ pub(crate) fn popped(
             depth < reply.base
         };
         if other {
-            note(scene, Difference::TaskCallbackContext, Some(context), found)?;
+            add_note(scene, Difference::TaskCallbackContext, Some(context), found)?;
         }
     }
     let has_pushed = match kept.threads.get(scene.moment.lane as usize) {
@@ -88,7 +88,7 @@ pub(crate) fn popped(
         None => false,
     };
     if missed && depth == 0 && context == 0 && has_pushed {
-        return note(scene, Difference::PopEmptyStack, Some(context), found);
+        return add_note(scene, Difference::PopEmptyStack, Some(context), found);
     }
     Ok(())
 }

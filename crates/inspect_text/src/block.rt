@@ -1,6 +1,6 @@
 //! The sources of a context, each with what an iteration does with it.
-use crate::words::{push_source, push_standing};
 use context_core::Standing;
+use inspect_words::{push_source, push_standing};
 use lane_turn::LaneState;
 use loop_script::Script;
 use source_rows::{Row, Rows};

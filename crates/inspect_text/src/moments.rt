@@ -1,7 +1,6 @@
 //! The moments of a run as JSON, an object a line.
-use crate::action_words::action_word;
-use crate::window::Window;
 use account::{Account, Deed, Moment};
+use inspect_words::{Window, action_word};
 use lane_turn::LaneState;
 use loop_script::{Body, Script};
 use mainctx::{OutOfMemory, add_text};

@@ -1,8 +1,6 @@
 //! The steps of each turn, with the stack after each, as a table.
-use crate::action_words::{push_action, push_list};
-use crate::time::push_tick;
-use crate::window::Window;
 use account::{Account, Deed, Moment};
+use inspect_words::{Window, push_action, push_list, push_tick};
 use lane_turn::{Activity, LaneState, Origin};
 use loop_script::{Body, Script};
 use mainctx::{OutOfMemory, add_text};
