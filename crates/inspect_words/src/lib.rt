@@ -9,6 +9,7 @@ mod span;
 mod time;
 mod window;
 mod words;
+mod written;
 
 pub use action_words::{action_word, push_action, push_cause, push_list};
 pub use begun::{AskedBy, Begun, Caller, begun_by, caller_of};
@@ -17,3 +18,4 @@ pub use span::{Span, push_many};
 pub use time::{push_milliseconds, push_tick, push_ticks, push_time_to_come};
 pub use window::{SourceName, Window};
 pub use words::{push_source, push_standing};
+pub use written::text_of;
