@@ -1,5 +1,6 @@
 //! The arguments.
-use inspect_text::{Point, SourceName, Window};
+use inspect_picture::Point;
+use inspect_words::{SourceName, Window};
 
 /// How many characters a line of a picture has where none are named: those of a usual terminal.
 const USUAL_COLUMNS: u32 = 80;

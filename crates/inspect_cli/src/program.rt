@@ -6,7 +6,7 @@ use crate::help::help_text;
 use crate::progress::Progress;
 use crate::teller::Teller;
 use account::Account;
-use inspect_text::{Point, Reach, Stack};
+use inspect_picture::{Point, Reach, Stack};
 use loop_script::{Script, ScriptFault};
 use mainctx::{MainFault, OverWrite, run_alone};
 use script_report::{Form, check_script, read_input};

@@ -1,12 +1,9 @@
 //! The moments of a run as JSON, an object a line.
-use crate::action_words::action_word;
-use crate::window::Window;
 use account::{Account, Deed, Moment};
+use inspect_words::{Window, action_word, text_of};
 use lane_turn::{LaneState, Place};
 use loop_script::{Body, Script};
-use mainctx::{OutOfMemory, add_text};
 use std::alloc::{AllocError, Global};
-use std::str::from_utf8;
 
 /// The version of the format, which the first line tells.
 const VERSION: u32 = 1;
@@ -117,19 +114,12 @@ fn push_lines(
     lane: &LaneState,
     moment: &Moment,
 ) -> Result<(), AllocError> {
-    let Some(lines) = lane.trace().get(moment.from..moment.to) else {
+    let text = text_of(alloc, lane, moment)?;
+    if text.is_empty() {
         return Ok(());
-    };
-    if lines.is_empty() {
-        return Ok(());
-    }
-    let mut bytes = Vec::new(alloc);
-    if let Err(OutOfMemory) = add_text(&mut bytes, moment.lane, lines) {
-        return Err(AllocError);
     }
     out.push_str(",\"lines\":[")?;
-    let text = from_utf8(bytes.as_slice()).unwrap_or("");
-    for (n, line) in text.lines().skip(1).enumerate() {
+    for (n, line) in text.as_str().lines().enumerate() {
         if n != 0 {
             out.push_str(",")?;
         }

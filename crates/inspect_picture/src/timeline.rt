@@ -1,13 +1,12 @@
 //! A picture of a run in text: what each source, loop, task and cancellable did, with time going right.
-use crate::begun::begun_by;
 use crate::mark::Mark;
 use crate::picture::Picture;
 use crate::row_name::{RowName, Thing};
 use crate::task_times::TaskTimes;
 use crate::track::Track;
-use crate::window::Window;
 use account::{Account, Deed, Moment};
 use context_core::Standing;
+use inspect_words::{Window, begun_by};
 use lane_turn::{Activity, Event, LaneState};
 use loop_script::{Action, Kind, Script};
 use std::alloc::{AllocError, Global};

@@ -1,5 +1,5 @@
 //! Ticks and the columns of a picture.
-use crate::window::Window;
+use inspect_words::Window;
 
 /// Where the columns of a picture stand among the ticks of a run: each has as many ticks, but the last, which may have fewer.
 #[derive(Clone, Copy, Debug, PartialEq, Eq)]

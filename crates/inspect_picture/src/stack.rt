@@ -1,11 +1,7 @@
 //! What a thread is in the middle of at one moment of a turn.
-use crate::action_words::{push_action, push_list};
-use crate::begun::{AskedBy, caller_of};
-use crate::silent::push_halt;
-use crate::span::push_many;
 use crate::steps::{is_step, push_done, push_stack};
-use crate::time::push_tick;
 use account::{Account, Deed, Moment};
+use inspect_words::{AskedBy, caller_of, push_action, push_halt, push_list, push_many, push_tick};
 use lane_turn::{Activity, Call, LaneState, Origin};
 use loop_script::Script;
 use std::alloc::AllocError;

@@ -1,7 +1,7 @@
 //! When tasks start, reply and end.
 use crate::mark::Mark;
 use crate::track::Track;
-use crate::window::Window;
+use inspect_words::Window;
 use std::alloc::{AllocError, Global};
 
 /// When a task did what, by ticks, as far as the run tells it.

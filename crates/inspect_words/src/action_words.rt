@@ -4,7 +4,7 @@ use loop_script::{Action, Body};
 use std::alloc::AllocError;
 
 /// The word of an action, as scripts write it.
-pub(crate) fn action_word(action: &Action) -> &'static str {
+pub fn action_word(action: &Action) -> &'static str {
     match action {
         Action::Attach { .. } => "attach",
         Action::Child { .. } => "child",
@@ -31,7 +31,7 @@ pub(crate) fn action_word(action: &Action) -> &'static str {
 }
 
 /// Adds which list of actions it is.
-pub(crate) fn push_list(out: &mut String, body: Body) -> Result<(), AllocError> {
+pub fn push_list(out: &mut String, body: Body) -> Result<(), AllocError> {
     match body {
         Body::Start(lane) => write!(out, "the start list of thread {lane}"),
         Body::Procedure(proc) => write!(out, "procedure {proc}"),
@@ -40,7 +40,7 @@ pub(crate) fn push_list(out: &mut String, body: Body) -> Result<(), AllocError> 
 }
 
 /// Adds what a moment was, as the cause of something.
-pub(crate) fn push_cause(out: &mut String, moment: &Moment) -> Result<(), AllocError> {
+pub fn push_cause(out: &mut String, moment: &Moment) -> Result<(), AllocError> {
     match moment.deed {
         Deed::Acted { body, place } => {
             write!(out, "action {place} of ")?;
@@ -56,7 +56,7 @@ pub(crate) fn push_cause(out: &mut String, moment: &Moment) -> Result<(), AllocE
 }
 
 /// Adds an action: its word, and the number that stands next to it in the script.
-pub(crate) fn push_action(out: &mut String, action: &Action) -> Result<(), AllocError> {
+pub fn push_action(out: &mut String, action: &Action) -> Result<(), AllocError> {
     out.push_str(action_word(action))?;
     match number_of(action) {
         Some(number) => write!(out, " {number}"),

@@ -62,7 +62,7 @@ fn push_kind(out: &mut String, kind: Kind) -> Result<(), AllocError> {
 }
 
 /// Adds what a source is: its kind and its priority, and of which it is a child.
-pub(crate) fn push_source(out: &mut String, row: &Row) -> Result<(), AllocError> {
+pub fn push_source(out: &mut String, row: &Row) -> Result<(), AllocError> {
     push_kind(out, row.kind)?;
     let priority = row.priority;
     write!(out, ", priority {priority}")?;
@@ -84,7 +84,7 @@ fn push_or_time(out: &mut String, script: &Script, until: Option<u64>) -> Result
 }
 
 /// Adds what an iteration does with a source, and why.
-pub(crate) fn push_standing(
+pub fn push_standing(
     out: &mut String,
     script: &Script,
     id: u64,

@@ -5,7 +5,7 @@ use std::alloc::AllocError;
 
 /// How often something happened, and the ticks of the first and the last time.
 #[derive(Clone, Copy, Debug, PartialEq, Eq)]
-pub(crate) struct Span {
+pub struct Span {
     pub count: u64,
     pub first: u32,
     pub last: u32,
@@ -13,7 +13,7 @@ pub(crate) struct Span {
 
 impl Span {
     /// It has not happened yet.
-    pub(crate) fn none() -> Span {
+    pub fn none() -> Span {
         Span {
             count: 0,
             first: 0,
@@ -22,7 +22,7 @@ impl Span {
     }
 
     /// Counts one more.
-    pub(crate) fn add(&mut self, tick: u32) {
+    pub fn add(&mut self, tick: u32) {
         if self.count == 0 {
             self.first = tick;
         }
@@ -31,18 +31,13 @@ impl Span {
     }
 
     /// Adds the ticks of the first and the last time.
-    pub(crate) fn push_ticks(&self, out: &mut String, script: &Script) -> Result<(), AllocError> {
+    pub fn push_ticks(&self, out: &mut String, script: &Script) -> Result<(), AllocError> {
         push_ticks(out, script, self.first, self.last)
     }
 }
 
 /// Adds a number of things.
-pub(crate) fn push_many(
-    out: &mut String,
-    count: u64,
-    one: &str,
-    many: &str,
-) -> Result<(), AllocError> {
+pub fn push_many(out: &mut String, count: u64, one: &str, many: &str) -> Result<(), AllocError> {
     write!(out, "{count} ")?;
     out.push_str(if count == 1 { one } else { many })
 }

@@ -6,7 +6,7 @@ use std::alloc::AllocError;
 const MILLISECOND: u64 = 1000;
 
 /// Adds a time in microseconds as a number of milliseconds.
-pub(crate) fn push_milliseconds(out: &mut String, us: u64) -> Result<(), AllocError> {
+pub fn push_milliseconds(out: &mut String, us: u64) -> Result<(), AllocError> {
     let whole = us / MILLISECOND;
     let part = us % MILLISECOND;
     write!(out, "{whole}")?;
@@ -25,14 +25,14 @@ pub(crate) fn push_milliseconds(out: &mut String, us: u64) -> Result<(), AllocEr
 }
 
 /// Adds a tick with its time.
-pub(crate) fn push_tick(out: &mut String, script: &Script, tick: u32) -> Result<(), AllocError> {
+pub fn push_tick(out: &mut String, script: &Script, tick: u32) -> Result<(), AllocError> {
     write!(out, "tick {tick} (")?;
     push_milliseconds(out, script.now(tick))?;
     out.push_str(" ms)")
 }
 
 /// Adds the ticks from one to another with their times.
-pub(crate) fn push_ticks(
+pub fn push_ticks(
     out: &mut String,
     script: &Script,
     first: u32,
@@ -60,11 +60,7 @@ fn tick_from(script: &Script, us: u64) -> u64 {
 }
 
 /// Adds a time that is to come, with its tick.
-pub(crate) fn push_time_to_come(
-    out: &mut String,
-    script: &Script,
-    us: u64,
-) -> Result<(), AllocError> {
+pub fn push_time_to_come(out: &mut String, script: &Script, us: u64) -> Result<(), AllocError> {
     let tick = tick_from(script, us);
     write!(out, "{us} us, tick {tick}")?;
     if tick >= u64::from(script.ticks()) {

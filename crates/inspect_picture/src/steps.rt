@@ -1,13 +1,9 @@
 //! The steps of each turn, with the stack after each, as a table.
-use crate::action_words::{push_action, push_list};
-use crate::time::push_tick;
-use crate::window::Window;
 use account::{Account, Deed, Moment};
+use inspect_words::{Window, push_action, push_list, push_tick, text_of};
 use lane_turn::{Activity, LaneState, Origin};
 use loop_script::{Body, Script};
-use mainctx::{OutOfMemory, add_text};
 use std::alloc::{AllocError, Global};
-use std::str::from_utf8;
 
 /// Where the columns of what is done, of the stack and of the text begin.
 const DONE_COLUMN: usize = 8;
@@ -194,19 +190,12 @@ fn push_text(
     lane: &LaneState,
     moment: &Moment,
 ) -> Result<(), AllocError> {
-    let Some(lines) = lane.trace().get(moment.from..moment.to) else {
-        return Ok(());
-    };
-    if lines.is_empty() {
+    let text = text_of(alloc, lane, moment)?;
+    if text.is_empty() {
         return Ok(());
     }
     push_to(row, TEXT_COLUMN)?;
-    let mut bytes = Vec::new(alloc);
-    if let Err(OutOfMemory) = add_text(&mut bytes, moment.lane, lines) {
-        return Err(AllocError);
-    }
-    let text = from_utf8(bytes.as_slice()).unwrap_or("");
-    for (n, line) in text.lines().skip(1).enumerate() {
+    for (n, line) in text.as_str().lines().enumerate() {
         if n != 0 {
             row.push_str("; ")?;
         }

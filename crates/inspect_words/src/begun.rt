@@ -8,7 +8,7 @@ use std::alloc::AllocError;
 
 /// Who asked for an iteration.
 #[derive(Clone, Copy, Debug, PartialEq, Eq)]
-pub(crate) enum AskedBy {
+pub enum AskedBy {
     /// The run of a loop.
     Loop(u32),
     /// An action of a call.
@@ -21,7 +21,7 @@ pub(crate) enum AskedBy {
 
 /// What made a call.
 #[derive(Clone, Copy, Debug, PartialEq, Eq)]
-pub(crate) enum Caller {
+pub enum Caller {
     /// The thread itself, of its start list.
     Start,
     Source(SourceName),
@@ -29,7 +29,7 @@ pub(crate) enum Caller {
 }
 
 /// What made a call of this origin.
-pub(crate) fn caller_of(origin: Origin) -> Caller {
+pub fn caller_of(origin: Origin) -> Caller {
     match origin {
         Origin::Start => Caller::Start,
         Origin::Source(caller) => Caller::Source(SourceName {
@@ -42,7 +42,7 @@ pub(crate) fn caller_of(origin: Origin) -> Caller {
 
 /// An iteration that a moment began.
 #[derive(Clone, Copy, Debug, PartialEq, Eq)]
-pub(crate) struct Begun {
+pub struct Begun {
     pub lane: u32,
     pub context: u32,
     pub asker: AskedBy,
@@ -79,7 +79,7 @@ fn asked_by_action(lane: &LaneState) -> Option<Asked> {
 }
 
 /// The iteration that a moment began, if it did.
-pub(crate) fn begun_by(account: &Account, moment: &Moment) -> Option<Begun> {
+pub fn begun_by(account: &Account, moment: &Moment) -> Option<Begun> {
     let number = moment.lane;
     match moment.deed {
         Deed::Iterated {
@@ -114,7 +114,7 @@ pub(crate) fn begun_by(account: &Account, moment: &Moment) -> Option<Begun> {
 
 impl Begun {
     /// Adds which iteration it is: its thread, who asked for it, and its context.
-    pub(crate) fn push(&self, out: &mut String) -> Result<(), AllocError> {
+    pub fn push(&self, out: &mut String) -> Result<(), AllocError> {
         let lane = self.lane;
         let context = self.context;
         write!(out, ", thread {lane}: ")?;
@@ -125,7 +125,7 @@ impl Begun {
 
 impl AskedBy {
     /// Adds who asked.
-    pub(crate) fn push(self, out: &mut String) -> Result<(), AllocError> {
+    pub fn push(self, out: &mut String) -> Result<(), AllocError> {
         match self {
             AskedBy::Loop(number) => write!(out, "loop {number}"),
             AskedBy::Action {
