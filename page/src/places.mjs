@@ -10,8 +10,7 @@ export class Places {
     width = 0;
     /** The ticks in their order: {first, last, x, width, isFolded}, where folded ones are one. */
     columns = [];
-    /** Whether quiet ticks are folded. */
-    folds = true;
+    #folds = true;
     #slot = [];
     #x = [];
     #turns = [];
@@ -40,13 +39,14 @@ export class Places {
         if (!isQuiet || moments.lines[place]) this.#loud[tick] = true;
     }
 
-    /** Puts the ticks side by side, as far as they are known. */
-    settle() {
+    /** Puts the ticks side by side, as far as they are known, quiet ones folded or not. */
+    settle(folds) {
+        this.#folds = folds;
         const { moments } = this, known = moments.isOver ? moments.ticks : this.#now.tick + 1;
         this.columns = [];
         let x = 0;
         for (let tick = 0; tick < known; tick++) {
-            const last = this.columns.at(-1), isFolded = this.folds ? !this.#loud[tick] : this.#turns[tick] === undefined;
+            const last = this.columns.at(-1), isFolded = folds ? !this.#loud[tick] : this.#turns[tick] === undefined;
             if (isFolded && last?.isFolded) {
                 last.last = tick;
             } else {
@@ -63,7 +63,7 @@ export class Places {
     /** The unit at which a moment stands. */
     of(place) {
         const tick = this.moments.tick.at(place), slot = this.#slot[place], x = this.#x[tick];
-        if (this.folds && !this.#loud[tick]) return x;
+        if (this.#folds && !this.#loud[tick]) return x;
         return slot < 0 ? x + this.#turns[tick] - 1 - slot : x + slot;
     }
 

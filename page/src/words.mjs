@@ -1,4 +1,4 @@
-// Moments, stacks and times in words.
+// Moments, stacks and times in words, and moments found by them.
 import { CALL, ITERATION } from "./frames.mjs";
 import { DID, NOTHING, START } from "./moments.mjs";
 
@@ -10,6 +10,12 @@ const US_IN_MS = 1000;
 /** A tick's time, in milliseconds. */
 export function timeOf(moments, tick) {
     return `${Number(((tick * moments.tickUs) / US_IN_MS).toFixed(3))} ms`;
+}
+
+/** When a moment is, and in which thread. */
+export function when(moments, place) {
+    const tick = moments.tick.at(place);
+    return `tick ${tick}, ${timeOf(moments, tick)}, thread ${moments.lane.at(place)}`;
 }
 
 /** The name of a list of actions. */
@@ -63,7 +69,18 @@ export function stackWords(frames, place, isShort = false) {
 
 /** A moment in one sentence, for a reader of the screen. */
 export function sentence(frames, place) {
-    const { moments } = frames, tick = moments.tick.at(place), lines = moments.lines[place] ?? [];
-    const written = lines.length ? `; writes ${lines.join("; ")}` : "";
-    return `tick ${tick}, ${timeOf(moments, tick)}, thread ${moments.lane.at(place)}: ${done(frames, place)}; in progress: ${stackWords(frames, place)}${written}`;
+    const lines = frames.moments.lines[place], written = lines ? `; writes ${lines.join("; ")}` : "";
+    return `${when(frames.moments, place)}: ${done(frames, place)}; in progress: ${stackWords(frames, place)}${written}`;
+}
+
+/** The next moment from one on, forwards or back, of which the words tell, or null; round the end of the run. */
+export function found({ moments, frames }, words, from, step) {
+    const wanted = words.trim().toLowerCase(), { count } = moments;
+    if (!wanted) return null;
+    for (let n = 1; n <= count; n++) {
+        const place = (from + n * step + count * 2) % count;
+        const told = `${moments.lines[place]?.join("\n") ?? ""}\n${done(frames, place)}`;
+        if (told.toLowerCase().includes(wanted)) return place;
+    }
+    return null;
 }
