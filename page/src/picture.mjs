@@ -244,11 +244,12 @@ export class Picture {
         const { places } = this.model, { marks } = row, isWritten = this.zoom >= SIGN_FROM;
         let free = -Infinity;
         for (const { from, glyph } of this.#seen(marks, (it) => places.of(marks[it].from) >= seen.left - 4, seen.right)) {
-            const x = this.pixel(places.of(from));
+            const x = this.pixel(places.of(from)), wide = isWritten ? this.paper.measureText(glyph).width : 1;
             if (x < free) continue;
-            if (isWritten) this.#write("mark", glyph, x + 2, y + HIGH / 2);
-            else this.#fill("mark", x, y + 6, 1, HIGH - 12);
-            free = x + (isWritten ? this.paper.measureText(glyph).width : 1);
+            if (isWritten) this.#fill(row.isContext ? "band" : "back", x, y + 6, wide + 2, HIGH - 12);
+            if (isWritten) this.#write("mark", glyph, x + 1, y + HIGH / 2);
+            else this.#fill("mark", x, y + 6, wide, HIGH - 12);
+            free = x + wide;
         }
     }
 
