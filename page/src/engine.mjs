@@ -6,13 +6,12 @@ import { open } from "../../bindings/web/remote.mjs";
 export const MOST_MOMENTS = 1_000_000;
 
 const FIRST_MOMENTS = 8_192;
-const SCRIPT = "text/javascript";
 const OVER = '"did":"over"'; // of the last line
 
 /** Loads the module of these bytes; `worker` is the text of the worker. */
 export async function begun(bytes, worker) {
     try {
-        return await open(bytes, URL.createObjectURL(new Blob([worker], { type: SCRIPT })));
+        return await open(bytes, URL.createObjectURL(new Blob([worker], { type: "text/javascript" })));
     } catch {
         return Object.assign(await load(bytes), { abort() {} });
     }

@@ -39,7 +39,7 @@ export class Frames {
                 return;
             case DID.iterated:
                 if (top?.kind === LOOP) top.of = at;
-                return this.#push(place, lane, { kind: ITERATION, of, items: [], loop: at });
+                return this.#iterate(place, lane, of, at);
             case DID.returned:
             case DID.iteration_ended:
             case DID.loop_ended:
@@ -54,9 +54,16 @@ export class Frames {
         if (says("halt")) return;
         const action = moments.action[place];
         if (action === "run" && !says("miss")) this.#push(place, lane, { kind: LOOP, of: first ?? -1 });
-        else if (action === "iterate" && !says("iterate")) this.#push(place, lane, { kind: ITERATION, of: first ?? -1, items: [], loop: -1 });
+        else if (action === "iterate" && !says("iterate")) this.#iterate(place, lane, first ?? -1, -1);
         else if (action === "invoke" && told.some((words) => words[3] === "direct")) this.#push(place, lane, { kind: CALL, of: second ?? -1 });
         else if (action === "task") this.rows.started(place, lane);
+        else if (moments.attached[place]) this.rows.attached(place, lane, moments.attached[place]);
+    }
+
+    /** An iteration begins: what older ones of its context have left is dropped. */
+    #iterate(place, lane, of, loop) {
+        for (let older = this.#top[lane]; older; older = older.below) if (older.kind === ITERATION && older.of === of) older.dropped = Math.min(older.dropped, place);
+        this.#push(place, lane, { kind: ITERATION, of, loop, items: [], selected: this.moments.selected[place], dropped: Infinity });
     }
 
     /** The action of a moment as the script has it. */

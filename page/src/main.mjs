@@ -123,11 +123,8 @@ async function ask(call, model, ...words) {
     if (model !== shown.model) throw new MainctxError("aborted");
     if (call === "why" && shown.asks) engine.abort();
     shown.asks++;
-    try {
-        return (await engine[call](model.script, ...words)).text;
-    } finally {
-        shown.asks--;
-    }
+    const { text: answer } = await engine[call](model.script, ...words).finally(() => shown.asks--);
+    return answer;
 }
 
 /** Says what a run came to, and what is left out of it. */

@@ -6,6 +6,7 @@ export const DID = Object.freeze(Object.fromEntries(WORDS.map((word, number) => 
 
 /** The lists of actions that are no procedure. */
 export const START = -1, NOTHING = -2;
+const LISTS = { start: START, nothing: NOTHING };
 
 export class Moments {
     count = 0;
@@ -25,6 +26,9 @@ export class Moments {
     action = [];
     /** The lines that a moment writes, where it writes some. */
     lines = [];
+    /** The context and the source that a moment attaches, and the ids that an iteration selects which it begins, where the account tells them. */
+    attached = [];
+    selected = [];
 
     /** Reads a line of the account: its first one, a move, or its last one. */
     read(line) {
@@ -35,16 +39,11 @@ export class Moments {
         this.tick[place] = told.tick;
         this.lane[place] = told.lane;
         this.did[place] = DID[told.did] ?? DID.other;
-        this.of[place] = told.list ? listOf(told) : told.context ?? -1;
+        this.of[place] = told.procedure ?? LISTS[told.list] ?? told.context ?? -1;
         this.at[place] = told.place ?? told.source ?? told.loop ?? told.from ?? told.sender ?? -1;
         if (told.action) this.action[place] = told.action;
-        if (told.lines) this.lines[place] = told.lines;
+        for (const key of ["lines", "attached", "selected"]) if (told[key]) this[key][place] = told[key];
     }
-}
-
-function listOf(told) {
-    if (told.list === "procedure") return told.procedure;
-    return told.list === "start" ? START : NOTHING;
 }
 
 /** The words of a line behind its tick. */

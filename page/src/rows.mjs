@@ -55,6 +55,11 @@ export class Rows {
         row.marks.push({ from: place, glyph: "s" });
     }
 
+    /** Takes a source that the thread itself attached. */
+    attached(place, lane, { context, source }) {
+        this.row(lane, ROW.source, context, source).marks.push({ from: place, glyph: "+" });
+    }
+
     #begun(span, row) {
         span.row = row;
         row.spans.push(span);

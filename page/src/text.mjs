@@ -31,12 +31,6 @@ export class Text {
         this.draw();
     }
 
-    /** The moment that wrote a line. */
-    placeOf(number) {
-        const lane = this.heads.findLastIndex((head) => head <= number);
-        return this.model.writers[lane]?.[number - this.heads[lane] - 1];
-    }
-
     draw() {
         if (!this.lines) return;
         const first = Math.max(0, Math.floor(this.box.scrollTop / LINE) - BEYOND), count = Math.ceil(this.box.clientHeight / LINE) + 2 * BEYOND;
@@ -47,8 +41,10 @@ export class Text {
         this.list.replaceChildren(...items);
     }
 
+    /** A line, with the moment that wrote it. */
     #item(number) {
-        const place = this.placeOf(number), item = element("li", this.lines[number], place);
+        const lane = this.heads.findLastIndex((head) => head <= number), place = this.model.writers[lane]?.[number - this.heads[lane] - 1];
+        const item = element("li", this.lines[number], place);
         if (place === this.#current) item.setAttribute("aria-current", "true");
         return item;
     }

@@ -1,5 +1,5 @@
 // Moments, stacks and times in words, and moments found by them.
-import { CALL, ITERATION } from "./frames.mjs";
+import { CALL, LOOP } from "./frames.mjs";
 import { DID, NOTHING, START } from "./moments.mjs";
 
 const SHOWN_IDS = 12;
@@ -48,16 +48,19 @@ function actionWords(action) {
     return words.length > SHOWN_WORDS ? `${words.slice(0, SHOWN_WORDS)}…` : words;
 }
 
-/** A frame as docs/STEP.md draws it. Of an iteration those ids are told that it still comes to after the moment. */
+/** A frame as docs/STEP.md draws it. */
 export function frameWords(frames, frame, place) {
     const { moments } = frames;
-    if (frame.kind === CALL) {
-        if (frame.of === START) return "start";
-        return frame.of === undefined || frame.of === NOTHING ? "call" : `call ${frame.of}`;
-    }
-    if (frame.kind !== ITERATION) return `loop ${frame.of}`;
-    const ids = frame.items.filter((item) => item > place).map((item) => moments.at.at(item));
+    if (frame.kind === LOOP) return `loop ${frame.of}`;
+    if (frame.kind === CALL) return frame.of === START ? "start" : frame.of >= 0 ? `call ${frame.of}` : "call";
+    const ids = idsLeft(moments, frame, place);
     return `iter [${ids.slice(0, SHOWN_IDS).join(" ")}${ids.length > SHOWN_IDS ? " …" : ""}]`;
+}
+
+/** The ids that an iteration has left after a moment; where the account does not tell what it selected, those that it still comes to. */
+function idsLeft(moments, { items, selected, dropped }, place) {
+    if (!selected) return items.filter((item) => item > place).map((item) => moments.at.at(item));
+    return place < dropped ? selected.slice(items.filter((item) => item <= place).length) : [];
 }
 
 /** What is in progress after a moment, the outermost first; of a deep stack only the ends where it is to be short. */
