@@ -62,7 +62,9 @@ export class Frames {
 
     /** An iteration begins: what older ones of its context have left is dropped. */
     #iterate(place, lane, of, loop) {
-        for (let older = this.#top[lane]; older; older = older.below) if (older.kind === ITERATION && older.of === of) older.dropped = Math.min(older.dropped, place);
+        for (let older = this.#top[lane]; older; older = older.below) {
+            if (older.kind === ITERATION && older.of === of) older.dropped = Math.min(older.dropped, place);
+        }
         this.#push(place, lane, { kind: ITERATION, of, loop, items: [], selected: this.moments.selected[place], dropped: Infinity });
     }
 

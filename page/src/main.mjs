@@ -26,7 +26,7 @@ const examples = JSON.parse(given("examples"));
 const pick = (place) => go(place, true);
 const picture = new Picture(part("picture"), pick), steps = new Steps(part("steps")), text = new Text(part("text"));
 const detail = new Detail(part("detail"), new Why(ask));
-const editor = new Editor({ area: part("script"), back: part("back"), numbers: part("numbers"), list: part("faults") }, () => later());
+const editor = new Editor({ area: part("script"), back: part("back"), numbers: part("numbers"), list: part("faults") }, later);
 const engine = await begun(await inflated(bytesOf(given("module"))), part("worker").textContent);
 
 /** What is shown, for whoever tries the page: the job that is the latest, and what it came to. */

@@ -76,8 +76,7 @@ export class Picture {
     /** Makes the whole run as wide as the box. */
     fit() {
         const room = this.box.clientWidth - this.labels - NARROW_LABELS / 2;
-        this.zoom = Math.max(LEAST_ZOOM, Math.min(MOST_ZOOM, room / Math.max(this.model.places.width, 1)));
-        this.#resized();
+        this.zoomBy(room / Math.max(this.model.places.width, 1) / this.zoom, this.labels);
     }
 
     unitAt(pixel) {
@@ -87,15 +86,11 @@ export class Picture {
     /** Marks a moment, and scrolls to where it is seen. */
     go(place) {
         this.current = place;
-        if (place !== null) this.#scrollTo(place);
-        this.draw();
-    }
-
-    #scrollTo(place) {
         const { box, model } = this, x = model.places.of(place) * this.zoom, room = box.clientWidth - this.labels;
         if (x < box.scrollLeft || x + this.zoom > box.scrollLeft + room) box.scrollLeft = x - room / 3;
         const y = this.rowOf(place).place * HIGH, high = box.clientHeight - AXIS;
         if (y < box.scrollTop || y + HIGH > box.scrollTop + high) box.scrollTop = y - high / 3;
+        this.draw();
     }
 
     /** The row in which a moment is marked: that of the innermost frame, or of its thread. */
@@ -198,7 +193,8 @@ export class Picture {
             if (column.isFolded) this.#fill("fold", x, AXIS, wide, height);
             if (wide >= FRAMED_FROM || x > free) this.#fill("line", Math.round(x), AXIS - 6, 1, height);
             if (x < free) continue;
-            const name = `${column.first}${column.first === column.last ? "" : `–${column.last}`}${column.isFolded ? " ⋯" : ""}`, time = timeOf(moments, column.first);
+            const ticks = column.first === column.last ? column.first : `${column.first}–${column.last}`, time = timeOf(moments, column.first);
+            const name = column.isFolded ? `${ticks} ⋯` : `${ticks}`;
             this.#write(column.isFolded ? "soft" : "ink", name, x + PAD, TICK_LINE);
             this.#write("soft", time, x + PAD, TIME_LINE);
             free = x + Math.max(...[name, time].map((words) => this.paper.measureText(words).width)) + APART;

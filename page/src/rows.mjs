@@ -10,9 +10,9 @@ const NAMES = [
 
 /** The row and the sign of each line that is no dispatch. */
 const SIGNS = new Map([
-    ["log", [ROW.log, "•"]], ["miss", [ROW.log, "×"]], ["cancel", [ROW.cancel, "C"]], ["handler", [ROW.cancel, "h"]], ["task", [ROW.task, "T"]], ["end", [ROW.thread, "end"]],
-    ["halt", [ROW.thread, "HALT"]], ["give", [ROW.context, "→"]], ["hold", [ROW.context, "⇥"]], ["arrive", [ROW.source, "▾"]], ["invoke", [ROW.calls, "i"]], ["acquire", [ROW.context, "a"]],
-    ["pending", [ROW.context, "?"]], ["default", [ROW.context, "d"]],
+    ["log", [ROW.log, "•"]], ["miss", [ROW.log, "×"]], ["cancel", [ROW.cancel, "C"]], ["handler", [ROW.cancel, "h"]], ["task", [ROW.task, "T"]],
+    ["end", [ROW.thread, "end"]], ["halt", [ROW.thread, "HALT"]], ["give", [ROW.context, "→"]], ["hold", [ROW.context, "⇥"]], ["arrive", [ROW.source, "▾"]],
+    ["invoke", [ROW.calls, "i"]], ["acquire", [ROW.context, "a"]], ["pending", [ROW.context, "?"]], ["default", [ROW.context, "d"]],
 ]);
 
 export class Rows {
