@@ -84,8 +84,9 @@ abbrev pub bits_in : ℕ → List ℕ → Option ℕ
 bits_in zero s = None
 bits_in (suc n) s = if has_bar s then both (bit (before_first is_bar s)) (bits_in n (after_first is_bar s)) else bit s
 
+-- an empty text asks for none
 abbrev pub bits : List ℕ → Option ℕ
-bits s = bits_in 32 s
+bits s = if length s == 0 then Some 0 else bits_in 32 s
 
 -- ---- words
 
