@@ -1,5 +1,5 @@
 -- What is added one after the other.
-use Rattle.std.proofs.Common.{◌≡◌, ◌∙◌, sym, ℕ, suc, ◌+◌, ◌<◌, List, [], ◌∷◌, ◌++◌, drop, slice_index_or, Bool, true, false, refl, ap, ◌||◌, ◌&&◌, not, nat_lt, length, if◌then◌else◌}
+use Rattle.std.proofs.Common.{◌≡◌, ◌∙◌, sym, ℕ, suc, ◌+◌, ◌<◌, List, [], ◌∷◌, ◌++◌, drop, slice_index_or, refl, ap, ◌||◌, ◌&&◌, not, nat_lt, length, if◌then◌else◌}
 use Rattle.std.proofs.lemmas.List.{at_drop_more, length-append}
 use Rattle.std.specs.Borrow.{Bor}
 use Rattle.std.specs.List.{list_any}

@@ -16,7 +16,7 @@ pub(crate) fn bits(text: &str) -> Option<u64>
     bits_in(MOST, text)
 }
 
-#[tactic(auto, using(crate::proofs::Words::bits_none, crate::proofs::Words::bits_step))]
+#[tactic(auto, using(crate::proofs::BitWords::bits_none, crate::proofs::BitWords::bits_step))]
 fn bits_in(most: u32, text: &str) -> Option<u64>
     ensures { result ≡ bits_in most text.now }
 {

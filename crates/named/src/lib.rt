@@ -17,8 +17,10 @@ mod translation;
 mod word;
 
 pub use fault::{Cause, Fault};
-pub use piece::Step;
+pub use names::{Names, most};
+pub use piece::{Step, chosen};
 pub use place::{Numbered, origin};
 pub use sort::{Choice, Kind, Leaf, Object, Sort};
-pub use translation::{Translation, is_named, translate};
+pub use table::{beside, keys, words};
+pub use translation::{Translation, is_named, translate, translate_bytes};
 pub use word::Word;

@@ -11,9 +11,9 @@ use crate::word::Word;
 use json::Value;
 use std::alloc::{AllocError, Global};
 
-/// The names of each kind; the number of a name is its place among those of its kind.
+/// The names of a script by kind; the number of a name is its place among those of its kind.
 #[derive(Drop)]
-pub(crate) struct Names<'a> {
+pub struct Names<'a> {
     pub threads: Vec<&'a str>,
     pub contexts: Vec<&'a str>,
     pub loops: Vec<&'a str>,
@@ -30,9 +30,10 @@ const NAMING: [Word; 3] = [Word::Attach, Word::Child, Word::Connect];
 const LOGGING: [Word; 1] = [Word::Log];
 
 impl<'a> Names<'a> {
-    /// The names of a script.
+    /// The names of a script, each once in the order in which it is given, as far as there are numbers. `AllocError` comes only where a
+    /// request for memory was refused.
     #[tactic(auto, using(crate::proofs::Adding::added_behind))]
-    pub(crate) fn of(alloc: Global, script: &Value<'a>) -> Result<Names<'a>, AllocError>
+    pub fn of(alloc: Global, script: &Value<'a>) -> Result<Names<'a>, AllocError>
         ensures { IfOk result (λ names. names_of names ≡ names_in (value_view script.now)) }
     {
         let threads = script.get(Word::Threads.text());
@@ -54,7 +55,7 @@ impl<'a> Names<'a> {
     }
 
     /// Those of a kind.
-    pub(crate) fn of_kind(&self, kind: Kind) -> &[&'a str]
+    pub fn of_kind(&self, kind: Kind) -> &[&'a str]
         ensures { texts result.now ≡ of_kind kind (names_of self.now) }
     {
         match kind {
@@ -87,7 +88,7 @@ impl<'a> Names<'a> {
     }
 
     /// The number of a name.
-    pub(crate) fn number(&self, kind: Kind, name: &str) -> Option<usize>
+    pub fn number(&self, kind: Kind, name: &str) -> Option<usize>
         ensures { result ≡ number_of name.now (of_kind kind (names_of self.now)) }
     {
         number_among(self.of_kind(kind), name)
@@ -177,7 +178,7 @@ fn number_among(names: &[&str], name: &str) -> Option<usize>
 }
 
 /// How many of a kind have a number.
-pub(crate) fn most(kind: Kind) -> usize
+pub fn most(kind: Kind) -> usize
     ensures { result ≡ most kind }
 {
     match kind {

@@ -71,7 +71,7 @@ impl At {
 }
 
 /// The word that chooses: in a tree the first item is one, elsewhere one alone stands as a key.
-pub(crate) fn chosen(choice: Choice, value: &Value<'_>) -> Option<Word>
+pub fn chosen(choice: Choice, value: &Value<'_>) -> Option<Word>
     ensures { result ≡ chosen choice (value_view value.now) }
 {
     match choice {

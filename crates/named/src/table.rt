@@ -86,7 +86,7 @@ const TREES: [Word; 8] = [
 ];
 
 /// The words of a choice.
-pub(crate) fn words(choice: Choice) -> &'static [Word]
+pub fn words(choice: Choice) -> &'static [Word]
     ensures { result.now ≡ words choice }
 {
     match choice {
@@ -164,7 +164,7 @@ fn parts_of_tree(word: Word) -> &'static [Part]
 }
 
 /// The keys that may stand in the object of an action, or of a kind of source, beside those of its kind where it makes a source.
-pub(crate) fn beside(word: Word) -> &'static [Word]
+pub fn beside(word: Word) -> &'static [Word]
     ensures { result.now ≡ beside word }
 {
     match word {
@@ -381,7 +381,7 @@ pub(crate) fn fields(object: Object) -> &'static [Field]
 }
 
 /// The keys that may stand in an object; of what an action makes, they are those of the action.
-pub(crate) fn keys(object: Object) -> &'static [Word]
+pub fn keys(object: Object) -> &'static [Word]
     ensures { result.now ≡ keys object }
 {
     match object {

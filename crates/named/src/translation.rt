@@ -1,14 +1,14 @@
 //! A script with names, translated.
-ghost use Rattle.std.specs.Prelude.{◌≡◌, IfOk};
+ghost use Rattle.std.specs.Prelude.{◌≡◌, IfOk, IfSome};
 ghost use Rattle.json.specs.Value.{value_view};
-ghost use Rattle.named.specs.Answer.{Translates, is_named};
+ghost use Rattle.named.specs.Answer.{StandsFor, Translates, is_named};
 
 use crate::check::script_faults;
 use crate::fault::Fault;
 use crate::names::Names;
 use crate::numbered::numbered_text;
 use crate::word::Word;
-use json::Value;
+use json::{Error, Scratch, Value};
 use std::alloc::{AllocError, Global};
 
 /// What a script with names comes to.
@@ -44,4 +44,25 @@ pub fn translate<'a>(
         return Ok(Translation::Faults(faults));
     }
     Ok(Translation::Script(numbered_text(alloc, &names, script)?))
+}
+
+/// The script of numbers that bytes stand for which are a script with names without a fault. None where they are no JSON, or do not say
+/// that they are a script with names, or have a fault. `AllocError` comes only where a request for
+/// memory was refused.
+pub fn translate_bytes(alloc: Global, bytes: &[u8]) -> Result<Option<Vec<u8>>, AllocError>
+    ensures { IfOk result (λ script. IfSome script (λ numbered. StandsFor bytes.now numbered.items)) }
+{
+    let mut scratch = Scratch::new(alloc);
+    let script = match Value::from_slice(alloc, bytes, &mut scratch) {
+        Ok(script) => script,
+        Err(Error::OutOfMemory) => return Err(AllocError),
+        Err(_) => return Ok(None),
+    };
+    if !is_named(&script) {
+        return Ok(None);
+    }
+    match translate(alloc, &script)? {
+        Translation::Script(numbered) => Ok(Some(numbered)),
+        Translation::Faults(_) => Ok(None),
+    }
 }

@@ -1,8 +1,8 @@
-use Rattle.std.proofs.Common.{◌≡◌, ◌+◌, ◌∙◌, ap, length, drop, arith}
+use Rattle.std.proofs.Common.{◌≡◌, ◌∙◌, ap, length, arith}
 use Rattle.std.proofs.lemmas.Bool.Decides.{nat_tests}
 use Rattle.json.specs.Find.{get}
-use Rattle.json.specs.Value.{value_view, members_view}
-use Rattle.named.specs.Names.{contexts_of, contexts_or, under}
+use Rattle.json.specs.Value.{value_view}
+use Rattle.named.specs.Names.{contexts_or, under}
 use Rattle.named.specs.declared.word.Word.TheVariants as word
 use Rattle.named.proofs.Adding.{contexts_next}
 use Rattle.named.proofs.names.have_contexts_together.Goals as goal

@@ -1,5 +1,5 @@
 -- The bits of words with bars between them.
-use Rattle.std.proofs.Common.{◌≡◌, ◌-◌, ℕ, zero, suc, List, Bool, true, false, Option, None, refl, ap, arith, if◌then◌else◌}
+use Rattle.std.proofs.Common.{◌≡◌, ◌-◌, ℕ, zero, suc, List, None, refl, ap, arith, if◌then◌else◌}
 use Rattle.std.specs.List.{before_first, after_first}
 use Rattle.named.specs.Leaf.{bit, bits_in, both, has_bar, is_bar}
 
