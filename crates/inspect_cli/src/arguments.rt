@@ -21,6 +21,8 @@ pub(crate) enum Command {
     Stack,
     Timeline,
     Notes,
+    /// The script of numbers.
+    Translate,
 }
 
 impl Command {
@@ -28,7 +30,8 @@ impl Command {
     fn takes_ticks(self) -> bool {
         match self {
             Command::Why | Command::Account | Command::Steps | Command::Timeline => true,
-            Command::Text | Command::Summary | Command::Stack | Command::Notes => false,
+            Command::Text | Command::Summary | Command::Stack => false,
+            Command::Notes | Command::Translate => false,
         }
     }
 
@@ -41,7 +44,8 @@ impl Command {
     fn takes_most_lines(self) -> bool {
         match self {
             Command::Text | Command::Why | Command::Account | Command::Steps => true,
-            Command::Summary | Command::Stack | Command::Timeline | Command::Notes => false,
+            Command::Summary | Command::Stack | Command::Timeline => false,
+            Command::Notes | Command::Translate => false,
         }
     }
 }
@@ -102,6 +106,7 @@ fn command_of(word: &str) -> Option<Command> {
         "stack" => Some(Command::Stack),
         "timeline" => Some(Command::Timeline),
         "notes" => Some(Command::Notes),
+        "translate" => Some(Command::Translate),
         _ => None,
     }
 }

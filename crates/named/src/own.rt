@@ -95,16 +95,16 @@ fn push_of_word(
 }
 
 /// A list should have so many items.
-fn push_of_size(
-    size: usize,
-    value: &Value<'_>,
-    causes: &mut Vec<Cause>,
-) -> Result<(), AllocError>
+fn push_of_size(size: usize, value: &Value<'_>, causes: &mut Vec<Cause>) -> Result<(), AllocError>
     ensures { OnOk result (causes.new.items ≡ causes.old.items ++ of_size size (as_array (value_view value.now))) }
 {
     match value {
         Value::Array(items) => {
-            push_where(!has_size(items.as_slice(), size), Cause::OtherLength, causes)
+            push_where(
+                !has_size(items.as_slice(), size),
+                Cause::OtherLength,
+                causes,
+            )
         }
         _ => push_where(true, Cause::OtherLength, causes),
     }
@@ -127,11 +127,7 @@ fn push_lack(at: At, is_absent: bool, causes: &mut Vec<Cause>) -> Result<(), All
     }
 }
 
-fn push_lacks(
-    parts: &[Part],
-    value: &Value<'_>,
-    causes: &mut Vec<Cause>,
-) -> Result<(), AllocError>
+fn push_lacks(parts: &[Part], value: &Value<'_>, causes: &mut Vec<Cause>) -> Result<(), AllocError>
     ensures { OnOk result (causes.new.items ≡ causes.old.items ++ lacks parts.now (value_view value.now)) }
 {
     for part in parts {

@@ -195,10 +195,7 @@ fn part_piece<'v, 'a>(part: &Part, value: Option<&'v Value<'a>>) -> Piece<'v, 'a
     }
 }
 
-fn push_pair<'v, 'a>(
-    value: &'v Value<'a>,
-    found: &mut Vec<Piece<'v, 'a>>,
-) -> Result<(), AllocError>
+fn push_pair<'v, 'a>(value: &'v Value<'a>, found: &mut Vec<Piece<'v, 'a>>) -> Result<(), AllocError>
     ensures { OnOk result (map piece_view found.new.items ≡ map piece_view found.old.items ++ in_list (part_pieces pair (value_view value.now))) }
 {
     found.push(Piece::BeginArray)?;

@@ -111,27 +111,150 @@ fn parts_of_action(word: Word) -> &'static [Part]
     ensures { result.now ≡ parts_of_action word }
 {
     match word {
-        Word::Attach => &[Part { at: At::Key(Word::To), sort: Sort::Leaf(Leaf::Name(Kind::Context)) }, Part { at: At::Key(Word::Attach), sort: Sort::Leaf(Leaf::Name(Kind::Slot)) }, Part { at: At::Same, sort: Sort::An(Object::Source) }],
-        Word::Child => &[Part { at: At::Key(Word::Below), sort: Sort::Leaf(Leaf::Name(Kind::Slot)) }, Part { at: At::Key(Word::Child), sort: Sort::Leaf(Leaf::Name(Kind::Slot)) }, Part { at: At::Same, sort: Sort::An(Object::Child) }],
-        Word::Destroy => &[Part { at: At::Key(Word::Destroy), sort: Sort::Leaf(Leaf::Name(Kind::Slot)) }],
-        Word::SetReady => &[Part { at: At::Key(Word::SetReady), sort: Sort::Leaf(Leaf::Name(Kind::Slot)) }, Part { at: At::Key(Word::To), sort: Sort::Leaf(Leaf::ReadyTime) }],
-        Word::SetPriority => &[Part { at: At::Key(Word::SetPriority), sort: Sort::Leaf(Leaf::Name(Kind::Slot)) }, Part { at: At::Key(Word::To), sort: Sort::Leaf(Leaf::Priority) }],
-        Word::Iterate => &[Part { at: At::Key(Word::Iterate), sort: Sort::Leaf(Leaf::Name(Kind::Context)) }],
-        Word::Pending => &[Part { at: At::Key(Word::Pending), sort: Sort::Leaf(Leaf::Name(Kind::Context)) }],
-        Word::Run => &[Part { at: At::Key(Word::Run), sort: Sort::Leaf(Leaf::Name(Kind::Loop)) }],
-        Word::Quit => &[Part { at: At::Key(Word::Quit), sort: Sort::Leaf(Leaf::Name(Kind::Loop)) }],
-        Word::Cancel => &[Part { at: At::Key(Word::Cancel), sort: Sort::Leaf(Leaf::Name(Kind::Cancellable)) }],
-        Word::Connect => &[Part { at: At::Key(Word::To), sort: Sort::Leaf(Leaf::Name(Kind::Cancellable)) }, Part { at: At::Key(Word::Connect), sort: Sort::Leaf(Leaf::Name(Kind::Slot)) }, Part { at: At::Key(Word::Call), sort: Sort::Leaf(Leaf::Name(Kind::Procedure)) }],
-        Word::Disconnect => &[Part { at: At::Key(Word::Disconnect), sort: Sort::Leaf(Leaf::Name(Kind::Slot)) }],
-        Word::Task => &[Part { at: At::Key(Word::Task), sort: Sort::Leaf(Leaf::Label) }, Part { at: At::Same, sort: Sort::An(Object::Task) }],
-        Word::Push => &[Part { at: At::Key(Word::Push), sort: Sort::Leaf(Leaf::Name(Kind::Context)) }],
-        Word::Pop => &[Part { at: At::Key(Word::Pop), sort: Sort::Leaf(Leaf::Name(Kind::Context)) }],
-        Word::ShowDefault => &[Part { at: At::Key(Word::ShowDefault), sort: Sort::Leaf(Leaf::True) }],
-        Word::Acquire => &[Part { at: At::Key(Word::Acquire), sort: Sort::Leaf(Leaf::Name(Kind::Context)) }],
-        Word::Release => &[Part { at: At::Key(Word::Release), sort: Sort::Leaf(Leaf::Name(Kind::Context)) }],
-        Word::Invoke => &[Part { at: At::Key(Word::In), sort: Sort::Leaf(Leaf::Name(Kind::Context)) }, Part { at: At::Key(Word::Invoke), sort: Sort::Leaf(Leaf::Name(Kind::Procedure)) }],
-        Word::Give => &[Part { at: At::Key(Word::Give), sort: Sort::Leaf(Leaf::Name(Kind::Context)) }, Part { at: At::Key(Word::To), sort: Sort::Leaf(Leaf::Name(Kind::Thread)) }],
-        Word::Log => &[Part { at: At::Key(Word::Log), sort: Sort::Leaf(Leaf::Name(Kind::Text)) }],
+        Word::Attach => &[
+            Part {
+                at: At::Key(Word::To),
+                sort: Sort::Leaf(Leaf::Name(Kind::Context)),
+            },
+            Part {
+                at: At::Key(Word::Attach),
+                sort: Sort::Leaf(Leaf::Name(Kind::Slot)),
+            },
+            Part {
+                at: At::Same,
+                sort: Sort::An(Object::Source),
+            },
+        ],
+        Word::Child => &[
+            Part {
+                at: At::Key(Word::Below),
+                sort: Sort::Leaf(Leaf::Name(Kind::Slot)),
+            },
+            Part {
+                at: At::Key(Word::Child),
+                sort: Sort::Leaf(Leaf::Name(Kind::Slot)),
+            },
+            Part {
+                at: At::Same,
+                sort: Sort::An(Object::Child),
+            },
+        ],
+        Word::Destroy => &[Part {
+            at: At::Key(Word::Destroy),
+            sort: Sort::Leaf(Leaf::Name(Kind::Slot)),
+        }],
+        Word::SetReady => &[
+            Part {
+                at: At::Key(Word::SetReady),
+                sort: Sort::Leaf(Leaf::Name(Kind::Slot)),
+            },
+            Part {
+                at: At::Key(Word::To),
+                sort: Sort::Leaf(Leaf::ReadyTime),
+            },
+        ],
+        Word::SetPriority => &[
+            Part {
+                at: At::Key(Word::SetPriority),
+                sort: Sort::Leaf(Leaf::Name(Kind::Slot)),
+            },
+            Part {
+                at: At::Key(Word::To),
+                sort: Sort::Leaf(Leaf::Priority),
+            },
+        ],
+        Word::Iterate => &[Part {
+            at: At::Key(Word::Iterate),
+            sort: Sort::Leaf(Leaf::Name(Kind::Context)),
+        }],
+        Word::Pending => &[Part {
+            at: At::Key(Word::Pending),
+            sort: Sort::Leaf(Leaf::Name(Kind::Context)),
+        }],
+        Word::Run => &[Part {
+            at: At::Key(Word::Run),
+            sort: Sort::Leaf(Leaf::Name(Kind::Loop)),
+        }],
+        Word::Quit => &[Part {
+            at: At::Key(Word::Quit),
+            sort: Sort::Leaf(Leaf::Name(Kind::Loop)),
+        }],
+        Word::Cancel => &[Part {
+            at: At::Key(Word::Cancel),
+            sort: Sort::Leaf(Leaf::Name(Kind::Cancellable)),
+        }],
+        Word::Connect => &[
+            Part {
+                at: At::Key(Word::To),
+                sort: Sort::Leaf(Leaf::Name(Kind::Cancellable)),
+            },
+            Part {
+                at: At::Key(Word::Connect),
+                sort: Sort::Leaf(Leaf::Name(Kind::Slot)),
+            },
+            Part {
+                at: At::Key(Word::Call),
+                sort: Sort::Leaf(Leaf::Name(Kind::Procedure)),
+            },
+        ],
+        Word::Disconnect => &[Part {
+            at: At::Key(Word::Disconnect),
+            sort: Sort::Leaf(Leaf::Name(Kind::Slot)),
+        }],
+        Word::Task => &[
+            Part {
+                at: At::Key(Word::Task),
+                sort: Sort::Leaf(Leaf::Label),
+            },
+            Part {
+                at: At::Same,
+                sort: Sort::An(Object::Task),
+            },
+        ],
+        Word::Push => &[Part {
+            at: At::Key(Word::Push),
+            sort: Sort::Leaf(Leaf::Name(Kind::Context)),
+        }],
+        Word::Pop => &[Part {
+            at: At::Key(Word::Pop),
+            sort: Sort::Leaf(Leaf::Name(Kind::Context)),
+        }],
+        Word::ShowDefault => &[Part {
+            at: At::Key(Word::ShowDefault),
+            sort: Sort::Leaf(Leaf::True),
+        }],
+        Word::Acquire => &[Part {
+            at: At::Key(Word::Acquire),
+            sort: Sort::Leaf(Leaf::Name(Kind::Context)),
+        }],
+        Word::Release => &[Part {
+            at: At::Key(Word::Release),
+            sort: Sort::Leaf(Leaf::Name(Kind::Context)),
+        }],
+        Word::Invoke => &[
+            Part {
+                at: At::Key(Word::In),
+                sort: Sort::Leaf(Leaf::Name(Kind::Context)),
+            },
+            Part {
+                at: At::Key(Word::Invoke),
+                sort: Sort::Leaf(Leaf::Name(Kind::Procedure)),
+            },
+        ],
+        Word::Give => &[
+            Part {
+                at: At::Key(Word::Give),
+                sort: Sort::Leaf(Leaf::Name(Kind::Context)),
+            },
+            Part {
+                at: At::Key(Word::To),
+                sort: Sort::Leaf(Leaf::Name(Kind::Thread)),
+            },
+        ],
+        Word::Log => &[Part {
+            at: At::Key(Word::Log),
+            sort: Sort::Leaf(Leaf::Name(Kind::Text)),
+        }],
         _ => &[],
     }
 }
@@ -140,11 +263,32 @@ fn parts_of_source(word: Word) -> &'static [Part]
     ensures { result.now ≡ parts_of_source word }
 {
     match word {
-        Word::Idle => &[Part { at: At::Key(Word::Idle), sort: Sort::Leaf(Leaf::True) }],
-        Word::Timeout => &[Part { at: At::Key(Word::Timeout), sort: Sort::Leaf(Leaf::Milliseconds) }],
-        Word::Ready => &[Part { at: At::Key(Word::Ready), sort: Sort::Leaf(Leaf::ReadyTime) }],
-        Word::Fd => &[Part { at: At::Key(Word::Fd), sort: Sort::Leaf(Leaf::Name(Kind::Descriptor)) }, Part { at: At::Key(Word::Events), sort: Sort::Leaf(Leaf::Bits) }],
-        Word::Cancellable => &[Part { at: At::Key(Word::Cancellable), sort: Sort::Leaf(Leaf::Name(Kind::Cancellable)) }],
+        Word::Idle => &[Part {
+            at: At::Key(Word::Idle),
+            sort: Sort::Leaf(Leaf::True),
+        }],
+        Word::Timeout => &[Part {
+            at: At::Key(Word::Timeout),
+            sort: Sort::Leaf(Leaf::Milliseconds),
+        }],
+        Word::Ready => &[Part {
+            at: At::Key(Word::Ready),
+            sort: Sort::Leaf(Leaf::ReadyTime),
+        }],
+        Word::Fd => &[
+            Part {
+                at: At::Key(Word::Fd),
+                sort: Sort::Leaf(Leaf::Name(Kind::Descriptor)),
+            },
+            Part {
+                at: At::Key(Word::Events),
+                sort: Sort::Leaf(Leaf::Bits),
+            },
+        ],
+        Word::Cancellable => &[Part {
+            at: At::Key(Word::Cancellable),
+            sort: Sort::Leaf(Leaf::Name(Kind::Cancellable)),
+        }],
         _ => &[],
     }
 }
@@ -153,12 +297,54 @@ fn parts_of_tree(word: Word) -> &'static [Part]
     ensures { result.now ≡ parts_of_tree word }
 {
     match word {
-        Word::Value => &[Part { at: At::Item(1), sort: Sort::Leaf(Leaf::Number) }],
-        Word::Sleep => &[Part { at: At::Item(1), sort: Sort::Leaf(Leaf::Microseconds) }],
-        Word::Seq => &[Part { at: At::Item(1), sort: Sort::OneOf(Choice::Tree) }, Part { at: At::Item(2), sort: Sort::OneOf(Choice::Tree) }],
-        Word::Both => &[Part { at: At::Item(1), sort: Sort::OneOf(Choice::Tree) }, Part { at: At::Item(2), sort: Sort::OneOf(Choice::Tree) }],
-        Word::First => &[Part { at: At::Item(1), sort: Sort::OneOf(Choice::Tree) }, Part { at: At::Item(2), sort: Sort::OneOf(Choice::Tree) }],
-        Word::Within => &[Part { at: At::Item(1), sort: Sort::Leaf(Leaf::Microseconds) }, Part { at: At::Item(2), sort: Sort::OneOf(Choice::Tree) }],
+        Word::Value => &[Part {
+            at: At::Item(1),
+            sort: Sort::Leaf(Leaf::Number),
+        }],
+        Word::Sleep => &[Part {
+            at: At::Item(1),
+            sort: Sort::Leaf(Leaf::Microseconds),
+        }],
+        Word::Seq => &[
+            Part {
+                at: At::Item(1),
+                sort: Sort::OneOf(Choice::Tree),
+            },
+            Part {
+                at: At::Item(2),
+                sort: Sort::OneOf(Choice::Tree),
+            },
+        ],
+        Word::Both => &[
+            Part {
+                at: At::Item(1),
+                sort: Sort::OneOf(Choice::Tree),
+            },
+            Part {
+                at: At::Item(2),
+                sort: Sort::OneOf(Choice::Tree),
+            },
+        ],
+        Word::First => &[
+            Part {
+                at: At::Item(1),
+                sort: Sort::OneOf(Choice::Tree),
+            },
+            Part {
+                at: At::Item(2),
+                sort: Sort::OneOf(Choice::Tree),
+            },
+        ],
+        Word::Within => &[
+            Part {
+                at: At::Item(1),
+                sort: Sort::Leaf(Leaf::Microseconds),
+            },
+            Part {
+                at: At::Item(2),
+                sort: Sort::OneOf(Choice::Tree),
+            },
+        ],
         _ => &[],
     }
 }
@@ -168,12 +354,26 @@ pub fn beside(word: Word) -> &'static [Word]
     ensures { result.now ≡ beside word }
 {
     match word {
-        Word::Attach => &[Word::Attach, Word::To, Word::Priority, Word::CanRecurse, Word::Call],
+        Word::Attach => &[
+            Word::Attach,
+            Word::To,
+            Word::Priority,
+            Word::CanRecurse,
+            Word::Call,
+        ],
         Word::Child => &[Word::Child, Word::Below, Word::CanRecurse, Word::Call],
         Word::SetReady => &[Word::SetReady, Word::To],
         Word::SetPriority => &[Word::SetPriority, Word::To],
         Word::Connect => &[Word::Connect, Word::To, Word::Call],
-        Word::Task => &[Word::Task, Word::Does, Word::Call, Word::Cancellable, Word::CheckCancellable, Word::ReturnOnCancel, Word::Priority],
+        Word::Task => &[
+            Word::Task,
+            Word::Does,
+            Word::Call,
+            Word::Cancellable,
+            Word::CheckCancellable,
+            Word::ReturnOnCancel,
+            Word::Priority,
+        ],
         Word::Invoke => &[Word::Invoke, Word::In],
         Word::Give => &[Word::Give, Word::To],
         Word::Fd => &[Word::Fd, Word::Events],
@@ -385,7 +585,17 @@ pub fn keys(object: Object) -> &'static [Word]
     ensures { result.now ≡ keys object }
 {
     match object {
-        Object::Script => &[Word::Form, Word::Version, Word::Ticks, Word::Tick, Word::Threads, Word::Cancellables, Word::Descriptors, Word::Loops, Word::Procedures],
+        Object::Script => &[
+            Word::Form,
+            Word::Version,
+            Word::Ticks,
+            Word::Tick,
+            Word::Threads,
+            Word::Cancellables,
+            Word::Descriptors,
+            Word::Loops,
+            Word::Procedures,
+        ],
         Object::Thread => &[Word::Contexts, Word::Start],
         Object::Procedure => &[Word::Do, Word::Keep],
         Object::Source | Object::Child | Object::Task => &[],

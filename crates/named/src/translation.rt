@@ -32,10 +32,7 @@ pub fn is_named(document: &Value<'_>) -> bool
 
 /// The script of numbers that a script with names stands for, or what is wrong with it. `AllocError` comes only where a request for memory
 /// was refused, or where a number of the document is none of JSON's, which `Value::parse` leaves in none.
-pub fn translate<'a>(
-    alloc: Global,
-    script: &Value<'a>,
-) -> Result<Translation<'a>, AllocError>
+pub fn translate<'a>(alloc: Global, script: &Value<'a>) -> Result<Translation<'a>, AllocError>
     ensures { IfOk result (Translates (value_view script.now)) }
 {
     let names = Names::of(alloc, script)?;

@@ -33,9 +33,7 @@ pub fn check_either(
     let text = from_utf8(bytes).unwrap_or("");
     let mut scratch = Scratch::new(alloc);
     match Value::parse(alloc, text, &mut scratch) {
-        Ok(document) if is_named(&document) => {
-            check_named(alloc, form, text, &document, out)
-        }
+        Ok(document) if is_named(&document) => { check_named(alloc, form, text, &document, out) }
         Err(json::Error::OutOfMemory) => Err(AllocError),
         _ => check_script(alloc, form, bytes, out),
     }

@@ -2,7 +2,9 @@
 use crate::nearest::push_nearest;
 use crate::words::push_quoted;
 use json::Value;
-use named::{Cause, Choice, Fault, Kind, Leaf, Names, Sort, Word, beside, chosen, keys, most, words};
+use named::{
+    Cause, Choice, Fault, Kind, Leaf, Names, Sort, Word, beside, chosen, keys, most, words,
+};
 use std::alloc::{AllocError, Global};
 
 /// All kinds of names, but the texts of logs.
@@ -111,11 +113,14 @@ fn kinds_text(kind: Kind) -> &'static str {
 }
 
 fn words_wanted(alloc: Global, choice: Choice) -> Result<String, AllocError> {
-    let mut text = String::from_str(alloc, match choice {
-        Choice::Action => "an action has one of the keys",
-        Choice::Source => "a source has one of the keys",
-        Choice::Tree => "a tree is a list that begins with one of the words",
-    })?;
+    let mut text = String::from_str(
+        alloc,
+        match choice {
+            Choice::Action => "an action has one of the keys",
+            Choice::Source => "a source has one of the keys",
+            Choice::Tree => "a tree is a list that begins with one of the words",
+        },
+    )?;
     push_words(&mut text, words(choice))?;
     Ok(text)
 }
@@ -128,11 +133,7 @@ fn push_words(text: &mut String, words: &[Word]) -> Result<(), AllocError> {
     Ok(())
 }
 
-fn keys_wanted(
-    alloc: Global,
-    sort: Sort,
-    value: &Value<'_>,
-) -> Result<String, AllocError> {
+fn keys_wanted(alloc: Global, sort: Sort, value: &Value<'_>) -> Result<String, AllocError> {
     let mut text = String::from_str(alloc, "the keys here are")?;
     push_words(&mut text, known_keys(alloc, sort, value)?.as_slice())?;
     Ok(text)
@@ -229,12 +230,7 @@ fn name_found(
 }
 
 /// A key that is unknown, and the nearest that is known.
-fn key_found(
-    alloc: Global,
-    sort: Sort,
-    value: &Value<'_>,
-    n: usize,
-) -> Result<String, AllocError> {
+fn key_found(alloc: Global, sort: Sort, value: &Value<'_>, n: usize) -> Result<String, AllocError> {
     let mut text = String::from_str(alloc, "this is ")?;
     let key = nth_key(value, n).unwrap_or("");
     push_quoted(&mut text, key)?;
@@ -265,11 +261,7 @@ pub(crate) fn nth_key<'a>(value: &Value<'a>, n: usize) -> Option<&'a str> {
 }
 
 /// An object with none of the words, or with more than one.
-fn word_found(
-    alloc: Global,
-    sort: Sort,
-    value: &Value<'_>,
-) -> Result<String, AllocError> {
+fn word_found(alloc: Global, sort: Sort, value: &Value<'_>) -> Result<String, AllocError> {
     match sort {
         Sort::OneOf(choice) if choice != Choice::Tree && matches!(value, Value::Object(_)) => {
             object_word_found(alloc, choice, value)
