@@ -1,5 +1,5 @@
 -- The source that a slot names after an attach, or a child, is the next one of the lane before it.
-use Rattle.std.proofs.Common.{◌≡◌, ℕ, zero, suc, ◌+◌, ◌<◌, Bool, true, false, cond, Option, Some, None, List, [], ◌∷◌, ◌++◌, length, refl, ap, sym, ◌∙◌, arith}
+use Rattle.std.proofs.Common.{◌≡◌, ℕ, zero, suc, ◌+◌, ◌<◌, Bool, true, false, cond, Option, Some, None, List, [], ◌∷◌, ◌++◌, length, refl, ap, ◌∙◌, arith}
 use Rattle.std.specs.Prelude.{nat_lt, option_map, slice_get, slice_set}
 use Rattle.std.proofs.lemmas.Bool.Decides.{nat_tests}
 use Rattle.loop_script.specs.declared.action.Action.{Action}
@@ -20,7 +20,7 @@ use Rattle.lane_turn.specs.Lane.{Lane, edited, held, is_own, next_place, place_a
 use Rattle.lane_turn.specs.Acted.{acted, born, can_bear, child_of, missed}
 use Rattle.account.specs.declared.moment.Deed.{Deed}
 use Rattle.account.specs.declared.moment.Moment.{Moment}
-use Rattle.account.specs.Gained.{attached_by, attaches, by_action, by_deed, child_below, first_line, IsActed, TellsAttach, TellsChild}
+use Rattle.account.specs.Gained.{attached_by, by_action, by_deed, child_below, first_line, IsActed, TellsAttach, TellsChild}
 
 here : {X : Type 0} (xs : List X) (i : ℕ) (x : X) → i < length xs → slice_get (slice_set xs i x) i ≡ Some x
 here [] i x h = absurd (omega arith)
@@ -33,7 +33,7 @@ last-of (y ∷ xs) x = last-of xs x
 
 longer : {X : Type 0} (xs : List X) (x : X) → length (xs ++ x ∷ []) ≡ length xs + 1
 longer [] x = refl
-longer (y ∷ xs) x = ap suc (longer xs x)
+longer (y ∷ xs) x = let more = longer xs x in omega (arith, more)
 
 not-less : (n : ℕ) → nat_lt n n ≡ false
 not-less n = grind (arith, nat_tests)

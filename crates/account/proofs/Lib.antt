@@ -7,3 +7,4 @@ pub mod Did
 pub mod Moments
 pub mod Quiet
 pub mod Attached
+pub mod Left

@@ -46,7 +46,7 @@ fn newest_of(lane: &LaneState, context: u32) -> Option<Place>
 
 /// What an action attached.
 fn by_action(line: Option<Event>, action: Option<&Action>, lane: &LaneState) -> Option<Place>
-    ensures { result ≡ by_action line (option_copied action) lane.now.lane }
+    ensures { result ≡ by_action line (option_copied action.entry) lane.now.lane }
 {
     match (line, action) {
         (None, Some(Action::Attach { slot, .. } | Action::Child { slot, .. })) => {
@@ -74,8 +74,10 @@ fn ids_left(lane: &LaneState) -> Option<&[u64]>
     ensures { option_map (λ r. r.now) result ≡ ids_left lane.now.lane.frames }
 {
     match lane.frames().last() {
+        None => None,
+        Some(Activity::Call(_)) => None,
         Some(Activity::Iteration { left, .. }) => Some(left),
-        _ => None,
+        Some(Activity::Loop { .. }) => None,
     }
 }
 
