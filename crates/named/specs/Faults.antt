@@ -22,9 +22,9 @@ use Rattle.named.specs.declared.sort.Sort.TheVariants as sorts
 use Rattle.named.specs.declared.table.At.{At}
 use Rattle.named.specs.declared.table.At.TheVariants as ats
 use Rattle.named.specs.declared.table.Part.{Part}
-use Rattle.named.specs.declared.table.Absent.{Absent}
-use Rattle.named.specs.declared.table.Absent.TheVariants as absents
-use Rattle.named.specs.declared.table.Field.{Field}
+use Rattle.named.specs.declared.field.Absent.{Absent}
+use Rattle.named.specs.declared.field.Absent.TheVariants as absents
+use Rattle.named.specs.declared.field.Field.{Field}
 use Rattle.named.specs.declared.fault.Cause.{Cause}
 use Rattle.named.specs.declared.fault.Cause.TheVariants.{Unfit, NoWord, OtherType, OtherLength, OtherKey, NoKey, Twice}
 

@@ -18,9 +18,9 @@ use Rattle.named.specs.declared.sort.Sort.TheVariants as sorts
 use Rattle.named.specs.declared.table.At.{At}
 use Rattle.named.specs.declared.table.At.TheVariants as ats
 use Rattle.named.specs.declared.table.Part.{Part}
-use Rattle.named.specs.declared.table.Absent.{Absent}
-use Rattle.named.specs.declared.table.Absent.TheVariants as absents
-use Rattle.named.specs.declared.table.Field.{Field}
+use Rattle.named.specs.declared.field.Absent.{Absent}
+use Rattle.named.specs.declared.field.Absent.TheVariants as absents
+use Rattle.named.specs.declared.field.Field.{Field}
 
 -- a step into a value: what an object has under a key, an item of a list, or none
 pub data Step : Type 0 where

@@ -4,6 +4,7 @@
 mod bits;
 mod check;
 mod fault;
+mod field;
 mod names;
 mod numbered;
 mod own;
@@ -17,10 +18,11 @@ mod translation;
 mod word;
 
 pub use fault::{Cause, Fault};
+pub use field::keys;
 pub use names::{Names, most};
 pub use piece::{Step, chosen};
 pub use place::{Numbered, origin};
 pub use sort::{Choice, Kind, Leaf, Object, Sort};
-pub use table::{beside, keys, words};
+pub use table::{beside, words};
 pub use translation::{Translation, is_named, translate, translate_bytes};
 pub use word::Word;

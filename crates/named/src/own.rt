@@ -11,11 +11,12 @@ ghost use Rattle.named.specs.Pieces.{chosen};
 ghost use Rattle.named.specs.Views.{names_of};
 
 use crate::fault::Cause;
+use crate::field::{Absent, Field, fields, keys};
 use crate::names::Names;
 use crate::piece::chosen;
 use crate::scalar::scalar_of;
 use crate::sort::{Choice, Kind, Object, Sort};
-use crate::table::{Absent, At, Field, Part, beside, fields, keys, makes_source, parts, words};
+use crate::table::{At, Part, beside, makes_source, parts, words};
 use crate::word::Word;
 use json::Value;
 use std::alloc::{AllocError, Global};

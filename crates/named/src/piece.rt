@@ -8,10 +8,11 @@ ghost use Rattle.named.specs.Leaf.{leaf};
 ghost use Rattle.named.specs.Tables.{fields, pair};
 ghost use Rattle.named.specs.Views.{names_of, seen, step_view, piece_view};
 
+use crate::field::{Absent, Field, each, fields, pair};
 use crate::names::Names;
 use crate::scalar::{Scalar, scalar_of};
 use crate::sort::{Choice, Leaf, Object, Sort};
-use crate::table::{Absent, At, Field, Part, each, fields, numbered_word, pair, parts, words};
+use crate::table::{At, Part, numbered_word, parts, words};
 use crate::word::Word;
 use json::Value;
 use std::alloc::{AllocError, Global};

@@ -1,7 +1,8 @@
 //! Where a value of the script of numbers comes from.
+use crate::field::{each, fields, pair};
 use crate::piece::{Step, chosen};
 use crate::sort::{Object, Sort};
-use crate::table::{At, each, fields, pair, parts};
+use crate::table::{At, parts};
 use json::Value;
 use std::alloc::{AllocError, Global};
 
