@@ -167,7 +167,7 @@ class Names:
         if "cancellables" in script:
             self.only_once("cancellable", [item.text() for item in script["cancellables"].items()], script["cancellables"])
         self.only_once("context", [name for thread in script["threads"].members() for name in contexts_of(*thread)], script["threads"])
-        for _, action in actions_of(script):
+        for action in actions_of(script):
             for word in NAMING:
                 self.first("slot", action.it.get(word))
             self.first("text", action.it.get("log"))
@@ -194,13 +194,13 @@ def contexts_of(name: str, thread: Value) -> list[str]:
     return [name] if contexts is None else [item.text() for item in contexts.items()]
 
 
-def actions_of(script: dict[str, Value]) -> Iterator[tuple[str, Value]]:
+def actions_of(script: dict[str, Value]) -> Iterator[Value]:
     """All actions that are objects, in the order that gives slots and texts their numbers."""
     for key, inner in (("threads", "start"), ("procedures", "do")):
         if key in script:
-            for name, each in script[key].members():
+            for _, each in script[key].members():
                 listed = dict(each.members()).get(inner)
-                yield from ((name, action) for action in (listed.items() if listed else []) if isinstance(action.it, dict))
+                yield from (action for action in (listed.items() if listed else []) if isinstance(action.it, dict))
 
 
 class Translation:
