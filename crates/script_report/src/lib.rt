@@ -14,6 +14,7 @@ mod order;
 mod report;
 mod summary;
 mod told;
+mod twice;
 mod words;
 
 pub use check::check_script;

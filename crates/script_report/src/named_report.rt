@@ -6,7 +6,8 @@ use crate::lead::value_at;
 use crate::named_words::{class_of, named_found, named_wanted, nth_key};
 use crate::report::{Form, MOST_TOLD, Said, TextPlace, class_text, push_told};
 use crate::told::push_escaped;
-use crate::words::{found_text, wanted_text};
+use crate::twice::second;
+use crate::words::{found_text, push_quoted, wanted_text};
 use json::{Scratch, Value};
 use named::{Cause, Fault, Names, Numbered, Step, Translation, is_named, origin, translate};
 use script_check::{Step as NumberedStep, script_faults};
@@ -77,14 +78,28 @@ fn named_entries<'a>(
                 place.push(Step::Key(key))?;
             }
         }
+        let mut found = named_found(alloc, &names, fault, value)?;
+        if let Cause::Twice(kind) = fault.cause {
+            if let Some(standing) = second(alloc, document, kind)? {
+                place = standing.place;
+                found = twice_found(alloc, standing.name)?;
+            }
+        }
         entries.push(Entry {
             place,
             class: class_of(fault, value),
             wanted: named_wanted(alloc, fault, value)?,
-            found: named_found(alloc, &names, fault, value)?,
+            found,
         })?;
     }
     Ok(entries)
+}
+
+fn twice_found(alloc: Global, name: &str) -> Result<String, AllocError> {
+    let mut text = String::new(alloc);
+    push_quoted(&mut text, name)?;
+    text.push_str(" stands twice")?;
+    Ok(text)
 }
 
 /// The faults that a script without a fault of the form has as one of numbers: limits and rules.

@@ -53,6 +53,14 @@ fn sort_wanted(alloc: Global, sort: Sort) -> Result<String, AllocError> {
     }
 }
 
+fn name_wanted(alloc: Global, kind: Kind) -> Result<String, AllocError> {
+    let thing = kind_text(kind);
+    match kind {
+        Kind::Text => format!(in alloc; "{thing} is wanted"),
+        _ => format!(in alloc; "the name of {thing} is wanted"),
+    }
+}
+
 fn key_wanted(alloc: Global, word: Word) -> Result<String, AllocError> {
     let key = word.text();
     format!(in alloc; "the key {key} must stand here")
@@ -61,14 +69,13 @@ fn key_wanted(alloc: Global, word: Word) -> Result<String, AllocError> {
 fn names_wanted(alloc: Global, kind: Kind) -> Result<String, AllocError> {
     let kinds = kinds_text(kind);
     let limit = most(kind);
-    format!(in alloc; "{kinds} have names of their own, and are {limit} at most")
+    format!(in alloc; "{kinds} are {limit} at most, each with a name of its own")
 }
 
 fn leaf_wanted(alloc: Global, leaf: Leaf) -> Result<String, AllocError> {
     let text = match leaf {
         Leaf::Name(kind) | Leaf::NameOrNull(kind) => {
-            let kind = kind_text(kind);
-            return format!(in alloc; "the name of {kind} is wanted");
+            return name_wanted(alloc, kind);
         }
         Leaf::Names => "a list of names is wanted",
         Leaf::Priority => "a priority is a number, HIGH, DEFAULT, HIGH_IDLE, DEFAULT_IDLE or LOW",
@@ -173,7 +180,7 @@ pub(crate) fn named_found(
     match fault.cause {
         Cause::Unfit => unfit_found(alloc, names, fault.sort, value),
         Cause::NoKey(_) => String::from_str(alloc, "it is missing"),
-        Cause::Twice(_) => String::from_str(alloc, "a name stands twice, or there are more"),
+        Cause::Twice(_) => String::from_str(alloc, "there are more"),
         Cause::OtherKey(n) => key_found(alloc, fault.sort, value, n),
         Cause::NoWord => word_found(alloc, fault.sort, value),
         _ => value_found(alloc, value),
