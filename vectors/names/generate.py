@@ -9,13 +9,14 @@ from typing import Any
 
 from translate import CONDITIONS, KEEPS, OF_ONE_NAME, PRIORITIES, UNITS
 
-ODD_NAMES = ("", " ", "0", "-1", "attach", "to", "null", "never", "true", "a b", "a|b", 'a"b', "a\\b", "a/b", "a~b", "\t", "\u0000", "größe", "名前", "😀", "x" * 300)
+ODD_NAMES = ("", " ", "0", "-1", "attach", "to", "null", "never", "true", "a b", "a|b", 'a"b', "a\\b", "a/b", "a~b", "\t", "\u0000", "größe", "名前", "😀",
+             "x" * 300)
 LETTERS = "abcxyz_"
 MOST_DEEP = 4
 MOST_OF_A_TICK = 1_000  # of each unit
 KEYS = ("attach", "to", "call", "idle", "fd", "events", "priority", "keep", "form", "contexts", "odd", "log")
-VALUES: tuple[Any, ...] = (None, True, False, 0, 7, -1, "", "odd", "never", "16 ms", "1 us", "16ms", "1.5 ms", "-1 ms", "1  s", " 1 s", "1 s ", "IN", "IN|", "|", "IN|IN",
-                           "in", "HIGH", "high", "CONTINUE", "REMOVE", [], {}, ["value", 1], ["value"], ["sleep", 1], [["sleep", "1 ms"]], {"idle": True})
+VALUES: tuple[Any, ...] = (None, True, False, 0, 7, -1, "", "odd", "never", "16 ms", "1 us", "16ms", "1.5 ms", "-1 ms", "1  s", " 1 s", "1 s ",
+                           "IN", "IN|", "|", "IN|IN", "in", "HIGH", "high", "CONTINUE", "REMOVE", [], {}, ["value", 1], ["value"], ["sleep", 1], [["sleep", "1 ms"]], {"idle": True})
 
 
 class Maker:
@@ -91,7 +92,8 @@ class Maker:
         return [word, *parts.get(word, lambda: [self.tree(deep - 1), self.tree(deep - 1)])()]
 
     def task(self) -> dict[str, Any]:
-        may: dict[str, Callable[[], Any]] = {"check_cancellable": lambda: self.chance(50), "return_on_cancel": lambda: self.chance(50), "priority": self.priority}
+        may: dict[str, Callable[[], Any]] = {
+            "check_cancellable": lambda: self.chance(50), "return_on_cancel": lambda: self.chance(50), "priority": self.priority}
         if self.names["cancellable"]:
             may["cancellable"] = lambda: None if self.chance(20) else self.name("cancellable")
         said = self.some(may)
