@@ -16,7 +16,8 @@ MOST_DEEP = 4
 MOST_OF_A_TICK = 1_000  # of each unit
 KEYS = ("attach", "to", "call", "idle", "fd", "events", "priority", "keep", "form", "contexts", "odd", "log")
 VALUES: tuple[Any, ...] = (None, True, False, 0, 7, -1, "", "odd", "never", "16 ms", "1 us", "16ms", "1.5 ms", "-1 ms", "1  s", " 1 s", "1 s ",
-                           "IN", "IN|", "|", "IN|IN", "in", "HIGH", "high", "CONTINUE", "REMOVE", [], {}, ["value", 1], ["value"], ["sleep", 1], [["sleep", "1 ms"]], {"idle": True})
+                           "IN", "IN|", "|", "IN|IN", "in", "HIGH", "high", "CONTINUE", "REMOVE", [], {}, ["value", 1], ["value"], ["sleep", 1],
+                           [["sleep", "1 ms"]], {"idle": True})
 
 
 class Maker:
