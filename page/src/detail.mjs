@@ -1,27 +1,26 @@
 // What is known of the current moment: its lines, the stack, the iteration that it belongs to, and the other dispatches of its source.
 import { ITERATION } from "./frames.mjs";
 import { DID } from "./moments.mjs";
-import { done, frameWords, timeOf } from "./words.mjs";
+import { button, element } from "./parts.mjs";
+import { done, frameWords, when } from "./words.mjs";
 
 const SHOWN = 20;
 
 export class Detail {
-    constructor(list, pick, why) {
-        [this.list, this.pick, this.why] = [list, pick, why];
+    constructor(list, why) {
+        [this.list, this.why] = [list, why];
     }
 
     show(model, place) {
-        const { moments, frames } = model, tick = moments.tick.at(place);
-        const parts = [["Moment", `${place + 1} of ${moments.count}: ${done(frames, place)}`], ["When", `tick ${tick}, ${timeOf(moments, tick)}, thread ${moments.lane.at(place)}`]];
-        if (moments.lines[place]) parts.push(["Writes", moments.lines[place].join("\n")]);
-        const stack = frames.stack(place);
-        parts.push(["In progress", stack.map((frame, depth) => `${"  ".repeat(depth)}${frameWords(frames, frame, place)}`).join("\n") || "nothing"]);
-        this.list.replaceChildren(...parts.flatMap(([name, words]) => [element("dt", name), element("dd", words)]));
+        const { moments, frames } = model, stack = frames.stack(place);
+        this.list.replaceChildren();
+        this.#add("Moment", `${place + 1} of ${moments.count}: ${done(frames, place)}`);
+        this.#add("When", when(moments, place));
+        if (moments.lines[place]) this.#add("Writes", moments.lines[place].join("\n"));
+        this.#add("In progress", stack.map((frame, depth) => `${"  ".repeat(depth)}${frameWords(frames, frame, place)}`).join("\n") || "nothing");
         const iteration = this.#iteration(model, stack, place);
         this.#source(model, stack);
-        const why = element("dd", "…");
-        this.list.append(element("dt", "Why"), why);
-        this.why.tick(why, model, place, iteration?.of ?? null);
+        this.why.tick(this.#add("Why", "…"), model, place, iteration?.of ?? null);
     }
 
     /** The innermost iteration, who asked for it, and what it comes to; returns it. */
@@ -38,27 +37,20 @@ export class Detail {
     #source(model, stack) {
         const frame = stack.findLast((it) => it.source !== undefined);
         if (!frame) return;
-        const { moments } = model, { spans } = frame.row, here = spans.indexOf(frame), first = Math.max(0, here - SHOWN / 2);
-        this.#add("Source", `${frame.context}.${frame.source}, dispatch ${here + 1} of ${spans.length}; in tick `, spans.slice(first, first + SHOWN).map((it) => it.from), (at) => `${moments.tick.at(at)}`);
+        const { spans } = frame.row, here = spans.indexOf(frame), first = Math.max(0, here - SHOWN / 2), name = `${frame.context}.${frame.source}`;
+        const near = spans.slice(first, first + SHOWN).map((it) => it.from);
+        this.#add("Source", `${name}, dispatch ${here + 1} of ${spans.length}; in tick `, near, (at) => `${model.moments.tick.at(at)}`);
         const life = element("dd", "");
-        life.append(button(`Life of source ${frame.context}.${frame.source}`, () => this.why.life(life, model, frame.context, frame.source)));
+        life.append(button(`Life of source ${name}`, () => this.why.life(life, model, frame.context, frame.source)));
         this.list.append(life);
     }
 
-    #add(name, words, places, label) {
+    /** Adds a part, with buttons that lead to places, and returns it. */
+    #add(name, words, places = [], label = null) {
         const shown = element("dd", words);
-        for (const place of places.slice(0, SHOWN)) shown.append(button(label(place), () => this.pick(place)), " ");
+        for (const place of places.slice(0, SHOWN)) shown.append(element("button", label(place), place), " ");
         if (places.length > SHOWN) shown.append(`and ${places.length - SHOWN} more`);
         this.list.append(element("dt", name), shown);
+        return shown;
     }
-}
-
-function button(words, act) {
-    const made = Object.assign(element("button", words), { type: "button" });
-    made.addEventListener("click", act);
-    return made;
-}
-
-function element(name, words) {
-    return Object.assign(document.createElement(name), { textContent: words });
 }

@@ -1,4 +1,6 @@
 // The script as it is typed, with the numbers of its lines, and its faults marked where they stand.
+import { button, element } from "./parts.mjs";
+
 const MARKED_AT_MOST = 200_000; // characters of a script whose faults are marked in it
 const VALUE = /^(?:"(?:[^"\\\n]|\\.)*"?|[\w.+-]+|.)/u;
 
@@ -25,11 +27,10 @@ export class Editor {
 
     /** Shows faults as `check` tells them. */
     mark(faults) {
-        const lines = this.script.split("\n");
+        const { script } = this, lines = script.split("\n"), places = faults.map((fault) => placeOf(script, lines, fault));
         this.numbers.textContent = lines.map((_, number) => number + 1).join("\n");
-        const places = faults.filter((fault) => fault.line).map((fault) => ({ fault, from: placeOf(lines, fault) }));
-        this.#back(this.script.length <= MARKED_AT_MOST ? places : []);
-        this.list.replaceChildren(...faults.map((fault) => this.#item(fault, places)));
+        this.#back(script.length <= MARKED_AT_MOST ? places.filter((place) => place) : []);
+        this.list.replaceChildren(...faults.map((fault, number) => this.#item(fault, places[number])));
         this.area.setAttribute("aria-invalid", String(faults.length > 0));
         this.#follow();
     }
@@ -37,31 +38,23 @@ export class Editor {
     #back(places) {
         const { script } = this, parts = [];
         let until = 0;
-        for (const { from } of places.toSorted((a, b) => a.from - b.from)) {
-            const value = VALUE.exec(script.slice(from))?.[0] ?? "";
+        for (const { from, to } of places.toSorted((a, b) => a.from - b.from)) {
             if (from < until) continue;
-            const mark = document.createElement("mark");
-            mark.textContent = value || " ";
-            parts.push(script.slice(until, from), mark);
-            until = from + value.length;
+            parts.push(script.slice(until, from), element("mark", script.slice(from, to) || " "));
+            until = to;
         }
         this.back.replaceChildren(...(parts.length ? [...parts, `${script.slice(until)}\n`] : []));
     }
 
-    #item(fault, places) {
-        const item = document.createElement("li"), button = document.createElement("button"), where = fault.line ? `${fault.line}:${fault.column}: ` : "";
-        button.type = "button";
-        button.textContent = `${where}${fault.class}: ${fault.wanted}, ${fault.found}`;
-        button.title = fault.pointer || "the top";
-        button.addEventListener("click", () => this.#goTo(places.find((it) => it.fault === fault)?.from));
-        item.append(button);
+    #item(fault, place) {
+        const item = element("li", ""), where = place ? `${fault.line}:${fault.column}: ` : "";
+        const link = button(`${where}${fault.class}: ${fault.wanted}, ${fault.found}`, () => {
+            this.area.focus();
+            if (place) this.area.setSelectionRange(place.from, place.to);
+        });
+        link.title = fault.pointer || "the top";
+        item.append(link);
         return item;
-    }
-
-    #goTo(place) {
-        if (place === undefined) return;
-        this.area.focus();
-        this.area.setSelectionRange(place, place + (VALUE.exec(this.script.slice(place))?.[0].length ?? 0));
     }
 
     #follow() {
@@ -71,8 +64,10 @@ export class Editor {
     }
 }
 
-/** Where a line and a column, both from 1 and in characters, stand in the text. */
-function placeOf(lines, { line, column }) {
+/** Where the value at a fault's line and column, both from 1 and in characters, begins and ends in the text; null where it has none. */
+function placeOf(script, lines, { line, column }) {
+    if (!line) return null;
     const before = lines.slice(0, line - 1).reduce((sum, it) => sum + it.length + 1, 0);
-    return before + [...(lines[line - 1] ?? "")].slice(0, column - 1).join("").length;
+    const from = before + [...(lines[line - 1] ?? "")].slice(0, column - 1).join("").length;
+    return { from, to: from + (VALUE.exec(script.slice(from))?.[0].length ?? 0) };
 }

@@ -6,27 +6,24 @@ import { open } from "../../bindings/web/remote.mjs";
 export const MOST_MOMENTS = 1_000_000;
 
 const FIRST_MOMENTS = 8_192;
-const SCRIPT = "text/javascript";
 const OVER = '"did":"over"'; // of the last line
 
 /** Loads the module of these bytes; `worker` is the text of the worker. */
 export async function begun(bytes, worker) {
     try {
-        return await open(bytes, URL.createObjectURL(new Blob([worker], { type: SCRIPT })));
+        return await open(bytes, URL.createObjectURL(new Blob([worker], { type: "text/javascript" })));
     } catch {
         return Object.assign(await load(bytes), { abort() {} });
     }
 }
 
-/** The account of a run in pieces, each twice as long as the one before: a piece is made by a run from the beginning, so they cost twice the whole together.
- * Returns whether more moments than the most were there. */
+/** The account of a run in pieces, each twice as long as the one before: a piece is made by a run from the beginning, so they cost twice the whole together. */
 export async function* pieces(engine, script) {
     let from = 0;
     for (let most = FIRST_MOMENTS; from < MOST_MOMENTS; most *= 2) {
         const wanted = Math.min(most, MOST_MOMENTS - from), lines = await engine.account(script, from, wanted);
         yield from === 0 ? lines : lines.slice(1);
-        if (lines.at(-1).includes(OVER)) return false;
+        if (lines.at(-1).includes(OVER)) return;
         from += wanted;
     }
-    return true;
 }

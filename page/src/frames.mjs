@@ -8,59 +8,64 @@ export const CALL = "call", ITERATION = "iter", LOOP = "loop";
 export class Frames {
     /** The innermost frame after each moment, or null. */
     innermost = [];
-    #top;
+    #top = [];
 
     /** `script` is what was run, as JSON tells it; `rows` is told of each frame and of each moment. */
     constructor(moments, script, rows) {
         [this.moments, this.script, this.rows] = [moments, script, rows];
-        this.#top = [];
     }
 
     /** Takes the next moment. */
     take(place) {
-        const { moments, rows } = this, lane = moments.lane.at(place), lines = moments.lines[place] ?? [];
-        if (this.#top[lane] === undefined) {
-            this.#top[lane] = null;
-            this.#push(place, lane, { kind: CALL, of: START });
-        }
-        this.#moved(place, lane, lines);
+        const { moments } = this, lane = moments.lane.at(place), told = (moments.lines[place] ?? []).map(wordsOf), did = moments.did.at(place);
+        if (this.#top[lane] === undefined) this.#push(place, lane, { kind: CALL, of: START });
+        this.#moved(place, lane, told);
         this.innermost[place] = this.#top[lane];
-        const did = moments.did.at(place), comes = (did === DID.received || did === DID.handed_over) && moments.at.at(place) !== lane;
-        rows.mark(place, lane, lines, comes ? moments.at.at(place) : null);
+        this.rows.mark(place, lane, told, (did === DID.received || did === DID.handed_over) && moments.at.at(place) !== lane);
     }
 
-    #moved(place, lane, lines) {
-        const { moments } = this, of = moments.of.at(place), top = this.#top[lane];
-        switch (moments.did.at(place)) {
+    #moved(place, lane, told) {
+        const { moments } = this, did = moments.did.at(place), of = moments.of.at(place), at = moments.at.at(place), top = this.#top[lane];
+        if (top?.kind === CALL && (did === DID.acted || did === DID.returned)) top.of = of;
+        if (did === DID.dispatched || did === DID.passed_over) top?.items?.push(place);
+        switch (did) {
             case DID.acted:
-                if (top?.kind === CALL) top.of = of;
-                return this.#acted(place, lane, lines.map((line) => wordsOf(line)));
+                return this.#acted(place, lane, told);
             case DID.dispatched:
-                top?.items?.push(place);
-                return this.#dispatched(place, lane, lines);
-            case DID.passed_over:
-                return void top?.items?.push(place);
+                // where the thread is halted in its place, no line tells of a dispatch
+                for (const words of told) {
+                    if (words[0] === "dispatch") this.#push(place, lane, { kind: CALL, of: undefined, context: of, source: at, depth: Number(words[8]) });
+                }
+                return;
             case DID.iterated:
-                if (top?.kind === LOOP) top.of = moments.at.at(place);
-                return this.#push(place, lane, { kind: ITERATION, of, items: [], loop: moments.at.at(place) });
+                if (top?.kind === LOOP) top.of = at;
+                return this.#iterate(place, lane, of, at);
             case DID.returned:
-                if (top?.kind === CALL) top.of = of;
-                return this.#drop(place, lane);
             case DID.iteration_ended:
             case DID.loop_ended:
                 return this.#drop(place, lane);
         }
     }
 
-    /** Three actions leave a frame where nothing was missed, answered at once or halted. */
+    /** Three actions leave a frame where nothing was missed, answered at once or halted; one starts a task. */
     #acted(place, lane, told) {
         const { moments } = this, says = (word) => told.some((words) => words[0] === word);
         const [, first, second] = this.actionAt(place) ?? [];
         if (says("halt")) return;
         const action = moments.action[place];
         if (action === "run" && !says("miss")) this.#push(place, lane, { kind: LOOP, of: first ?? -1 });
-        else if (action === "iterate" && !says("iterate")) this.#push(place, lane, { kind: ITERATION, of: first ?? -1, items: [], loop: -1 });
+        else if (action === "iterate" && !says("iterate")) this.#iterate(place, lane, first ?? -1, -1);
         else if (action === "invoke" && told.some((words) => words[3] === "direct")) this.#push(place, lane, { kind: CALL, of: second ?? -1 });
+        else if (action === "task") this.rows.started(place, lane);
+        else if (moments.attached[place]) this.rows.attached(place, lane, moments.attached[place]);
+    }
+
+    /** An iteration begins: what older ones of its context have left is dropped. */
+    #iterate(place, lane, of, loop) {
+        for (let older = this.#top[lane]; older; older = older.below) {
+            if (older.kind === ITERATION && older.of === of) older.dropped = Math.min(older.dropped, place);
+        }
+        this.#push(place, lane, { kind: ITERATION, of, loop, items: [], selected: this.moments.selected[place], dropped: Infinity });
     }
 
     /** The action of a moment as the script has it. */
@@ -70,16 +75,8 @@ export class Frames {
         return actions?.[moments.at.at(place)];
     }
 
-    /** A dispatch, of which a line tells; where the lane is halted in its place, there is none. */
-    #dispatched(place, lane, lines) {
-        const words = lines.map(wordsOf).find((it) => it[0] === "dispatch");
-        if (!words) return;
-        const { moments } = this;
-        this.#push(place, lane, { kind: CALL, of: undefined, context: moments.of.at(place), source: moments.at.at(place), depth: Number(words[8]) });
-    }
-
     #push(place, lane, frame) {
-        Object.assign(frame, { lane, from: place, to: Infinity, below: this.#top[lane] });
+        Object.assign(frame, { lane, from: place, to: Infinity, below: this.#top[lane] ?? null });
         this.#top[lane] = frame;
         this.rows.span(frame);
     }
@@ -87,9 +84,8 @@ export class Frames {
     #drop(place, lane) {
         const frame = this.#top[lane];
         if (!frame) return;
-        frame.to = place;
         this.#top[lane] = frame.below;
-        this.rows.ended(frame);
+        this.rows.ended(frame, place);
     }
 
     /** What is in progress after a moment, the outermost first. */

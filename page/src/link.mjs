@@ -1,7 +1,9 @@
 // The script in the link: packed, in letters that a link may have, behind its #.
 const KEY = "#s=";
 const MOST = 4_194_304; // bytes of a script
-const PIECE = 8192;
+
+/** The bytes of what was written in base64. */
+export const bytesOf = (letters) => Uint8Array.from(atob(letters), (letter) => letter.charCodeAt(0));
 
 async function through(stream, bytes) {
     const reader = new Blob([bytes]).stream().pipeThrough(stream).getReader(), parts = [];
@@ -15,9 +17,7 @@ async function through(stream, bytes) {
 
 export async function packed(script) {
     const bytes = await through(new CompressionStream("deflate-raw"), new TextEncoder().encode(script));
-    let letters = "";
-    for (let from = 0; from < bytes.length; from += PIECE) letters += String.fromCharCode(...bytes.subarray(from, from + PIECE));
-    return KEY + btoa(letters).replace(/\+/g, "-").replace(/\//g, "_").replace(/=+$/, "");
+    return KEY + btoa(Array.from(bytes, (byte) => String.fromCharCode(byte)).join("")).replace(/\+/g, "-").replace(/\//g, "_").replace(/=+$/, "");
 }
 
 /** The bytes that were packed; at most as many as a script may have. */
@@ -26,6 +26,6 @@ export const inflated = (bytes) => through(new DecompressionStream("deflate-raw"
 /** The script of a link, or null where it has none. */
 export async function unpacked(hash) {
     if (!hash.startsWith(KEY)) return null;
-    const letters = atob(hash.slice(KEY.length).replace(/-/g, "+").replace(/_/g, "/"));
-    return new TextDecoder().decode(await inflated(Uint8Array.from(letters, (letter) => letter.charCodeAt(0))));
+    const letters = hash.slice(KEY.length).replace(/-/g, "+").replace(/_/g, "/");
+    return new TextDecoder().decode(await inflated(bytesOf(letters)));
 }

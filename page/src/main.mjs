@@ -3,14 +3,14 @@ import { MainctxError } from "../../bindings/web/mainctx.mjs";
 import { Detail } from "./detail.mjs";
 import { Editor } from "./editor.mjs";
 import { MOST_MOMENTS, begun, pieces } from "./engine.mjs";
-import { packed, inflated, unpacked } from "./link.mjs";
+import { bytesOf, inflated, packed, unpacked } from "./link.mjs";
 import { Model } from "./model.mjs";
+import { button, element } from "./parts.mjs";
 import { Picture } from "./picture.mjs";
-import { found } from "./search.mjs";
 import { Steps } from "./steps.mjs";
 import { Text } from "./text.mjs";
 import { Why } from "./why.mjs";
-import { sentence } from "./words.mjs";
+import { found, sentence } from "./words.mjs";
 
 const WAIT = 250; // milliseconds from the last change to the run
 const LONG = 1000; // milliseconds from which on a run is said to go on
@@ -20,18 +20,17 @@ const LINK_AT_MOST = 100_000; // characters
 
 const part = (id) => document.getElementById(id);
 const given = (id) => part(id).textContent.trim();
-const bytesOf = (words) => Uint8Array.from(atob(words), (letter) => letter.charCodeAt(0));
 const pause = (ms = 0) => new Promise((go) => setTimeout(go, ms));
 
 const examples = JSON.parse(given("examples"));
 const pick = (place) => go(place, true);
-const picture = new Picture(part("picture"), pick), steps = new Steps(part("steps"), pick), text = new Text(part("text"), pick);
-const detail = new Detail(part("detail"), pick, new Why(ask));
-const editor = new Editor({ area: part("script"), back: part("back"), numbers: part("numbers"), list: part("faults") }, () => later());
+const picture = new Picture(part("picture"), pick), steps = new Steps(part("steps")), text = new Text(part("text"));
+const detail = new Detail(part("detail"), new Why(ask));
+const editor = new Editor({ area: part("script"), back: part("back"), numbers: part("numbers"), list: part("faults") }, later);
 const engine = await begun(await inflated(bytesOf(given("module"))), part("worker").textContent);
 
 /** What is shown, for whoever tries the page: the job that is the latest, and what it came to. */
-const shown = { job: 0, isBusy: false, model: null, current: null, asks: 0, text: "", refused: null, firstPicture: 0 };
+const shown = { job: 0, isBusy: false, model: null, current: null, asks: 0, text: "", refused: null, begin: 0, firstPicture: 0 };
 globalThis.mainctxPage = { shown, editor, picture, engine, go, run };
 let timer = 0;
 
@@ -48,26 +47,27 @@ function say(words) {
 async function run() {
     clearTimeout(timer);
     if (shown.isBusy || shown.asks) engine.abort();
-    const job = ++shown.job, script = editor.script, begin = performance.now();
-    const isLatest = () => job === shown.job;
-    Object.assign(shown, { isBusy: true, refused: null, firstPicture: 0 });
-    const ticker = setInterval(() => isLatest() && waiting(begin), LONG);
+    const job = ++shown.job, script = editor.script, isLatest = () => job === shown.job;
+    Object.assign(shown, { isBusy: true, refused: null, begin: performance.now(), firstPicture: 0 });
+    const ticker = setInterval(() => isLatest() && waiting(), LONG);
     try {
         const faults = await engine.check(script);
         if (!isLatest()) return;
         editor.mark(faults);
-        await show(script, isLatest, begin);
+        await show(script, isLatest);
     } catch (thrown) {
         if (isLatest()) refused(thrown);
     } finally {
         clearInterval(ticker);
-        if (isLatest()) {
-            shown.isBusy = false;
-            part("stop").hidden = true;
-        }
+        if (isLatest()) idle();
     }
     const link = await packed(script);
     if (isLatest()) history.replaceState(null, "", link.length <= LINK_AT_MOST ? link : "#");
+}
+
+function idle() {
+    shown.isBusy = false;
+    part("stop").hidden = true;
 }
 
 function refused(thrown) {
@@ -77,46 +77,44 @@ function refused(thrown) {
     say(words[shown.refused] ?? `refused: ${thrown.message}. What is shown is the run before.`);
 }
 
-function waiting(begin) {
-    const { moments } = shown.model ?? {}, seconds = Math.round((performance.now() - begin) / 1000);
+function waiting() {
+    const { moments } = shown.model ?? {}, seconds = Math.round((performance.now() - shown.begin) / 1000);
     const told = moments && shown.isTold === shown.job ? `, ${moments.count} moments so far, up to tick ${moments.tick.at(moments.count - 1)} of ${moments.ticks}` : "";
     say(`runs for ${seconds} s${told}`);
     part("stop").hidden = false;
 }
 
 /** Shows a run: the beginning of its account, its text, and the rest of the account. */
-async function show(script, isLatest, begin) {
-    const coming = pieces(engine, script);
-    for (let model = null, piece = await coming.next(); isLatest(); piece = await coming.next()) {
-        if (piece.done) return void summed(model, piece.value);
-        const isFirst = model === null;
+async function show(script, isLatest) {
+    let model = null;
+    for await (const lines of pieces(engine, script)) {
         model ??= new Model(script);
-        for (let from = 0; from < piece.value.length && isLatest(); from += SLICE) {
-            model.read(piece.value.slice(from, from + SLICE));
-            present(model, isLatest, begin);
+        for (let from = 0; from < lines.length && isLatest(); from += SLICE) {
+            for (const line of lines.slice(from, from + SLICE)) model.read(line);
+            present(model);
             await pause();
         }
-        if (!isFirst) continue;
-        const ran = await engine.run(script);
-        if (isLatest()) text.show((shown.text = ran.text), model);
+        const ran = isLatest() && !shown.text ? await engine.run(script) : null;
+        if (!isLatest()) return;
+        if (ran) text.show((shown.text = ran.text), model);
     }
+    summed(model);
 }
 
 /** Shows what is known of a model. */
-function present(model, isLatest, begin) {
+function present(model) {
     const isNew = shown.model !== model;
     Object.assign(shown, { model, isTold: shown.job });
-    model.places.folds = part("folds").checked;
+    model.places.settle(part("folds").checked);
     if (isNew) {
         part("picture").scrollTo(0, 0);
         picture.current = shown.current = null;
         text.show((shown.text = ""), model);
     }
-    if (model.moments.isOver || isNew) model.places.settle();
     picture.show(model);
     if (!isNew) return void steps.show(model, shown.current);
     go(0, false);
-    requestAnimationFrame(() => isLatest() && (shown.firstPicture ||= performance.now() - begin));
+    requestAnimationFrame(() => (shown.firstPicture ||= performance.now() - shown.begin));
 }
 
 /** The answer of a call of the engine of the script that is shown, once its run is told; what was asked of the moment before is stopped. */
@@ -125,19 +123,16 @@ async function ask(call, model, ...words) {
     if (model !== shown.model) throw new MainctxError("aborted");
     if (call === "why" && shown.asks) engine.abort();
     shown.asks++;
-    try {
-        return (await engine[call](model.script, ...words)).text;
-    } finally {
-        shown.asks--;
-    }
+    const { text: answer } = await engine[call](model.script, ...words).finally(() => shown.asks--);
+    return answer;
 }
 
 /** Says what a run came to, and what is left out of it. */
-function summed(model, isMore) {
+function summed(model) {
     const { moments, dispatches } = model, notes = [];
-    if (isMore) notes.push(`The picture has the first ${MOST_MOMENTS} moments; the text is whole.`);
+    if (!moments.isOver) notes.push(`The picture has the first ${MOST_MOMENTS} moments; the text is whole.`);
     if (text.leftOut) notes.push(`The last ${text.leftOut} lines of the text are left out.`);
-    if (!isMore && model.text() !== shown.text) notes.push("The account tells another text than the run: this is a fault, please report it.");
+    if (moments.isOver && model.text() !== shown.text) notes.push("The account tells another text than the run: this is a fault, please report it.");
     const counted = (count, name, end = "s") => `${count} ${name}${count === 1 ? "" : end}`;
     const counts = [counted(moments.ticks, "tick"), counted(moments.lanes, "thread"), counted(moments.count, "moment"), counted(dispatches.length, "dispatch", "es")];
     say([`${counts.join(", ")}.`, ...notes].join(" "));
@@ -168,20 +163,18 @@ function tick(step) {
     return places.firstOf(moments.tick.at(Math.max(0, places.firstOf(now) - 1)));
 }
 
-/** Where keys lead, and what others do. */
-const WAYS = {
-    ArrowRight: () => shown.current + 1, ArrowLeft: () => shown.current - 1, ArrowDown: () => dispatch(1), ArrowUp: () => dispatch(-1),
-    PageDown: () => tick(1), PageUp: () => tick(-1), Home: () => 0, End: () => shown.model.moments.count - 1,
+const KEYS = {
+    ArrowRight: () => pick(shown.current + 1), ArrowLeft: () => pick(shown.current - 1), ArrowDown: () => pick(dispatch(1)), ArrowUp: () => pick(dispatch(-1)),
+    PageDown: () => pick(tick(1)), PageUp: () => pick(tick(-1)), Home: () => pick(0), End: () => pick(shown.model.moments.count - 1),
+    "+": () => picture.zoomBy(ZOOM), "-": () => picture.zoomBy(1 / ZOOM), 0: () => picture.fit(), "/": () => part("search").focus(),
 };
-const ACTS = { "+": () => picture.zoomBy(ZOOM), "-": () => picture.zoomBy(1 / ZOOM), 0: () => picture.fit(), "/": () => part("search").focus() };
 
 function key(event) {
     if (event.key === "Enter" && event.ctrlKey) return void run();
     if (event.target.closest("textarea, input, select, summary") || event.ctrlKey || event.altKey || event.metaKey) return;
-    if (!(WAYS[event.key] ?? ACTS[event.key]) || shown.current === null) return;
+    if (!KEYS[event.key] || shown.current === null) return;
     event.preventDefault();
-    if (WAYS[event.key]) pick(WAYS[event.key]());
-    else ACTS[event.key]();
+    KEYS[event.key]();
 }
 
 function search(step) {
@@ -190,24 +183,10 @@ function search(step) {
     else go(place, true);
 }
 
-/** The script that `mainctx_inspect page` put into this page, or the first example. */
-function first() {
-    return given("given") ? new TextDecoder().decode(bytesOf(given("given"))) : examples[0].script;
-}
-
 /** Shows an example, or the script of the link or of this page. */
 function put(script) {
     editor.script = script;
     run();
-}
-
-function gallery() {
-    part("gallery").append(...examples.map(({ name, sentence: words, script }) => {
-        const item = document.createElement("li"), button = Object.assign(document.createElement("button"), { type: "button", textContent: name });
-        button.addEventListener("click", () => put(script));
-        item.append(button, ` ${words}`);
-        return item;
-    }));
 }
 
 const clicks = {
@@ -218,18 +197,21 @@ const clicks = {
     },
     stop: () => {
         shown.job++;
-        shown.isBusy = false;
         engine.abort();
-        part("stop").hidden = true;
+        idle();
         say(`stopped; ${shown.model?.moments.count ?? 0} moments are shown`);
     },
-    nearer: ACTS["+"], farther: ACTS["-"], fit: ACTS[0], before: () => pick(WAYS.ArrowLeft()), next: () => pick(WAYS.ArrowRight()),
-    folds: () => shown.model && present(shown.model, () => false, 0),
+    nearer: KEYS["+"], farther: KEYS["-"], fit: KEYS[0], before: KEYS.ArrowLeft, next: KEYS.ArrowRight,
+    folds: () => shown.model && present(shown.model),
     find: () => search(1), findBack: () => search(-1),
 };
 for (const [id, act] of Object.entries(clicks)) part(id).addEventListener("click", act);
 part("search").addEventListener("keydown", (event) => event.key === "Enter" && search(event.shiftKey ? -1 : 1));
 document.addEventListener("keydown", key);
+document.addEventListener("click", (event) => {
+    const place = event.target.closest("[data-place]")?.dataset.place;
+    if (place) pick(Number(place));
+});
 addEventListener("hashchange", () => linked());
 
 async function linked() {
@@ -242,5 +224,10 @@ async function linked() {
     }
 }
 
-gallery();
-if ((await linked()) === null) put(first());
+for (const { name, sentence: words, script } of examples) {
+    const item = element("li", "");
+    item.append(button(name, () => put(script)), ` ${words}`);
+    part("gallery").append(item);
+}
+// else the script that `mainctx_inspect page` put into this page, or the first example
+if ((await linked()) === null) put(given("given") ? new TextDecoder().decode(bytesOf(given("given"))) : examples[0].script);

@@ -1,15 +1,12 @@
 // The moments of a run, read from the lines of its account (docs/ACCOUNT.md) into columns, since there may be a million of them.
 
 /** What a moment does, by the words of the account. */
-export const DID = Object.freeze(
-    Object.fromEntries(
-        ["polled", "acted", "returned", "dispatched", "passed_over", "iteration_ended", "iterated", "loop_ended", "rests", "handed_over", "received", "other"]
-            .map((word, number) => [word, number]),
-    ),
-);
+const WORDS = ["polled", "acted", "returned", "dispatched", "passed_over", "iteration_ended", "iterated", "loop_ended", "rests", "handed_over", "received", "other"];
+export const DID = Object.freeze(Object.fromEntries(WORDS.map((word, number) => [word, number])));
 
 /** The lists of actions that are no procedure. */
 export const START = -1, NOTHING = -2;
+const LISTS = { start: START, nothing: NOTHING };
 
 export class Moments {
     count = 0;
@@ -29,40 +26,24 @@ export class Moments {
     action = [];
     /** The lines that a moment writes, where it writes some. */
     lines = [];
+    /** The context and the source that a moment attaches, and the ids that an iteration selects which it begins, where the account tells them. */
+    attached = [];
+    selected = [];
 
     /** Reads a line of the account: its first one, a move, or its last one. */
     read(line) {
         const told = JSON.parse(line);
-        if (told.format) {
-            [this.ticks, this.tickUs, this.lanes] = [told.ticks, told.tick_us, told.lanes];
-        } else if (told.did === "over") {
-            this.isOver = true;
-        } else {
-            this.#add(told, this.count++);
-        }
-    }
-
-    #add(told, place) {
+        if (told.format) return void ([this.ticks, this.tickUs, this.lanes] = [told.ticks, told.tick_us, told.lanes]);
+        if (told.did === "over") return void (this.isOver = true);
+        const place = this.count++;
         this.tick[place] = told.tick;
         this.lane[place] = told.lane;
         this.did[place] = DID[told.did] ?? DID.other;
-        this.of[place] = told.list ? listOf(told) : told.context ?? -1;
-        this.at[place] = told.source ?? told.loop ?? told.place ?? told.from ?? told.sender ?? -1;
+        this.of[place] = told.procedure ?? LISTS[told.list] ?? told.context ?? -1;
+        this.at[place] = told.place ?? told.source ?? told.loop ?? told.from ?? told.sender ?? -1;
         if (told.action) this.action[place] = told.action;
-        if (told.lines) this.lines[place] = told.lines;
+        for (const key of ["lines", "attached", "selected"]) if (told[key]) this[key][place] = told[key];
     }
-}
-
-function listOf(told) {
-    if (told.list === "procedure") return told.procedure;
-    return told.list === "start" ? START : NOTHING;
-}
-
-/** The context and the source of which a line speaks, where it speaks of one. */
-export function sourceIn(line) {
-    const words = line.split(" ");
-    if (words[2] !== "ctx") return {};
-    return words[4] === "source" ? { context: Number(words[3]), source: Number(words[5]) } : { context: Number(words[3]) };
 }
 
 /** The words of a line behind its tick. */

@@ -52,12 +52,9 @@ export class Picture {
         this.draw();
     }
 
-    get labels() {
-        return this.box.clientWidth < NARROW ? NARROW_LABELS : LABELS;
-    }
-
     #resized() {
         const { clientWidth: width, clientHeight: height } = this.box, scale = devicePixelRatio || 1;
+        this.labels = width < NARROW ? NARROW_LABELS : LABELS;
         Object.assign(this.canvas, { width: width * scale, height: height * scale });
         Object.assign(this.canvas.style, { width: `${width}px`, height: `${height}px` });
         this.paper.setTransform(scale, 0, 0, scale, 0, 0);
@@ -79,8 +76,7 @@ export class Picture {
     /** Makes the whole run as wide as the box. */
     fit() {
         const room = this.box.clientWidth - this.labels - NARROW_LABELS / 2;
-        this.zoom = Math.max(LEAST_ZOOM, Math.min(MOST_ZOOM, room / Math.max(this.model.places.width, 1)));
-        this.#resized();
+        this.zoomBy(room / Math.max(this.model.places.width, 1) / this.zoom, this.labels);
     }
 
     unitAt(pixel) {
@@ -90,15 +86,11 @@ export class Picture {
     /** Marks a moment, and scrolls to where it is seen. */
     go(place) {
         this.current = place;
-        if (place !== null) this.#scrollTo(place);
-        this.draw();
-    }
-
-    #scrollTo(place) {
         const { box, model } = this, x = model.places.of(place) * this.zoom, room = box.clientWidth - this.labels;
         if (x < box.scrollLeft || x + this.zoom > box.scrollLeft + room) box.scrollLeft = x - room / 3;
         const y = this.rowOf(place).place * HIGH, high = box.clientHeight - AXIS;
         if (y < box.scrollTop || y + HIGH > box.scrollTop + high) box.scrollTop = y - high / 3;
+        this.draw();
     }
 
     /** The row in which a moment is marked: that of the innermost frame, or of its thread. */
@@ -106,7 +98,7 @@ export class Picture {
         const { moments, frames, rows } = this.model, did = moments.did.at(place);
         const ends = did === DID.returned || did === DID.iteration_ended || did === DID.loop_ended;
         const frame = frames.innermost[ends ? place - 1 : place] ?? frames.innermost[place];
-        return frame?.lane === moments.lane.at(place) ? frame.row : rows.head(moments.lane.at(place));
+        return frame?.lane === moments.lane.at(place) ? frame.row : rows.row(moments.lane.at(place), ROW.thread);
     }
 
     #wheel(event) {
@@ -119,14 +111,15 @@ export class Picture {
         const row = this.rows?.[Math.floor((event.offsetY - AXIS + this.box.scrollTop) / HIGH)];
         if (!row || event.offsetY < AXIS) return;
         const unit = this.unitAt(event.offsetX), { places } = this.model;
-        const bars = row.spans.filter((span) => places.of(span.from) <= unit && unit < this.endOf(span));
+        const bars = row.spans.filter((span) => places.of(span.from) <= unit && unit < this.endOf(span.to));
         const place = bars.length ? bars.at(-1).from : places.momentAt(unit, row.lane);
         if (place !== null) this.pick(place);
     }
 
-    endOf(span) {
+    /** The unit at which a span up to a moment ends. */
+    endOf(to) {
         const { places } = this.model;
-        return span.to === Infinity ? places.width : places.of(span.to) + 1;
+        return to === Infinity ? places.width : places.of(to) + 1;
     }
 
     /** Draws before the next frame of the screen, once. */
@@ -140,11 +133,9 @@ export class Picture {
     }
 
     #paint() {
-        const { paper, colours, box, rows, labels } = this, { clientWidth: width, clientHeight: height } = box;
-        paper.fillStyle = colours.back;
-        paper.fillRect(0, 0, width, height);
-        paper.font = FONT;
-        paper.textBaseline = "middle";
+        const { paper, box, rows, labels } = this, { clientWidth: width, clientHeight: height } = box;
+        Object.assign(paper, { font: FONT, textBaseline: "middle" });
+        this.#fill("back", 0, 0, width, height);
         const first = Math.max(0, Math.floor(box.scrollTop / HIGH)), last = Math.min(rows.length, first + Math.ceil(height / HIGH) + 1);
         const seen = { left: this.unitAt(labels), right: this.unitAt(width), width, height, first, last };
         this.#clipped(labels, 0, width - labels, height, () => {
@@ -168,6 +159,16 @@ export class Picture {
         this.paper.restore();
     }
 
+    #fill(colour, x, y, width, height) {
+        this.paper.fillStyle = this.colours[colour];
+        this.paper.fillRect(x, y, width, height);
+    }
+
+    #write(colour, words, x, y) {
+        this.paper.fillStyle = this.colours[colour];
+        this.paper.fillText(words, x, y);
+    }
+
     pixel(unit) {
         return this.labels + unit * this.zoom - this.box.scrollLeft;
     }
@@ -178,85 +179,73 @@ export class Picture {
 
     #bands({ first, last, width }) {
         for (const { place, isHead, isContext } of this.rows.slice(first, last)) {
-            this.paper.fillStyle = isHead ? this.colours.line : this.colours.band;
-            if (isHead || isContext) this.paper.fillRect(0, this.rowTop(place), width, isHead ? 1 : HIGH);
+            if (isHead) this.#fill("line", 0, this.rowTop(place), width, 1);
+            if (isContext) this.#fill("band", 0, this.rowTop(place), width, HIGH);
         }
     }
 
     /** The ticks with their times; what is folded is shaded. */
     #ticks({ left, right, height }) {
-        const { paper, colours } = this, { places, moments } = this.model, { columns } = places;
+        const { places, moments } = this.model, { columns } = places;
         let free = -Infinity;
         for (let n = places.columnAt(left); n < columns.length && columns[n].x <= right; n++) {
             const column = columns[n], x = this.pixel(column.x), wide = column.width * this.zoom;
-            paper.fillStyle = colours.fold;
-            if (column.isFolded) paper.fillRect(x, AXIS, wide, height);
-            if (wide >= FRAMED_FROM || x > free) {
-                paper.fillStyle = colours.line;
-                paper.fillRect(Math.round(x), AXIS - 6, 1, height);
-            }
-            const name = `${column.first}${column.first === column.last ? "" : `–${column.last}`}${column.isFolded ? " ⋯" : ""}`;
+            if (column.isFolded) this.#fill("fold", x, AXIS, wide, height);
+            if (wide >= FRAMED_FROM || x > free) this.#fill("line", Math.round(x), AXIS - 6, 1, height);
             if (x < free) continue;
-            paper.fillStyle = column.isFolded ? colours.soft : colours.ink;
-            paper.fillText(name, x + PAD, TICK_LINE);
-            paper.fillStyle = colours.soft;
-            const time = timeOf(moments, column.first);
-            paper.fillText(time, x + PAD, TIME_LINE);
-            free = x + Math.max(paper.measureText(name).width, paper.measureText(time).width) + APART;
+            const ticks = column.first === column.last ? column.first : `${column.first}–${column.last}`, time = timeOf(moments, column.first);
+            const name = column.isFolded ? `${ticks} ⋯` : `${ticks}`;
+            this.#write(column.isFolded ? "soft" : "ink", name, x + PAD, TICK_LINE);
+            this.#write("soft", time, x + PAD, TIME_LINE);
+            free = x + Math.max(...[name, time].map((words) => this.paper.measureText(words).width)) + APART;
         }
     }
 
-    /** The bars and signs of a row that are seen. Where several begin in one pixel, one is drawn. */
+    /** The bars and signs of a row that are seen. */
     #row(row, seen) {
-        const y = this.rowTop(row.place), { places } = this.model, { spans } = row, furthest = this.#furthest(row);
-        let n = firstOf(spans.length, (it) => (furthest[it] === Infinity ? places.width : places.of(furthest[it]) + 1) > seen.left);
-        while (n < spans.length && places.of(spans[n].from) <= seen.right) {
-            const end = this.endOf(spans[n]);
-            if (end >= seen.left) this.#bar(spans[n], y, this.pixel(places.of(spans[n].from)), this.pixel(end), seen);
-            const next = places.of(spans[n].from) + 1 / this.zoom;
-            n = this.zoom >= 1 ? n + 1 : Math.max(n + 1, firstOf(spans.length, (it) => places.of(spans[it].from) >= next));
+        const y = this.rowTop(row.place), { places } = this.model;
+        let most = -1;
+        row.furthest ??= row.spans.map((span) => (most = Math.max(most, span.to)));
+        for (const span of this.#seen(row.spans, (it) => this.endOf(row.furthest[it]) > seen.left, seen.right)) {
+            const end = this.endOf(span.to);
+            if (end >= seen.left) this.#bar(span, y, this.pixel(places.of(span.from)), this.pixel(end), seen);
         }
         this.#signs(row, y, seen);
     }
 
-    #furthest(row) {
-        if (row.furthest?.length !== row.spans.length) {
-            let most = -1;
-            row.furthest = row.spans.map((span) => (most = Math.max(most, span.to)));
+    /** The bars or signs of a row from the first for which it holds, up to a unit. Where several begin in one pixel, it is one of them. */
+    *#seen(list, holds, right) {
+        const unit = (it) => this.model.places.of(list[it].from);
+        for (let n = firstOf(list.length, holds); n < list.length && unit(n) <= right; ) {
+            yield list[n];
+            const next = unit(n) + 1 / this.zoom;
+            n = this.zoom >= 1 ? n + 1 : Math.max(n + 1, firstOf(list.length, (it) => unit(it) >= next));
         }
-        return row.furthest;
     }
 
     #bar(span, y, left, right, seen) {
         const { paper, colours } = this, isDispatch = span.source !== undefined, depth = span.depth ?? 0;
         const inset = isDispatch ? Math.min(INSET + INSET_OF_A_DEPTH * (depth - 1), MOST_INSET) : MOST_INSET;
         const x = Math.max(left, -2), wide = Math.max(1, Math.min(right, seen.width + 2) - x - Number(this.zoom >= SIGN_FROM)), high = HIGH - 2 * inset;
-        paper.fillStyle = isDispatch ? colours[BARS[(depth - 1) % BARS.length]] : colours.span;
-        paper.fillRect(x, y + inset, wide, high);
+        this.#fill(isDispatch ? BARS[(depth - 1) % BARS.length] : "span", x, y + inset, wide, high);
         if (wide >= FRAMED_FROM) {
             paper.strokeStyle = colours.ink;
             paper.lineWidth = span.from === this.current ? 2.5 : isDispatch ? 1 : 0.5;
             paper.strokeRect(x + 0.5, y + inset + 0.5, wide - 1, high - 1);
         }
-        if (isDispatch && wide >= NUMBERED_FROM) {
-            paper.fillStyle = colours.barink;
-            paper.fillText(String(depth), Math.max(x, this.labels) + PAD, y + HIGH / 2);
-        }
+        if (isDispatch && wide >= NUMBERED_FROM) this.#write("barink", String(depth), Math.max(x, this.labels) + PAD, y + HIGH / 2);
     }
 
     #signs(row, y, seen) {
-        const { paper, colours } = this, { places } = this.model, { marks } = row;
-        paper.fillStyle = colours.mark;
+        const { places } = this.model, { marks } = row, isWritten = this.zoom >= SIGN_FROM;
         let free = -Infinity;
-        for (let n = firstOf(marks.length, (it) => places.of(marks[it].place) >= seen.left - 4); n < marks.length; n++) {
-            const x = this.pixel(places.of(marks[n].place));
-            if (x > seen.width) break;
-            const isWritten = this.zoom >= SIGN_FROM, next = places.of(marks[n].place) + 1 / this.zoom;
-            if (this.zoom < 1) n = Math.max(n, firstOf(marks.length, (it) => places.of(marks[it].place) >= next) - 1);
+        for (const { from, glyph } of this.#seen(marks, (it) => places.of(marks[it].from) >= seen.left - 4, seen.right)) {
+            const x = this.pixel(places.of(from)), wide = isWritten ? this.paper.measureText(glyph).width : 1;
             if (x < free) continue;
-            if (isWritten) paper.fillText(marks[n].glyph, x + 2, y + HIGH / 2);
-            else paper.fillRect(x, y + 6, 1, HIGH - 12);
-            free = x + (isWritten ? paper.measureText(marks[n].glyph).width : 1);
+            if (isWritten) this.#fill(row.isContext ? "band" : "back", x, y + 6, wide + 2, HIGH - 12);
+            if (isWritten) this.#write("mark", glyph, x + 1, y + HIGH / 2);
+            else this.#fill("mark", x, y + 6, wide, HIGH - 12);
+            free = x + wide;
         }
     }
 
@@ -271,7 +260,7 @@ export class Picture {
             if (sent > right + FAR) break;
             if (this.zoom < 1 && x < drawn + 2) continue;
             drawn = x;
-            this.#arrow(this.pixel(sent), this.rowTop(rows.head(moments.at.at(place)).place) + HIGH / 2, x, this.rowTop(row.place) + HIGH / 2);
+            this.#arrow(this.pixel(sent), this.rowTop(rows.row(moments.at.at(place), ROW.thread).place) + HIGH / 2, x, this.rowTop(row.place) + HIGH / 2);
         }
     }
 
@@ -290,30 +279,25 @@ export class Picture {
     #cursor({ height }) {
         if (this.current === null) return;
         const { paper, colours } = this, x = this.pixel(this.model.places.of(this.current)), wide = Math.max(this.zoom, 2);
-        paper.fillStyle = paper.strokeStyle = colours.mark;
         paper.globalAlpha = SHADE;
-        paper.fillRect(x, AXIS, wide, height);
-        paper.globalAlpha = 1;
-        paper.lineWidth = 2;
+        this.#fill("mark", x, AXIS, wide, height);
+        Object.assign(paper, { globalAlpha: 1, strokeStyle: colours.mark, lineWidth: 2 });
         paper.strokeRect(x, this.rowTop(this.rowOf(this.current).place) + 1, wide, HIGH - 2);
     }
 
     #names({ first, last, height }) {
-        const { paper, colours, labels, rows } = this;
-        paper.fillStyle = colours.back;
-        paper.fillRect(0, 0, labels, height);
-        paper.fillStyle = colours.soft;
-        paper.fillText("tick", THREAD_INDENT, TICK_LINE);
-        paper.fillText("time", THREAD_INDENT, TIME_LINE);
+        const { paper, labels, rows } = this;
+        this.#fill("back", 0, 0, labels, height);
+        this.#write("soft", "tick", THREAD_INDENT, TICK_LINE);
+        this.#write("soft", "time", THREAD_INDENT, TIME_LINE);
         this.#clipped(0, AXIS, labels - 2, height, () => {
             for (const { place, kind, label, isHead, isContext } of rows.slice(first, last)) {
                 paper.font = `${isHead ? "bold " : ""}${FONT}`;
-                paper.fillStyle = isHead || isContext ? colours.ink : colours.soft;
-                paper.fillText(label, isHead ? THREAD_INDENT : kind === ROW.source ? SOURCE_INDENT : INDENT, this.rowTop(place) + HIGH / 2);
+                const indent = isHead ? THREAD_INDENT : kind === ROW.source ? SOURCE_INDENT : INDENT;
+                this.#write(isHead || isContext ? "ink" : "soft", label, indent, this.rowTop(place) + HIGH / 2);
             }
         });
-        paper.fillStyle = colours.line;
-        paper.fillRect(labels - 1, 0, 1, height);
-        paper.fillRect(0, AXIS - 1, this.box.clientWidth, 1);
+        this.#fill("line", labels - 1, 0, 1, height);
+        this.#fill("line", 0, AXIS - 1, this.box.clientWidth, 1);
     }
 }

@@ -10,12 +10,11 @@ export class Places {
     width = 0;
     /** The ticks in their order: {first, last, x, width, isFolded}, where folded ones are one. */
     columns = [];
-    /** Whether quiet ticks are folded. */
-    folds = true;
+    #folds = true;
     #slot = [];
     #x = [];
     #turns = [];
-    #letters = [];
+    #widths = [];
     #loud = [];
     #firsts = [];
     #now = { tick: -1, counts: new Map() };
@@ -29,29 +28,30 @@ export class Places {
         const { moments } = this, tick = moments.tick.at(place), lane = moments.lane.at(place), did = moments.did.at(place);
         if (tick !== this.#now.tick) {
             this.#now = { tick, counts: new Map() };
-            [this.#turns[tick], this.#letters[tick], this.#firsts[tick]] = [0, 0, place];
+            [this.#turns[tick], this.#widths[tick], this.#firsts[tick]] = [0, 0, place];
         }
-        const isLetter = did === DID.received || did === DID.handed_over, key = lane * 2 + Number(isLetter), widths = isLetter ? this.#letters : this.#turns;
-        const slot = this.#now.counts.get(key) ?? 0;
-        this.#now.counts.set(key, slot + 1);
-        this.#slot[place] = isLetter ? -1 - slot : slot;
-        widths[tick] = Math.max(widths[tick], slot + 1);
+        const isLetter = did === DID.received || did === DID.handed_over, key = lane * 2 + Number(isLetter), count = this.#now.counts.get(key) ?? 0;
+        this.#now.counts.set(key, count + 1);
+        this.#slot[place] = isLetter ? this.#turns[tick] + count : count;
+        this.#widths[tick] = Math.max(this.#widths[tick], this.#slot[place] + 1);
+        if (!isLetter) this.#turns[tick] = this.#widths[tick];
         const isQuiet = did === DID.polled || did === DID.rests || did === DID.iterated || did === DID.iteration_ended;
         if (!isQuiet || moments.lines[place]) this.#loud[tick] = true;
     }
 
-    /** Puts the ticks side by side, as far as they are known. */
-    settle() {
+    /** Puts the ticks side by side, as far as they are known, quiet ones folded or not. */
+    settle(folds) {
+        this.#folds = folds;
         const { moments } = this, known = moments.isOver ? moments.ticks : this.#now.tick + 1;
         this.columns = [];
         let x = 0;
         for (let tick = 0; tick < known; tick++) {
-            const last = this.columns.at(-1), isFolded = this.folds ? !this.#loud[tick] : this.#turns[tick] === undefined;
+            const last = this.columns.at(-1), isFolded = folds ? !this.#loud[tick] : this.#turns[tick] === undefined;
             if (isFolded && last?.isFolded) {
                 last.last = tick;
             } else {
                 x = last ? last.x + last.width : 0;
-                const width = isFolded ? FOLD : this.#turns[tick] + this.#letters[tick] + GAP;
+                const width = isFolded ? FOLD : this.#widths[tick] + GAP;
                 this.columns.push({ first: tick, last: tick, x, width, isFolded });
             }
             this.#x[tick] = this.columns.at(-1).x;
@@ -62,9 +62,8 @@ export class Places {
 
     /** The unit at which a moment stands. */
     of(place) {
-        const tick = this.moments.tick.at(place), slot = this.#slot[place], x = this.#x[tick];
-        if (this.folds && !this.#loud[tick]) return x;
-        return slot < 0 ? x + this.#turns[tick] - 1 - slot : x + slot;
+        const tick = this.moments.tick.at(place);
+        return this.#folds && !this.#loud[tick] ? this.#x[tick] : this.#x[tick] + this.#slot[place];
     }
 
     /** The unit behind the turns of a tick, at which letters leave. */

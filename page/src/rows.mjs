@@ -1,16 +1,18 @@
-// The rows of the picture: a band for each thread, in it its calls, logs, tasks, cancellables and loops, and its contexts with a row for each source.
+// The rows of the picture: a band for each thread, in it its calls, logs, cancellables and loops, its contexts with a row for each source, and its tasks.
 import { CALL, ITERATION } from "./frames.mjs";
-import { sourceIn, wordsOf } from "./moments.mjs";
 
 /** The kinds of rows, in their order within a band. */
-export const ROW = Object.freeze({ thread: 0, calls: 1, log: 2, tasks: 3, cancel: 4, loop: 5, context: 6, source: 7 });
-const NAMES = [(row) => `thread ${row.lane}`, () => "calls", () => "log, miss", () => "tasks", () => "cancellables", (row) => `loop ${row.of}`, (row) => `context ${row.of}`, (row) => `source ${row.of}.${row.source}`];
+export const ROW = Object.freeze({ thread: 0, calls: 1, log: 2, cancel: 3, loop: 4, context: 5, source: 6, task: 7 });
+const NAMES = [
+    (lane) => `thread ${lane}`, () => "calls", () => "log, miss", () => "cancellables", (lane, of) => `loop ${of}`, (lane, of) => `context ${of}`,
+    (lane, of, source) => `source ${of}.${source}`, (lane, of) => `task ${lane}.${of}`,
+];
 
 /** The row and the sign of each line that is no dispatch. */
 const SIGNS = new Map([
-    ["log", [ROW.log, "•"]], ["miss", [ROW.log, "×"]], ["cancel", [ROW.cancel, "C"]], ["handler", [ROW.cancel, "h"]], ["task", [ROW.tasks, "T"]], ["end", [ROW.thread, "end"]],
-    ["halt", [ROW.thread, "HALT"]], ["give", [ROW.context, "→"]], ["hold", [ROW.context, "⇥"]], ["arrive", [ROW.source, "▾"]], ["invoke", [ROW.calls, "i"]], ["acquire", [ROW.context, "a"]],
-    ["pending", [ROW.context, "?"]], ["default", [ROW.context, "d"]],
+    ["log", [ROW.log, "•"]], ["miss", [ROW.log, "×"]], ["cancel", [ROW.cancel, "C"]], ["handler", [ROW.cancel, "h"]], ["task", [ROW.task, "T"]],
+    ["end", [ROW.thread, "end"]], ["halt", [ROW.thread, "HALT"]], ["give", [ROW.context, "→"]], ["hold", [ROW.context, "⇥"]], ["arrive", [ROW.source, "▾"]],
+    ["invoke", [ROW.calls, "i"]], ["acquire", [ROW.context, "a"]], ["pending", [ROW.context, "?"]], ["default", [ROW.context, "d"]],
 ]);
 
 export class Rows {
@@ -20,18 +22,19 @@ export class Rows {
     letters = [];
     #byKey = new Map();
     #isSorted = true;
+    #tasks = [];
 
-    #row(lane, kind, of = -1, source = -1) {
+    /** A row, which is made where there is none. */
+    row(lane, kind, of = -1, source = -1) {
         const key = `${lane}/${kind}/${of}/${source}`;
         let row = this.#byKey.get(key);
         if (!row) {
-            row = { lane, kind, of, source, label: "", spans: [], marks: [], isHead: kind === ROW.thread, isContext: kind === ROW.context };
-            row.label = NAMES[kind](row);
+            row = { lane, kind, of, source, label: NAMES[kind](lane, of, source), spans: [], marks: [], isHead: kind === ROW.thread, isContext: kind === ROW.context };
             this.#byKey.set(key, row);
             this.list.push(row);
             this.#isSorted = false;
-            if (kind !== ROW.thread) this.#row(lane, ROW.thread);
-            if (kind === ROW.source) this.#row(lane, ROW.context, of);
+            if (kind !== ROW.thread) this.row(lane, ROW.thread);
+            if (kind === ROW.source) this.row(lane, ROW.context, of);
         }
         return row;
     }
@@ -39,29 +42,52 @@ export class Rows {
     /** Takes a frame that begins. */
     span(frame) {
         const { lane, kind, of } = frame;
-        frame.row =
-            frame.source !== undefined ? this.#row(lane, ROW.source, frame.context, frame.source)
-            : kind === CALL ? this.#row(lane, ROW.calls)
-            : kind === ITERATION ? this.#row(lane, ROW.context, of)
-            : this.#row(lane, ROW.loop, of);
-        frame.row.spans.push(frame);
+        if (frame.source !== undefined) this.#begun(frame, this.row(lane, ROW.source, frame.context, frame.source));
+        else if (kind === CALL) this.#begun(frame, this.row(lane, ROW.calls));
+        else this.#begun(frame, this.row(lane, kind === ITERATION ? ROW.context : ROW.loop, of));
     }
 
-    ended(frame) {
-        frame.row.furthest = null;
+    /** Takes the start of a task, which is the next one of its thread. */
+    started(place, lane) {
+        this.#tasks[lane] = (this.#tasks[lane] ?? -1) + 1;
+        const row = this.row(lane, ROW.task, this.#tasks[lane]);
+        this.#begun({ from: place, to: Infinity }, row);
+        row.marks.push({ from: place, glyph: "s" });
     }
 
-    /** Takes the lines of a moment that are to be seen as signs; `sender` is the other thread that it comes from, or null. */
-    mark(place, lane, lines, sender) {
-        for (const line of lines) {
-            const words = wordsOf(line), sign = SIGNS.get(words[0]);
-            if (!sign) continue;
-            const { context, source } = sourceIn(line), [kind, glyph] = sign;
-            const row = this.#row(lane, kind, kind >= ROW.context ? context : -1, kind === ROW.source ? source : -1);
-            const at = words[0] === "log" ? words[1] : glyph;
-            row.marks.push({ place, glyph: at });
-            if (sender !== null && line === lines[0]) this.letters.push({ place, row });
+    /** Takes a source that the thread itself attached. */
+    attached(place, lane, { context, source }) {
+        this.row(lane, ROW.source, context, source).marks.push({ from: place, glyph: "+" });
+    }
+
+    #begun(span, row) {
+        span.row = row;
+        row.spans.push(span);
+        row.furthest = null;
+    }
+
+    /** Takes the end of a span. */
+    ended(span, place) {
+        span.to = place;
+        span.row.furthest = null;
+    }
+
+    /** Takes what the lines of a moment tell, in words, as signs; `comes` says whether the moment comes from another thread. */
+    mark(place, lane, told, comes) {
+        for (const [number, words] of told.entries()) {
+            const [kind, glyph] = SIGNS.get(words[0]) ?? [];
+            if (kind === undefined) continue;
+            const row = kind === ROW.task ? this.#told(place, words) : this.row(lane, kind, ...numbersIn(kind, words));
+            row.marks.push({ from: place, glyph: words[0] === "log" ? words[1] : words[2] === "late" ? "L" : glyph });
+            if (comes && number === 0) this.letters.push({ place, row });
         }
+    }
+
+    /** The row of the task of which a line tells; its span goes up to that line. */
+    #told(place, words) {
+        const [lane, number] = words[1].split(".").map(Number), row = this.row(lane, ROW.task, number);
+        this.ended(row.spans[0], place);
+        return row;
     }
 
     /** The rows in the order of their bands; each then knows its place. */
@@ -74,9 +100,10 @@ export class Rows {
         }
         return this.list;
     }
+}
 
-    /** The row of a thread's name. */
-    head(lane) {
-        return this.#row(lane, ROW.thread);
-    }
+/** The context of a row, and its source, from the words of a line. */
+function numbersIn(kind, words) {
+    if (kind === ROW.source) return [Number(words[2]), Number(words[4])];
+    return kind === ROW.context ? [Number(words[2])] : [];
 }

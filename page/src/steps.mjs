@@ -1,15 +1,12 @@
 // The moments round the current one as a table: what is done, what is in progress after it, what it writes. It is the picture for whoever reads it by ear.
+import { element } from "./parts.mjs";
 import { done, stackWords, timeOf } from "./words.mjs";
 
 const AROUND = 12; // moments before and behind the current one
 
 export class Steps {
-    constructor(body, pick) {
+    constructor(body) {
         this.body = body;
-        body.addEventListener("click", (event) => {
-            const row = event.target.closest("tr");
-            if (row) pick(Number(row.dataset.place));
-        });
     }
 
     show(model, current) {
@@ -21,11 +18,10 @@ export class Steps {
     }
 
     #row({ moments, frames }, place, isCurrent) {
-        const row = document.createElement("tr"), tick = moments.tick.at(place);
-        row.dataset.place = place;
+        const row = element("tr", "", place), tick = moments.tick.at(place);
         if (isCurrent) row.setAttribute("aria-current", "step");
-        const cells = [`${tick}`, timeOf(moments, tick), `${moments.lane.at(place)}`, done(frames, place), stackWords(frames, place, true), (moments.lines[place] ?? []).join("\n")];
-        row.append(...cells.map((words) => Object.assign(document.createElement("td"), { textContent: words })));
+        const cells = [tick, timeOf(moments, tick), moments.lane.at(place), done(frames, place), stackWords(frames, place, true), (moments.lines[place] ?? []).join("\n")];
+        row.append(...cells.map((words) => element("td", words)));
         return row;
     }
 }

@@ -1,4 +1,6 @@
 // The text of a run: of its lines those that are seen stand in the page, and a click on one goes to the moment that wrote it.
+import { element } from "./parts.mjs";
+
 const LINE = 18; // pixels
 const BEYOND = 10; // lines above and below what is seen
 const MOST_LINES = 900_000; // as many as a browser scrolls over
@@ -6,49 +8,27 @@ const MOST_LINES = 900_000; // as many as a browser scrolls over
 export class Text {
     #current = null;
 
-    constructor(box, pick) {
-        [this.box, this.list, this.pick] = [box, box.querySelector("ol"), pick];
+    constructor(box) {
+        [this.box, this.list] = [box, box.querySelector("ol")];
         box.addEventListener("scroll", () => this.draw());
         new ResizeObserver(() => this.draw()).observe(box);
-        this.list.addEventListener("click", (event) => {
-            const place = event.target.closest("li")?.dataset.place;
-            if (place) pick(Number(place));
-        });
     }
 
     /** Shows a text; `model` knows which moment wrote which line, as far as it was told. */
     show(text, model) {
-        [this.lines, this.model] = [text.split("\n").slice(0, -1), model];
-        this.heads = [];
+        [this.lines, this.model, this.heads] = [text.split("\n").slice(0, -1), model, []];
+        this.leftOut = Math.max(0, this.lines.length - MOST_LINES);
         this.lines.forEach((line, number) => line.startsWith("thread ") && this.heads.push(number));
         this.list.style.height = `${Math.min(this.lines.length, MOST_LINES) * LINE}px`;
         this.draw();
     }
 
-    get leftOut() {
-        return Math.max(0, this.lines.length - MOST_LINES);
-    }
-
-    /** Marks the lines of a moment. */
+    /** Marks the lines of a moment, and scrolls to the first. */
     go(place) {
         this.#current = place;
-        const first = this.#lineOf(place);
-        if (first !== null) {
-            const y = first * LINE;
-            if (y < this.box.scrollTop || y + LINE > this.box.scrollTop + this.box.clientHeight) this.box.scrollTop = y - this.box.clientHeight / 2;
-        }
+        const lane = this.model.moments.lane.at(place), number = (this.model.writers[lane] ?? []).indexOf(place), y = (this.heads[lane] + 1 + number) * LINE;
+        if (number >= 0 && (y < this.box.scrollTop || y + LINE > this.box.scrollTop + this.box.clientHeight)) this.box.scrollTop = y - this.box.clientHeight / 2;
         this.draw();
-    }
-
-    #lineOf(place) {
-        const lane = this.model.moments.lane.at(place), number = (this.model.writers[lane] ?? []).indexOf(place);
-        return number < 0 ? null : this.heads[lane] + 1 + number;
-    }
-
-    placeOf(number) {
-        let lane = 0;
-        while (lane + 1 < this.heads.length && this.heads[lane + 1] <= number) lane++;
-        return this.model.writers[lane]?.[number - this.heads[lane] - 1];
     }
 
     draw() {
@@ -61,11 +41,10 @@ export class Text {
         this.list.replaceChildren(...items);
     }
 
+    /** A line, with the moment that wrote it. */
     #item(number) {
-        const item = document.createElement("li"), place = this.placeOf(number);
-        item.textContent = this.lines[number];
-        if (place === undefined) return item;
-        item.dataset.place = place;
+        const lane = this.heads.findLastIndex((head) => head <= number), place = this.model.writers[lane]?.[number - this.heads[lane] - 1];
+        const item = element("li", this.lines[number], place);
         if (place === this.#current) item.setAttribute("aria-current", "true");
         return item;
     }

@@ -1,4 +1,6 @@
 // What the engine says of why sources were dispatched or not: of a moment's tick, and of the life of a source.
+import { element } from "./parts.mjs";
+
 const STILL = 150; // milliseconds for which a moment is the current one before the engine is asked
 const KEPT = 64; // ticks
 const MOST_TOLD = 400;
@@ -45,10 +47,8 @@ export class Why {
 }
 
 function told(shown, lines, none) {
-    shown.replaceChildren(...lines.slice(0, MOST_TOLD).map((line) => {
-        const isNote = line.startsWith(NOTE);
-        return Object.assign(document.createElement("div"), { className: isNote ? "note" : "", textContent: isNote ? `≠ ${line}` : line });
-    }));
+    const item = (line) => (line.startsWith(NOTE) ? Object.assign(element("div", `≠ ${line}`), { className: "note" }) : element("div", line));
+    shown.replaceChildren(...lines.slice(0, MOST_TOLD).map(item));
     if (lines.length !== shown.children.length) shown.append(`and ${lines.length - MOST_TOLD} lines more`);
     if (lines.length === 0) shown.textContent = none;
 }

@@ -1,5 +1,5 @@
-// Moments, stacks and times in words.
-import { CALL, ITERATION } from "./frames.mjs";
+// Moments, stacks and times in words, and moments found by them.
+import { CALL, LOOP } from "./frames.mjs";
 import { DID, NOTHING, START } from "./moments.mjs";
 
 const SHOWN_IDS = 12;
@@ -10,6 +10,12 @@ const US_IN_MS = 1000;
 /** A tick's time, in milliseconds. */
 export function timeOf(moments, tick) {
     return `${Number(((tick * moments.tickUs) / US_IN_MS).toFixed(3))} ms`;
+}
+
+/** When a moment is, and in which thread. */
+export function when(moments, place) {
+    const tick = moments.tick.at(place);
+    return `tick ${tick}, ${timeOf(moments, tick)}, thread ${moments.lane.at(place)}`;
 }
 
 /** The name of a list of actions. */
@@ -42,16 +48,19 @@ function actionWords(action) {
     return words.length > SHOWN_WORDS ? `${words.slice(0, SHOWN_WORDS)}…` : words;
 }
 
-/** A frame as docs/STEP.md draws it. Of an iteration those ids are told that it still comes to after the moment. */
+/** A frame as docs/STEP.md draws it. */
 export function frameWords(frames, frame, place) {
     const { moments } = frames;
-    if (frame.kind === CALL) {
-        if (frame.of === START) return "start";
-        return frame.of === undefined || frame.of === NOTHING ? "call" : `call ${frame.of}`;
-    }
-    if (frame.kind !== ITERATION) return `loop ${frame.of}`;
-    const ids = frame.items.filter((item) => item > place).map((item) => moments.at.at(item));
+    if (frame.kind === LOOP) return `loop ${frame.of}`;
+    if (frame.kind === CALL) return frame.of === START ? "start" : frame.of >= 0 ? `call ${frame.of}` : "call";
+    const ids = idsLeft(moments, frame, place);
     return `iter [${ids.slice(0, SHOWN_IDS).join(" ")}${ids.length > SHOWN_IDS ? " …" : ""}]`;
+}
+
+/** The ids that an iteration has left after a moment; where the account does not tell what it selected, those that it still comes to. */
+function idsLeft(moments, { items, selected, dropped }, place) {
+    if (!selected) return items.filter((item) => item > place).map((item) => moments.at.at(item));
+    return place < dropped ? selected.slice(items.filter((item) => item <= place).length) : [];
 }
 
 /** What is in progress after a moment, the outermost first; of a deep stack only the ends where it is to be short. */
@@ -63,7 +72,18 @@ export function stackWords(frames, place, isShort = false) {
 
 /** A moment in one sentence, for a reader of the screen. */
 export function sentence(frames, place) {
-    const { moments } = frames, tick = moments.tick.at(place), lines = moments.lines[place] ?? [];
-    const written = lines.length ? `; writes ${lines.join("; ")}` : "";
-    return `tick ${tick}, ${timeOf(moments, tick)}, thread ${moments.lane.at(place)}: ${done(frames, place)}; in progress: ${stackWords(frames, place)}${written}`;
+    const lines = frames.moments.lines[place], written = lines ? `; writes ${lines.join("; ")}` : "";
+    return `${when(frames.moments, place)}: ${done(frames, place)}; in progress: ${stackWords(frames, place)}${written}`;
+}
+
+/** The next moment from one on, forwards or back, of which the words tell, or null; round the end of the run. */
+export function found({ moments, frames }, words, from, step) {
+    const wanted = words.trim().toLowerCase(), { count } = moments;
+    if (!wanted) return null;
+    for (let n = 1; n <= count; n++) {
+        const place = (from + n * step + count * 2) % count;
+        const told = `${moments.lines[place]?.join("\n") ?? ""}\n${done(frames, place)}`;
+        if (told.toLowerCase().includes(wanted)) return place;
+    }
+    return null;
 }

@@ -55,7 +55,7 @@ top_some (LoopOf number context ∷ frames) one e = ap (λ (o : Option Frame). t
     top_by (Some f) = top_of (f ∷ [])
 
 -- what was seen of what is in progress, when all of it was
-drained : (s : List Frame) (xs : List Activity) → Drains (TakesFirst frame_shown) s xs → map frame_shown xs ≡ s
+pub drained : (s : List Frame) (xs : List Activity) → Drains (TakesFirst frame_shown) s xs → map frame_shown xs ≡ s
 drained s xs d = gives_Drains (TakesFirst frame_shown) frame_shown xs s s (YieldsList-from_rest s refl).runs d
 
 pub nothing_seen : (frames s : List Frame) (xs : List Activity) → s ≡ reverse frames → Drains (TakesFirst frame_shown) s xs → None ≡ last_or None xs → top_of frames ≡ tops.Nothing

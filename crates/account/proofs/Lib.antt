@@ -6,3 +6,5 @@ pub mod Lines
 pub mod Did
 pub mod Moments
 pub mod Quiet
+pub mod Attached
+pub mod Left

@@ -3,3 +3,4 @@ pub mod Within
 pub mod Standing
 pub mod Gifts
 pub mod Told
+pub mod Gained

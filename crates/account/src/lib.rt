@@ -4,8 +4,10 @@
 mod account;
 mod fault;
 mod foreseen;
+mod gained;
 mod going;
 mod hand;
+pub mod laws;
 mod letters;
 mod moment;
 mod turns;

@@ -1,4 +1,5 @@
 //! What is kept of contexts and threads, beside what the lanes show, to know what GLib would do.
+use lane_turn::Place;
 use loop_script::Script;
 use std::alloc::{AllocError, Global};
 
@@ -35,7 +36,7 @@ pub(crate) struct ContextKept {
     sources: Vec<SourceKept>,
 }
 
-/// The place of a source among those of its context.
+/// The place of what has an id, among all that have ids from 1 on.
 fn place_of(id: u64) -> usize {
     id.saturating_sub(1) as usize
 }
@@ -105,6 +106,10 @@ pub(crate) struct ThreadKept {
     pub innermost: Option<Called>,
     /// Whether anything was pushed, also by GLib around a task's callback.
     pub has_pushed: bool,
+    /// The sources that its slots name.
+    slots: Vec<Option<Place>>,
+    /// The procedures of its handlers by their ids, from 1 on.
+    pub handlers: Vec<u32>,
     /// Of each cancellable, whether a handler of it was connected, and whether a task of it was started.
     pub connected: Vec<bool>,
     pub started: Vec<bool>,
@@ -141,6 +146,8 @@ impl ThreadKept {
             replies: Vec::new(alloc),
             innermost: None,
             has_pushed: false,
+            slots: Vec::new(alloc),
+            handlers: Vec::new(alloc),
             connected: none_of(alloc, script.cancellables())?,
             started: none_of(alloc, script.cancellables())?,
         })
@@ -152,6 +159,28 @@ impl ThreadKept {
             .iter()
             .copied()
             .rfind(|one| one.context == context)
+    }
+
+    /// The source that a slot names.
+    pub(crate) fn named(&self, slot: u8) -> Option<Place> {
+        *self.slots.get(slot as usize)?
+    }
+
+    /// Lets a slot name a source, or none.
+    pub(crate) fn name(&mut self, slot: u8, named: Option<Place>) -> Result<(), AllocError> {
+        let place = slot as usize;
+        for _ in self.slots.len()..place.saturating_add(1) {
+            self.slots.push(None)?;
+        }
+        if let Some(at) = self.slots.get_mut(place) {
+            *at = named;
+        }
+        Ok(())
+    }
+
+    /// The procedure of a handler.
+    pub(crate) fn handler(&self, id: u64) -> Option<u32> {
+        self.handlers.get(place_of(id)).copied()
     }
 
     /// The innermost call of a reply.

@@ -3,12 +3,17 @@
 #![tactic(auto)]
 
 mod acted;
+mod asked;
 mod called;
+mod cancelled;
 mod difference;
 mod kept;
 mod notes;
+mod owned;
 mod selected;
 mod shared;
+mod sources;
+mod stack;
 
 pub use difference::Difference;
 pub use notes::{Note, Notes};

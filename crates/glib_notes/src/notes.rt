@@ -1,12 +1,13 @@
 //! The notes of a run.
 use crate::acted::acted;
 use crate::called::{arrived, begun_call, polled, returned, settle};
+use crate::cancelled::handlers_called;
 use crate::difference::Difference;
 use crate::kept::{Called, ContextKept, IterationKept, ThreadKept, contexts_of, threads_of};
 use crate::selected::{Look, look_over};
 use crate::shared::Shared;
 use account::{Account, Deed, Moment};
-use lane_turn::{Activity, Event, LaneState, Line, Origin};
+use lane_turn::{Activity, Event, LaneState, Line, Origin, Word};
 use loop_script::{Action, Script};
 use std::alloc::{AllocError, Global};
 
@@ -57,11 +58,29 @@ impl<'a> Scene<'a> {
         }
     }
 
+    /// Whether an action of the move missed.
+    pub(crate) fn has_missed(&self, word: Word) -> bool {
+        self.lines()
+            .iter()
+            .any(|line| line.event == Event::Miss(word))
+    }
+
     /// Whether the move halted the lane.
     fn halts(&self) -> bool {
         self.lines().iter().any(|line| line.event == Event::HaltSteps
             || line.event == Event::HaltDepth)
     }
+}
+
+/// Adds a note of a context, or of none.
+pub(crate) fn add_note(
+    scene: &Scene<'_>,
+    difference: Difference,
+    context: Option<u32>,
+    found: &mut Vec<Note>,
+) -> Result<(), AllocError> {
+    found.push(scene.note(difference, context, None))?;
+    Ok(())
 }
 
 /// What is kept of a run, to know where GLib parts from the rules.
@@ -161,7 +180,10 @@ impl Kept {
                 Ok(())
             }
             Deed::Iterated { context, .. } => self.begin(scene, context, found),
-            Deed::Received { .. } => arrived(self, scene, found),
+            Deed::Received { .. } => {
+                arrived(self, scene, found)?;
+                handlers_called(self, scene, found)
+            }
             Deed::LoopEnded { .. } | Deed::Rests | Deed::HandedOver { .. } => Ok(()),
         }
     }

@@ -1,5 +1,6 @@
 //! The arguments.
-use inspect_text::{Point, SourceName, Window};
+use inspect_picture::Point;
+use inspect_words::{SourceName, Window};
 
 /// How many characters a line of a picture has where none are named: those of a usual terminal.
 const USUAL_COLUMNS: u32 = 80;
@@ -20,6 +21,8 @@ pub(crate) enum Command {
     Stack,
     Timeline,
     Notes,
+    /// The script of numbers.
+    Translate,
 }
 
 impl Command {
@@ -27,7 +30,8 @@ impl Command {
     fn takes_ticks(self) -> bool {
         match self {
             Command::Why | Command::Account | Command::Steps | Command::Timeline => true,
-            Command::Text | Command::Summary | Command::Stack | Command::Notes => false,
+            Command::Text | Command::Summary | Command::Stack => false,
+            Command::Notes | Command::Translate => false,
         }
     }
 
@@ -40,7 +44,8 @@ impl Command {
     fn takes_most_lines(self) -> bool {
         match self {
             Command::Text | Command::Why | Command::Account | Command::Steps => true,
-            Command::Summary | Command::Stack | Command::Timeline | Command::Notes => false,
+            Command::Summary | Command::Stack | Command::Timeline => false,
+            Command::Notes | Command::Translate => false,
         }
     }
 }
@@ -101,6 +106,7 @@ fn command_of(word: &str) -> Option<Command> {
         "stack" => Some(Command::Stack),
         "timeline" => Some(Command::Timeline),
         "notes" => Some(Command::Notes),
+        "translate" => Some(Command::Translate),
         _ => None,
     }
 }

@@ -102,7 +102,7 @@ impl Failure {
     fn line(self) -> &'static str {
         match self {
             Failure::Usage => {
-                "usage: mainctx_inspect text|why|summary|account|steps|stack|timeline|notes [FLAGS] [FILE]; COMMAND --help tells its flags\n"
+                "usage: mainctx_inspect text|why|summary|account|steps|stack|timeline|notes|translate [FLAGS] [FILE]; COMMAND --help tells its flags\n"
             }
             Failure::NotThere => "usage: the script has no such thread or context\n",
             Failure::Memory => "memory\n",

@@ -10,11 +10,17 @@ Runs a script, and tells what the run did and why; without FILE, of standard inp
   steps     each step of each turn, with what is in progress after it, as a table
   stack     what one thread is in the middle of at one moment
   timeline  a picture of the run: a row for each source, loop, task and cancellable, with time going right
-  notes     where the real GLib would do otherwise, and by which of its ways\n
+  notes     where the real GLib would do otherwise, and by which of its ways
+  translate the script of numbers that a script with names stands for (docs/NAMES.md)\n
 mainctx_inspect COMMAND --help says more.\n
   mainctx_inspect why examples/ten_lines.json\n
 Status: 0 told, 1 other arguments, 2 the script is refused, which is told as by mainctx_check, 3 no memory, 4 the script could not be
 read or the answer not written.\n";
+
+const TRANSLATE: &str = "usage: mainctx_inspect translate [FILE]\n
+Writes the script of numbers that a script with names stands for, as mainctx reads it; a script of numbers as it is. docs/NAMES.md is the
+page of the form with names, which each command takes.\n
+  mainctx_inspect translate examples/named/ten_lines.json\n";
 
 const TEXT: &str = "usage: mainctx_inspect text [--notes] [--most-lines N] [FILE]\n
 Writes the text of the run, as mainctx writes it.\n
@@ -92,5 +98,6 @@ pub(crate) fn help_text(command: Option<Command>) -> &'static str {
         Some(Command::Stack) => STACK,
         Some(Command::Timeline) => TIMELINE,
         Some(Command::Notes) => NOTES,
+        Some(Command::Translate) => TRANSLATE,
     }
 }

@@ -6,12 +6,14 @@ use crate::help::help_text;
 use crate::progress::Progress;
 use crate::teller::Teller;
 use account::Account;
-use inspect_text::{Point, Reach, Stack};
+use inspect_picture::{Point, Reach, Stack};
 use loop_script::{Script, ScriptFault};
 use mainctx::{MainFault, OverWrite, run_alone};
-use script_report::{Form, check_script, read_input};
+use named::translate_bytes;
+use script_report::{Form, check_either, read_input};
 use std::fs::File;
 use std::io::Write;
+use std::str::from_utf8;
 use std::{env, io};
 
 /// The status where the script is refused.
@@ -19,6 +21,13 @@ const REFUSED: u8 = 2;
 
 /// How many bytes are written at a time, but at the end of a tick.
 const FULL: usize = 65_536;
+
+/// A script as it was given, and as one of numbers.
+#[derive(Clone, Copy)]
+struct Given<'a> {
+    bytes: &'a [u8],
+    numbered: &'a [u8],
+}
 
 /// Does what the arguments say, and answers the exit status.
 pub(crate) fn run(rt: &HostRuntime) -> u8 {
@@ -41,10 +50,15 @@ fn attempt(rt: &HostRuntime) -> Result<u8, Failure> {
         }
         Asked::Run(order) => {
             let bytes = bytes_of(rt, order.file)?;
-            if order.command == Command::Text && !order.notes {
-                write_text(rt, &order, bytes.as_slice())
-            } else {
-                tell(rt, &order, bytes.as_slice())
+            let numbered = translate_bytes(rt.alloc(), bytes.as_slice())?;
+            let given = Given {
+                bytes: bytes.as_slice(),
+                numbered: numbered.as_ref().map_or(bytes.as_slice(), Vec::as_slice),
+            };
+            match order.command {
+                Command::Translate => write_numbered(rt, &order, &given),
+                Command::Text if !order.notes => write_text(rt, &order, &given),
+                _ => tell(rt, &order, &given),
             }
         }
     }
@@ -86,13 +100,28 @@ fn write_out(rt: &HostRuntime, text: &str) -> Result<(), Failure> {
     write_to(&mut FirstLines::new(rt.stdout(), None), text)
 }
 
+/// Writes the script of numbers.
+fn write_numbered(rt: &HostRuntime, order: &Order<'_>, given: &Given<'_>) -> Result<u8, Failure> {
+    match Script::read(rt.alloc(), given.numbered) {
+        Ok(_) => {}
+        Err(ScriptFault::OutOfMemory) => return Err(Failure::Memory),
+        Err(_) => return refuse(rt, order, given),
+    }
+    let mut text = String::from_str(rt.alloc(), from_utf8(given.numbered).unwrap_or(""))?;
+    if !text.as_str().ends_with("\n") {
+        text.push_str("\n")?;
+    }
+    write_out(rt, text.as_str())?;
+    Ok(0)
+}
+
 /// Writes the text of the run.
-fn write_text(rt: &HostRuntime, order: &Order<'_>, bytes: &[u8]) -> Result<u8, Failure> {
+fn write_text(rt: &HostRuntime, order: &Order<'_>, given: &Given<'_>) -> Result<u8, Failure> {
     let lines = FirstLines::new(rt.stdout(), order.most_lines);
     let mut out = OverWrite::new(lines);
-    match run_alone(rt.alloc(), bytes, &mut out) {
+    match run_alone(rt.alloc(), given.numbered, &mut out) {
         Ok(()) => Ok(0),
-        Err(MainFault::Script(_)) => refuse(rt, order, bytes),
+        Err(MainFault::Script(_)) => refuse(rt, order, given),
         Err(MainFault::Write) => match out.into_inner().ended_after() {
             Some(lines) => Err(Failure::Ended { lines }),
             None => Err(Failure::Write),
@@ -102,23 +131,23 @@ fn write_text(rt: &HostRuntime, order: &Order<'_>, bytes: &[u8]) -> Result<u8, F
 }
 
 /// Writes what is wrong with a script, as `mainctx_check` does.
-fn refuse(rt: &HostRuntime, order: &Order<'_>, bytes: &[u8]) -> Result<u8, Failure> {
+fn refuse(rt: &HostRuntime, order: &Order<'_>, given: &Given<'_>) -> Result<u8, Failure> {
     let form = Form {
         json: order.command == Command::Account,
         name: order.file.unwrap_or("<stdin>"),
     };
     let mut out = String::new(rt.alloc());
-    let _ = check_script(rt.alloc(), &form, bytes, &mut out)?;
+    let _ = check_either(rt.alloc(), &form, given.bytes, &mut out)?;
     write_out(rt, out.as_str())?;
     Ok(REFUSED)
 }
 
 /// Reads a script, and writes what is asked of its run.
-fn tell(rt: &HostRuntime, order: &Order<'_>, bytes: &[u8]) -> Result<u8, Failure> {
-    let script = match Script::read(rt.alloc(), bytes) {
+fn tell(rt: &HostRuntime, order: &Order<'_>, given: &Given<'_>) -> Result<u8, Failure> {
+    let script = match Script::read(rt.alloc(), given.numbered) {
         Ok(script) => script,
         Err(ScriptFault::OutOfMemory) => return Err(Failure::Memory),
-        Err(_) => return refuse(rt, order, bytes),
+        Err(_) => return refuse(rt, order, given),
     };
     match order.point() {
         Some(point) => tell_point(rt, point, script)?,

@@ -1,7 +1,8 @@
 //! What is told of a run, moment by moment.
 use crate::arguments::{Command, Order};
 use account::{Account, Moment};
-use inspect_text::{Life, Moments, NoteList, NotedText, Steps, Summary, Timeline, Why};
+use inspect_picture::{Steps, Timeline};
+use inspect_text::{Life, Moments, NoteList, NotedText, Summary, Why};
 use loop_script::Script;
 use std::alloc::{AllocError, Global};
 

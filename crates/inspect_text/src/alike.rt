@@ -1,7 +1,6 @@
 //! Iterations that are told once, since they follow one another and are alike.
-use crate::begun::Begun;
 use crate::block::Block;
-use crate::time::push_ticks;
+use inspect_words::{Begun, push_ticks};
 use loop_script::Script;
 use std::alloc::AllocError;
 

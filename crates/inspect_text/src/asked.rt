@@ -2,8 +2,8 @@
 use crate::life::Life;
 use crate::moments::Moments;
 use crate::why::Why;
-use crate::window::{SourceName, Window};
 use account::{Account, Moment};
+use inspect_words::{SourceName, Window};
 use loop_script::Script;
 use std::alloc::{AllocError, Global};
 

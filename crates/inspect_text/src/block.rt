@@ -1,10 +1,11 @@
 //! The sources of a context, each with what an iteration does with it.
-use crate::words::{push_source, push_standing};
 use context_core::Standing;
+use inspect_words::{push_source, push_standing};
 use lane_turn::LaneState;
 use loop_script::Script;
 use source_rows::{Row, Rows};
 use std::alloc::{AllocError, Global};
+use std::collections::BTreeMap;
 
 /// What an iteration does with the sources of a context.
 #[derive(Drop)]
@@ -20,23 +21,31 @@ fn is_ready(standing: Standing) -> bool {
     matches!(standing, Standing::Selected | Standing::LessUrgent { .. })
 }
 
-/// The first source below another that is ready.
-fn ready_below(rows: &Rows, standings: &[Standing], above: u64) -> Option<u64> {
+/// Of each source the first one below it that is ready, where there is one.
+fn ready_below(
+    alloc: Global,
+    rows: &Rows,
+    standings: &[Standing],
+) -> Result<BTreeMap<u64, u64>, AllocError> {
+    let mut below = BTreeMap::new(alloc);
     for (row, standing) in rows.in_order().zip(standings.iter()) {
-        if row.id != above && row.lineage.contains(&above) && is_ready(*standing) {
-            return Some(row.id);
+        if is_ready(*standing) {
+            for above in row.lineage.iter() {
+                if *above != row.id && below.get(above).is_none() {
+                    below.insert(*above, row.id)?;
+                }
+            }
         }
     }
-    None
+    Ok(below)
 }
 
 fn push_row(
     out: &mut String,
     script: &Script,
-    rows: &Rows,
-    standings: &[Standing],
     row: &Row,
     standing: Standing,
+    below: Option<u64>,
 ) -> Result<(), AllocError> {
     let id = row.id;
     write!(out, "  source {id}, ")?;
@@ -44,7 +53,7 @@ fn push_row(
     out.push_str(": ")?;
     push_standing(out, script, id, standing)?;
     if is_ready(standing) {
-        if let Some(below) = ready_below(rows, standings, id) {
+        if let Some(below) = below {
             write!(out, "; source {below} below it is ready")?;
         }
     }
@@ -65,8 +74,10 @@ pub(crate) fn block_of(
     let standings = list.as_slice();
     let mut dispatches = false;
     if let Some(rows) = lane.sources(context) {
+        let below = ready_below(alloc, rows, standings)?;
         for (row, standing) in rows.in_order().zip(standings.iter()) {
-            push_row(&mut lines, script, rows, standings, row, *standing)?;
+            let first = below.get(&row.id).copied();
+            push_row(&mut lines, script, row, *standing, first)?;
             if *standing == Standing::Selected {
                 dispatches = true;
             }

@@ -1,8 +1,7 @@
 //! What is counted of a run.
-use crate::begun::begun_by;
 use crate::record::Record;
-use crate::span::Span;
 use account::{Account, Deed, Moment};
+use inspect_words::{Span, begun_by};
 use lane_turn::{Event, LaneState};
 use loop_script::{Action, Body, Script};
 use std::alloc::{AllocError, Global};

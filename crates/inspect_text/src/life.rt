@@ -1,13 +1,11 @@
 //! The life of one source.
-use crate::action_words::push_cause;
 use crate::alike::push_count;
-use crate::begun::{Begun, begun_by};
-use crate::time::{push_tick, push_ticks};
-use crate::why::halt_reason;
-use crate::window::{SourceName, Window};
-use crate::words::{push_source, push_standing};
 use account::{Account, Deed, Moment};
 use context_core::Standing;
+use inspect_words::{
+    Begun, SourceName, Window, begun_by, halt_reason, push_cause, push_source, push_standing,
+    push_tick, push_ticks,
+};
 use lane_turn::LaneState;
 use loop_script::Script;
 use source_rows::Row;

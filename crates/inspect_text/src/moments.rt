@@ -1,12 +1,9 @@
 //! The moments of a run as JSON, an object a line.
-use crate::action_words::action_word;
-use crate::window::Window;
 use account::{Account, Deed, Moment};
-use lane_turn::LaneState;
+use inspect_words::{Window, action_word, text_of};
+use lane_turn::{LaneState, Place};
 use loop_script::{Body, Script};
-use mainctx::{OutOfMemory, add_text};
 use std::alloc::{AllocError, Global};
-use std::str::from_utf8;
 
 /// The version of the format, which the first line tells.
 const VERSION: u32 = 1;
@@ -60,6 +57,7 @@ impl Moments {
         push_deed(out, account.script(), moment.deed)?;
         if let Some(lane) = account.lane(number) {
             push_lines(self.alloc, out, lane, moment)?;
+            push_gained(out, account.script(), lane, moment)?;
         }
         out.push_str("}\n")
     }
@@ -75,6 +73,40 @@ impl Moments {
     }
 }
 
+/// Adds a list of ids.
+fn push_ids(out: &mut String, ids: &[u64]) -> Result<(), AllocError> {
+    out.push_str("[")?;
+    for (n, id) in ids.iter().enumerate() {
+        if n != 0 {
+            out.push_str(",")?;
+        }
+        write!(out, "{id}")?;
+    }
+    out.push_str("]")
+}
+
+/// Adds the keys of what a move leaves in its lane: the source that it attached, what an iteration selected, and how many calls are in
+/// progress.
+fn push_gained(
+    out: &mut String,
+    script: &Script,
+    lane: &LaneState,
+    moment: &Moment,
+) -> Result<(), AllocError> {
+    if let Some(Place { context, id }) = moment.attached(script, lane) {
+        write!(
+            out,
+            ",\"attached\":{{\"context\":{context},\"source\":{id}}}"
+        )?;
+    }
+    if let Some(ids) = moment.selected(script, lane) {
+        out.push_str(",\"selected\":")?;
+        push_ids(out, ids)?;
+    }
+    let depth = lane.calls();
+    write!(out, ",\"depth\":{depth}")
+}
+
 /// Adds the key and the list of what a moment wrote.
 fn push_lines(
     alloc: Global,
@@ -82,19 +114,12 @@ fn push_lines(
     lane: &LaneState,
     moment: &Moment,
 ) -> Result<(), AllocError> {
-    let Some(lines) = lane.trace().get(moment.from..moment.to) else {
+    let text = text_of(alloc, lane, moment)?;
+    if text.is_empty() {
         return Ok(());
-    };
-    if lines.is_empty() {
-        return Ok(());
-    }
-    let mut bytes = Vec::new(alloc);
-    if let Err(OutOfMemory) = add_text(&mut bytes, moment.lane, lines) {
-        return Err(AllocError);
     }
     out.push_str(",\"lines\":[")?;
-    let text = from_utf8(bytes.as_slice()).unwrap_or("");
-    for (n, line) in text.lines().skip(1).enumerate() {
+    for (n, line) in text.as_str().lines().enumerate() {
         if n != 0 {
             out.push_str(",")?;
         }

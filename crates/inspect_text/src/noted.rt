@@ -1,7 +1,7 @@
 //! Where GLib does otherwise, told at the move at which it does.
-use crate::time::push_tick;
 use account::{Account, Moment};
 use glib_notes::{Difference, Note, Notes};
+use inspect_words::push_tick;
 use loop_script::Script;
 use std::alloc::{AllocError, Global};
 

@@ -1,10 +1,9 @@
 //! The text of a run, with notes where GLib does otherwise.
 use crate::noted::{Noted, push_note};
 use account::{Account, Moment};
+use inspect_words::text_of;
 use loop_script::Script;
-use mainctx::{OutOfMemory, add_text};
 use std::alloc::{AllocError, Global};
-use std::str::from_utf8;
 
 /// Gathers the text of each thread, with a note behind the lines of the move of which it is.
 #[derive(Drop)]
@@ -34,7 +33,9 @@ impl NotedText {
         let Some(out) = self.threads.get_mut(moment.lane as usize) else {
             return Ok(());
         };
-        push_lines(self.alloc, out, account, moment)?;
+        if let Some(lane) = account.lane(moment.lane) {
+            out.push_str(text_of(self.alloc, lane, moment)?.as_str())?;
+        }
         for note in notes.as_slice() {
             push_note(out, account.script(), note)?;
         }
@@ -49,28 +50,4 @@ impl NotedText {
         }
         Ok(())
     }
-}
-
-/// Adds the lines that a moment wrote.
-fn push_lines(
-    alloc: Global,
-    out: &mut String,
-    account: &Account,
-    moment: &Moment,
-) -> Result<(), AllocError> {
-    let Some(lane) = account.lane(moment.lane) else {
-        return Ok(());
-    };
-    let Some(lines) = lane.trace().get(moment.from..moment.to) else {
-        return Ok(());
-    };
-    let mut bytes = Vec::new(alloc);
-    if let Err(OutOfMemory) = add_text(&mut bytes, moment.lane, lines) {
-        return Err(AllocError);
-    }
-    for line in from_utf8(bytes.as_slice()).unwrap_or("").lines().skip(1) {
-        out.push_str(line)?;
-        out.push_str("\n")?;
-    }
-    Ok(())
 }

@@ -1,8 +1,6 @@
 //! What is counted of a source.
-use crate::span::{Span, push_many};
-use crate::time::push_tick;
-use crate::words::push_source;
 use context_core::Standing;
+use inspect_words::{Span, push_many, push_source, push_tick};
 use loop_script::Script;
 use source_rows::Row;
 use std::alloc::AllocError;

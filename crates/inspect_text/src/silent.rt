@@ -1,14 +1,10 @@
 //! What was silent in a run, and why.
-use crate::action_words::action_word;
 use crate::counts::{ContextCount, Counts};
 use crate::record::Record;
-use crate::span::push_many;
-use crate::time::push_tick;
-use crate::why::halt_reason;
-use crate::words::push_standing;
 use account::Account;
 use context_core::Standing;
-use lane_turn::{Activity, Awaited, LaneState, Line, Origin};
+use inspect_words::{action_word, push_halt, push_many, push_standing, push_tick};
+use lane_turn::{Activity, Awaited, LaneState, Origin};
 use loop_script::{Action, Body, Script};
 use std::alloc::AllocError;
 
@@ -191,42 +187,6 @@ fn push_unended(
         Some(place) => push_rest(out, script, number, place, lane.halted(), left.outermost),
         None => Ok(()),
     }
-}
-
-/// When and why a thread halted.
-#[derive(Clone, Copy)]
-pub(crate) struct Halt {
-    pub tick: u32,
-    pub reason: &'static str,
-}
-
-/// When and why a thread halted, if it did.
-pub(crate) fn halt_of(lane: &LaneState) -> Option<Halt> {
-    if !lane.halted() {
-        return None;
-    }
-    for line in lane.trace().iter().rev() {
-        let Line { tick, event } = *line;
-        if let Some(reason) = halt_reason(event) {
-            return Some(Halt { tick, reason });
-        }
-    }
-    None
-}
-
-/// Adds when and why a thread halted, if it did.
-pub(crate) fn push_halt(
-    out: &mut String,
-    script: &Script,
-    number: u32,
-    lane: &LaneState,
-) -> Result<(), AllocError> {
-    let Some(Halt { tick, reason }) = halt_of(lane) else {
-        return Ok(());
-    };
-    write!(out, "thread {number} halted in ")?;
-    push_tick(out, script, tick)?;
-    writeln!(out, ": {reason}")
 }
 
 /// Adds to what of its start list a thread did not come.

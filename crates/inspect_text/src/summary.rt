@@ -2,10 +2,9 @@
 use crate::counts::Counts;
 use crate::noted::{Noted, push_note};
 use crate::silent::push_silent;
-use crate::span::push_many;
-use crate::time::push_ticks;
 use account::{Account, Moment};
 use glib_notes::Note;
+use inspect_words::{push_many, push_ticks};
 use loop_script::Script;
 use std::alloc::{AllocError, Global};
 

@@ -1,13 +1,11 @@
 //! Why sources are dispatched or not, iteration by iteration.
 use crate::alike::Alike;
-use crate::begun::{Begun, begun_by};
 use crate::block::block_of;
 use crate::noted::{Noted, push_note};
 use crate::rests::Rests;
-use crate::time::push_tick;
-use crate::window::Window;
 use account::{Account, Deed, Moment};
-use lane_turn::{Event, LaneState};
+use inspect_words::{Begun, Window, begun_by, halt_reason, push_tick};
+use lane_turn::LaneState;
 use loop_script::Script;
 use std::alloc::{AllocError, Global};
 
@@ -155,15 +153,6 @@ impl Why {
             self.flush(script, lane, out)?;
         }
         Ok(())
-    }
-}
-
-/// Why a thread halts, where a line says that it does.
-pub(crate) fn halt_reason(event: Event) -> Option<&'static str> {
-    match event {
-        Event::HaltDepth => Some("32 calls are in progress already"),
-        Event::HaltSteps => Some("10000 actions and dispatches are over in this tick"),
-        _ => None,
     }
 }
 

@@ -7,7 +7,6 @@ use Rattle.std.proofs.lemmas.Bool.Decides.{eqb_tells}
 use Rattle.loop_script.specs.declared.plan.Plan.{Plan}
 use Rattle.loop_script.specs.declared.source.SourceSpec.{SourceSpec}
 use Rattle.loop_script.specs.Parts.{time_of}
-use Rattle.loop_script.specs.References.{sizes}
 use Rattle.source_rows.specs.declared.row.Row.{Row}
 use Rattle.source_rows.specs.Row.{root_row}
 use Rattle.source_rows.specs.Rows.{row_of as row_with, attached}
@@ -30,11 +29,10 @@ use Rattle.lane_turn.specs.Step.{step, posted_with, letter as sent_letter}
 use Rattle.lane_turn.specs.Tick.{posted_at, lanes_at}
 use Rattle.lane_turn.specs.Arrivals.{Coming, coming_by, comings, rows_from, AreHeld, rows_of_context, next_order, IsAmong, CallsNone, IsOfInvoke, AreAttached}
 use Rattle.lane_turn.proofs.Arrivals.{has_own, still_has}
-use Rattle.lane_turn.proofs.Adds.{each_as, each_joined}
+use Rattle.lane_turn.proofs.Adds.{each_joined}
 use Rattle.lane_turn.proofs.Taking.{IsFresh}
-use Rattle.lane_turn.proofs.Moving.{turned_moves}
 use Rattle.lane_turn.proofs.Sums.{went}
-use Rattle.lane_turn.proofs.Brought.{open_fresh, letter_gains}
+use Rattle.lane_turn.proofs.Brought.{letter_gains}
 use Rattle.lane_turn.proofs.Waits.{NumberedIn}
 use Rattle.lane_turn.proofs.Lists.{each-push}
 use Rattle.lane_turn.proofs.Sends.{IsAllowed, of_invoke, step_tells}

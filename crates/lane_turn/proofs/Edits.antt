@@ -14,9 +14,9 @@ use Rattle.context_core.specs.declared.context.Context.{Context}
 use Rattle.lane_turn.specs.Sources.{due_after, restarted, restarted_row, restarted_kind}
 use Rattle.lane_turn.specs.declared.line.Word.TheVariants as words
 use Rattle.lane_turn.specs.declared.slot.Place.{Place}
-use Rattle.lane_turn.specs.Lane.{Lane, present, context_at, with_context, with_rows, edited, row_in, row_at, handler_at, viewing}
+use Rattle.lane_turn.specs.Lane.{Lane, present, context_at, with_context, with_rows, edited, row_in, handler_at, viewing}
 use Rattle.lane_watch.specs.Watch.{Watched}
-use Rattle.lane_turn.specs.Acted.{missed, can_bear_in, can_bear, disconnect, disconnect_of}
+use Rattle.lane_turn.specs.Acted.{missed, can_bear_in, disconnect, disconnect_of}
 
 -- ---- a context that is lent
 

@@ -1,8 +1,7 @@
 -- What slots of lanes name was given, wherever its context is.
-use Rattle.std.proofs.Common.{◌≡◌, ◌≢◌, ◌⊎◌, inl, inr, ℕ, zero, suc, ◌+◌, ◌<◌, ◌≤◌, ◌==◌, Bool, true, false, cond, Option, Some, None, List, [], ◌∷◌, ◌++◌, map, length, get_or, option_map, slice_set, refl, ap, sym, ◌∙◌, subst, arith, eqb-true, ltb-true, ltb-false}
-use Rattle.std.specs.Prelude.{is_some, slice_get, slice_index_or, nat_lt}
+use Rattle.std.proofs.Common.{◌≡◌, ◌⊎◌, inl, inr, ℕ, zero, suc, ◌<◌, ◌≤◌, ◌==◌, Bool, true, false, cond, Option, Some, None, List, [], ◌∷◌, ◌++◌, map, length, get_or, option_map, slice_set, refl, ap, sym, ◌∙◌, arith, eqb-true, ltb-true, ltb-false}
+use Rattle.std.specs.Prelude.{is_some, slice_get, nat_lt}
 use Rattle.std.specs.List.{AllByRecursion, range_with_len}
-use Rattle.std.proofs.lemmas.List.{length-map}
 use Rattle.loop_script.specs.declared.plan.Plan.{Plan}
 use Rattle.loop_script.specs.References.{sizes}
 use Rattle.context_core.specs.declared.context.Context.{Context}
@@ -13,7 +12,7 @@ use Rattle.lane_turn.specs.Lane.{Lane, Kept, present, context_at, is_given, next
 use Rattle.lane_turn.specs.Limits.{slot_count}
 use Rattle.lane_turn.specs.Turn.{opening, open_contexts_to, open_context, open_slots, begun, turned}
 use Rattle.lane_turn.specs.Deliver.{received_all}
-use Rattle.lane_turn.specs.Tick.{posted_at, opened, lanes_at}
+use Rattle.lane_turn.specs.Tick.{posted_at, lanes_at}
 use Rattle.lane_turn.specs.Handover.{kept_of, handed_of, without_context, taken_over, handed_over}
 use Rattle.lane_turn.specs.Sources.{no_sources}
 use Rattle.loop_script.specs.Parts.{home_of}
@@ -26,12 +25,12 @@ use Rattle.lane_turn.proofs.Added.{does}
 use Rattle.lane_turn.proofs.Traced.{brings_all}
 use Rattle.lane_turn.proofs.Turns.{kept_finished}
 use Rattle.lane_turn.proofs.Leaves.{own_within}
-use Rattle.lane_turn.proofs.Whole.{whole, set_here, set_other}
+use Rattle.lane_turn.proofs.Whole.{whole}
 use Rattle.lane_turn.proofs.GoingOver.{going_over}
 use Rattle.lane_turn.proofs.Places.{Counted, number_at, each_at}
 use Rattle.lane_turn.proofs.Between.{Fits}
-use Rattle.lane_turn.proofs.Holds.{Stands, AreHeld, held_at_tick, lane_law, all_from}
-use Rattle.lane_turn.proofs.Sums.{Holders, holders_over}
+use Rattle.lane_turn.proofs.Holds.{Stands, held_at_tick, lane_law, all_from}
+use Rattle.lane_turn.proofs.Sums.{holders_over}
 use Rattle.lane_turn.proofs.Slots.{IsUnder, IsPast, ArePast, past_turned, past_delivered}
 
 -- a slot names what is below the bound of its context

@@ -17,7 +17,7 @@ use Rattle.lane_turn.specs.Frames.{Frame, CallOf, IterOf, LoopOf}
 use Rattle.lane_turn.specs.Lane.{Lane, Turn, taken, popped, written, row_of, is_running, iterating}
 use Rattle.lane_turn.specs.Acted.{acted, sends}
 use Rattle.lane_turn.specs.Step.{step, step_call, step_id, step_polling, limited_by, dispatching, with_lane}
-use Rattle.lane_turn.specs.Limited.{TakesOne, is_counted, is_counted_in, is_counted_by}
+use Rattle.lane_turn.specs.Limited.{TakesOne, is_counted, is_counted_by}
 use Rattle.lane_turn.proofs.Iterations.{some_turn, going, in_the_middle}
 
 takes_one : (tick : ℕ) (mail : Option Mail) (f : Lane → Lane) (t : Turn) (left : ℕ) → t.left ≡ left → TakesOne tick t (limited_by tick mail f t left)

@@ -1,22 +1,19 @@
 -- In a run no reply is lost.
-use Rattle.std.proofs.Common.{◌≡◌, ◌≢◌, ◌⊎◌, inl, inr, ℕ, zero, suc, ◌+◌, ◌-◌, ◌<◌, ◌≤◌, ◌==◌, ◌&&◌, Bool, true, false, cond, List, [], ◌∷◌, ◌++◌, map, length, slice_set, option_map, refl, ap, sym, ◌∙◌, arith, subst, sum_by, ltb-false}
-use Rattle.std.specs.Prelude.{not, unwrap_or, slice_get, nat_lt, is_some, slice_index_or}
+use Rattle.std.proofs.Common.{◌≡◌, ◌≢◌, ◌⊎◌, inl, inr, ℕ, zero, suc, ◌+◌, ◌<◌, ◌≤◌, ◌==◌, ◌&&◌, Bool, true, false, cond, List, [], ◌∷◌, ◌++◌, map, length, slice_set, option_map, refl, ap, sym, ◌∙◌, arith, subst, sum_by}
 use Rattle.std.specs.List.{flat_map, range_with_len}
 use Rattle.std.proofs.lemmas.List.{length-map, length-set}
-use Rattle.std.proofs.lemmas.List.Sums.{sum_by-cons}
-use Rattle.std.proofs.lemmas.Bool.{eq-eqb, false_from_ne_true}
+use Rattle.std.proofs.lemmas.Bool.{eq-eqb}
 use Rattle.std.proofs.lemmas.Bool.Decides.{eqb_tells}
 use Rattle.loop_script.specs.declared.plan.Plan.{Plan}
-use Rattle.loop_script.specs.declared.plan.LaneSpec.{LaneSpec}
-use Rattle.loop_script.specs.Parts.{time_of, home_in, home_of}
+use Rattle.loop_script.specs.Parts.{time_of}
 use Rattle.loop_script.specs.References.{sizes}
 use Rattle.source_rows.specs.Rows.{attached}
 use Rattle.post_office.specs.declared.letter.Letter.{Letter}
 use Rattle.post_office.specs.declared.letter.Body.{Body}
 use Rattle.post_office.specs.declared.letter.Body.TheVariants.{Attach, Complete, Cancelled, Give}
 use Rattle.lane_turn.specs.declared.line.Event.TheVariants as events
-use Rattle.lane_turn.specs.Lane.{Lane, context_at, next_id, with_rows, edited, written, is_own, is_given}
-use Rattle.lane_turn.specs.Turn.{opening, open_loops, turned, out_of}
+use Rattle.lane_turn.specs.Lane.{Lane, context_at, next_id, with_rows, edited, written, is_own}
+use Rattle.lane_turn.specs.Turn.{opening, turned, out_of}
 use Rattle.lane_turn.specs.Deliver.{reply_spec, holding, received_body, received, received_all}
 use Rattle.lane_turn.specs.Tick.{lanes_at, posted_at}
 use Rattle.lane_turn.proofs.Steady.{held_of}
@@ -27,7 +24,7 @@ use Rattle.lane_turn.proofs.Turns.{out_numbered}
 use Rattle.lane_turn.proofs.Arrivals.{length_held}
 use Rattle.lane_turn.proofs.Owed.{run_under}
 use Rattle.lane_turn.proofs.Leaves.{IsPlaced, place_same, leaves_cancel}
-use Rattle.lane_turn.proofs.Moving.{IsHomed, AreHomed, turned_homes}
+use Rattle.lane_turn.proofs.Moving.{AreHomed, turned_homes}
 use Rattle.lane_turn.proofs.Brought.{leaves_arrived}
 use Rattle.lane_turn.proofs.GoingOver.{handed_part}
 use Rattle.lane_turn.proofs.Sums.{sent, sent_cons, came_at, each_comes, holders_over}

@@ -1,6 +1,6 @@
 -- Each reply is posted once.
 use Rattle.std.proofs.Common.{◌≡◌, ℕ, zero, suc, ◌+◌, Bool, true, false, cond, Option, Some, None, List, [], ◌∷◌, map, length, refl, ap, sym, ◌∙◌, arith, subst, inl, inr, le-leb}
-use Rattle.std.specs.Prelude.{slice_get, is_some, nat_le}
+use Rattle.std.specs.Prelude.{slice_get, nat_le}
 use Rattle.std.specs.List.{range_with_len}
 use Rattle.loop_script.specs.declared.plan.Plan.{Plan}
 use Rattle.loop_script.specs.declared.action.Action.{Action}
@@ -19,7 +19,7 @@ use Rattle.lane_turn.specs.declared.lane.Status.{Status}
 use Rattle.lane_turn.specs.declared.lane.Status.TheVariants.{GoesOn, Ended, Halted}
 use Rattle.lane_turn.specs.declared.layer.Call.{Call}
 use Rattle.lane_turn.specs.Frames.{Frame, CallOf, IterOf, LoopOf}
-use Rattle.lane_turn.specs.Lane.{Lane, Turn, context_at, popped, taken, row_of, iterating, is_running, written, is_own}
+use Rattle.lane_turn.specs.Lane.{Lane, Turn, popped, taken, row_of, iterating, is_running, written, is_own}
 use Rattle.lane_turn.specs.Handover.{Handing, all_handed, may_give}
 use Rattle.lane_turn.proofs.GoingOver.{handed_part}
 use Rattle.lane_turn.specs.Owned.{invoke_spec}

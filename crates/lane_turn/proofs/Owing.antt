@@ -16,7 +16,8 @@ use Rattle.lane_watch.proofs.Dated.{dated_at, dated_noted, noted_in}
 use Rattle.lane_turn.specs.Lane.{Lane, Turn}
 use Rattle.lane_turn.specs.Step.{letter, posted_with, mail_of, one_if}
 use Rattle.lane_turn.specs.Owed.{one_for, replies_in, owes, owed_by, owed, is_reply, replied}
-use Rattle.lane_turn.proofs.Ends.{Alike, not_sooner, ends_alike}
+use Rattle.lane_turn.proofs.Ends.{Alike, ends_alike}
+use Rattle.task_steps.proofs.Begins.{not_sooner}
 use Rattle.lane_turn.proofs.Keeps.{Changes, noted}
 
 -- ---- numbers

@@ -1,5 +1,5 @@
 -- What slots name: handlers, and sources that there have been.
-use Rattle.std.proofs.Common.{◌≡◌, ℕ, ℤ, zero, suc, ◌+◌, ◌<◌, ◌≤◌, Bool, true, false, not, ◌&&◌, cond, Option, Some, None, List, [], ◌∷◌, slice_set, option_map, refl, sym, ◌∙◌, arith, subst}
+use Rattle.std.proofs.Common.{◌≡◌, ℕ, ℤ, zero, suc, ◌+◌, ◌<◌, Bool, true, false, not, ◌&&◌, cond, Option, Some, None, List, [], ◌∷◌, slice_set, option_map, refl, sym, ◌∙◌, arith, subst}
 use Rattle.std.specs.Prelude.{slice_get, nat_lt, is_some, is_none, ◌==◌}
 use Rattle.std.specs.List.{AllByRecursion}
 use Rattle.loop_script.specs.declared.plan.Plan.{Plan}
@@ -38,11 +38,10 @@ use Rattle.lane_turn.specs.Owned.{default_context, is_owned, may_release, callin
 use Rattle.lane_turn.specs.Handover.{may_give, with_given}
 use Rattle.lane_turn.specs.Acted.{missed, born, can_bear_in, can_bear, child_of, on_source, set_ready, set_priority_of, set_priority, destroy, plain_acted, all_acted, handled, all_handled, cancel, connect, disconnect_of, disconnect, acted, sends}
 use Rattle.lane_turn.specs.Step.{step, step_polling, step_call, step_id, limited_by, with_lane, dispatched, dispatching, returned, answered}
-use Rattle.lane_turn.specs.Turn.{begun, turned, open_slots, opening}
+use Rattle.lane_turn.specs.Turn.{begun, turned, open_slots}
 use Rattle.lane_turn.specs.Deliver.{received_body, received, received_all}
 use Rattle.lane_turn.specs.Limits.{slot_count}
 use Rattle.lane_turn.proofs.Arrivals.{has_own, next_more}
-use Rattle.lane_turn.proofs.Leaves.{Rises}
 use Rattle.lane_turn.proofs.Follows.{FollowsIn, AllFollow}
 use Rattle.lane_turn.proofs.Counts.{follow_all}
 use Rattle.lane_turn.proofs.Lists.{each-push}

@@ -1,5 +1,5 @@
 -- What an iteration leaves of standings.
-use Rattle.std.proofs.Common.{◌≡◌, ℕ, List, [], ◌∷◌, map, reverse, refl, ap}
+use Rattle.std.proofs.Common.{◌≡◌, ℕ, List, [], ◌∷◌, reverse, refl, ap}
 use Rattle.std.specs.Prelude.{filter_map}
 use Rattle.loop_script.specs.declared.plan.Plan.{Plan}
 use Rattle.lane_turn.specs.declared.layer.Asker.{Asker}

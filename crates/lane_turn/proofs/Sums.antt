@@ -1,8 +1,8 @@
 -- What all lanes of a run account for together, of the replies of one task.
 use Rattle.std.proofs.Common.{◌≡◌, ◌≢◌, ◌⊎◌, inl, inr, ℕ, zero, suc, ◌+◌, ◌<◌, ◌≤◌, ◌==◌, ◌&&◌, Bool, true, false, cond, Option, Some, None, List, [], ◌∷◌, map, length, get_or, slice_set, refl, ap, sym, ◌∙◌, subst, arith, sum_by, eqb-true, ltb-true, ltb-false}
-use Rattle.std.specs.Prelude.{not, is_some, slice_get, slice_index_or, nat_lt, count_by}
+use Rattle.std.specs.Prelude.{not, is_some, slice_get, nat_lt, count_by}
 use Rattle.std.specs.List.{AllByRecursion, range_with_len}
-use Rattle.std.proofs.lemmas.Bool.{eq-eqb, false_from_ne_true}
+use Rattle.std.proofs.lemmas.Bool.{false_from_ne_true}
 use Rattle.std.proofs.lemmas.Bool.Decides.{eqb_tells}
 use Rattle.std.proofs.lemmas.List.{length-map, length-set}
 use Rattle.std.proofs.lemmas.List.Sums.{sum_by-cons, sum_by-set}
@@ -17,22 +17,22 @@ use Rattle.lane_turn.specs.Replies.{Replies, replies_at}
 use Rattle.lane_turn.specs.Lane.{Lane, Kept, present, context_at, is_given, is_own, next_id}
 use Rattle.lane_turn.specs.Turn.{opening, turned}
 use Rattle.lane_turn.specs.Deliver.{received_all}
-use Rattle.lane_turn.specs.Tick.{posted_at, opened, lanes_at}
+use Rattle.lane_turn.specs.Tick.{posted_at, lanes_at}
 use Rattle.lane_turn.specs.Handover.{Handing, handed_of, without_context, taken_over, let_go, handed, handed_over}
 use Rattle.lane_turn.specs.Owed.{one_for, is_reply}
-use Rattle.lane_turn.specs.Taken.{accounted, results, awaited_in, awaited, brings, brought, came_before}
+use Rattle.lane_turn.specs.Taken.{accounted, awaited_in, awaited, brings, brought, came_before}
 use Rattle.lane_turn.proofs.Leaves.{results_other, own_within}
 use Rattle.lane_turn.proofs.Taking.{AreGiven, AreFresh, IsFresh}
 use Rattle.lane_turn.proofs.Moving.{IsHomed, AreHomed, turned_moves}
 use Rattle.lane_turn.proofs.Turns.{turned_number}
 use Rattle.lane_turn.proofs.Arrivals.{has_own}
 use Rattle.lane_turn.specs.Holding.{holder_at}
-use Rattle.lane_turn.proofs.Brought.{never, never_both, with_true, brought_cons, received_gains, open_fresh, open_awaited}
+use Rattle.lane_turn.proofs.Brought.{never, never_both, brought_cons, received_gains, open_fresh, open_awaited}
 use Rattle.lane_turn.proofs.Whole.{whole}
 use Rattle.lane_turn.proofs.EachLane.{each_lane}
 use Rattle.lane_turn.proofs.Places.{Counted, counted_step}
 use Rattle.lane_turn.proofs.Between.{Fits, AreLanes, Goes, over_all}
-use Rattle.lane_turn.proofs.Holds.{Stands, AreHeld, held_at_tick, turns_fit, over_stands, lane_law, counted_over}
+use Rattle.lane_turn.proofs.Holds.{Stands, held_at_tick, turns_fit, over_stands, lane_law, counted_over}
 
 -- ---- what each lane of a run holds was given
 

@@ -13,7 +13,7 @@ use Rattle.lane_turn.specs.Handover.{Handing, all_handed, handed_over}
 use Rattle.lane_turn.specs.Tick.{lanes_at, posted_at}
 use Rattle.lane_turn.specs.Letters.{AreNumbered}
 use Rattle.lane_turn.specs.Owed.{one_for, is_reply, replied, lane_under, posted_before, mail_of_run, over_of_run}
-use Rattle.lane_turn.specs.Taken.{accounted, brought, came_before}
+use Rattle.lane_turn.specs.Taken.{accounted, came_before}
 use Rattle.lane_turn.proofs.Turns.{out_numbered, turned_number}
 use Rattle.lane_turn.proofs.Delivered.{received_number}
 use Rattle.lane_turn.proofs.GoingOver.{handed_part}

@@ -76,7 +76,6 @@ impl Frames {
     /// How many calls are in progress but the one of `start`.
     #[tactic(auto, using(crate::proofs::Layers::calls_layers, crate::proofs::Layers::length_frames))]
     pub fn calls_in_progress(&self) -> u64
-        requires { length self.now < count_end }
         ensures { result ≡ calls_in_progress self.now }
     {
         self.chain.calls_in_progress()

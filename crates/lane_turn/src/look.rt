@@ -1,7 +1,11 @@
 //! What a lane shows of itself between its steps, to whoever looks at a run. None of it changes the lane.
-ghost use Rattle.std.specs.Prelude.{◌≡◌, ◌↔◌, ◌||◌, IsTrue, IfOk, nat_lt, option_map, reverse};
+ghost use Rattle.std.specs.Prelude.{◌≡◌, ◌↔◌, ◌||◌, IsTrue, IfOk, nat_lt, map, option_map, reverse};
 ghost use Rattle.std.specs.Option.{option_copied};
+ghost use Rattle.task_steps.specs.Run.{IsUpTo};
+ghost use Rattle.task_steps.specs.Shown.{least_wake, wakeless};
+ghost use Rattle.lane_watch.specs.Shown.{started_shown, EndNoSooner};
 ghost use Rattle.context_core.specs.Pushed.{contexts_of};
+ghost use Rattle.lane_turn.specs.Frames.{calls_in_progress};
 ghost use Rattle.lane_turn.specs.Lane.{context_at, is_running, standings};
 ghost use Rattle.lane_turn.specs.Owned.{grounds, has_any, is_owned};
 ghost use Rattle.lane_turn.specs.Replies.{reply_held};
@@ -18,6 +22,7 @@ use context_core::{Pushed, Standing};
 use loop_script::Script;
 use source_rows::Rows;
 use std::alloc::AllocError;
+use task_steps::TaskShown;
 
 impl LaneState {
     /// What an iteration of a context begun at a tick would do with each of its sources, and why, in the order of dispatch; none of
@@ -55,6 +60,13 @@ impl LaneState {
         ensures { result ≡ reverse self.now.lane.frames }
     {
         self.lane.frames.inwards()
+    }
+
+    /// How many calls are in progress, where that of the start list is not counted. It takes no memory.
+    pub fn calls(&self) -> u64
+        ensures { result ≡ calls_in_progress self.now.lane.frames }
+    {
+        self.lane.frames.calls_in_progress()
     }
 
     /// What each slot names, by the slot's number; none names what was never put there. A source that is named may be destroyed
@@ -95,6 +107,16 @@ impl LaneState {
         ensures { result ≡ reply_held context id self.now.lane.replies }
     {
         self.lane.awaited(context, id)
+    }
+
+    /// The tasks that the lane started and that have not ended, in the order of their numbers, as they stand before their next poll
+    /// (GTask). None wakes before that poll, and the body of none ends before it wakes, where nothing more is seen cancelled.
+    pub fn tasks(&self) -> Result<Vec<TaskShown>, AllocError>
+        ensures tasks { IfOk result (λ list. map wakeless list.items ≡ map (started_shown self.now.lane.tasks) self.now.lane.tasks.started) }
+        ensures wake { IfOk result (λ list. IsUpTo self.now.lane.tasks.tick (least_wake list.items)) }
+        ensures ends { IfOk result (λ list. EndNoSooner self.now.lane.tasks.tick_us self.now.lane.tasks.came self.now.lane.tasks.started list.items) }
+    {
+        self.lane.watch.tasks(self.alloc)
     }
 
     /// What the lane wrote.

@@ -4,3 +4,4 @@ pub mod Polled
 pub mod Asleep
 pub mod Given
 pub mod Joined
+pub mod Shown

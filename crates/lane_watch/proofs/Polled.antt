@@ -17,7 +17,7 @@ pub c_of : List (Option ℕ) → List Task → ℕ → Option ℕ
 c_of came [] n = None
 c_of came (t ∷ ts) n = cond (t.number == n) (first_seen came (started_of t)) (c_of came ts n)
 
-abbrev Tells : List (Option ℕ) → (ℕ → Option ℕ) → List Task → Type 0
+abbrev pub Tells : List (Option ℕ) → (ℕ → Option ℕ) → List Task → Type 0
 Tells came c ts = AllByRecursion (λ t. c t.number ≡ first_seen came (started_of t)) ts
 
 above : (low from next : ℕ) (ts : List Task) → low ≤ from → Numbered from next ts → AllByRecursion (λ q. low ≤ q.number) ts

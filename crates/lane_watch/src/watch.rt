@@ -1,13 +1,13 @@
 //! A lane's view with its ticks, and its tasks.
-ghost use Rattle.std.specs.Prelude.{◌≡◌, ℕ, [], ◌+◌, ◌<◌, ◌≤◌, ◌^◌, slice_set, Some, None, true, false, IsTrue, IsOk, IfOk, OnOk, OnErr, option_map, if◌then◌else◌, ◌↔◌};
+ghost use Rattle.std.specs.Prelude.{◌≡◌, ℕ, [], ◌+◌, ◌<◌, ◌≤◌, ◌^◌, slice_set, Some, None, true, false, IsTrue, IsOk, IfOk, OnOk, OnErr, option_map, map, if◌then◌else◌, ◌↔◌};
 ghost use Rattle.loop_script.specs.Bounds.{count_end, longest_tick, tick_end};
 ghost use Rattle.task_steps.specs.Run.{IsAfter};
 
 use cancel_view::{Connected, Fired, OutOfMemory, View};
 use loop_script::TaskSpec;
-use std::alloc::Global;
+use std::alloc::{AllocError, Global};
 use std::marker::Model;
-use task_steps::{Polled, TaskBook};
+use task_steps::{Polled, TaskBook, TaskShown};
 
 /// A lane's view of cancellations, with the tick in which each came into it, and its tasks. Cancellables go by their
 /// number, from 0 on. Calls come tick by tick: the poll of a tick first, then what the lane does in it.
@@ -66,6 +66,9 @@ fn is_before(tick: u32, wake: Option<u64>) -> bool
 impl Watch {
     ghost use Rattle.cancel_view.specs.Seen.{has, fired, connected, connecting, may_disconnect, without};
     ghost use Rattle.task_steps.specs.Book.{IsIn};
+    ghost use Rattle.task_steps.specs.Run.{IsUpTo};
+    ghost use Rattle.task_steps.specs.Shown.{least_wake, wakeless};
+    ghost use Rattle.lane_watch.specs.Shown.{started_shown, EndNoSooner};
     ghost use Rattle.lane_watch.specs.Watch.{nothing_seen, no_tasks, cancelled_at, viewing, starting, replies_of, late_of, polled, at_tick, forgetful, GivesNothing};
 
     /// What a lane watches at first: none of n cancellables is cancelled, and no task was started. Ticks are so many
@@ -189,6 +192,16 @@ impl Watch {
         ensures { (tick : ℕ) → self.now.tasks.tick ≤ tick → IsAfter tick result → GivesNothing tick self.now.tasks }
     {
         self.wake
+    }
+
+    /// The tasks that were started and have not ended, in start order, as they stand before the next poll. None wakes before
+    /// that poll, and the body of none ends before it wakes, where nothing more comes into the view.
+    pub fn tasks(&self, alloc: Global) -> Result<Vec<TaskShown>, AllocError>
+        ensures tasks { IfOk result (λ list. map wakeless list.items ≡ map (started_shown self.now.tasks) self.now.tasks.started) }
+        ensures wake { IfOk result (λ list. IsUpTo self.now.tasks.tick (least_wake list.items)) }
+        ensures ends { IfOk result (λ list. EndNoSooner self.now.tasks.tick_us self.now.tasks.came self.now.tasks.started list.items) }
+    {
+        self.book.tasks(alloc)
     }
 
     /// Passes over the ticks before one, where no task wakes in them; false, and nothing is changed, where one does.

@@ -8,7 +8,8 @@ ghost use Rattle.script_report.specs.Verdict.{Judges};
 mod answer;
 
 use crate::answer::{FAULTS, MEMORY, SHORT_ROOM, TEXT, VERSION, class_of};
-use inspect_text::{Asked, SourceName, Window, push_asked};
+use inspect_text::{Asked, push_asked};
+use inspect_words::{SourceName, Window};
 use loop_script::{Script, ScriptFault};
 use mainctx::{MainFault, OverWrite, run_alone};
 use script_report::{Form, check_script};

@@ -1,10 +1,13 @@
 -- What is added one after the other.
-use Rattle.std.proofs.Common.{◌≡◌, ◌∙◌, sym, ℕ, suc, ◌+◌, ◌<◌, List, [], ◌∷◌, ◌++◌, drop, slice_index_or, Bool, true, false, refl, ap, ◌||◌, ◌&&◌, not, nat_lt, length, if◌then◌else◌}
-use Rattle.std.proofs.lemmas.List.{at_drop_more}
+use Rattle.std.proofs.Common.{◌≡◌, ◌∙◌, sym, ℕ, suc, ◌+◌, ◌<◌, List, [], ◌∷◌, ◌++◌, drop, slice_index_or, refl, ap, ◌||◌, ◌&&◌, not, nat_lt, length, if◌then◌else◌}
+use Rattle.std.proofs.lemmas.List.{at_drop_more, length-append}
 use Rattle.std.specs.Borrow.{Bor}
 use Rattle.std.specs.List.{list_any}
 use Rattle.std.specs.Str.{bytes_eq}
-use Rattle.named.specs.Names.{added, all_added}
+use Rattle.json.specs.Value.{value_view, members_view}
+use Rattle.json.specs.declared.value.Value.{Value}
+use Rattle.named.specs.Names.{added, all_added, keys_of, contexts_of, contexts_or, under}
+use Rattle.named.specs.declared.word.Word.TheVariants as word
 use Rattle.named.specs.Views.{texts}
 
 pub added_behind : (limit : ℕ) (xs ys zs : List (List ℕ)) → all_added limit xs (ys ++ zs) ≡ all_added limit (all_added limit xs ys) zs
@@ -34,3 +37,14 @@ at_next F xs i v is lt = at_drop_more F xs i v lt ∙ ap (λ y. F (y ∷ drop (i
 -- names that were added before the rest
 pub then_rest : (limit : ℕ) (names after here rest : List (List ℕ)) → after ≡ all_added limit names here → all_added limit after rest ≡ all_added limit names (here ++ rest)
 then_rest limit names after here rest h = ap (λ ns. all_added limit ns rest) h ∙ sym (added_behind limit names here rest)
+
+pub keys_length : {A : Type 0} (ms : List (Bor (List ℕ) × Value A)) → length (keys_of (members_view ms)) ≡ length ms
+keys_length [] = refl
+keys_length (m ∷ ms) = ap suc (keys_length ms)
+
+-- the contexts of the threads that are left are those of the next and of those behind it
+pub contexts_next : {A : Type 0} (ts : List (Bor (List ℕ) × Value A)) (i : ℕ) (t : Bor (List ℕ) × Value A) → t ≡ slice_index_or ts i t → i < length ts
+    → length (contexts_of (members_view (drop i ts))) ≡ length (contexts_or t.0.now (under word.Contexts (value_view t.1))) + length (contexts_of (members_view (drop (i + 1) ts)))
+contexts_next ts i t is lt =
+    at_next (λ xs. length (contexts_of (members_view xs))) ts i t is lt
+    ∙ length-append (contexts_or t.0.now (under word.Contexts (value_view t.1))) (contexts_of (members_view (drop (i + 1) ts)))

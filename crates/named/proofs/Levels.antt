@@ -1,5 +1,5 @@
 -- A level by those below it.
-use Rattle.std.proofs.Common.{◌≡◌, ◌-◌, ℕ, zero, suc, List, [], ◌∷◌, refl, ap, arith}
+use Rattle.std.proofs.Common.{◌≡◌, ◌-◌, ℕ, zero, suc, [], ◌∷◌, refl, ap, arith}
 use Rattle.json.specs.Json.{Json}
 use Rattle.json.specs.Token as token
 use Rattle.named.specs.Names.{Names}

@@ -1,4 +1,4 @@
 pub mod Adding
-pub mod Words
+pub mod BitWords
 pub mod Levels
 pub mod Causes

@@ -1,29 +1,32 @@
 -- What is wrong with a script with names: of each value its own faults, then those of the values in it.
-use Rattle.std.specs.Prelude.{ℕ, zero, suc, ◌==◌, List, [], ◌∷◌, ◌++◌, length, map, Bool, true, false, not, if◌then◌else◌, Option, Some, None, is_some, is_none}
+use Rattle.std.specs.Prelude.{ℕ, zero, suc, ◌==◌, List, [], ◌∷◌, ◌++◌, length, map, Bool, true, false, not, if◌then◌else◌, Option, Some, None, is_none}
 use Rattle.std.specs.List.{list_any}
 use Rattle.std.specs.Str.{bytes_eq}
 use Rattle.json.specs.Json.{Json, Items, no_items, item, Members, no_members, member}
 use Rattle.json.specs.Find.{as_array, as_object}
 use Rattle.named.specs.Words.{text_of}
 use Rattle.named.specs.Tables.{words, parts, beside, makes_source, fields, keys}
-use Rattle.named.specs.Names.{Names, names_in}
+use Rattle.named.specs.Names.{Names, names_in, has_all}
+use Rattle.named.specs.declared.sort.Kind.{Kind}
+use Rattle.named.specs.declared.sort.Kind.TheVariants as kinds
 use Rattle.named.specs.Leaf.{leaf}
 use Rattle.named.specs.Pieces.{Step, Piece, tokens, inner, found, chosen, pieces}
 use Rattle.named.specs.Written.{levels}
 use Rattle.named.specs.declared.word.Word.{Word}
 use Rattle.named.specs.declared.sort.Choice.{Choice}
 use Rattle.named.specs.declared.sort.Choice.TheVariants as choices
+use Rattle.named.specs.declared.sort.Object.{Object}
 use Rattle.named.specs.declared.sort.Object.TheVariants as objects
 use Rattle.named.specs.declared.sort.Sort.{Sort}
 use Rattle.named.specs.declared.sort.Sort.TheVariants as sorts
 use Rattle.named.specs.declared.table.At.{At}
 use Rattle.named.specs.declared.table.At.TheVariants as ats
 use Rattle.named.specs.declared.table.Part.{Part}
-use Rattle.named.specs.declared.table.Absent.{Absent}
-use Rattle.named.specs.declared.table.Absent.TheVariants as absents
-use Rattle.named.specs.declared.table.Field.{Field}
+use Rattle.named.specs.declared.field.Absent.{Absent}
+use Rattle.named.specs.declared.field.Absent.TheVariants as absents
+use Rattle.named.specs.declared.field.Field.{Field}
 use Rattle.named.specs.declared.fault.Cause.{Cause}
-use Rattle.named.specs.declared.fault.Cause.TheVariants.{Unfit, NoWord, OtherType, OtherLength, OtherKey, NoKey}
+use Rattle.named.specs.declared.fault.Cause.TheVariants.{Unfit, NoWord, OtherType, OtherLength, OtherKey, NoKey, Twice}
 
 -- a cause, where a test holds
 abbrev pub where_so : Bool → Cause → List Cause
@@ -84,11 +87,26 @@ of_word choices.Tree j (Some w) = of_size (suc (length (parts choices.Tree w))) 
 of_word choices.Source j (Some w) = lacks (parts choices.Source w) j
 of_word choices.Action j (Some w) = lacks (parts choices.Action w) j ++ unknown_in (allowed w j) (as_object j)
 
+abbrev pub of_names : Kind → Names → Json → List Cause
+of_names k ns j = where_so (not (has_all k ns j)) (Twice k)
+
+abbrev pub twice : List Kind → Names → Json → List Cause
+twice [] ns j = []
+twice (k ∷ ks) ns j = of_names k ns j ++ twice ks ns j
+
+-- the kinds whose names are declared
+abbrev pub declaring : List Kind
+declaring = kinds.Thread ∷ kinds.Context ∷ kinds.Loop ∷ kinds.Procedure ∷ kinds.Cancellable ∷ kinds.Descriptor ∷ []
+
+abbrev pub of_object : Object → Json → List Cause
+of_object o j = where_so (is_none (as_object j)) OtherType ++ (field_lacks (fields o) j ++ unknown_in (keys o) (as_object j))
+
 -- what is wrong with j itself where it should be this
 abbrev pub own : Sort → Names → Json → List Cause
 own (sorts.Leaf l) ns j = where_so (is_none (leaf l ns j)) Unfit
 own (sorts.OneOf c) ns j = of_word c j (chosen c j)
-own (sorts.An o) ns j = where_so (is_none (as_object j)) OtherType ++ (field_lacks (fields o) j ++ unknown_in (keys o) (as_object j))
+own (sorts.An objects.Script) ns j = of_object objects.Script j ++ twice declaring ns j
+own (sorts.An o) ns j = of_object o j
 own sorts.Pair ns j = of_size 2 (as_array j)
 own sorts.Actions ns j = where_so (is_none (as_array j)) OtherType
 own sorts.Levels ns j = where_so (is_none (as_array j)) OtherType

@@ -1,8 +1,8 @@
 -- What a value without parts is in a script of numbers.
-use Rattle.std.specs.Prelude.{ℕ, zero, suc, ◌+◌, ◌*◌, ◌-◌, ◌^◌, ◌/◌, ◌%◌, ◌==◌, ◌&&◌, min, List, [], ◌∷◌, ◌++◌, length, Bool, true, false, nat_le, if◌then◌else◌, Option, Some, None, option_map, option_and_then, is_some, decimal, codes, bit_or, nat_lt}
+use Rattle.std.specs.Prelude.{ℕ, zero, suc, ◌+◌, ◌*◌, ◌-◌, ◌^◌, ◌/◌, ◌%◌, ◌==◌, ◌&&◌, min, List, [], ◌∷◌, length, Bool, true, false, nat_le, if◌then◌else◌, Option, Some, None, option_map, option_and_then, is_some, decimal, codes, bit_or, nat_lt}
 use Rattle.std.specs.List.{position_or_len, before_first, after_first}
 use Rattle.std.specs.Str.{bytes_eq}
-use Rattle.json.specs.Json.{Json, null, boolean, number, string, array, object, Items, no_items, item}
+use Rattle.json.specs.Json.{Json, Items, no_items, item}
 use Rattle.json.specs.Find.{as_str, as_number, as_bool, as_array, is_null}
 use Rattle.json.specs.Token as token
 use Rattle.json.specs.Token.{Token}
@@ -84,8 +84,9 @@ abbrev pub bits_in : ℕ → List ℕ → Option ℕ
 bits_in zero s = None
 bits_in (suc n) s = if has_bar s then both (bit (before_first is_bar s)) (bits_in n (after_first is_bar s)) else bit s
 
+-- an empty text asks for none
 abbrev pub bits : List ℕ → Option ℕ
-bits s = bits_in 32 s
+bits s = if length s == 0 then Some 0 else bits_in 32 s
 
 -- ---- words
 

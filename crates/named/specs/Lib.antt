@@ -6,3 +6,4 @@ pub mod Pieces
 pub mod Written
 pub mod Faults
 pub mod Views
+pub mod Answer

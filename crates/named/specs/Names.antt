@@ -1,5 +1,5 @@
 -- The names of a script, in the order that gives them their numbers.
-use Rattle.std.specs.Prelude.{ℕ, suc, List, [], ◌∷◌, ◌++◌, length, map, Bool, true, false, not, ◌&&◌, nat_lt, if◌then◌else◌, Option, Some, None, option_and_then, option_to_list}
+use Rattle.std.specs.Prelude.{ℕ, suc, List, [], ◌∷◌, ◌++◌, length, Bool, true, not, ◌&&◌, ◌==◌, nat_lt, if◌then◌else◌, Option, Some, None, option_and_then, option_to_list}
 use Rattle.std.specs.List.{list_any}
 use Rattle.std.specs.Str.{bytes_eq}
 use Rattle.json.specs.Json.{Json, Items, no_items, item, Members, no_members, member}
@@ -117,18 +117,37 @@ naming = word.Attach ∷ word.Child ∷ word.Connect ∷ []
 abbrev pub logging : List Word
 logging = word.Log ∷ []
 
-abbrev pub numbered : Kind → List (List ℕ) → List (List ℕ)
-numbered k names = all_added (most k) [] names
+-- the names that a script gives to things of a kind, in order
+abbrev pub declared : Kind → Json → List (List ℕ)
+declared kinds.Thread j = keys_of (members_in (under word.Threads j))
+declared kinds.Context j = contexts_of (members_in (under word.Threads j))
+declared kinds.Loop j = keys_of (members_in (under word.Loops j))
+declared kinds.Procedure j = keys_of (members_in (under word.Procedures j))
+declared kinds.Cancellable j = texts_of (items_in (under word.Cancellables j))
+declared kinds.Descriptor j = keys_of (members_in (under word.Descriptors j))
+declared kinds.Slot j = said_under naming j
+declared kinds.Text j = said_under logging j
+
+-- each once, as far as there are numbers
+abbrev pub numbered : Kind → Json → List (List ℕ)
+numbered k j = all_added (most k) [] (declared k j)
 
 -- the names of a script
 abbrev pub names_in : Json → Names
 names_in j = record {
-  threads = numbered kinds.Thread (keys_of (members_in (under word.Threads j)));
-  contexts = numbered kinds.Context (contexts_of (members_in (under word.Threads j)));
-  loops = numbered kinds.Loop (keys_of (members_in (under word.Loops j)));
-  procedures = numbered kinds.Procedure (keys_of (members_in (under word.Procedures j)));
-  cancellables = numbered kinds.Cancellable (texts_of (items_in (under word.Cancellables j)));
-  descriptors = numbered kinds.Descriptor (keys_of (members_in (under word.Descriptors j)));
-  slots = numbered kinds.Slot (said_under naming j);
-  texts = numbered kinds.Text (said_under logging j);
+  threads = numbered kinds.Thread j;
+  contexts = numbered kinds.Context j;
+  loops = numbered kinds.Loop j;
+  procedures = numbered kinds.Procedure j;
+  cancellables = numbered kinds.Cancellable j;
+  descriptors = numbered kinds.Descriptor j;
+  slots = numbered kinds.Slot j;
+  texts = numbered kinds.Text j;
 }
+
+-- whether each name that is given to a thing of a kind has a number: none stands twice, and they are not too many; those of slots and
+-- texts may stand more often
+abbrev pub has_all : Kind → Names → Json → Bool
+has_all kinds.Slot ns j = true
+has_all kinds.Text ns j = true
+has_all k ns j = length (declared k j) == length (of_kind k ns)

@@ -1,5 +1,5 @@
 -- What a value of the form is made of in a script of numbers: tokens, and values of the form in their places.
-use Rattle.std.specs.Prelude.{ℕ, suc, List, [], ◌∷◌, ◌++◌, Bool, true, false, not, if◌then◌else◌, Option, Some, None, option_and_then, is_some, decimal}
+use Rattle.std.specs.Prelude.{ℕ, suc, List, [], ◌∷◌, ◌++◌, Bool, if◌then◌else◌, Option, Some, None, option_and_then, is_some}
 use Rattle.std.specs.List.{list_any}
 use Rattle.std.specs.Str.{bytes_eq}
 use Rattle.json.specs.Json.{Json, Items, no_items, item, Members, no_members, member}
@@ -18,9 +18,9 @@ use Rattle.named.specs.declared.sort.Sort.TheVariants as sorts
 use Rattle.named.specs.declared.table.At.{At}
 use Rattle.named.specs.declared.table.At.TheVariants as ats
 use Rattle.named.specs.declared.table.Part.{Part}
-use Rattle.named.specs.declared.table.Absent.{Absent}
-use Rattle.named.specs.declared.table.Absent.TheVariants as absents
-use Rattle.named.specs.declared.table.Field.{Field}
+use Rattle.named.specs.declared.field.Absent.{Absent}
+use Rattle.named.specs.declared.field.Absent.TheVariants as absents
+use Rattle.named.specs.declared.field.Field.{Field}
 
 -- a step into a value: what an object has under a key, an item of a list, or none
 pub data Step : Type 0 where

@@ -16,9 +16,9 @@ use Rattle.named.specs.declared.word.Word.TheVariants as word
 use Rattle.named.specs.declared.table.At.{At}
 use Rattle.named.specs.declared.table.At.TheVariants as ats
 use Rattle.named.specs.declared.table.Part.{Part}
-use Rattle.named.specs.declared.table.Absent.{Absent}
-use Rattle.named.specs.declared.table.Absent.TheVariants as absents
-use Rattle.named.specs.declared.table.Field.{Field}
+use Rattle.named.specs.declared.field.Absent.{Absent}
+use Rattle.named.specs.declared.field.Absent.TheVariants as absents
+use Rattle.named.specs.declared.field.Field.{Field}
 
 abbrev pub part : At → Sort → Part
 part at s = record { at = at; sort = s }

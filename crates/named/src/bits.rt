@@ -6,14 +6,17 @@ ghost use Rattle.named.specs.Leaf.{bit, bits, bits_in, both, has_bar, is_bar};
 /// How many words are read at most.
 const MOST: u32 = 32;
 
-/// The bits of words with bars between them, as `IN|HUP`.
+/// The bits of words with bars between them, as `IN|HUP`; an empty text has none.
 pub(crate) fn bits(text: &str) -> Option<u64>
     ensures { result ≡ bits text.now }
 {
+    if text.is_empty() {
+        return Some(0);
+    }
     bits_in(MOST, text)
 }
 
-#[tactic(auto, using(crate::proofs::Words::bits_none, crate::proofs::Words::bits_step))]
+#[tactic(auto, using(crate::proofs::BitWords::bits_none, crate::proofs::BitWords::bits_step))]
 fn bits_in(most: u32, text: &str) -> Option<u64>
     ensures { result ≡ bits_in most text.now }
 {

@@ -1,6 +1,6 @@
 //! What is wrong with a script with names.
 use crate::piece::Step;
-use crate::sort::Sort;
+use crate::sort::{Kind, Sort};
 use crate::word::Word;
 
 /// What is wrong with the value at a place.
@@ -18,6 +18,8 @@ pub enum Cause {
     OtherKey(usize),
     /// A key is missing.
     NoKey(Word),
+    /// A name stands twice among those of its kind, or these are more than have a number.
+    Twice(Kind),
 }
 
 /// A fault: the steps to the value that has it, what should stand there, and what is wrong.

@@ -1,9 +1,9 @@
 //! The names of a script, in the order that gives them their numbers.
-ghost use Rattle.std.specs.Prelude.{◌≡◌, [], map, IfOk, OnOk};
+ghost use Rattle.std.specs.Prelude.{◌≡◌, ◌==◌, [], ℕ, List, length, IfOk, OnOk};
 ghost use Rattle.std.specs.List.{list_any};
 ghost use Rattle.std.specs.Str.{bytes_eq};
 ghost use Rattle.json.specs.Value.{value_view, items_view, members_view};
-ghost use Rattle.named.specs.Names.{of_kind, most, number_of, added, all_added, items_in, members_in, texts_of, keys_of, contexts_or, contexts_of, said, said_in, said_by, said_under, names_in};
+ghost use Rattle.named.specs.Names.{of_kind, most, number_of, added, all_added, items_in, members_in, texts_of, keys_of, contexts_or, contexts_of, said, said_in, said_by, names_in, has_all};
 ghost use Rattle.named.specs.Views.{names_of, texts, seen};
 
 use crate::sort::Kind;
@@ -11,9 +11,9 @@ use crate::word::Word;
 use json::Value;
 use std::alloc::{AllocError, Global};
 
-/// The names of each kind; the number of a name is its place among those of its kind.
+/// The names of a script by kind; the number of a name is its place among those of its kind.
 #[derive(Drop)]
-pub(crate) struct Names<'a> {
+pub struct Names<'a> {
     pub threads: Vec<&'a str>,
     pub contexts: Vec<&'a str>,
     pub loops: Vec<&'a str>,
@@ -30,9 +30,10 @@ const NAMING: [Word; 3] = [Word::Attach, Word::Child, Word::Connect];
 const LOGGING: [Word; 1] = [Word::Log];
 
 impl<'a> Names<'a> {
-    /// The names of a script.
+    /// The names of a script, each once in the order in which it is given, as far as there are numbers. `AllocError` comes only where a
+    /// request for memory was refused.
     #[tactic(auto, using(crate::proofs::Adding::added_behind))]
-    pub(crate) fn of(alloc: Global, script: &Value<'a>) -> Result<Names<'a>, AllocError>
+    pub fn of(alloc: Global, script: &Value<'a>) -> Result<Names<'a>, AllocError>
         ensures { IfOk result (λ names. names_of names ≡ names_in (value_view script.now)) }
     {
         let threads = script.get(Word::Threads.text());
@@ -54,7 +55,7 @@ impl<'a> Names<'a> {
     }
 
     /// Those of a kind.
-    pub(crate) fn of_kind(&self, kind: Kind) -> &[&'a str]
+    pub fn of_kind(&self, kind: Kind) -> &[&'a str]
         ensures { texts result.now ≡ of_kind kind (names_of self.now) }
     {
         match kind {
@@ -69,12 +70,100 @@ impl<'a> Names<'a> {
         }
     }
 
+    /// Whether each name that is given to a thing of a kind has a number: none stands twice, and they are not too many; those of slots and
+    /// texts may stand more often.
+    pub(crate) fn has_all(&self, kind: Kind, script: &Value<'_>) -> bool
+        ensures { result ≡ has_all kind (names_of self.now) (value_view script.now) }
+    {
+        let count = self.of_kind(kind).len();
+        match kind {
+            Kind::Thread => keys_count(script.get(Word::Threads.text())) == count,
+            Kind::Context => have_contexts(script.get(Word::Threads.text()), count),
+            Kind::Loop => keys_count(script.get(Word::Loops.text())) == count,
+            Kind::Procedure => keys_count(script.get(Word::Procedures.text())) == count,
+            Kind::Cancellable => texts_count(script.get(Word::Cancellables.text())) == count,
+            Kind::Descriptor => keys_count(script.get(Word::Descriptors.text())) == count,
+            Kind::Slot | Kind::Text => true,
+        }
+    }
+
     /// The number of a name.
-    pub(crate) fn number(&self, kind: Kind, name: &str) -> Option<usize>
+    pub fn number(&self, kind: Kind, name: &str) -> Option<usize>
         ensures { result ≡ number_of name.now (of_kind kind (names_of self.now)) }
     {
         number_among(self.of_kind(kind), name)
     }
+}
+
+fn keys_count(value: Option<&Value<'_>>) -> usize
+    ensures { result ≡ length (keys_of (members_in (seen value.entry))) }
+{
+    match value {
+        Some(Value::Object(members)) => count_members(members.as_slice()),
+        _ => 0,
+    }
+}
+
+#[tactic(auto, using(crate::proofs::Adding::keys_length))]
+fn count_members(members: &[(&str, Value<'_>)]) -> usize
+    ensures { result ≡ length (keys_of (members_view members.now)) }
+{
+    members.len()
+}
+
+fn texts_count(value: Option<&Value<'_>>) -> usize
+    ensures { result ≡ length (texts_of (items_in (seen value.entry))) }
+{
+    match value {
+        Some(Value::Array(items)) => count_texts(items.as_slice()),
+        _ => 0,
+    }
+}
+
+fn count_texts(items: &[Value<'_>]) -> usize
+    ensures { result ≡ length (texts_of (items_view items.now)) }
+{
+    let mut count = 0;
+    for item in items {
+        if item.as_str().is_some() {
+            count += 1;
+        }
+    }
+    count
+}
+
+/// How many contexts a thread has; one that names none has one of its own name.
+fn contexts_count(contexts: Option<&Value<'_>>) -> usize
+    ensures { (thread : List ℕ) → result ≡ length (contexts_or thread (seen contexts.entry)) }
+{
+    match contexts {
+        None => 1,
+        Some(_) => texts_count(contexts),
+    }
+}
+
+/// Whether threads have so many contexts together.
+fn have_contexts(value: Option<&Value<'_>>, count: usize) -> bool
+    ensures { result ≡ (length (contexts_of (members_in (seen value.entry))) == count) }
+{
+    match value {
+        Some(Value::Object(threads)) => have_contexts_together(threads.as_slice(), count),
+        _ => count == 0,
+    }
+}
+
+fn have_contexts_together(threads: &[(&str, Value<'_>)], count: usize) -> bool
+    ensures { result ≡ (length (contexts_of (members_view threads.now)) == count) }
+{
+    let mut left = count;
+    for thread in threads {
+        let own = contexts_count(thread.1.get(Word::Contexts.text()));
+        if left < own {
+            return false;
+        }
+        left -= own;
+    }
+    left == 0
 }
 
 fn number_among(names: &[&str], name: &str) -> Option<usize>
@@ -89,7 +178,7 @@ fn number_among(names: &[&str], name: &str) -> Option<usize>
 }
 
 /// How many of a kind have a number.
-pub(crate) fn most(kind: Kind) -> usize
+pub fn most(kind: Kind) -> usize
     ensures { result ≡ most kind }
 {
     match kind {

@@ -1,23 +1,38 @@
 //! Writing a value with names as one of numbers.
-ghost use Rattle.std.specs.Prelude.{◌≡◌, ◌++◌, [], OnOk};
+ghost use Rattle.std.specs.Prelude.{◌≡◌, ◌++◌, IfOk, OnOk};
+ghost use Rattle.json.specs.Print.{print};
 ghost use Rattle.json.specs.Value.{value_view};
 ghost use Rattle.named.specs.Views.{names_of, piece_view, tokens_of};
-ghost use Rattle.named.specs.Written.{filled, together, written};
+ghost use Rattle.named.specs.Written.{filled, levels, written};
 
 use crate::names::Names;
 use crate::piece::{Piece, pieces_of};
 use crate::scalar::Scalar;
-use crate::sort::Sort;
+use crate::sort::{Object, Sort};
 use json::{Value, Writer};
 use std::alloc::{AllocError, Global};
 
 /// How many levels of a script are looked at: no value that is read has more, with those of an action's own object.
 pub(crate) const LEVELS: u32 = 160;
 
+/// A script as one of numbers.
+pub(crate) fn numbered_text(
+    alloc: Global,
+    names: &Names<'_>,
+    script: &Value<'_>,
+) -> Result<Vec<u8>, AllocError>
+    ensures { IfOk result (λ bytes. bytes.items ≡ print (written levels (names_of names.now) (Sort.An Object.Script) (value_view script.now))) }
+{
+    let mut writer = Writer::new(Vec::new(alloc));
+    let sort = Sort::An(Object::Script);
+    write(alloc, names, sort, script, LEVELS, &mut writer)?;
+    Ok(writer.into_inner())
+}
+
 /// Writes a value; so many levels of it are looked at.
 #[cycle(write)]
 #[tactic(auto, using(crate::proofs::Levels::written_step, crate::proofs::Levels::written_none))]
-pub(crate) fn write(
+fn write(
     alloc: Global,
     names: &Names<'_>,
     sort: Sort,
@@ -25,7 +40,8 @@ pub(crate) fn write(
     levels: u32,
     writer: &mut Writer,
 ) -> Result<(), AllocError>
-    ensures { OnOk result (writer.new.tokens ≡ writer.old.tokens ++ written levels (names_of names.now) sort (value_view value.now)) }
+    ensures tokens { OnOk result (writer.new.tokens ≡ writer.old.tokens ++ written levels (names_of names.now) sort (value_view value.now)) }
+    ensures before { OnOk result (writer.new.before ≡ writer.old.before) }
 {
     if levels == 0 {
         return writer.null();
@@ -45,7 +61,8 @@ fn write_piece(
     levels: u32,
     writer: &mut Writer,
 ) -> Result<(), AllocError>
-    ensures { OnOk result (writer.new.tokens ≡ writer.old.tokens ++ filled (written levels (names_of names.now)) (piece_view piece.now)) }
+    ensures tokens { OnOk result (writer.new.tokens ≡ writer.old.tokens ++ filled (written levels (names_of names.now)) (piece_view piece.now)) }
+    ensures before { OnOk result (writer.new.before ≡ writer.old.before) }
 {
     match piece {
         Piece::BeginArray => writer.begin_array(),
@@ -60,7 +77,8 @@ fn write_piece(
 }
 
 fn write_scalar(scalar: &Scalar<'_>, writer: &mut Writer) -> Result<(), AllocError>
-    ensures { OnOk result (writer.new.tokens ≡ writer.old.tokens ++ tokens_of scalar.now) }
+    ensures tokens { OnOk result (writer.new.tokens ≡ writer.old.tokens ++ tokens_of scalar.now) }
+    ensures before { OnOk result (writer.new.before ≡ writer.old.before) }
 {
     match scalar {
         Scalar::Nothing => Ok(()),

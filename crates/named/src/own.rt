@@ -5,17 +5,18 @@ ghost use Rattle.std.specs.Str.{bytes_eq};
 ghost use Rattle.json.specs.Find.{as_array, as_object};
 ghost use Rattle.json.specs.Value.{value_view, items_view, members_view};
 ghost use Rattle.named.specs.Words.{text_of};
-ghost use Rattle.named.specs.Faults.{where_so, lack, lacks, field_lack, field_lacks, other_keys, of_kind, allowed, unknown_in, count, must_be_there, of_size, of_word, own};
+ghost use Rattle.named.specs.Faults.{where_so, lack, lacks, field_lack, field_lacks, other_keys, of_kind, allowed, unknown_in, count, must_be_there, of_object, of_size, of_word, own, twice, declaring};
 ghost use Rattle.named.specs.Tables.{fields, keys};
 ghost use Rattle.named.specs.Pieces.{chosen};
 ghost use Rattle.named.specs.Views.{names_of};
 
 use crate::fault::Cause;
+use crate::field::{Absent, Field, fields, keys};
 use crate::names::Names;
 use crate::piece::chosen;
 use crate::scalar::scalar_of;
-use crate::sort::{Choice, Object, Sort};
-use crate::table::{Absent, At, Field, Part, beside, fields, keys, makes_source, parts, words};
+use crate::sort::{Choice, Kind, Object, Sort};
+use crate::table::{At, Part, beside, makes_source, parts, words};
 use crate::word::Word;
 use json::Value;
 use std::alloc::{AllocError, Global};
@@ -37,6 +38,10 @@ pub(crate) fn own_causes(
             &mut causes,
         )?,
         Sort::OneOf(choice) => push_of_word(alloc, choice, value, &mut causes)?,
+        Sort::An(Object::Script) => {
+            push_of_object(Object::Script, value, &mut causes)?;
+            push_twice(names, value, &mut causes)?;
+        }
         Sort::An(object) => push_of_object(object, value, &mut causes)?,
         Sort::Pair => push_of_size(2, value, &mut causes)?,
         Sort::Actions | Sort::Levels => push_where(!is_list(value), Cause::OtherType, &mut causes)?,
@@ -91,16 +96,16 @@ fn push_of_word(
 }
 
 /// A list should have so many items.
-fn push_of_size(
-    size: usize,
-    value: &Value<'_>,
-    causes: &mut Vec<Cause>,
-) -> Result<(), AllocError>
+fn push_of_size(size: usize, value: &Value<'_>, causes: &mut Vec<Cause>) -> Result<(), AllocError>
     ensures { OnOk result (causes.new.items ≡ causes.old.items ++ of_size size (as_array (value_view value.now))) }
 {
     match value {
         Value::Array(items) => {
-            push_where(!has_size(items.as_slice(), size), Cause::OtherLength, causes)
+            push_where(
+                !has_size(items.as_slice(), size),
+                Cause::OtherLength,
+                causes,
+            )
         }
         _ => push_where(true, Cause::OtherLength, causes),
     }
@@ -123,11 +128,7 @@ fn push_lack(at: At, is_absent: bool, causes: &mut Vec<Cause>) -> Result<(), All
     }
 }
 
-fn push_lacks(
-    parts: &[Part],
-    value: &Value<'_>,
-    causes: &mut Vec<Cause>,
-) -> Result<(), AllocError>
+fn push_lacks(parts: &[Part], value: &Value<'_>, causes: &mut Vec<Cause>) -> Result<(), AllocError>
     ensures { OnOk result (causes.new.items ≡ causes.old.items ++ lacks parts.now (value_view value.now)) }
 {
     for part in parts {
@@ -173,11 +174,45 @@ fn push_of_object(
     value: &Value<'_>,
     causes: &mut Vec<Cause>,
 ) -> Result<(), AllocError>
-    ensures { OnOk result (causes.new.items ≡ causes.old.items ++ (where_so (is_none (as_object (value_view value.now))) Cause.OtherType ++ (field_lacks (fields object) (value_view value.now) ++ unknown_in (keys object) (as_object (value_view value.now))))) }
+    ensures { OnOk result (causes.new.items ≡ causes.old.items ++ of_object object (value_view value.now)) }
 {
     push_where(!is_object(value), Cause::OtherType, causes)?;
     push_field_lacks(fields(object), value, causes)?;
     push_unknown(keys(object), value, causes)
+}
+
+/// The kinds whose names are declared.
+const DECLARING: [Kind; 6] = [
+    Kind::Thread,
+    Kind::Context,
+    Kind::Loop,
+    Kind::Procedure,
+    Kind::Cancellable,
+    Kind::Descriptor,
+];
+
+fn push_twice(
+    names: &Names<'_>,
+    script: &Value<'_>,
+    causes: &mut Vec<Cause>,
+) -> Result<(), AllocError>
+    ensures { OnOk result (causes.new.items ≡ causes.old.items ++ twice declaring (names_of names.now) (value_view script.now)) }
+{
+    push_twice_of(&DECLARING, names, script, causes)
+}
+
+fn push_twice_of(
+    kinds: &[Kind],
+    names: &Names<'_>,
+    script: &Value<'_>,
+    causes: &mut Vec<Cause>,
+) -> Result<(), AllocError>
+    ensures { OnOk result (causes.new.items ≡ causes.old.items ++ twice kinds.now (names_of names.now) (value_view script.now)) }
+{
+    for kind in kinds {
+        push_where(!names.has_all(*kind, script), Cause::Twice(*kind), causes)?;
+    }
+    Ok(())
 }
 
 /// The keys that may stand in an action, and those of its kind of source where it makes one.

@@ -8,10 +8,11 @@ ghost use Rattle.named.specs.Leaf.{leaf};
 ghost use Rattle.named.specs.Tables.{fields, pair};
 ghost use Rattle.named.specs.Views.{names_of, seen, step_view, piece_view};
 
+use crate::field::{Absent, Field, each, fields, pair};
 use crate::names::Names;
 use crate::scalar::{Scalar, scalar_of};
 use crate::sort::{Choice, Leaf, Object, Sort};
-use crate::table::{Absent, At, Field, Part, each, fields, numbered_word, pair, parts, words};
+use crate::table::{At, Part, numbered_word, parts, words};
 use crate::word::Word;
 use json::Value;
 use std::alloc::{AllocError, Global};
@@ -48,7 +49,7 @@ pub(crate) enum Piece<'v, 'a> {
 }
 
 impl At {
-    fn step<'a>(self) -> Step<'a>
+    pub(crate) fn step<'a>(self) -> Step<'a>
         ensures { step_view result ≡ step_of self }
     {
         match self {
@@ -71,7 +72,7 @@ impl At {
 }
 
 /// The word that chooses: in a tree the first item is one, elsewhere one alone stands as a key.
-pub(crate) fn chosen(choice: Choice, value: &Value<'_>) -> Option<Word>
+pub fn chosen(choice: Choice, value: &Value<'_>) -> Option<Word>
     ensures { result ≡ chosen choice (value_view value.now) }
 {
     match choice {
@@ -195,10 +196,7 @@ fn part_piece<'v, 'a>(part: &Part, value: Option<&'v Value<'a>>) -> Piece<'v, 'a
     }
 }
 
-fn push_pair<'v, 'a>(
-    value: &'v Value<'a>,
-    found: &mut Vec<Piece<'v, 'a>>,
-) -> Result<(), AllocError>
+fn push_pair<'v, 'a>(value: &'v Value<'a>, found: &mut Vec<Piece<'v, 'a>>) -> Result<(), AllocError>
     ensures { OnOk result (map piece_view found.new.items ≡ map piece_view found.old.items ++ in_list (part_pieces pair (value_view value.now))) }
 {
     found.push(Piece::BeginArray)?;

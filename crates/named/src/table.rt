@@ -1,6 +1,6 @@
-//! The words of each choice and the keys of each object, with what a script of numbers has in their place.
+//! The words of each choice, with what a script of numbers has behind them.
 ghost use Rattle.std.specs.Prelude.{◌≡◌};
-ghost use Rattle.named.specs.Tables.{words, parts, parts_of_action, parts_of_source, parts_of_tree, beside, numbered_word, makes_source, fields, keys, each, pair};
+ghost use Rattle.named.specs.Tables.{words, parts, parts_of_action, parts_of_source, parts_of_tree, beside, numbered_word, makes_source};
 
 use crate::sort::{Choice, Kind, Leaf, Object, Sort};
 use crate::word::Word;
@@ -21,25 +21,6 @@ pub(crate) enum At {
 pub(crate) struct Part {
     pub at: At,
     pub sort: Sort,
-}
-
-/// What stands where a key is absent.
-#[derive(Clone, Copy, Debug, PartialEq, Eq)]
-pub(crate) enum Absent {
-    /// The key must be there.
-    Fault,
-    /// Nothing.
-    Nothing,
-    Number(u64),
-}
-
-/// A key of an object in a script of numbers, with where its value comes from.
-#[derive(Clone, Copy, Debug, PartialEq, Eq)]
-pub(crate) struct Field {
-    pub key: Word,
-    pub at: At,
-    pub sort: Sort,
-    pub absent: Absent,
 }
 
 const ACTIONS: [Word; 21] = [
@@ -86,7 +67,7 @@ const TREES: [Word; 8] = [
 ];
 
 /// The words of a choice.
-pub(crate) fn words(choice: Choice) -> &'static [Word]
+pub fn words(choice: Choice) -> &'static [Word]
     ensures { result.now ≡ words choice }
 {
     match choice {
@@ -111,27 +92,150 @@ fn parts_of_action(word: Word) -> &'static [Part]
     ensures { result.now ≡ parts_of_action word }
 {
     match word {
-        Word::Attach => &[Part { at: At::Key(Word::To), sort: Sort::Leaf(Leaf::Name(Kind::Context)) }, Part { at: At::Key(Word::Attach), sort: Sort::Leaf(Leaf::Name(Kind::Slot)) }, Part { at: At::Same, sort: Sort::An(Object::Source) }],
-        Word::Child => &[Part { at: At::Key(Word::Below), sort: Sort::Leaf(Leaf::Name(Kind::Slot)) }, Part { at: At::Key(Word::Child), sort: Sort::Leaf(Leaf::Name(Kind::Slot)) }, Part { at: At::Same, sort: Sort::An(Object::Child) }],
-        Word::Destroy => &[Part { at: At::Key(Word::Destroy), sort: Sort::Leaf(Leaf::Name(Kind::Slot)) }],
-        Word::SetReady => &[Part { at: At::Key(Word::SetReady), sort: Sort::Leaf(Leaf::Name(Kind::Slot)) }, Part { at: At::Key(Word::To), sort: Sort::Leaf(Leaf::ReadyTime) }],
-        Word::SetPriority => &[Part { at: At::Key(Word::SetPriority), sort: Sort::Leaf(Leaf::Name(Kind::Slot)) }, Part { at: At::Key(Word::To), sort: Sort::Leaf(Leaf::Priority) }],
-        Word::Iterate => &[Part { at: At::Key(Word::Iterate), sort: Sort::Leaf(Leaf::Name(Kind::Context)) }],
-        Word::Pending => &[Part { at: At::Key(Word::Pending), sort: Sort::Leaf(Leaf::Name(Kind::Context)) }],
-        Word::Run => &[Part { at: At::Key(Word::Run), sort: Sort::Leaf(Leaf::Name(Kind::Loop)) }],
-        Word::Quit => &[Part { at: At::Key(Word::Quit), sort: Sort::Leaf(Leaf::Name(Kind::Loop)) }],
-        Word::Cancel => &[Part { at: At::Key(Word::Cancel), sort: Sort::Leaf(Leaf::Name(Kind::Cancellable)) }],
-        Word::Connect => &[Part { at: At::Key(Word::To), sort: Sort::Leaf(Leaf::Name(Kind::Cancellable)) }, Part { at: At::Key(Word::Connect), sort: Sort::Leaf(Leaf::Name(Kind::Slot)) }, Part { at: At::Key(Word::Call), sort: Sort::Leaf(Leaf::Name(Kind::Procedure)) }],
-        Word::Disconnect => &[Part { at: At::Key(Word::Disconnect), sort: Sort::Leaf(Leaf::Name(Kind::Slot)) }],
-        Word::Task => &[Part { at: At::Key(Word::Task), sort: Sort::Leaf(Leaf::Label) }, Part { at: At::Same, sort: Sort::An(Object::Task) }],
-        Word::Push => &[Part { at: At::Key(Word::Push), sort: Sort::Leaf(Leaf::Name(Kind::Context)) }],
-        Word::Pop => &[Part { at: At::Key(Word::Pop), sort: Sort::Leaf(Leaf::Name(Kind::Context)) }],
-        Word::ShowDefault => &[Part { at: At::Key(Word::ShowDefault), sort: Sort::Leaf(Leaf::True) }],
-        Word::Acquire => &[Part { at: At::Key(Word::Acquire), sort: Sort::Leaf(Leaf::Name(Kind::Context)) }],
-        Word::Release => &[Part { at: At::Key(Word::Release), sort: Sort::Leaf(Leaf::Name(Kind::Context)) }],
-        Word::Invoke => &[Part { at: At::Key(Word::In), sort: Sort::Leaf(Leaf::Name(Kind::Context)) }, Part { at: At::Key(Word::Invoke), sort: Sort::Leaf(Leaf::Name(Kind::Procedure)) }],
-        Word::Give => &[Part { at: At::Key(Word::Give), sort: Sort::Leaf(Leaf::Name(Kind::Context)) }, Part { at: At::Key(Word::To), sort: Sort::Leaf(Leaf::Name(Kind::Thread)) }],
-        Word::Log => &[Part { at: At::Key(Word::Log), sort: Sort::Leaf(Leaf::Name(Kind::Text)) }],
+        Word::Attach => &[
+            Part {
+                at: At::Key(Word::To),
+                sort: Sort::Leaf(Leaf::Name(Kind::Context)),
+            },
+            Part {
+                at: At::Key(Word::Attach),
+                sort: Sort::Leaf(Leaf::Name(Kind::Slot)),
+            },
+            Part {
+                at: At::Same,
+                sort: Sort::An(Object::Source),
+            },
+        ],
+        Word::Child => &[
+            Part {
+                at: At::Key(Word::Below),
+                sort: Sort::Leaf(Leaf::Name(Kind::Slot)),
+            },
+            Part {
+                at: At::Key(Word::Child),
+                sort: Sort::Leaf(Leaf::Name(Kind::Slot)),
+            },
+            Part {
+                at: At::Same,
+                sort: Sort::An(Object::Child),
+            },
+        ],
+        Word::Destroy => &[Part {
+            at: At::Key(Word::Destroy),
+            sort: Sort::Leaf(Leaf::Name(Kind::Slot)),
+        }],
+        Word::SetReady => &[
+            Part {
+                at: At::Key(Word::SetReady),
+                sort: Sort::Leaf(Leaf::Name(Kind::Slot)),
+            },
+            Part {
+                at: At::Key(Word::To),
+                sort: Sort::Leaf(Leaf::ReadyTime),
+            },
+        ],
+        Word::SetPriority => &[
+            Part {
+                at: At::Key(Word::SetPriority),
+                sort: Sort::Leaf(Leaf::Name(Kind::Slot)),
+            },
+            Part {
+                at: At::Key(Word::To),
+                sort: Sort::Leaf(Leaf::Priority),
+            },
+        ],
+        Word::Iterate => &[Part {
+            at: At::Key(Word::Iterate),
+            sort: Sort::Leaf(Leaf::Name(Kind::Context)),
+        }],
+        Word::Pending => &[Part {
+            at: At::Key(Word::Pending),
+            sort: Sort::Leaf(Leaf::Name(Kind::Context)),
+        }],
+        Word::Run => &[Part {
+            at: At::Key(Word::Run),
+            sort: Sort::Leaf(Leaf::Name(Kind::Loop)),
+        }],
+        Word::Quit => &[Part {
+            at: At::Key(Word::Quit),
+            sort: Sort::Leaf(Leaf::Name(Kind::Loop)),
+        }],
+        Word::Cancel => &[Part {
+            at: At::Key(Word::Cancel),
+            sort: Sort::Leaf(Leaf::Name(Kind::Cancellable)),
+        }],
+        Word::Connect => &[
+            Part {
+                at: At::Key(Word::To),
+                sort: Sort::Leaf(Leaf::Name(Kind::Cancellable)),
+            },
+            Part {
+                at: At::Key(Word::Connect),
+                sort: Sort::Leaf(Leaf::Name(Kind::Slot)),
+            },
+            Part {
+                at: At::Key(Word::Call),
+                sort: Sort::Leaf(Leaf::Name(Kind::Procedure)),
+            },
+        ],
+        Word::Disconnect => &[Part {
+            at: At::Key(Word::Disconnect),
+            sort: Sort::Leaf(Leaf::Name(Kind::Slot)),
+        }],
+        Word::Task => &[
+            Part {
+                at: At::Key(Word::Task),
+                sort: Sort::Leaf(Leaf::Label),
+            },
+            Part {
+                at: At::Same,
+                sort: Sort::An(Object::Task),
+            },
+        ],
+        Word::Push => &[Part {
+            at: At::Key(Word::Push),
+            sort: Sort::Leaf(Leaf::Name(Kind::Context)),
+        }],
+        Word::Pop => &[Part {
+            at: At::Key(Word::Pop),
+            sort: Sort::Leaf(Leaf::Name(Kind::Context)),
+        }],
+        Word::ShowDefault => &[Part {
+            at: At::Key(Word::ShowDefault),
+            sort: Sort::Leaf(Leaf::True),
+        }],
+        Word::Acquire => &[Part {
+            at: At::Key(Word::Acquire),
+            sort: Sort::Leaf(Leaf::Name(Kind::Context)),
+        }],
+        Word::Release => &[Part {
+            at: At::Key(Word::Release),
+            sort: Sort::Leaf(Leaf::Name(Kind::Context)),
+        }],
+        Word::Invoke => &[
+            Part {
+                at: At::Key(Word::In),
+                sort: Sort::Leaf(Leaf::Name(Kind::Context)),
+            },
+            Part {
+                at: At::Key(Word::Invoke),
+                sort: Sort::Leaf(Leaf::Name(Kind::Procedure)),
+            },
+        ],
+        Word::Give => &[
+            Part {
+                at: At::Key(Word::Give),
+                sort: Sort::Leaf(Leaf::Name(Kind::Context)),
+            },
+            Part {
+                at: At::Key(Word::To),
+                sort: Sort::Leaf(Leaf::Name(Kind::Thread)),
+            },
+        ],
+        Word::Log => &[Part {
+            at: At::Key(Word::Log),
+            sort: Sort::Leaf(Leaf::Name(Kind::Text)),
+        }],
         _ => &[],
     }
 }
@@ -140,11 +244,32 @@ fn parts_of_source(word: Word) -> &'static [Part]
     ensures { result.now ≡ parts_of_source word }
 {
     match word {
-        Word::Idle => &[Part { at: At::Key(Word::Idle), sort: Sort::Leaf(Leaf::True) }],
-        Word::Timeout => &[Part { at: At::Key(Word::Timeout), sort: Sort::Leaf(Leaf::Milliseconds) }],
-        Word::Ready => &[Part { at: At::Key(Word::Ready), sort: Sort::Leaf(Leaf::ReadyTime) }],
-        Word::Fd => &[Part { at: At::Key(Word::Fd), sort: Sort::Leaf(Leaf::Name(Kind::Descriptor)) }, Part { at: At::Key(Word::Events), sort: Sort::Leaf(Leaf::Bits) }],
-        Word::Cancellable => &[Part { at: At::Key(Word::Cancellable), sort: Sort::Leaf(Leaf::Name(Kind::Cancellable)) }],
+        Word::Idle => &[Part {
+            at: At::Key(Word::Idle),
+            sort: Sort::Leaf(Leaf::True),
+        }],
+        Word::Timeout => &[Part {
+            at: At::Key(Word::Timeout),
+            sort: Sort::Leaf(Leaf::Milliseconds),
+        }],
+        Word::Ready => &[Part {
+            at: At::Key(Word::Ready),
+            sort: Sort::Leaf(Leaf::ReadyTime),
+        }],
+        Word::Fd => &[
+            Part {
+                at: At::Key(Word::Fd),
+                sort: Sort::Leaf(Leaf::Name(Kind::Descriptor)),
+            },
+            Part {
+                at: At::Key(Word::Events),
+                sort: Sort::Leaf(Leaf::Bits),
+            },
+        ],
+        Word::Cancellable => &[Part {
+            at: At::Key(Word::Cancellable),
+            sort: Sort::Leaf(Leaf::Name(Kind::Cancellable)),
+        }],
         _ => &[],
     }
 }
@@ -153,27 +278,83 @@ fn parts_of_tree(word: Word) -> &'static [Part]
     ensures { result.now ≡ parts_of_tree word }
 {
     match word {
-        Word::Value => &[Part { at: At::Item(1), sort: Sort::Leaf(Leaf::Number) }],
-        Word::Sleep => &[Part { at: At::Item(1), sort: Sort::Leaf(Leaf::Microseconds) }],
-        Word::Seq => &[Part { at: At::Item(1), sort: Sort::OneOf(Choice::Tree) }, Part { at: At::Item(2), sort: Sort::OneOf(Choice::Tree) }],
-        Word::Both => &[Part { at: At::Item(1), sort: Sort::OneOf(Choice::Tree) }, Part { at: At::Item(2), sort: Sort::OneOf(Choice::Tree) }],
-        Word::First => &[Part { at: At::Item(1), sort: Sort::OneOf(Choice::Tree) }, Part { at: At::Item(2), sort: Sort::OneOf(Choice::Tree) }],
-        Word::Within => &[Part { at: At::Item(1), sort: Sort::Leaf(Leaf::Microseconds) }, Part { at: At::Item(2), sort: Sort::OneOf(Choice::Tree) }],
+        Word::Value => &[Part {
+            at: At::Item(1),
+            sort: Sort::Leaf(Leaf::Number),
+        }],
+        Word::Sleep => &[Part {
+            at: At::Item(1),
+            sort: Sort::Leaf(Leaf::Microseconds),
+        }],
+        Word::Seq => &[
+            Part {
+                at: At::Item(1),
+                sort: Sort::OneOf(Choice::Tree),
+            },
+            Part {
+                at: At::Item(2),
+                sort: Sort::OneOf(Choice::Tree),
+            },
+        ],
+        Word::Both => &[
+            Part {
+                at: At::Item(1),
+                sort: Sort::OneOf(Choice::Tree),
+            },
+            Part {
+                at: At::Item(2),
+                sort: Sort::OneOf(Choice::Tree),
+            },
+        ],
+        Word::First => &[
+            Part {
+                at: At::Item(1),
+                sort: Sort::OneOf(Choice::Tree),
+            },
+            Part {
+                at: At::Item(2),
+                sort: Sort::OneOf(Choice::Tree),
+            },
+        ],
+        Word::Within => &[
+            Part {
+                at: At::Item(1),
+                sort: Sort::Leaf(Leaf::Microseconds),
+            },
+            Part {
+                at: At::Item(2),
+                sort: Sort::OneOf(Choice::Tree),
+            },
+        ],
         _ => &[],
     }
 }
 
 /// The keys that may stand in the object of an action, or of a kind of source, beside those of its kind where it makes a source.
-pub(crate) fn beside(word: Word) -> &'static [Word]
+pub fn beside(word: Word) -> &'static [Word]
     ensures { result.now ≡ beside word }
 {
     match word {
-        Word::Attach => &[Word::Attach, Word::To, Word::Priority, Word::CanRecurse, Word::Call],
+        Word::Attach => &[
+            Word::Attach,
+            Word::To,
+            Word::Priority,
+            Word::CanRecurse,
+            Word::Call,
+        ],
         Word::Child => &[Word::Child, Word::Below, Word::CanRecurse, Word::Call],
         Word::SetReady => &[Word::SetReady, Word::To],
         Word::SetPriority => &[Word::SetPriority, Word::To],
         Word::Connect => &[Word::Connect, Word::To, Word::Call],
-        Word::Task => &[Word::Task, Word::Does, Word::Call, Word::Cancellable, Word::CheckCancellable, Word::ReturnOnCancel, Word::Priority],
+        Word::Task => &[
+            Word::Task,
+            Word::Does,
+            Word::Call,
+            Word::Cancellable,
+            Word::CheckCancellable,
+            Word::ReturnOnCancel,
+            Word::Priority,
+        ],
         Word::Invoke => &[Word::Invoke, Word::In],
         Word::Give => &[Word::Give, Word::To],
         Word::Fd => &[Word::Fd, Word::Events],
@@ -196,229 +377,4 @@ pub(crate) fn makes_source(word: Word) -> bool
     ensures { result ≡ makes_source word }
 {
     matches!(word, Word::Attach | Word::Child)
-}
-
-const SCRIPT: [Field; 8] = [
-    Field {
-        key: Word::Version,
-        at: At::Key(Word::Version),
-        sort: Sort::Leaf(Leaf::Number),
-        absent: Absent::Number(2),
-    },
-    Field {
-        key: Word::Ticks,
-        at: At::Key(Word::Ticks),
-        sort: Sort::Leaf(Leaf::Number),
-        absent: Absent::Fault,
-    },
-    Field {
-        key: Word::TickUs,
-        at: At::Key(Word::Tick),
-        sort: Sort::Leaf(Leaf::Microseconds),
-        absent: Absent::Number(1000),
-    },
-    Field {
-        key: Word::Lanes,
-        at: At::Key(Word::Threads),
-        sort: Sort::Threads,
-        absent: Absent::Fault,
-    },
-    Field {
-        key: Word::Cancellables,
-        at: At::Key(Word::Cancellables),
-        sort: Sort::Leaf(Leaf::Names),
-        absent: Absent::Nothing,
-    },
-    Field {
-        key: Word::Fds,
-        at: At::Key(Word::Descriptors),
-        sort: Sort::Descriptors,
-        absent: Absent::Nothing,
-    },
-    Field {
-        key: Word::Loops,
-        at: At::Key(Word::Loops),
-        sort: Sort::Loops,
-        absent: Absent::Nothing,
-    },
-    Field {
-        key: Word::Procs,
-        at: At::Key(Word::Procedures),
-        sort: Sort::Procedures,
-        absent: Absent::Nothing,
-    },
-];
-
-const THREAD: [Field; 2] = [
-    Field {
-        key: Word::Contexts,
-        at: At::Key(Word::Contexts),
-        sort: Sort::Leaf(Leaf::Names),
-        absent: Absent::Number(1),
-    },
-    Field {
-        key: Word::Start,
-        at: At::Key(Word::Start),
-        sort: Sort::Actions,
-        absent: Absent::Fault,
-    },
-];
-
-const PROCEDURE: [Field; 2] = [
-    Field {
-        key: Word::Do,
-        at: At::Key(Word::Do),
-        sort: Sort::Actions,
-        absent: Absent::Fault,
-    },
-    Field {
-        key: Word::Keep,
-        at: At::Key(Word::Keep),
-        sort: Sort::Leaf(Leaf::Keep),
-        absent: Absent::Nothing,
-    },
-];
-
-const SOURCE: [Field; 4] = [
-    Field {
-        key: Word::Kind,
-        at: At::Same,
-        sort: Sort::OneOf(Choice::Source),
-        absent: Absent::Fault,
-    },
-    Field {
-        key: Word::Priority,
-        at: At::Key(Word::Priority),
-        sort: Sort::Leaf(Leaf::Priority),
-        absent: Absent::Nothing,
-    },
-    Field {
-        key: Word::Recurse,
-        at: At::Key(Word::CanRecurse),
-        sort: Sort::Leaf(Leaf::Truth),
-        absent: Absent::Nothing,
-    },
-    Field {
-        key: Word::Call,
-        at: At::Key(Word::Call),
-        sort: Sort::Leaf(Leaf::NameOrNull(Kind::Procedure)),
-        absent: Absent::Nothing,
-    },
-];
-
-const CHILD: [Field; 3] = [
-    Field {
-        key: Word::Kind,
-        at: At::Same,
-        sort: Sort::OneOf(Choice::Source),
-        absent: Absent::Fault,
-    },
-    Field {
-        key: Word::Recurse,
-        at: At::Key(Word::CanRecurse),
-        sort: Sort::Leaf(Leaf::Truth),
-        absent: Absent::Nothing,
-    },
-    Field {
-        key: Word::Call,
-        at: At::Key(Word::Call),
-        sort: Sort::Leaf(Leaf::NameOrNull(Kind::Procedure)),
-        absent: Absent::Nothing,
-    },
-];
-
-const TASK: [Field; 6] = [
-    Field {
-        key: Word::Tree,
-        at: At::Key(Word::Does),
-        sort: Sort::OneOf(Choice::Tree),
-        absent: Absent::Fault,
-    },
-    Field {
-        key: Word::Call,
-        at: At::Key(Word::Call),
-        sort: Sort::Leaf(Leaf::Name(Kind::Procedure)),
-        absent: Absent::Fault,
-    },
-    Field {
-        key: Word::Cancel,
-        at: At::Key(Word::Cancellable),
-        sort: Sort::Leaf(Leaf::NameOrNull(Kind::Cancellable)),
-        absent: Absent::Nothing,
-    },
-    Field {
-        key: Word::Check,
-        at: At::Key(Word::CheckCancellable),
-        sort: Sort::Leaf(Leaf::Truth),
-        absent: Absent::Nothing,
-    },
-    Field {
-        key: Word::ReturnOnCancel,
-        at: At::Key(Word::ReturnOnCancel),
-        sort: Sort::Leaf(Leaf::Truth),
-        absent: Absent::Nothing,
-    },
-    Field {
-        key: Word::Priority,
-        at: At::Key(Word::Priority),
-        sort: Sort::Leaf(Leaf::Priority),
-        absent: Absent::Nothing,
-    },
-];
-
-/// The keys of an object in a script of numbers.
-pub(crate) fn fields(object: Object) -> &'static [Field]
-    ensures { result.now ≡ fields object }
-{
-    match object {
-        Object::Script => &SCRIPT,
-        Object::Thread => &THREAD,
-        Object::Procedure => &PROCEDURE,
-        Object::Source => &SOURCE,
-        Object::Child => &CHILD,
-        Object::Task => &TASK,
-    }
-}
-
-/// The keys that may stand in an object; of what an action makes, they are those of the action.
-pub(crate) fn keys(object: Object) -> &'static [Word]
-    ensures { result.now ≡ keys object }
-{
-    match object {
-        Object::Script => &[Word::Form, Word::Version, Word::Ticks, Word::Tick, Word::Threads, Word::Cancellables, Word::Descriptors, Word::Loops, Word::Procedures],
-        Object::Thread => &[Word::Contexts, Word::Start],
-        Object::Procedure => &[Word::Do, Word::Keep],
-        Object::Source | Object::Child | Object::Task => &[],
-    }
-}
-
-/// What each item of a list, or each member of an object by name, should be.
-pub(crate) fn each(sort: Sort) -> Sort
-    ensures { result ≡ each sort }
-{
-    match sort {
-        Sort::Actions => Sort::OneOf(Choice::Action),
-        Sort::Levels => Sort::Pair,
-        Sort::Threads => Sort::An(Object::Thread),
-        Sort::Procedures => Sort::An(Object::Procedure),
-        Sort::Loops => Sort::Leaf(Leaf::Name(Kind::Context)),
-        Sort::Descriptors => Sort::Levels,
-        _ => sort,
-    }
-}
-
-/// A tick and bits.
-pub(crate) fn pair() -> &'static [Part]
-    ensures { result.now ≡ pair }
-{
-    &[
-        Part {
-            at: At::Item(0),
-            sort: Sort::Leaf(Leaf::Number),
-        },
-        Part {
-            at: At::Item(1),
-            sort: Sort::Leaf(Leaf::Bits),
-        },
-    ]
 }

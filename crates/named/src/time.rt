@@ -54,7 +54,9 @@ fn amount(bytes: &[u8]) -> u64
         if !is_digit(*byte) {
             return amount;
         }
-        amount = amount.saturating_mul(10).saturating_add(u64::from(*byte - b'0'));
+        amount = amount
+            .saturating_mul(10)
+            .saturating_add(u64::from(*byte - b'0'));
     }
     amount
 }

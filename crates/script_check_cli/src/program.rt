@@ -1,6 +1,6 @@
 //! What the program does, and its exit status.
 use crate::arguments::{Asked, read_words};
-use script_report::{Form, InputFault, check_script, read_input};
+use script_report::{Form, InputFault, check_either, read_input};
 use std::alloc::AllocError;
 use std::fs::File;
 use std::io::Write;
@@ -88,7 +88,7 @@ fn attempt(rt: &HostRuntime) -> Result<u8, Failure> {
                 name: file.unwrap_or("<stdin>"),
             };
             let mut out = String::new(rt.alloc());
-            let is_right = check_script(rt.alloc(), &form, bytes.as_slice(), &mut out)?;
+            let is_right = check_either(rt.alloc(), &form, bytes.as_slice(), &mut out)?;
             write_out(rt, out.as_str())?;
             Ok(if is_right { 0 } else { FAULTS })
         }

@@ -45,7 +45,7 @@ pub fn check_script(
     Ok(false)
 }
 
-fn push_summary(
+pub(crate) fn push_summary(
     alloc: Global,
     form: &Form<'_>,
     bytes: &[u8],

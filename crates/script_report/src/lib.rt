@@ -7,6 +7,8 @@ mod excerpt;
 mod input;
 mod layout;
 mod lead;
+mod named_report;
+mod named_words;
 mod nearest;
 mod order;
 mod report;
@@ -16,4 +18,5 @@ mod words;
 
 pub use check::check_script;
 pub use input::{InputFault, read_input};
+pub use named_report::check_either;
 pub use report::Form;

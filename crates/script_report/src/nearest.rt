@@ -9,7 +9,7 @@ const SLIPS: usize = 2;
 pub(crate) fn push_nearest(
     alloc: Global,
     out: &mut String,
-    words: &[&'static str],
+    words: &[&str],
     given: &str,
 ) -> Result<(), AllocError> {
     if given.len() > 64 {

@@ -16,7 +16,7 @@ use serde_json::{Value, json};
 use std::alloc::{AllocError, Global};
 
 /// How many faults are told at most.
-const MOST_TOLD: usize = 100;
+pub(crate) const MOST_TOLD: usize = 100;
 
 /// How a report is written.
 #[derive(Clone, Copy)]
@@ -94,12 +94,20 @@ fn push_sum(out: &mut String, faults: &[Fault]) -> Result<(), AllocError> {
 
 /// A place as it is written.
 #[derive(Clone, Copy)]
-struct TextPlace<'a> {
-    pointer: &'a str,
+pub(crate) struct TextPlace<'a> {
+    pub pointer: &'a str,
     /// The line and the column, where they are known.
-    at: Option<Cursor>,
+    pub at: Option<Cursor>,
     /// The end of the bytes that are marked.
-    marked: usize,
+    pub marked: usize,
+}
+
+/// What is wrong at a place, in words.
+#[derive(Clone, Copy)]
+pub(crate) struct Said<'a> {
+    pub class: &'a str,
+    pub wanted: &'a str,
+    pub found: &'a str,
 }
 
 fn push_fault(
@@ -112,11 +120,30 @@ fn push_fault(
     place: &TextPlace<'_>,
 ) -> Result<(), AllocError> {
     let here = value_at(value, fault.place.steps());
-    let class = class_text(fault.cause.class());
     let wanted = wanted_text(alloc, fault, here)?;
-    let wanted = wanted.as_str();
     let found = found_text(alloc, fault, here)?;
-    let found = found.as_str();
+    let said = Said {
+        class: class_text(fault.cause.class()),
+        wanted: wanted.as_str(),
+        found: found.as_str(),
+    };
+    push_told(alloc, out, form, bytes, &said, place)
+}
+
+/// Adds what is wrong at a place, with the line of the document.
+pub(crate) fn push_told(
+    alloc: Global,
+    out: &mut String,
+    form: &Form<'_>,
+    bytes: &[u8],
+    said: &Said<'_>,
+    place: &TextPlace<'_>,
+) -> Result<(), AllocError> {
+    let Said {
+        class,
+        wanted,
+        found,
+    } = *said;
     let pointer = place.pointer;
     if form.json {
         return push_object(alloc, out, class, pointer, place.at, wanted, found);

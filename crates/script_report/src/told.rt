@@ -97,7 +97,7 @@ fn pointer_text(alloc: Global, value: &Value, fault: &Fault) -> Result<String, A
     Ok(text)
 }
 
-fn push_escaped(out: &mut String, name: &str) -> Result<(), AllocError> {
+pub(crate) fn push_escaped(out: &mut String, name: &str) -> Result<(), AllocError> {
     for character in name.chars() {
         match character {
             '~' => out.push_str("~0")?,

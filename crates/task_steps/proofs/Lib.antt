@@ -10,3 +10,5 @@ pub mod Heeding
 pub mod PollAll
 pub mod Waiting
 pub mod Once
+pub mod Begins
+pub mod Shown

@@ -74,6 +74,11 @@ may-caught k true (Some p) None None c (Polled begun at) s m = (tt, m.1)
 may-caught k true (Some p) (Some a) None c (Polled begun at) s m = (λ t le. m.0 t (omega arith), m.1)
 may-caught k true (Some p) clear None c Done s m = m
 
+pub may_run : (k : ℕ) (view : Seen) (polled : Option ℕ) (e : Entry) (c : Option ℕ) → IsBefore k polled → IsSeenBy polled e.run.clear → MayComeTo (noticed_in k view (shown polled e)) c → MayCome e.run.clear e.run.cancelled c
+may_run k view polled e c p s m =
+    let flag = sees view e.cancel in
+    may-run k flag e.run.clear e.run.cancelled c (seen-before k polled e.run.clear p s) (may-caught k flag polled e.run.clear e.run.cancelled c e.run.stage s m.0)
+
 -- ---- an entry's body ends after every tick before its wake
 ends-polled : (first at begun k p : ℕ) (c : Option ℕ) (r : Run) (wake : Option ℕ) → begun ≡ first → IsAfter k wake → IsLater p wake → NoneBefore (record r { stage = Polled begun at }) wake → MayCome r.clear r.cancelled c → k < (end_of r.tick_us r.tree first c).tick
 ends-polled first at begun k p c r None b a l n m = absurd l
@@ -104,7 +109,7 @@ pub idle_one : (next k : ℕ) (polled : Option ℕ) (view : Seen) (c : Option �
 idle_one next k polled view c e w n p a s m =
     let flag = sees view e.cancel in
     let rc = e.return_on_cancel in
-    let may = may-run k flag e.run.clear e.run.cancelled c (seen-before k polled e.run.clear p w.clear) (may-caught k flag polled e.run.clear e.run.cancelled c e.run.stage w.clear m.0) in
+    let may = may_run k view polled e c p w.clear m in
     let later : k < (end_of e.run.tick_us e.run.tree e.first c).tick = ends-stage next e.first k polled c e.run e.run.stage w.stage n a w.passed w.end may in
     let x = end_of e.run.tick_us e.run.tree e.first c in
     let at : rc ≡ true → is_at k c ≡ false = λ r. not-at k flag e.run.cancelled (caught_clear polled e.run.cancelled e.run.stage e.run.clear) c (before_later next k e.run.cancelled n w.before) (not-next rc flag (is_some e.run.cancelled) s r) m.0 (m.1 r) in

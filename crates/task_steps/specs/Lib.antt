@@ -9,3 +9,4 @@ pub mod BookInside
 pub mod Reply
 pub mod Polls
 pub mod Once
+pub mod Shown

@@ -1,9 +1,10 @@
 //! The tasks of a lane.
-ghost use Rattle.std.specs.Prelude.{◌≡◌, ℕ, ◌+◌, ◌<◌, ◌≤◌, ◌^◌, ◌↔◌, [], Option, None, Some, false, IsTrue, IsOk, IfOk, OnOk, OnErr, filter};
+ghost use Rattle.std.specs.Prelude.{◌≡◌, ℕ, ◌+◌, ◌<◌, ◌≤◌, ◌^◌, ◌↔◌, [], Option, None, Some, false, IsTrue, IsOk, IfOk, OnOk, OnErr, filter, map};
 
 use crate::entries::new_entry;
 use crate::entry::Reply;
 use crate::heeded::{forget_seen, heed, some_came};
+use crate::look::TaskShown;
 use crate::tasks::{Round, Tasks};
 use cancel_view::View;
 use loop_script::{Items, TaskSpec};
@@ -82,6 +83,7 @@ impl TaskBook {
     ghost use Rattle.loop_script.specs.Units.{Tick, TaskNumber};
     ghost use Rattle.task_steps.specs.Run.{IsUpTo, IsAfter};
     ghost use Rattle.task_steps.specs.RunInside.{IsBy};
+    ghost use Rattle.task_steps.specs.Shown.{task_shown, wakeless, least_wake, WakeAsShown, WereSeenBy};
 
     /// A book with no task, for ticks of so many microseconds.
     pub fn new(alloc: Global, tick_us: u64) -> TaskBook
@@ -232,6 +234,19 @@ impl TaskBook {
         } else {
             self.tasks.mark().wake
         }
+    }
+
+    /// The tasks, in start order. The least of their wakes is that of the book.
+    #[tactic(auto, using(crate::proofs::Shown::all_told, crate::proofs::Shown::least_told, crate::proofs::Shown::seen_by_last))]
+    pub fn tasks(&self, alloc: Global) -> Result<Vec<TaskShown>, AllocError>
+        ensures tasks { IfOk result (λ list. map wakeless list.items ≡ map task_shown self.now.tasks) }
+        ensures wake { IfOk result (λ list. least_wake list.items ≡ self.now.wake) }
+        ensures ends { IfOk result (λ list. WakeAsShown self.now.last self.now.tasks list.items) }
+        ensures seen { WereSeenBy self.now.last self.now.tasks }
+    {
+        let mut list = Vec::new(alloc);
+        self.tasks.show(&mut list)?;
+        Ok(list)
     }
 
     /// Whether the next poll replies that a task is cancelled.

@@ -6,6 +6,7 @@ mod entries;
 mod entry;
 mod heeded;
 pub mod laws;
+mod look;
 mod polls;
 mod run;
 mod stage;
@@ -16,4 +17,5 @@ mod wait;
 
 pub use book::{BookFault, Polled, TaskBook};
 pub use entry::Reply;
+pub use look::TaskShown;
 pub use run::TaskRun;

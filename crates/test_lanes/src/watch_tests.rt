@@ -5,10 +5,10 @@ use crate::expected::expect;
 use cancel_view::{Connected, Fired, OutOfMemory};
 use lane_watch::Watch;
 use loop_script::{Node, Outcome, TaskSpec, TaskTree};
-use std::alloc::Global;
+use std::alloc::{AllocError, Global};
 use std::process::Abort;
 use std::test::Fail;
-use task_steps::Polled;
+use task_steps::{Polled, TaskShown};
 
 /// A task that sleeps so long, with cancellable 0, and returns where that is cancelled.
 fn sleeper(us: u64) -> TaskSpec
@@ -97,6 +97,39 @@ fn cancelled_task_ends_late(rt: HostRuntime) -> Result<(), Fail> {
     let polled = polled_to_end(&rt, rt.alloc())?;
     expect(&rt, polled.replies.as_slice().is_empty());
     expect(&rt, polled.late.as_slice() == [0].as_slice());
+    Ok(())
+}
+
+/// The task of a watch, as it is shown.
+fn expect_shown(
+    rt: &impl Abort,
+    watch: &Watch,
+    alloc: Global,
+    replied: bool,
+    wake: u64,
+) -> Result<(), AllocError> {
+    let shown = watch.tasks(alloc)?;
+    let wanted = [TaskShown {
+        number: 0,
+        ctx: 0,
+        first: 1,
+        cancel: Some(0),
+        replied,
+        wake: Some(wake),
+    }];
+    assert_eq!(rt; shown.as_slice(), wanted.as_slice());
+    Ok(())
+}
+
+/// It waits for its first poll in tick 1; it is begun there and sleeps up to tick 4; it replies in tick 2.
+#[test]
+fn task_is_shown(rt: HostRuntime) -> Result<(), Fail> {
+    let watch = begun(rt.alloc())?;
+    expect_shown(&rt, &watch, rt.alloc(), false, 1)?;
+    let mut watch = cancelled(&rt, rt.alloc())?;
+    expect_shown(&rt, &watch, rt.alloc(), false, 4)?;
+    poll(&mut watch, rt.alloc(), 2)?;
+    expect_shown(&rt, &watch, rt.alloc(), true, 4)?;
     Ok(())
 }
 

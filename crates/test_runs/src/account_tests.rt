@@ -2,6 +2,7 @@
 use crate::script_tests::first_run;
 use crate::worked::{Worked, cancels, given_with_letters, posts, tasks};
 use account::{Account, AccountFault, Deed, Moment};
+use lane_turn::Place;
 use loop_script::{Body, Script};
 use mainctx::{OutOfMemory, add_text};
 use std::alloc::Global;
@@ -78,6 +79,47 @@ fn tells_the_first_run(rt: HostRuntime) -> Result<(), Fail> {
     let found = account.next()?;
     expect_moment(&rt, found, None);
     assert_eq!(rt; account.tick(), 2);
+    Ok(())
+}
+
+/// What a moment attached and selected, where it did either.
+fn expect_gained(
+    rt: &impl Abort,
+    account: &Account,
+    moment: &Moment,
+    attached: Option<Place>,
+    selected: Option<&[u64]>,
+) {
+    match account.lane(0) {
+        Some(lane) => {
+            assert_eq!(rt; moment.attached(account.script(), lane), attached);
+            assert_eq!(rt; moment.selected(account.script(), lane), selected);
+        }
+        None => assert!(rt; false),
+    }
+}
+
+/// The first action attaches source 1, the first iteration selects it, and the second nothing.
+#[test]
+fn tells_what_is_attached_and_selected(rt: HostRuntime) -> Result<(), Fail> {
+    let script = Script::read(rt.alloc(), first_run().as_bytes())?;
+    let mut account = Account::new(rt.alloc(), script)?;
+    for k in 0..13 {
+        let Some(moment) = account.next()? else {
+            break;
+        };
+        let attached = if k == 1 {
+            Some(Place { context: 0, id: 1 })
+        } else {
+            None
+        };
+        let selected: Option<&[u64]> = match k {
+            3 => Some(&[1]),
+            10 => Some(&[]),
+            _ => None,
+        };
+        expect_gained(&rt, &account, &moment, attached, selected);
+    }
     Ok(())
 }
 

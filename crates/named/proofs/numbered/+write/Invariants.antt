@@ -15,4 +15,7 @@ decreases-write_piece l = l.levels * 2 + 1
 abbrev pub invariant-write-loop-piece : goal.invariant-write-loop-piece
 invariant-write-loop-piece l =
     let each : Piece → List Token = filled (written (l.levels - 1) (names_of l.names)) in
-    l.writer.tokens ++ together each (map piece_view (drop l.piece-index l.piece-items)) ≡ l.initial.writer.tokens ++ together each (map piece_view l.piece-items)
+    record {
+      wrote : l.writer.tokens ++ together each (map piece_view (drop l.piece-index l.piece-items)) ≡ l.initial.writer.tokens ++ together each (map piece_view l.piece-items);
+      stays : l.writer.before ≡ l.initial.writer.before;
+    }

@@ -1,5 +1,5 @@
 -- what was found, and what is left
-use Rattle.std.proofs.Common.{◌≡◌, ◌++◌, drop, map}
+use Rattle.std.proofs.Common.{◌≡◌, ◌++◌, drop}
 use Rattle.json.specs.Value.{value_view}
 use Rattle.named.specs.Faults.{field_lacks}
 use Rattle.named.proofs.own.push_field_lacks.Given as goal

@@ -1,5 +1,5 @@
 -- what was found, and what is left
-use Rattle.std.proofs.Common.{◌≡◌, ◌++◌, drop, map}
+use Rattle.std.proofs.Common.{◌≡◌, ◌++◌, drop}
 use Rattle.json.specs.Value.{members_view}
 use Rattle.named.specs.Faults.{other_keys}
 use Rattle.named.proofs.own.push_other_keys.Given as goal

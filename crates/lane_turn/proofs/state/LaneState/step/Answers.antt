@@ -1,4 +1,4 @@
-use Rattle.std.proofs.Common.{◌≡◌, ◌+◌, ◌*◌, Bool, false, is_some, sym, ap, ◌∙◌, subst, rules}
+use Rattle.std.proofs.Common.{◌≡◌, ◌+◌, ◌*◌, false, is_some, sym, ap, ◌∙◌, subst, rules}
 use Rattle.lane_turn.specs.Lane.{State, Lane, Turn}
 use Rattle.lane_turn.specs.Meaning.{lane_of, turn_at}
 use Rattle.lane_turn.specs.Step.{step}

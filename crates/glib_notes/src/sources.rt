@@ -1,0 +1,178 @@
+//! Sources that are made and changed, by an action or by a handler.
+use crate::difference::Difference;
+use crate::notes::{Kept, Note, Scene, add_note};
+use crate::shared::holder_of;
+use lane_turn::{LaneState, Named, Place, Word};
+use loop_script::{Kind, SourceSpec};
+use std::alloc::AllocError;
+
+/// A source may be made whose cancellable another thread has just cancelled, or whose context another thread has just attached to.
+fn made(
+    kept: &Kept,
+    scene: &Scene<'_>,
+    context: u32,
+    spec: &SourceSpec,
+    found: &mut Vec<Note>,
+) -> Result<(), AllocError> {
+    if let Kind::Cancel(cancellable) = spec.kind {
+        if kept.shared.is_news_of(cancellable, scene.lane) {
+            add_note(scene, Difference::CancelAtOnce, Some(context), found)?;
+        }
+    }
+    if kept.shared.is_posted(context) {
+        add_note(
+            scene,
+            Difference::InvokeAttachesAtOnce,
+            Some(context),
+            found,
+        )?;
+    }
+    Ok(())
+}
+
+pub(crate) fn attached(
+    kept: &Kept,
+    scene: &Scene<'_>,
+    context: u32,
+    spec: &SourceSpec,
+    found: &mut Vec<Note>,
+) -> Result<(), AllocError> {
+    if scene.has_missed(Word::Attach) {
+        return add_note(scene, Difference::AnyThreadAttaches, Some(context), found);
+    }
+    made(kept, scene, context, spec, found)
+}
+
+/// The source that a slot named before the move.
+fn named(kept: &Kept, scene: &Scene<'_>, slot: u8) -> Option<Place> {
+    kept.threads.get(scene.moment.lane as usize)?.named(slot)
+}
+
+/// A slot may name something else by now.
+pub(crate) fn renamed(kept: &mut Kept, scene: &Scene<'_>, slot: u8) -> Result<(), AllocError> {
+    let named = match scene.lane.slots().get(slot as usize) {
+        Some(Some(Named::Source(place))) => Some(*place),
+        _ => None,
+    };
+    match kept.threads.get_mut(scene.moment.lane as usize) {
+        Some(thread) => thread.name(slot, named),
+        None => Ok(()),
+    }
+}
+
+/// Whether a slot names a source that is there, in a context that is another thread's.
+fn is_anothers(kept: &Kept, scene: &Scene<'_>, slot: u8) -> Option<Place> {
+    let place = named(kept, scene, slot)?;
+    if kept.shared.is_own(place.context, scene.lane) {
+        return None;
+    }
+    let rows = holder_of(scene.account, place.context)?.sources(place.context)?;
+    if rows.found(place.id).is_some() {
+        Some(place)
+    } else {
+        None
+    }
+}
+
+/// An action that changes the source of a slot.
+pub(crate) fn changed(
+    kept: &Kept,
+    scene: &Scene<'_>,
+    slot: u8,
+    found: &mut Vec<Note>,
+) -> Result<(), AllocError> {
+    match is_anothers(kept, scene, slot) {
+        Some(place) => add_note(
+            scene,
+            Difference::AnyThreadAttaches,
+            Some(place.context),
+            found,
+        ),
+        None => Ok(()),
+    }
+}
+
+pub(crate) fn child_added(
+    kept: &Kept,
+    scene: &Scene<'_>,
+    parent: u8,
+    spec: &SourceSpec,
+    found: &mut Vec<Note>,
+) -> Result<(), AllocError> {
+    changed(kept, scene, parent, found)?;
+    match named(kept, scene, parent) {
+        Some(place) if !scene.has_missed(Word::Child) => {
+            made(kept, scene, place.context, spec, found)
+        }
+        _ => Ok(()),
+    }
+}
+
+pub(crate) fn ready_set(
+    kept: &mut Kept,
+    scene: &Scene<'_>,
+    slot: u8,
+    found: &mut Vec<Note>,
+) -> Result<(), AllocError> {
+    changed(kept, scene, slot, found)?;
+    let Some(place) = named(kept, scene, slot) else {
+        return Ok(());
+    };
+    let Some(row) = scene
+        .lane
+        .sources(place.context)
+        .and_then(|rows| rows.found(place.id))
+    else {
+        return Ok(());
+    };
+    if let Kind::Cancel(cancellable) = row.kind {
+        if scene.lane.view().is_cancelled(cancellable) {
+            found.push(scene.note(
+                Difference::CancellableSourceOnce,
+                Some(place.context),
+                Some(place.id),
+            ))?;
+        }
+    }
+    if let Some(of) = kept.contexts.get_mut(place.context as usize) {
+        let mut source = of.source(place.id);
+        source.due = None;
+        of.keep(place.id, source)?;
+    }
+    Ok(())
+}
+
+pub(crate) fn priority_set(
+    kept: &Kept,
+    scene: &Scene<'_>,
+    slot: u8,
+    found: &mut Vec<Note>,
+) -> Result<(), AllocError> {
+    changed(kept, scene, slot, found)?;
+    let Some(place) = named(kept, scene, slot) else {
+        return Ok(());
+    };
+    if scene.has_missed(Word::SetPriority) || !has_two_below(scene.lane, place) {
+        return Ok(());
+    }
+    found.push(scene.note(
+        Difference::PriorityTurnsChildren,
+        Some(place.context),
+        Some(place.id),
+    ))?;
+    Ok(())
+}
+
+/// Whether two sources or more stand below one.
+fn has_two_below(lane: &LaneState, place: Place) -> bool {
+    let Some(rows) = lane.sources(place.context) else {
+        return false;
+    };
+    let mut below = 0u64;
+    for row in rows.in_order() {
+        if row.id != place.id && row.lineage.iter().any(|id| *id == place.id) {
+            below = below.saturating_add(1);
+        }
+    }
+    below > 1
+}

@@ -1,0 +1,21 @@
+//! Words of what tells of a run: ticks and times, sources and what an iteration does with them, actions, iterations as they begin,
+//! halts, and the part of a run that is told.
+#![tactic(auto)]
+
+mod action_words;
+mod begun;
+mod halt;
+mod span;
+mod time;
+mod window;
+mod words;
+mod written;
+
+pub use action_words::{action_word, push_action, push_cause, push_list};
+pub use begun::{AskedBy, Begun, Caller, begun_by, caller_of};
+pub use halt::{Halt, halt_of, halt_reason, push_halt};
+pub use span::{Span, push_many};
+pub use time::{push_milliseconds, push_tick, push_ticks, push_time_to_come};
+pub use window::{SourceName, Window};
+pub use words::{push_source, push_standing};
+pub use written::text_of;

@@ -1,0 +1,65 @@
+//! A script with names, translated.
+ghost use Rattle.std.specs.Prelude.{◌≡◌, IfOk, IfSome};
+ghost use Rattle.json.specs.Value.{value_view};
+ghost use Rattle.named.specs.Answer.{StandsFor, Translates, is_named};
+
+use crate::check::script_faults;
+use crate::fault::Fault;
+use crate::names::Names;
+use crate::numbered::numbered_text;
+use crate::word::Word;
+use json::{Error, Scratch, Value};
+use std::alloc::{AllocError, Global};
+
+/// What a script with names comes to.
+#[derive(Drop)]
+pub enum Translation<'a> {
+    /// The script of numbers, as JSON.
+    Script(Vec<u8>),
+    /// What is wrong with it: at least one fault.
+    Faults(Vec<Fault<'a>>),
+}
+
+/// Whether a document says that it is a script with names: it has `"form": "names"`.
+pub fn is_named(document: &Value<'_>) -> bool
+    ensures { result ≡ is_named (value_view document.now) }
+{
+    match document.get(Word::Form.text()).and_then(Value::as_str) {
+        Some(form) => form == "names",
+        None => false,
+    }
+}
+
+/// The script of numbers that a script with names stands for, or what is wrong with it. `AllocError` comes only where a request for memory
+/// was refused, or where a number of the document is none of JSON's, which `Value::parse` leaves in none.
+pub fn translate<'a>(alloc: Global, script: &Value<'a>) -> Result<Translation<'a>, AllocError>
+    ensures { IfOk result (Translates (value_view script.now)) }
+{
+    let names = Names::of(alloc, script)?;
+    let faults = script_faults(alloc, &names, script)?;
+    if !faults.is_empty() {
+        return Ok(Translation::Faults(faults));
+    }
+    Ok(Translation::Script(numbered_text(alloc, &names, script)?))
+}
+
+/// The script of numbers that bytes stand for which are a script with names without a fault. None where they are no JSON, or do not say
+/// that they are a script with names, or have a fault. `AllocError` comes only where a request for
+/// memory was refused.
+pub fn translate_bytes(alloc: Global, bytes: &[u8]) -> Result<Option<Vec<u8>>, AllocError>
+    ensures { IfOk result (λ script. IfSome script (λ numbered. StandsFor bytes.now numbered.items)) }
+{
+    let mut scratch = Scratch::new(alloc);
+    let script = match Value::from_slice(alloc, bytes, &mut scratch) {
+        Ok(script) => script,
+        Err(Error::OutOfMemory) => return Err(AllocError),
+        Err(_) => return Ok(None),
+    };
+    if !is_named(&script) {
+        return Ok(None);
+    }
+    match translate(alloc, &script)? {
+        Translation::Script(numbered) => Ok(Some(numbered)),
+        Translation::Faults(_) => Ok(None),
+    }
+}

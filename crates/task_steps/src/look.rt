@@ -1,0 +1,58 @@
+//! What is shown of the tasks of a book to whoever looks at a run. None of it changes them.
+ghost use Rattle.std.specs.Prelude.{◌≡◌, ◌++◌, OnOk, map};
+ghost use Rattle.task_steps.specs.BookInside.{entries_of};
+ghost use Rattle.task_steps.specs.Shown.{entry_shown};
+
+use crate::entry::Entry;
+use crate::tasks::Tasks;
+use std::alloc::AllocError;
+
+/// A task that was started and whose body has not ended.
+#[derive(Clone, Copy, Debug, PartialEq, Eq)]
+pub struct TaskShown {
+    /// The number of the task in its book.
+    pub number: u64,
+    /// The context that its reply goes to.
+    pub ctx: u32,
+    /// The tick of its first poll.
+    pub first: u32,
+    /// The cancellable of the task.
+    pub cancel: Option<u32>,
+    /// Whether it has replied already: it returns on cancel, and a poll saw it as cancelled.
+    pub replied: bool,
+    /// The tick of its first poll, where that has not come, and else the least one in which a wait of its body ends.
+    pub wake: Option<u64>,
+}
+
+impl Entry {
+    /// What is shown of it.
+    fn show(&self) -> TaskShown
+        ensures { result ≡ entry_shown self.now }
+    {
+        TaskShown {
+            number: self.number,
+            ctx: self.ctx,
+            first: self.first,
+            cancel: self.cancel,
+            replied: self.return_on_cancel && self.run.was_cancelled(),
+            wake: self.wake(),
+        }
+    }
+}
+
+impl Tasks {
+    /// Adds what is shown of each task, in start order.
+    pub(crate) fn show(&self, list: &mut Vec<TaskShown>) -> Result<(), AllocError>
+        ensures { OnOk result (list.new.items ≡ list.old.items ++ map entry_shown (entries_of self.now)) }
+    {
+        match self {
+            Tasks::Gone => {}
+            Tasks::One(entry) => list.push(entry.show())?,
+            Tasks::Two { left, right, .. } => {
+                left.show(list)?;
+                right.show(list)?;
+            }
+        }
+        Ok(())
+    }
+}
