@@ -1,4 +1,5 @@
-"""Random scripts with names: right ones, and such in which one place was changed, most of which are refused."""
+"""Random scripts with names: right ones, whose translations are right by docs/FORMAT.md too, and such in which one place was changed, most of which are
+refused."""
 from __future__ import annotations
 
 import copy
@@ -8,12 +9,15 @@ from typing import Any
 
 from translate import CONDITIONS, KEEPS, OF_ONE_NAME, PRIORITIES, UNITS
 
-ODD_NAMES = ("", " ", "0", "-1", "attach", "to", "null", "never", "true", "a b", "a|b", 'a"b', "a\\b", "a/b", "a~b", "\t", "\u0000", "größe", "名前", "😀", "x" * 300)
+ODD_NAMES = ("", " ", "0", "-1", "attach", "to", "null", "never", "true", "a b", "a|b", 'a"b', "a\\b", "a/b", "a~b", "\t", "\u0000", "größe", "名前", "😀",
+             "x" * 300)
 LETTERS = "abcxyz_"
 MOST_DEEP = 4
+MOST_OF_A_TICK = 1_000  # of each unit
 KEYS = ("attach", "to", "call", "idle", "fd", "events", "priority", "keep", "form", "contexts", "odd", "log")
-VALUES: tuple[Any, ...] = (None, True, False, 0, 7, -1, "", "odd", "never", "16 ms", "1 us", "16ms", "1.5 ms", "-1 ms", "1  s", " 1 s", "1 s ", "IN", "IN|", "|", "IN|IN",
-                           "in", "HIGH", "high", "CONTINUE", "REMOVE", [], {}, ["value", 1], ["value"], ["sleep", 1], [["sleep", "1 ms"]], {"idle": True})
+VALUES: tuple[Any, ...] = (None, True, False, 0, 7, -1, "", "odd", "never", "16 ms", "1 us", "16ms", "1.5 ms", "-1 ms", "1  s", " 1 s", "1 s ",
+                           "IN", "IN|", "|", "IN|IN", "in", "HIGH", "high", "CONTINUE", "REMOVE", [], {}, ["value", 1], ["value"], ["sleep", 1],
+                           [["sleep", "1 ms"]], {"idle": True})
 
 
 class Maker:
@@ -27,6 +31,8 @@ class Maker:
         for _ in self.names["thread"]:
             self.contexts.append(self.some_names(1, 3))
         self.number_contexts()
+        self.version = self.random.choice((None, 1, 2))
+        self.plain = self.names["procedure"][0]  # may be connected and invoked
 
     def chance(self, of_hundred: int) -> bool:
         return self.random.randrange(100) < of_hundred
@@ -87,10 +93,14 @@ class Maker:
         return [word, *parts.get(word, lambda: [self.tree(deep - 1), self.tree(deep - 1)])()]
 
     def task(self) -> dict[str, Any]:
-        may: dict[str, Callable[[], Any]] = {"check_cancellable": lambda: self.chance(50), "return_on_cancel": lambda: self.chance(50), "priority": self.priority}
+        may: dict[str, Callable[[], Any]] = {
+            "check_cancellable": lambda: self.chance(50), "return_on_cancel": lambda: self.chance(50), "priority": self.priority}
         if self.names["cancellable"]:
             may["cancellable"] = lambda: None if self.chance(20) else self.name("cancellable")
-        return {"task": True if self.chance(30) else self.name("text"), "does": self.tree(), "call": self.name("procedure")} | self.some(may)
+        said = self.some(may)
+        if said.get("return_on_cancel"):
+            said.pop("check_cancellable", None)
+        return {"task": True if self.chance(30) else self.name("text"), "does": self.tree(), "call": self.name("procedure")} | said
 
     def attach(self) -> dict[str, Any]:
         may: dict[str, Callable[[], Any]] = {"priority": self.priority, "can_recurse": lambda: self.chance(50), "call": self.procedure_or_null}
@@ -106,13 +116,20 @@ class Maker:
 
     def action(self) -> dict[str, Any]:
         makers: list[Callable[[], dict[str, Any]]] = [self.attach, self.attach, self.child, self.task, lambda: {"show_default": True}]
-        makers += [lambda: {"set_ready": self.name("slot"), "to": self.ready_time()}, lambda: {"set_priority": self.name("slot"), "to": self.priority()}]
-        makers += [lambda: {"invoke": self.name("procedure"), "in": self.name("context")}, lambda: {"give": self.name("context"), "to": self.name("thread")}]
-        makers += [self.of_one_name] * 12
+        makers += [lambda: {"set_priority": self.name("slot"), "to": self.priority()}, lambda: {"invoke": self.plain, "in": self.name("context")}]
+        makers += [self.plain_action] * 4 + [self.of_one_name] * 12
+        if self.version != 1:
+            makers.append(lambda: {"give": self.name("context"), "to": self.name("thread")})
         if self.names["cancellable"]:
-            makers.append(lambda: {"connect": self.name("slot"), "to": self.name("cancellable"), "call": self.name("procedure")})
+            makers.append(lambda: {"connect": self.name("slot"), "to": self.name("cancellable"), "call": self.plain})
         action = self.random.choice(makers)()
         return dict(self.random.sample(list(action.items()), len(action)))
+
+    def plain_action(self) -> dict[str, Any]:
+        """One that a handler may take."""
+        makers: list[Callable[[], dict[str, Any]]] = [lambda: {"set_ready": self.name("slot"), "to": self.ready_time()}, lambda: {"log": self.name("text")}]
+        makers += [lambda: {"destroy": self.name("slot")}] + [lambda: {"quit": self.name("loop")}] * bool(self.names["loop"])
+        return self.random.choice(makers)()
 
     def actions(self) -> list[dict[str, Any]]:
         return [self.action() for _ in range(self.random.randrange(7))]
@@ -121,9 +138,10 @@ class Maker:
         said = {} if name in self.unsaid else {"contexts": contexts}
         return said | {"start": self.actions()}
 
-    def procedure(self) -> dict[str, Any]:
-        keep = self.random.choice((*KEEPS, None, 0, 1, 7))
-        return {"do": self.actions()} | self.some({"keep": lambda: keep})
+    def procedure(self, name: str) -> dict[str, Any]:
+        if name == self.plain:
+            return {"do": [self.plain_action() for _ in range(self.random.randrange(4))]} | self.some({"keep": lambda: self.random.choice(("REMOVE", 0))})
+        return {"do": self.actions()} | self.some({"keep": lambda: self.random.choice((*KEEPS, None, 0, 1, 7))})
 
     def pairs(self) -> list[list[Any]]:
         return [[tick, self.conditions()] for tick in sorted(self.random.sample(range(100), self.random.randrange(4)))]
@@ -137,11 +155,13 @@ class Maker:
             "form": "names",
             "ticks": self.random.randint(1, 100),
             "threads": threads,
-            "procedures": {name: self.procedure() for name in self.names["procedure"]},
+            "procedures": {name: self.procedure(name) for name in self.names["procedure"]},
             "loops": {name: self.name("context") for name in self.names["loop"]},
             "cancellables": self.names["cancellable"],
             "descriptors": {name: self.pairs() for name in self.names["descriptor"]},
-        } | self.some({"version": lambda: self.random.randint(1, 2), "tick": self.time})
+        } | self.some({"tick": lambda: f"{self.random.randint(1, MOST_OF_A_TICK)} {self.random.choice(list(UNITS))}"})
+        if self.version:
+            told["version"] = self.version
         return dict(self.random.sample(list(told.items()), len(told)))
 
 

@@ -174,6 +174,8 @@ class Names:
 
     def only_once(self, kind: str, names: list[str], at: Value) -> None:
         self.lists[kind] = names
+        if len(names) > MOST[kind]:
+            raise Refused(at.place, f"more than {MOST[kind]}")
         for n, name in enumerate(names):
             if name in names[:n]:
                 raise Refused(at.place, f"{name} stands twice")
