@@ -40,6 +40,11 @@ impl Command {
         self.takes_ticks() || self == Command::Stack
     }
 
+    /// Whether it tells of things that may have names.
+    fn tells_names(self) -> bool {
+        self != Command::Translate
+    }
+
     /// Whether it can end after some lines.
     fn takes_most_lines(self) -> bool {
         match self {
@@ -66,6 +71,8 @@ pub(crate) struct Order<'a> {
     pub most_lines: Option<u32>,
     /// Whether the text says where GLib does otherwise.
     pub notes: bool,
+    /// Whether numbers are told where the script has names.
+    pub numbers: bool,
     /// None is standard input.
     pub file: Option<&'a str>,
 }
@@ -151,6 +158,7 @@ fn read_rest(command: Command, words: &[String]) -> Asked<'_> {
         columns: USUAL_COLUMNS,
         most_lines: None,
         notes: false,
+        numbers: false,
         file: None,
     };
     let mut wanted = Wanted::Any;
@@ -209,6 +217,10 @@ fn read_flag<'a>(order: &mut Order<'a>, text: &'a str) -> Option<Wanted> {
         "--step" if order.command == Command::Stack => Some(Wanted::Step),
         "--columns" if order.command == Command::Timeline => Some(Wanted::Columns),
         "--most-lines" if order.command.takes_most_lines() => Some(Wanted::MostLines),
+        "--numbers" if order.command.tells_names() => {
+            order.numbers = true;
+            Some(Wanted::Any)
+        }
         "--notes" if order.command == Command::Text => {
             order.notes = true;
             Some(Wanted::Any)

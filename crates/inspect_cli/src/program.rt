@@ -7,9 +7,11 @@ use crate::progress::Progress;
 use crate::teller::Teller;
 use account::Account;
 use inspect_picture::{Point, Reach, Stack};
+use inspect_words::{Run, Words, follow};
 use loop_script::{Script, ScriptFault};
 use mainctx::{MainFault, OverWrite, run_alone};
 use named::translate_bytes;
+use run_names::RunNames;
 use script_report::{Form, check_either, read_input};
 use std::fs::File;
 use std::io::Write;
@@ -27,6 +29,8 @@ const FULL: usize = 65_536;
 struct Given<'a> {
     bytes: &'a [u8],
     numbered: &'a [u8],
+    /// Whether what is told has names.
+    has_names: bool,
 }
 
 /// Does what the arguments say, and answers the exit status.
@@ -54,10 +58,11 @@ fn attempt(rt: &HostRuntime) -> Result<u8, Failure> {
             let given = Given {
                 bytes: bytes.as_slice(),
                 numbered: numbered.as_ref().map_or(bytes.as_slice(), Vec::as_slice),
+                has_names: numbered.is_some() && !order.numbers,
             };
             match order.command {
                 Command::Translate => write_numbered(rt, &order, &given),
-                Command::Text if !order.notes => write_text(rt, &order, &given),
+                Command::Text if !order.notes && !given.has_names => write_text(rt, &order, &given),
                 _ => tell(rt, &order, &given),
             }
         }
@@ -149,34 +154,49 @@ fn tell(rt: &HostRuntime, order: &Order<'_>, given: &Given<'_>) -> Result<u8, Fa
         Err(ScriptFault::OutOfMemory) => return Err(Failure::Memory),
         Err(_) => return refuse(rt, order, given),
     };
+    let names = if given.has_names {
+        RunNames::of_bytes(rt.alloc(), given.bytes)?
+    } else {
+        RunNames::numbers(rt.alloc())
+    };
     match order.point() {
-        Some(point) => tell_point(rt, point, script)?,
-        None => tell_run(rt, order, script)?,
+        Some(point) => tell_point(rt, point, script, names)?,
+        None => tell_run(rt, order, script, names)?,
     }
     Ok(0)
 }
 
 /// Runs a script, and writes what is asked of it tick by tick.
-fn tell_run(rt: &HostRuntime, order: &Order<'_>, script: Script) -> Result<(), Failure> {
+fn tell_run(
+    rt: &HostRuntime,
+    order: &Order<'_>,
+    script: Script,
+    names: RunNames,
+) -> Result<(), Failure> {
     if !are_there(order, &script) {
         return Err(Failure::NotThere);
     }
     let mut progress = Progress::begin(rt, script.ticks());
-    let told = follow(rt, order, script, &mut progress);
+    let told = tell_each(rt, order, script, names, &mut progress);
     progress.clear();
     told
 }
 
 /// Runs a script, and writes what is asked of it, with how far it is.
-fn follow(
+fn tell_each(
     rt: &HostRuntime,
     order: &Order<'_>,
     script: Script,
+    mut names: RunNames,
     progress: &mut Progress<'_>,
 ) -> Result<(), Failure> {
     let mut lines = FirstLines::new(rt.stdout(), order.most_lines);
     let mut out = String::new(rt.alloc());
-    let mut teller = Teller::begin(rt.alloc(), order, &script, &mut out)?;
+    let words = Words {
+        script: &script,
+        names: &names,
+    };
+    let mut teller = Teller::begin(rt.alloc(), order, words, &mut out)?;
     let mut account = Account::new(rt.alloc(), script)?;
     let mut shown = 0;
     for _ in 0..u64::MAX {
@@ -192,19 +212,33 @@ fn follow(
             }
         }
         progress.show(moment.tick);
-        teller.tell(&account, &moment, &mut out)?;
+        follow(&mut names, &account, &moment)?;
+        let run = Run {
+            account: &account,
+            names: &names,
+        };
+        teller.tell(run, &moment, &mut out)?;
     }
-    teller.end(&account, &mut out)?;
+    let run = Run {
+        account: &account,
+        names: &names,
+    };
+    teller.end(run, &mut out)?;
     progress.clear();
     write_to(&mut lines, out.as_str())
 }
 
 /// Runs a script up to one moment, and writes what a thread is in the middle of there.
-fn tell_point(rt: &HostRuntime, point: Point, script: Script) -> Result<(), Failure> {
+fn tell_point(
+    rt: &HostRuntime,
+    point: Point,
+    script: Script,
+    names: RunNames,
+) -> Result<(), Failure> {
     within(Numbered::Thread, point.lane, script.lanes())?;
     within(Numbered::Tick, point.tick, script.ticks())?;
     let mut progress = Progress::begin(rt, script.ticks());
-    let told = find(rt, point, script, &mut progress);
+    let told = find(rt, point, script, names, &mut progress);
     progress.clear();
     write_out(rt, told?.as_str())
 }
@@ -214,6 +248,7 @@ fn find(
     rt: &HostRuntime,
     point: Point,
     script: Script,
+    mut names: RunNames,
     progress: &mut Progress<'_>,
 ) -> Result<String, Failure> {
     let mut out = String::new(rt.alloc());
@@ -224,7 +259,12 @@ fn find(
             break;
         };
         progress.show(moment.tick);
-        match stack.tell(&account, &moment, &mut out)? {
+        follow(&mut names, &account, &moment)?;
+        let run = Run {
+            account: &account,
+            names: &names,
+        };
+        match stack.tell(run, &moment, &mut out)? {
             Reach::Before => {}
             Reach::There => break,
             Reach::Over { steps } => {

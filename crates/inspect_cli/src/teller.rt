@@ -1,9 +1,9 @@
 //! What is told of a run, moment by moment.
 use crate::arguments::{Command, Order};
-use account::{Account, Moment};
+use account::Moment;
 use inspect_picture::{Steps, Timeline};
-use inspect_text::{Life, Moments, NoteList, NotedText, Summary, Why};
-use loop_script::Script;
+use inspect_text::{Life, Moments, NoteList, RunText, Summary, Why};
+use inspect_words::{Run, Words};
 use std::alloc::{AllocError, Global};
 
 /// What tells of a run.
@@ -16,7 +16,7 @@ pub(crate) enum Teller {
     Steps(Steps),
     Timeline(Timeline),
     Notes(NoteList),
-    NotedText(NotedText),
+    Text(RunText),
 }
 
 impl Teller {
@@ -24,13 +24,14 @@ impl Teller {
     pub(crate) fn begin(
         alloc: Global,
         order: &Order<'_>,
-        script: &Script,
+        words: Words<'_>,
         out: &mut String,
     ) -> Result<Teller, AllocError> {
         let window = order.window;
+        let script = words.script;
         match (order.command, order.source) {
             (Command::Account, _) => Ok(Teller::Moments(Moments::begin(
-                alloc, script, window, out,
+                alloc, words, window, out,
             )?)),
             (Command::Summary, _) => Ok(Teller::Summary(Summary::new(alloc, script)?)),
             (Command::Timeline, _) => Ok(Teller::Timeline(Timeline::new(
@@ -40,7 +41,7 @@ impl Teller {
                 order.columns,
             )?)),
             (Command::Notes, _) => Ok(Teller::Notes(NoteList::new(alloc, script)?)),
-            (Command::Text, _) => Ok(Teller::NotedText(NotedText::new(alloc, script)?)),
+            (Command::Text, _) => Ok(Teller::Text(RunText::new(alloc, script, order.notes)?)),
             (Command::Steps, _) => Ok(Teller::Steps(Steps::new(alloc, window))),
             (_, Some(name)) => Ok(Teller::Life(Life::new(name, window))),
             (_, None) => Ok(Teller::Why(Why::new(alloc, script, window)?)),
@@ -50,32 +51,32 @@ impl Teller {
     /// Adds what it says of the latest moment.
     pub(crate) fn tell(
         &mut self,
-        account: &Account,
+        run: Run<'_>,
         moment: &Moment,
         out: &mut String,
     ) -> Result<(), AllocError> {
         match self {
-            Teller::Why(why) => why.tell(account, moment, out),
-            Teller::Life(life) => life.tell(account, moment, out),
-            Teller::Summary(summary) => summary.tell(account, moment),
-            Teller::Timeline(timeline) => timeline.tell(account, moment),
-            Teller::Notes(notes) => notes.tell(account, moment, out),
-            Teller::NotedText(text) => text.tell(account, moment),
-            Teller::Moments(moments) => moments.tell(account, moment, out),
-            Teller::Steps(steps) => steps.tell(account, moment, out),
+            Teller::Why(why) => why.tell(run, moment, out),
+            Teller::Life(life) => life.tell(run, moment, out),
+            Teller::Summary(summary) => summary.tell(run.account, moment),
+            Teller::Timeline(timeline) => timeline.tell(run.account, moment),
+            Teller::Notes(notes) => notes.tell(run, moment, out),
+            Teller::Text(text) => text.tell(run, moment),
+            Teller::Moments(moments) => moments.tell(run, moment, out),
+            Teller::Steps(steps) => steps.tell(run, moment, out),
         }
     }
 
     /// Adds what it says when the run is over.
-    pub(crate) fn end(&mut self, account: &Account, out: &mut String) -> Result<(), AllocError> {
+    pub(crate) fn end(&mut self, run: Run<'_>, out: &mut String) -> Result<(), AllocError> {
         match self {
-            Teller::Why(why) => why.end(account, out),
-            Teller::Life(life) => life.end(account, out),
-            Teller::Summary(summary) => summary.end(account, out),
-            Teller::Moments(moments) => moments.end(account, out),
-            Teller::Timeline(timeline) => timeline.end(account, out),
+            Teller::Why(why) => why.end(run, out),
+            Teller::Life(life) => life.end(run, out),
+            Teller::Summary(summary) => summary.end(run, out),
+            Teller::Moments(moments) => moments.end(run.account, out),
+            Teller::Timeline(timeline) => timeline.end(run, out),
             Teller::Notes(notes) => notes.end(out),
-            Teller::NotedText(text) => text.end(out),
+            Teller::Text(text) => text.end(run.names, out),
             Teller::Steps(_) => Ok(()),
         }
     }

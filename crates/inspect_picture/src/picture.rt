@@ -1,15 +1,15 @@
 //! The drawing of a run.
 use crate::legend::Legend;
 use crate::mark::Mark;
-use crate::row_name::{RowName, Thing};
+use crate::row_name::{RowName, RowOf};
 use crate::scale::Scale;
-use crate::steps::push_to;
+use crate::steps::{push_to, width_of};
 use crate::timeline::Attached;
 use crate::track::Track;
 use crate::waiting::Waiting;
-use account::Account;
-use inspect_words::{Window, halt_of, push_milliseconds, push_tick, push_ticks};
+use inspect_words::{Run, Window, halt_of, push_milliseconds, push_tick, push_ticks};
 use loop_script::{Kind, Script};
+use run_names::{RunNames, Thing};
 use std::alloc::{AllocError, Global};
 use std::collections::BTreeMap;
 
@@ -29,12 +29,13 @@ pub(crate) struct Picture<'a> {
     /// The sources of each context by their ids, from 1 on.
     pub attached: &'a [Vec<Attached>],
     pub tracks: &'a BTreeMap<RowName, Track>,
+    pub names: &'a RunNames,
 }
 
 impl Picture<'_> {
     /// Adds the picture: a line of times, the rows of each thread, and what the marks mean.
-    pub(crate) fn push(&self, account: &Account, out: &mut String) -> Result<(), AllocError> {
-        let script = account.script();
+    pub(crate) fn push(&self, run: Run<'_>, out: &mut String) -> Result<(), AllocError> {
+        let script = run.account.script();
         let Window { first, last, .. } = self.window;
         if last < first {
             let last = script.ticks().saturating_sub(1);
@@ -49,7 +50,7 @@ impl Picture<'_> {
             fold => writeln!(out, ", {fold} ticks a column")?,
         }
         self.push_ruler(script, &scale, begin, out)?;
-        self.push_rows(account, &scale, begin, out)
+        self.push_rows(run, &scale, begin, out)
     }
 
     /// How many characters the longest name of a row has.
@@ -60,7 +61,7 @@ impl Picture<'_> {
             if !track.only_waits() {
                 name.clear();
                 self.push_name(row, &mut name)?;
-                widest = widest.max(name.len());
+                widest = widest.max(width_of(name.as_str()));
             }
         }
         Ok(widest)
@@ -100,7 +101,7 @@ impl Picture<'_> {
     /// Adds the rows of each thread under its name, and what their marks mean.
     fn push_rows(
         &self,
-        account: &Account,
+        run: Run<'_>,
         scale: &Scale,
         begin: usize,
         out: &mut String,
@@ -113,7 +114,7 @@ impl Picture<'_> {
             if next <= row.lane {
                 waiting.flush(out)?;
                 self.push_without(next, row.lane, out)?;
-                push_heading(account, row.lane, out)?;
+                push_heading(run, row.lane, out)?;
                 next = row.lane.saturating_add(1);
             }
             line.clear();
@@ -130,7 +131,7 @@ impl Picture<'_> {
             }
         }
         waiting.flush(out)?;
-        self.push_without(next, account.script().lanes(), out)?;
+        self.push_without(next, run.account.script().lanes(), out)?;
         legend.push(self.alloc, self.columns as usize, out)
     }
 
@@ -138,10 +139,8 @@ impl Picture<'_> {
     fn push_without(&self, first: u32, end: u32, out: &mut String) -> Result<(), AllocError> {
         for number in first..end {
             if self.window.has(number, self.window.first) {
-                writeln!(
-                    out,
-                    "thread {number}: no source, loop, task or cancellation"
-                )?;
+                self.names.push(out, Thing::Thread(number))?;
+                out.push_str(": no source, loop, task or cancellation\n")?;
             }
         }
         Ok(())
@@ -150,19 +149,36 @@ impl Picture<'_> {
     /// Adds the name of a row.
     fn push_name(&self, row: &RowName, out: &mut String) -> Result<(), AllocError> {
         match row.thing {
-            Thing::Source { context, id } => {
-                write!(out, "{context}.{id}")?;
+            RowOf::Source { context, id } => {
+                self.names.push_bare(out, Thing::Source { context, id })?;
                 match self.kind_of(context, id) {
-                    Some(kind) => push_kind(out, kind),
+                    Some(kind) => self.push_kind(out, kind),
                     None => Ok(()),
                 }
             }
-            Thing::Loop(number) => write!(out, "loop {number}"),
-            Thing::Task(number) => {
+            RowOf::Loop(number) => self.names.push(out, Thing::Loop(number)),
+            RowOf::Task(number) => {
                 let lane = row.lane;
-                write!(out, "task {lane}.{number}")
+                self.names.push(out, Thing::Task { lane, number })
             }
-            Thing::Cancellable(number) => write!(out, "cancellable {number}"),
+            RowOf::Cancellable(number) => self.names.push(out, Thing::Cancellable(number)),
+        }
+    }
+
+    /// Adds the words of a kind, as scripts write it.
+    fn push_kind(&self, out: &mut String, kind: Kind) -> Result<(), AllocError> {
+        match kind {
+            Kind::Idle => out.push_str(" idle"),
+            Kind::Timeout(ms) => write!(out, " timeout {ms}"),
+            Kind::ReadyTime(_) => out.push_str(" ready"),
+            Kind::Fd(fd, _) => {
+                out.push_str(" fd ")?;
+                self.names.push_bare(out, Thing::Descriptor(fd))
+            }
+            Kind::Cancel(number) => {
+                out.push_str(" cancel ")?;
+                self.names.push_bare(out, Thing::Cancellable(number))
+            }
         }
     }
 
@@ -224,24 +240,13 @@ fn show(cell: &mut Option<Mark>, mark: Mark) {
 }
 
 /// Adds the name of a thread, and where it halted when.
-fn push_heading(account: &Account, number: u32, out: &mut String) -> Result<(), AllocError> {
-    write!(out, "thread {number}")?;
-    if let Some(lane) = account.lane(number) {
+fn push_heading(run: Run<'_>, number: u32, out: &mut String) -> Result<(), AllocError> {
+    run.names.push(out, Thing::Thread(number))?;
+    if let Some(lane) = run.account.lane(number) {
         if let Some(halt) = halt_of(lane) {
             out.push_str(" halted in ")?;
-            push_tick(out, account.script(), halt.tick)?;
+            push_tick(out, run.account.script(), halt.tick)?;
         }
     }
     out.push_str("\n")
-}
-
-/// Adds the words of a kind, as scripts write it.
-fn push_kind(out: &mut String, kind: Kind) -> Result<(), AllocError> {
-    match kind {
-        Kind::Idle => out.push_str(" idle"),
-        Kind::Timeout(ms) => write!(out, " timeout {ms}"),
-        Kind::ReadyTime(_) => out.push_str(" ready"),
-        Kind::Fd(fd, _) => write!(out, " fd {fd}"),
-        Kind::Cancel(number) => write!(out, " cancel {number}"),
-    }
 }

@@ -2,7 +2,7 @@
 
 /// What of a thread has a row.
 #[derive(Clone, Copy, Debug, PartialEq, Eq, PartialOrd, Ord)]
-pub(crate) enum Thing {
+pub(crate) enum RowOf {
     /// A source of a context of the thread.
     Source { context: u32, id: u64 },
     Loop(u32),
@@ -16,5 +16,5 @@ pub(crate) enum Thing {
 #[derive(Clone, Copy, Debug, PartialEq, Eq, PartialOrd, Ord)]
 pub(crate) struct RowName {
     pub lane: u32,
-    pub thing: Thing,
+    pub thing: RowOf,
 }

@@ -1,9 +1,11 @@
 //! What a thread is in the middle of at one moment of a turn.
 use crate::steps::{is_step, push_done, push_stack};
-use account::{Account, Deed, Moment};
-use inspect_words::{AskedBy, caller_of, push_action, push_halt, push_list, push_many, push_tick};
+use account::{Deed, Moment};
+use inspect_words::{
+    AskedBy, Run, Words, caller_of, push_action, push_halt, push_list, push_many, push_tick,
+};
 use lane_turn::{Activity, Call, LaneState, Origin};
-use loop_script::Script;
+use run_names::{RunNames, Thing};
 use std::alloc::AllocError;
 
 /// A moment of the turn of a thread.
@@ -52,20 +54,20 @@ impl Stack {
     /// whether it is.
     pub fn tell(
         &mut self,
-        account: &Account,
+        run: Run<'_>,
         moment: &Moment,
         out: &mut String,
     ) -> Result<Reach, AllocError> {
-        let Some(lane) = account.lane(moment.lane) else {
+        let Some(lane) = run.account.lane(moment.lane) else {
             return Ok(Reach::Before);
         };
         let reach = self.reach(moment);
         if reach == Reach::There {
-            let script = account.script();
-            self.push_heading(script, moment, out)?;
-            push_drawn(lane, out)?;
-            push_each(script, lane, out)?;
-            push_halt(out, script, moment.lane, lane)?;
+            let words = run.words();
+            self.push_heading(words, moment, out)?;
+            push_drawn(words.names, lane, out)?;
+            push_each(words, lane, out)?;
+            push_halt(out, words, moment.lane, lane)?;
         }
         Ok(reach)
     }
@@ -91,13 +93,14 @@ impl Stack {
     /// Adds which moment it is.
     fn push_heading(
         &self,
-        script: &Script,
+        words: Words<'_>,
         moment: &Moment,
         out: &mut String,
     ) -> Result<(), AllocError> {
-        push_tick(out, script, moment.tick)?;
-        let number = moment.lane;
-        write!(out, ", thread {number}, ")?;
+        push_tick(out, words.script, moment.tick)?;
+        out.push_str(", ")?;
+        words.names.push(out, Thing::Thread(moment.lane))?;
+        out.push_str(", ")?;
         match self.point.step {
             None => {
                 out.push_str("at the end of its turn, after ")?;
@@ -106,7 +109,7 @@ impl Stack {
             Some(0) => out.push_str("before its first step")?,
             Some(step) => {
                 write!(out, "after step {step}: ")?;
-                push_done(out, script, moment.deed)?;
+                push_done(out, words, moment.deed)?;
             }
         }
         out.push_str("\n")
@@ -114,12 +117,12 @@ impl Stack {
 }
 
 /// Adds what is in progress in one line.
-fn push_drawn(lane: &LaneState, out: &mut String) -> Result<(), AllocError> {
+fn push_drawn(names: &RunNames, lane: &LaneState, out: &mut String) -> Result<(), AllocError> {
     let mut frames = lane.frames();
     if frames.next().is_none() {
         return out.push_str("nothing is in progress\n");
     }
-    push_stack(out, lane)?;
+    push_stack(out, names, lane)?;
     out.push_str("\n")
 }
 
@@ -133,7 +136,8 @@ fn height_of(lane: &LaneState) -> u64 {
 }
 
 /// Adds a line for each thing in progress, from the outermost inwards.
-fn push_each(script: &Script, lane: &LaneState, out: &mut String) -> Result<(), AllocError> {
+fn push_each(words: Words<'_>, lane: &LaneState, out: &mut String) -> Result<(), AllocError> {
+    let names = words.names;
     let mut outside = Outside::Nothing;
     let height = height_of(lane);
     let mut level = 0u64;
@@ -142,21 +146,25 @@ fn push_each(script: &Script, lane: &LaneState, out: &mut String) -> Result<(), 
         out.push_str("  ")?;
         match one {
             Activity::Call(call) => {
-                push_call(call, out)?;
+                push_call(names, call, out)?;
                 if level < height {
-                    push_inside(script, call, out)?;
+                    push_inside(words, call, out)?;
                 }
-                push_next(script, call, out)?;
+                push_next(words, call, out)?;
                 outside = Outside::Call(call);
             }
             Activity::Loop { number, context } => {
-                write!(out, "loop {number} runs context {context}")?;
+                names.push(out, Thing::Loop(number))?;
+                out.push_str(" runs ")?;
+                names.push(out, Thing::Context(context))?;
                 outside = Outside::Loop(number);
             }
             Activity::Iteration { context, left, .. } => {
-                push_asker(outside, out)?;
-                write!(out, " iterates context {context}: ")?;
-                push_left(left, out)?;
+                push_asker(names, outside, out)?;
+                out.push_str(" iterates ")?;
+                names.push(out, Thing::Context(context))?;
+                out.push_str(": ")?;
+                push_left(names, context, left, out)?;
                 outside = Outside::Nothing;
             }
         }
@@ -166,34 +174,34 @@ fn push_each(script: &Script, lane: &LaneState, out: &mut String) -> Result<(), 
 }
 
 /// Adds who calls what.
-fn push_call(call: Call, out: &mut String) -> Result<(), AllocError> {
+fn push_call(names: &RunNames, call: Call, out: &mut String) -> Result<(), AllocError> {
     match call.origin {
         Origin::Start => {}
         Origin::Source(caller) => {
             let context = caller.context;
             let id = caller.id;
             let number = caller.number;
-            write!(
-                out,
-                "source {context}.{id}, in dispatch {number} of it, calls "
-            )?;
+            names.push(out, Thing::Source { context, id })?;
+            write!(out, ", in dispatch {number} of it, calls ")?;
         }
         Origin::Invoke(Some(context)) => {
-            write!(out, "an invoke that acquired context {context} calls ")?;
+            out.push_str("an invoke that acquired ")?;
+            names.push(out, Thing::Context(context))?;
+            out.push_str(" calls ")?;
         }
         Origin::Invoke(None) => out.push_str("an invoke calls ")?,
     }
-    push_list(out, call.body)?;
+    push_list(out, names, call.body)?;
     out.push_str(": ")
 }
 
 /// Adds the action of a call that is in progress: what is inside of it was begun by that.
-fn push_inside(script: &Script, call: Call, out: &mut String) -> Result<(), AllocError> {
+fn push_inside(words: Words<'_>, call: Call, out: &mut String) -> Result<(), AllocError> {
     let place = call.place.saturating_sub(1);
-    match script.actions(call.body).get(place) {
+    match words.script.actions(call.body).get(place) {
         Some(action) => {
             write!(out, "in action {place}, ")?;
-            push_action(out, action)?;
+            push_action(out, words.names, action)?;
             out.push_str("; ")
         }
         None => Ok(()),
@@ -201,39 +209,50 @@ fn push_inside(script: &Script, call: Call, out: &mut String) -> Result<(), Allo
 }
 
 /// Adds which action of a call comes next.
-fn push_next(script: &Script, call: Call, out: &mut String) -> Result<(), AllocError> {
+fn push_next(words: Words<'_>, call: Call, out: &mut String) -> Result<(), AllocError> {
     let place = call.place;
-    match script.actions(call.body).get(place) {
+    match words.script.actions(call.body).get(place) {
         Some(action) => {
             write!(out, "next is action {place}, ")?;
-            push_action(out, action)
+            push_action(out, words.names, action)
         }
         None => out.push_str("no action is left"),
     }
 }
 
 /// Adds what began an iteration, by what is just outside of it.
-fn push_asker(outside: Outside, out: &mut String) -> Result<(), AllocError> {
+fn push_asker(
+    names: &RunNames,
+    outside: Outside,
+    out: &mut String,
+) -> Result<(), AllocError> {
     match outside {
         Outside::Nothing => out.push_str("the thread"),
-        Outside::Loop(number) => AskedBy::Loop(number).push(out),
+        Outside::Loop(number) => AskedBy::Loop(number).push(out, names),
         Outside::Call(call) => AskedBy::Action {
             caller: caller_of(call.origin),
             body: call.body,
             place: call.place.saturating_sub(1),
         }
-        .push(out),
+        .push(out, names),
     }
 }
 
 /// Adds the sources that an iteration has left.
-fn push_left(left: &[u64], out: &mut String) -> Result<(), AllocError> {
+fn push_left(
+    names: &RunNames,
+    context: u32,
+    left: &[u64],
+    out: &mut String,
+) -> Result<(), AllocError> {
     if left.is_empty() {
         return out.push_str("no source is left");
     }
     for (n, id) in left.iter().enumerate() {
-        out.push_str(if n == 0 { "source " } else { ", source " })?;
-        write!(out, "{id}")?;
+        if n != 0 {
+            out.push_str(", ")?;
+        }
+        names.push_source(out, context, *id)?;
     }
     out.push_str(if left.len() == 1 {
         " is left"

@@ -1,8 +1,9 @@
 //! The steps of each turn, with the stack after each, as a table.
-use account::{Account, Deed, Moment};
-use inspect_words::{Window, push_action, push_list, push_tick, text_of};
+use account::{Deed, Moment};
+use inspect_words::{Run, Window, Words, line_text_of, push_action, push_list, push_tick};
 use lane_turn::{Activity, LaneState, Origin};
-use loop_script::{Body, Script};
+use loop_script::Body;
+use run_names::{RunNames, Thing};
 use std::alloc::{AllocError, Global};
 
 /// Where the columns of what is done, of the stack and of the text begin.
@@ -44,11 +45,11 @@ impl Steps {
     /// Adds the latest moment of a run, but where it is no step and writes nothing.
     pub fn tell(
         &mut self,
-        account: &Account,
+        run: Run<'_>,
         moment: &Moment,
         out: &mut String,
     ) -> Result<(), AllocError> {
-        let Some(lane) = account.lane(moment.lane) else {
+        let Some(lane) = run.account.lane(moment.lane) else {
             return Ok(());
         };
         if !self.window.has(moment.lane, moment.tick) {
@@ -58,8 +59,8 @@ impl Steps {
         if !is_step && moment.from == moment.to {
             return Ok(());
         }
-        let script = account.script();
-        self.push_heading(script, moment, out)?;
+        let words = run.words();
+        self.push_heading(words, moment, out)?;
         let mut row = String::new(self.alloc);
         if is_step {
             self.count = self.count.saturating_add(1);
@@ -67,10 +68,10 @@ impl Steps {
             write!(row, "{number:>6}")?;
         }
         push_to(&mut row, DONE_COLUMN)?;
-        push_done(&mut row, script, moment.deed)?;
+        push_done(&mut row, words, moment.deed)?;
         push_to(&mut row, STACK_COLUMN)?;
-        push_stack(&mut row, lane)?;
-        push_text(self.alloc, &mut row, lane, moment)?;
+        push_stack(&mut row, words.names, lane)?;
+        push_text(self.alloc, &mut row, run, moment)?;
         out.push_str(row.as_str())?;
         out.push_str("\n")
     }
@@ -78,7 +79,7 @@ impl Steps {
     /// Adds which turn it is, where that is another one than before.
     fn push_heading(
         &mut self,
-        script: &Script,
+        words: Words<'_>,
         moment: &Moment,
         out: &mut String,
     ) -> Result<(), AllocError> {
@@ -91,9 +92,10 @@ impl Steps {
         }
         self.turn = Some(turn);
         self.count = 0;
-        push_tick(out, script, moment.tick)?;
-        let number = moment.lane;
-        writeln!(out, ", thread {number}")
+        push_tick(out, words.script, moment.tick)?;
+        out.push_str(", ")?;
+        words.names.push(out, Thing::Thread(moment.lane))?;
+        out.push_str("\n")
     }
 }
 
@@ -105,80 +107,135 @@ pub(crate) fn is_step(deed: Deed) -> bool {
     }
 }
 
+/// How many characters a text has.
+pub(crate) fn width_of(text: &str) -> usize {
+    text.as_bytes().iter().filter(|byte| is_first(**byte)).count()
+}
+
+/// Whether a character begins with a byte.
+fn is_first(byte: u8) -> bool {
+    byte & 0xC0 != 0x80
+}
+
 /// Adds spaces up to a column, and one at least where the row has something.
 pub(crate) fn push_to(row: &mut String, column: usize) -> Result<(), AllocError> {
-    if row.len() >= column {
+    let width = width_of(row.as_str());
+    if width >= column {
         return row.push_str("  ");
     }
-    for _ in row.len()..column {
+    for _ in width..column {
         row.push_str(" ")?;
     }
     Ok(())
 }
 
 /// Adds what a move does.
-pub(crate) fn push_done(row: &mut String, script: &Script, deed: Deed) -> Result<(), AllocError> {
+pub(crate) fn push_done(row: &mut String, words: Words<'_>, deed: Deed) -> Result<(), AllocError> {
+    let names = words.names;
     match deed {
         Deed::Polled => row.push_str("the tasks are polled"),
-        Deed::Acted { body, place } => match script.actions(body).get(place) {
-            Some(action) => push_action(row, action),
+        Deed::Acted { body, place } => match words.script.actions(body).get(place) {
+            Some(action) => push_action(row, names, action),
             None => Ok(()),
         },
         Deed::Returned { body } => {
-            push_list(row, body)?;
+            push_list(row, names, body)?;
             row.push_str(" is over")
         }
         Deed::Dispatched { context, source } => {
-            write!(row, "source {context}.{source} is dispatched")
+            push_source(row, names, context, source)?;
+            row.push_str(" is dispatched")
         }
         Deed::PassedOver { context, source } => {
-            write!(row, "source {context}.{source} is passed over")
+            push_source(row, names, context, source)?;
+            row.push_str(" is passed over")
         }
         Deed::IterationEnded { .. } => row.push_str("the iteration is over"),
-        Deed::Iterated { loop_number, .. } => write!(row, "loop {loop_number} iterates"),
-        Deed::LoopEnded { loop_number, .. } => write!(row, "loop {loop_number} ends"),
+        Deed::Iterated { loop_number, .. } => {
+            names.push(row, Thing::Loop(loop_number))?;
+            row.push_str(" iterates")
+        }
+        Deed::LoopEnded { loop_number, .. } => {
+            names.push(row, Thing::Loop(loop_number))?;
+            row.push_str(" ends")
+        }
         Deed::Rests => row.push_str("the thread rests"),
         Deed::HandedOver { context, from } => {
-            write!(row, "context {context} comes from thread {from}")
+            names.push(row, Thing::Context(context))?;
+            row.push_str(" comes from ")?;
+            names.push(row, Thing::Thread(from))
         }
-        Deed::Received { sender, .. } => write!(row, "thread {sender} sent something"),
+        Deed::Received { sender, .. } => {
+            names.push(row, Thing::Thread(sender))?;
+            row.push_str(" sent something")
+        }
     }
 }
 
+/// Adds what a source is called.
+fn push_source(
+    row: &mut String,
+    names: &RunNames,
+    context: u32,
+    id: u64,
+) -> Result<(), AllocError> {
+    names.push(row, Thing::Source { context, id })
+}
+
 /// Adds what is in progress, from the outermost inwards.
-pub(crate) fn push_stack(row: &mut String, lane: &LaneState) -> Result<(), AllocError> {
+pub(crate) fn push_stack(
+    row: &mut String,
+    names: &RunNames,
+    lane: &LaneState,
+) -> Result<(), AllocError> {
     let mut some = false;
     for one in lane.frames() {
         if some {
             row.push_str(", ")?;
         }
-        push_activity(row, one)?;
+        push_activity(row, names, one)?;
         some = true;
     }
     Ok(())
 }
 
 /// Adds one of the things in progress.
-fn push_activity(row: &mut String, one: Activity<'_>) -> Result<(), AllocError> {
+fn push_activity(
+    row: &mut String,
+    names: &RunNames,
+    one: Activity<'_>,
+) -> Result<(), AllocError> {
     match one {
         Activity::Call(call) if call.origin == Origin::Start => row.push_str("start"),
         Activity::Call(call) => match call.body {
-            Body::Procedure(proc) => write!(row, "call {proc}"),
+            Body::Procedure(proc) => {
+                row.push_str("call ")?;
+                names.push_bare(row, Thing::Procedure(proc))
+            }
             _ => row.push_str("call"),
         },
-        Activity::Loop { number, .. } => write!(row, "loop {number}"),
-        Activity::Iteration { left, .. } => push_left(row, left),
+        Activity::Loop { number, .. } => names.push(row, Thing::Loop(number)),
+        Activity::Iteration { context, left, .. } => push_left(row, names, context, left),
     }
 }
 
-/// Adds an iteration with the ids that it has left.
-fn push_left(row: &mut String, left: &[u64]) -> Result<(), AllocError> {
+/// Adds an iteration with the sources that it has left.
+fn push_left(
+    row: &mut String,
+    names: &RunNames,
+    context: u32,
+    left: &[u64],
+) -> Result<(), AllocError> {
     row.push_str("iter [")?;
     for (n, id) in left.iter().enumerate() {
         if n != 0 {
-            row.push_str(" ")?;
+            row.push_str(if names.are_there() { ", " } else { " " })?;
         }
-        write!(row, "{id}")?;
+        if names.are_there() {
+            names.push_source(row, context, *id)?;
+        } else {
+            write!(row, "{id}")?;
+        }
     }
     row.push_str("]")
 }
@@ -187,10 +244,10 @@ fn push_left(row: &mut String, left: &[u64]) -> Result<(), AllocError> {
 fn push_text(
     alloc: Global,
     row: &mut String,
-    lane: &LaneState,
+    run: Run<'_>,
     moment: &Moment,
 ) -> Result<(), AllocError> {
-    let text = text_of(alloc, lane, moment)?;
+    let text = line_text_of(alloc, run, moment)?;
     if text.is_empty() {
         return Ok(());
     }

@@ -1,12 +1,12 @@
 //! A picture of a run in text: what each source, loop, task and cancellable did, with time going right.
 use crate::mark::Mark;
 use crate::picture::Picture;
-use crate::row_name::{RowName, Thing};
+use crate::row_name::{RowName, RowOf};
 use crate::task_times::TaskTimes;
 use crate::track::Track;
 use account::{Account, Deed, Moment};
 use context_core::Standing;
-use inspect_words::{Window, begun_by};
+use inspect_words::{Run, Window, begun_by};
 use lane_turn::{Activity, Event, LaneState};
 use loop_script::{Action, Kind, Script};
 use std::alloc::{AllocError, Global};
@@ -91,7 +91,7 @@ impl Timeline {
     }
 
     /// Adds the picture of the run.
-    pub fn end(&mut self, account: &Account, out: &mut String) -> Result<(), AllocError> {
+    pub fn end(&mut self, run: Run<'_>, out: &mut String) -> Result<(), AllocError> {
         self.note_tasks()?;
         let picture = Picture {
             alloc: self.alloc,
@@ -99,12 +99,13 @@ impl Timeline {
             columns: self.columns,
             attached: &self.attached,
             tracks: &self.tracks,
+            names: run.names,
         };
-        picture.push(account, out)
+        picture.push(run, out)
     }
 
     /// Marks a tick of something of a thread, where the window has it.
-    fn note(&mut self, lane: u32, tick: u32, thing: Thing, mark: Mark) -> Result<(), AllocError> {
+    fn note(&mut self, lane: u32, tick: u32, thing: RowOf, mark: Mark) -> Result<(), AllocError> {
         if !self.window.has(lane, tick) {
             return Ok(());
         }
@@ -125,7 +126,7 @@ impl Timeline {
         }
         for one in lane.frames() {
             if let Activity::Loop { number, .. } = one {
-                self.note(moment.lane, moment.tick, Thing::Loop(number), Mark::Runs)?;
+                self.note(moment.lane, moment.tick, RowOf::Loop(number), Mark::Runs)?;
             }
         }
         Ok(())
@@ -186,7 +187,7 @@ impl Timeline {
         self.note(
             moment.lane,
             moment.tick,
-            Thing::Source { context, id },
+            RowOf::Source { context, id },
             Mark::Waits,
         )
     }
@@ -210,7 +211,7 @@ impl Timeline {
             self.note(
                 moment.lane,
                 moment.tick,
-                Thing::Source {
+                RowOf::Source {
                     context,
                     id: row.id,
                 },
@@ -232,7 +233,7 @@ impl Timeline {
             return Ok(());
         };
         for row in rows.in_order() {
-            let thing = Thing::Source {
+            let thing = RowOf::Source {
                 context,
                 id: row.id,
             };
@@ -257,7 +258,7 @@ impl Timeline {
                 } => self.note(
                     moment.lane,
                     moment.tick,
-                    Thing::Source {
+                    RowOf::Source {
                         context,
                         id: source,
                     },
@@ -266,7 +267,7 @@ impl Timeline {
                 Event::Cancel(number) => self.note(
                     moment.lane,
                     moment.tick,
-                    Thing::Cancellable(number),
+                    RowOf::Cancellable(number),
                     Mark::Cancelled,
                 )?,
                 Event::Arrive(context, _) => self.note_attached(lane, moment, context)?,
@@ -317,7 +318,7 @@ impl Timeline {
             for (number, task) in tasks.iter().enumerate() {
                 let track = task.track(self.alloc, &self.window)?;
                 if !track.stretches().is_empty() {
-                    let thing = Thing::Task(number as u64);
+                    let thing = RowOf::Task(number as u64);
                     self.tracks.insert(RowName { lane, thing }, track)?;
                 }
             }

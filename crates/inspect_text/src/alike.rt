@@ -1,7 +1,6 @@
 //! Iterations that are told once, since they follow one another and are alike.
 use crate::block::Block;
-use inspect_words::{Begun, push_ticks};
-use loop_script::Script;
+use inspect_words::{Begun, Words, push_ticks};
 use std::alloc::AllocError;
 
 /// Iterations of a thread one after another, with the same asker and the same reasons.
@@ -38,9 +37,9 @@ impl Alike {
     }
 
     /// Adds the ticks, who asked, and what is done with each source.
-    pub(crate) fn push(&self, out: &mut String, script: &Script) -> Result<(), AllocError> {
-        push_ticks(out, script, self.first, self.last)?;
-        self.begun.push(out)?;
+    pub(crate) fn push(&self, out: &mut String, words: Words<'_>) -> Result<(), AllocError> {
+        push_ticks(out, words.script, self.first, self.last)?;
+        self.begun.push(out, words.names)?;
         push_count(out, self.first, self.last, self.count)?;
         out.push_str(if self.block.dispatches {
             "\n"

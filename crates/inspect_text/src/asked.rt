@@ -3,8 +3,9 @@ use crate::life::Life;
 use crate::moments::Moments;
 use crate::why::Why;
 use account::{Account, Moment};
-use inspect_words::{SourceName, Window};
+use inspect_words::{Run, SourceName, Window, Words, follow};
 use loop_script::Script;
+use run_names::RunNames;
 use std::alloc::{AllocError, Global};
 
 /// What is asked of a run.
@@ -18,12 +19,21 @@ pub enum Asked {
     Life(SourceName, Window),
 }
 
-/// The next moment of a run; none where it is over.
-fn next_of(account: &mut Account) -> Result<Option<Moment>, AllocError> {
+/// The next moment of a run, with names for what it attached or connected; none where the run is over.
+fn next_of(account: &mut Account, names: &mut RunNames) -> Result<Option<Moment>, AllocError> {
     match account.next() {
-        Ok(found) => Ok(found),
+        Ok(Some(moment)) => {
+            follow(names, account, &moment)?;
+            Ok(Some(moment))
+        }
+        Ok(None) => Ok(None),
         Err(_) => Err(AllocError),
     }
+}
+
+/// The run of an account, under these names.
+fn run<'a>(account: &'a Account, names: &'a RunNames) -> Run<'a> {
+    Run { account, names }
 }
 
 /// A run before its first moment.
@@ -34,17 +44,18 @@ fn open(alloc: Global, script: Script) -> Result<Account, AllocError> {
     }
 }
 
-/// Adds what is asked of the run of a script.
+/// Adds what is asked of the run of a script, whose things are called by these names.
 pub fn push_asked(
     alloc: Global,
     script: Script,
+    names: RunNames,
     asked: Asked,
     out: &mut String,
 ) -> Result<(), AllocError> {
     match asked {
-        Asked::Account { first, most } => push_account(alloc, script, first, most, out),
-        Asked::Why(window) => push_why(alloc, script, window, out),
-        Asked::Life(name, window) => push_life(alloc, script, name, window, out),
+        Asked::Account { first, most } => push_account(alloc, script, names, first, most, out),
+        Asked::Why(window) => push_why(alloc, script, names, window, out),
+        Asked::Life(name, window) => push_life(alloc, script, names, name, window, out),
     }
 }
 
@@ -52,18 +63,23 @@ pub fn push_asked(
 fn push_account(
     alloc: Global,
     script: Script,
+    mut names: RunNames,
     first: u64,
     most: u64,
     out: &mut String,
 ) -> Result<(), AllocError> {
-    let mut moments = Moments::begin(alloc, &script, Window::whole(), out)?;
+    let words = Words {
+        script: &script,
+        names: &names,
+    };
+    let mut moments = Moments::begin(alloc, words, Window::whole(), out)?;
     let mut account = open(alloc, script)?;
     for place in 0..first.saturating_add(most) {
-        let Some(moment) = next_of(&mut account)? else {
+        let Some(moment) = next_of(&mut account, &mut names)? else {
             return moments.end(&account, out);
         };
         if place >= first {
-            moments.tell(&account, &moment, out)?;
+            moments.tell(run(&account, &names), &moment, out)?;
         }
     }
     Ok(())
@@ -73,24 +89,28 @@ fn push_account(
 fn push_why(
     alloc: Global,
     script: Script,
+    mut names: RunNames,
     window: Window,
     out: &mut String,
 ) -> Result<(), AllocError> {
     let mut why = Why::new(alloc, &script, window)?;
     let mut account = open(alloc, script)?;
     for _ in 0..u64::MAX {
-        match next_of(&mut account)? {
-            Some(moment) if moment.tick <= window.last => why.tell(&account, &moment, out)?,
+        match next_of(&mut account, &mut names)? {
+            Some(moment) if moment.tick <= window.last => {
+                why.tell(run(&account, &names), &moment, out)?;
+            }
             _ => break,
         }
     }
-    why.end(&account, out)
+    why.end(run(&account, &names), out)
 }
 
 /// Adds the life of one source.
 fn push_life(
     alloc: Global,
     script: Script,
+    mut names: RunNames,
     name: SourceName,
     window: Window,
     out: &mut String,
@@ -98,10 +118,10 @@ fn push_life(
     let mut life = Life::new(name, window);
     let mut account = open(alloc, script)?;
     for _ in 0..u64::MAX {
-        match next_of(&mut account)? {
-            Some(moment) => life.tell(&account, &moment, out)?,
+        match next_of(&mut account, &mut names)? {
+            Some(moment) => life.tell(run(&account, &names), &moment, out)?,
             None => break,
         }
     }
-    life.end(&account, out)
+    life.end(run(&account, &names), out)
 }

@@ -1,8 +1,8 @@
 //! The sources of a context, each with what an iteration does with it.
 use context_core::Standing;
-use inspect_words::{push_source, push_standing};
+use inspect_words::{Words, push_source, push_standing};
 use lane_turn::LaneState;
-use loop_script::Script;
+use run_names::RunNames;
 use source_rows::{Row, Rows};
 use std::alloc::{AllocError, Global};
 use std::collections::BTreeMap;
@@ -42,19 +42,24 @@ fn ready_below(
 
 fn push_row(
     out: &mut String,
-    script: &Script,
+    words: Words<'_>,
+    context: u32,
     row: &Row,
     standing: Standing,
     below: Option<u64>,
 ) -> Result<(), AllocError> {
-    let id = row.id;
-    write!(out, "  source {id}, ")?;
-    push_source(out, row)?;
+    let names = words.names;
+    out.push_str("  ")?;
+    names.push_source(out, context, row.id)?;
+    out.push_str(", ")?;
+    push_source(out, names, context, row)?;
     out.push_str(": ")?;
-    push_standing(out, script, id, standing)?;
+    push_standing(out, words, context, row.id, standing)?;
     if is_ready(standing) {
         if let Some(below) = below {
-            write!(out, "; source {below} below it is ready")?;
+            out.push_str("; ")?;
+            names.push_source(out, context, below)?;
+            out.push_str(" below it is ready")?;
         }
     }
     out.push_str("\n")
@@ -63,21 +68,21 @@ fn push_row(
 /// What an iteration of one of a thread's contexts, begun at a tick, does with its sources, and what an older one loses by it.
 pub(crate) fn block_of(
     alloc: Global,
-    script: &Script,
+    words: Words<'_>,
     tick: u32,
     lane: &LaneState,
     context: u32,
     lost: &[u64],
 ) -> Result<Block, AllocError> {
     let mut lines = String::new(alloc);
-    let list = lane.standings(script, tick, context)?;
+    let list = lane.standings(words.script, tick, context)?;
     let standings = list.as_slice();
     let mut dispatches = false;
     if let Some(rows) = lane.sources(context) {
         let below = ready_below(alloc, rows, standings)?;
         for (row, standing) in rows.in_order().zip(standings.iter()) {
             let first = below.get(&row.id).copied();
-            push_row(&mut lines, script, row, *standing, first)?;
+            push_row(&mut lines, words, context, row, *standing, first)?;
             if *standing == Standing::Selected {
                 dispatches = true;
             }
@@ -86,19 +91,26 @@ pub(crate) fn block_of(
     if lines.is_empty() {
         lines.push_str("  it has no source\n")?;
     }
-    push_lost(&mut lines, lost)?;
+    push_lost(&mut lines, words.names, context, lost)?;
     Ok(Block { lines, dispatches })
 }
 
 /// Adds what an older iteration loses, the next source last.
-fn push_lost(out: &mut String, lost: &[u64]) -> Result<(), AllocError> {
+fn push_lost(
+    out: &mut String,
+    names: &RunNames,
+    context: u32,
+    lost: &[u64],
+) -> Result<(), AllocError> {
     if lost.is_empty() {
         return Ok(());
     }
     out.push_str("  the older iteration loses what it had left: ")?;
     for (n, id) in lost.iter().rev().enumerate() {
-        out.push_str(if n == 0 { "source " } else { ", source " })?;
-        write!(out, "{id}")?;
+        if n != 0 {
+            out.push_str(", ")?;
+        }
+        names.push_source(out, context, *id)?;
     }
     out.push_str("\n")
 }

@@ -1,13 +1,13 @@
 //! The life of one source.
 use crate::alike::push_count;
-use account::{Account, Deed, Moment};
+use account::{Deed, Moment};
 use context_core::Standing;
 use inspect_words::{
-    Begun, SourceName, Window, begun_by, halt_reason, push_cause, push_source, push_standing,
-    push_tick, push_ticks,
+    Begun, Run, SourceName, Window, Words, begun_by, halt_reason, push_cause, push_source,
+    push_standing, push_tick, push_ticks,
 };
 use lane_turn::LaneState;
-use loop_script::Script;
+use run_names::Thing;
 use source_rows::Row;
 use std::alloc::AllocError;
 
@@ -50,34 +50,34 @@ impl Life {
     /// something else comes.
     pub fn tell(
         &mut self,
-        account: &Account,
+        run: Run<'_>,
         moment: &Moment,
         out: &mut String,
     ) -> Result<(), AllocError> {
-        let Some(lane) = account.lane(moment.lane) else {
+        let Some(lane) = run.account.lane(moment.lane) else {
             return Ok(());
         };
         let Some(rows) = lane.sources(self.name.context) else {
             return Ok(());
         };
-        let script = account.script();
+        let words = run.words();
         let told = self.window.has(moment.lane, moment.tick);
         match rows.found(self.name.id) {
-            Some(row) => self.tell_there(script, moment, row, told, out)?,
-            None => self.tell_gone(script, moment, told, out)?,
+            Some(row) => self.tell_there(words, moment, row, told, out)?,
+            None => self.tell_gone(words, moment, told, out)?,
         }
-        if let Some(iteration) = begun_by(account, moment) {
+        if let Some(iteration) = begun_by(run.account, moment) {
             if told && iteration.context == self.name.context {
-                self.tell_iteration(script, moment.tick, lane, &iteration, out)?;
+                self.tell_iteration(words, moment.tick, lane, &iteration, out)?;
             }
         }
-        self.tell_dispatch(script, lane, moment, told, out)
+        self.tell_dispatch(words, lane, moment, told, out)
     }
 
     /// Adds that the source was attached, where it was not there before.
     fn tell_there(
         &mut self,
-        script: &Script,
+        words: Words<'_>,
         moment: &Moment,
         row: &Row,
         told: bool,
@@ -91,13 +91,17 @@ impl Life {
         if !told {
             return Ok(());
         }
-        push_tick(out, script, moment.tick)?;
+        push_tick(out, words.script, moment.tick)?;
         out.push_str(": attached by ")?;
-        push_cause(out, moment)?;
+        push_cause(out, words.names, moment)?;
         out.push_str(": ")?;
-        push_source(out, row)?;
+        push_source(out, words.names, self.name.context, row)?;
         match row.call {
-            Some(proc) => writeln!(out, ", calls procedure {proc}"),
+            Some(proc) => {
+                out.push_str(", calls ")?;
+                words.names.push(out, Thing::Procedure(proc))?;
+                out.push_str("\n")
+            }
             None => out.push_str(", calls nothing\n"),
         }
     }
@@ -105,7 +109,7 @@ impl Life {
     /// Adds that the source was destroyed, where it was there before.
     fn tell_gone(
         &mut self,
-        script: &Script,
+        words: Words<'_>,
         moment: &Moment,
         told: bool,
         out: &mut String,
@@ -117,23 +121,23 @@ impl Life {
         if !told {
             return Ok(());
         }
-        self.flush(script, out)?;
-        push_tick(out, script, moment.tick)?;
+        self.flush(words, out)?;
+        push_tick(out, words.script, moment.tick)?;
         out.push_str(": destroyed by ")?;
-        push_cause(out, moment)?;
+        push_cause(out, words.names, moment)?;
         out.push_str("\n")
     }
 
     /// Counts an iteration that leaves the source out.
     fn tell_iteration(
         &mut self,
-        script: &Script,
+        words: Words<'_>,
         tick: u32,
         lane: &LaneState,
         iteration: &Begun,
         out: &mut String,
     ) -> Result<(), AllocError> {
-        let Some(standing) = self.standing(script, tick, lane, iteration.context)? else {
+        let Some(standing) = self.standing(words, tick, lane, iteration.context)? else {
             return Ok(());
         };
         if let Some(stretch) = &mut self.stretch {
@@ -143,7 +147,7 @@ impl Life {
                 return Ok(());
             }
         }
-        self.flush(script, out)?;
+        self.flush(words, out)?;
         if standing != Standing::Selected {
             self.stretch = Some(Stretch {
                 standing,
@@ -158,7 +162,7 @@ impl Life {
     /// What an iteration does with the source.
     fn standing(
         &self,
-        script: &Script,
+        words: Words<'_>,
         tick: u32,
         lane: &LaneState,
         context: u32,
@@ -166,7 +170,7 @@ impl Life {
         let Some(rows) = lane.sources(context) else {
             return Ok(None);
         };
-        let list = lane.standings(script, tick, context)?;
+        let list = lane.standings(words.script, tick, context)?;
         for (row, standing) in rows.in_order().zip(list.as_slice().iter()) {
             if row.id == self.name.id {
                 return Ok(Some(*standing));
@@ -178,7 +182,7 @@ impl Life {
     /// Adds a dispatch of the source, or why a dispatch that was to begin did not.
     fn tell_dispatch(
         &mut self,
-        script: &Script,
+        words: Words<'_>,
         lane: &LaneState,
         moment: &Moment,
         told: bool,
@@ -197,43 +201,42 @@ impl Life {
         if !told {
             return Ok(());
         }
-        self.flush(script, out)?;
-        push_tick(out, script, moment.tick)?;
-        let thread = moment.lane;
+        self.flush(words, out)?;
+        push_tick(out, words.script, moment.tick)?;
         let number = self.dispatches;
         match halt {
-            Some(reason) => writeln!(
-                out,
-                ": not dispatched, since thread {thread} halts: {reason}"
-            ),
+            Some(reason) => {
+                out.push_str(": not dispatched, since ")?;
+                words.names.push(out, Thing::Thread(moment.lane))?;
+                writeln!(out, " halts: {reason}")
+            }
             None => writeln!(out, ": dispatched, dispatch {number} of it"),
         }
     }
 
     /// Adds the iterations that are not told yet.
-    fn flush(&mut self, script: &Script, out: &mut String) -> Result<(), AllocError> {
+    fn flush(&mut self, words: Words<'_>, out: &mut String) -> Result<(), AllocError> {
         let Some(stretch) = self.stretch.take() else {
             return Ok(());
         };
-        push_ticks(out, script, stretch.first, stretch.last)?;
+        push_ticks(out, words.script, stretch.first, stretch.last)?;
         push_count(out, stretch.first, stretch.last, stretch.count)?;
         out.push_str(": ")?;
-        push_standing(out, script, self.name.id, stretch.standing)?;
+        let SourceName { context, id } = self.name;
+        push_standing(out, words, context, id, stretch.standing)?;
         out.push_str("\n")
     }
 
     /// Adds what is not told yet at the end of the run, and how the source stands.
-    pub fn end(&mut self, account: &Account, out: &mut String) -> Result<(), AllocError> {
-        let script = account.script();
-        self.flush(script, out)?;
-        let context = self.name.context;
-        let id = self.name.id;
+    pub fn end(&mut self, run: Run<'_>, out: &mut String) -> Result<(), AllocError> {
+        let words = run.words();
+        self.flush(words, out)?;
+        let SourceName { context, id } = self.name;
         let count = self.dispatches;
-        let last = script.ticks().saturating_sub(1);
-        write!(
-            out,
-            "end of the run, after tick {last}: source {context}.{id} "
-        )?;
+        let last = words.script.ticks().saturating_sub(1);
+        write!(out, "end of the run, after tick {last}: ")?;
+        words.names.push(out, Thing::Source { context, id })?;
+        out.push_str(" ")?;
         if !self.attached {
             return out.push_str("was never attached\n");
         }

@@ -1,6 +1,7 @@
 //! The moments of a run as JSON, an object a line.
+use crate::name_lists::{push_name_lists, push_quoted_name};
 use account::{Account, Deed, Moment};
-use inspect_words::{Window, action_word, text_of};
+use inspect_words::{Run, Window, Words, action_word, text_of};
 use lane_turn::{LaneState, Place};
 use loop_script::{Body, Script};
 use std::alloc::{AllocError, Global};
@@ -18,21 +19,24 @@ pub struct Moments {
 }
 
 impl Moments {
-    /// Adds the first line: what format it is, and what run.
+    /// Adds the first line: what format it is, what run, and the names of its script where there are some.
     pub fn begin(
         alloc: Global,
-        script: &Script,
+        words: Words<'_>,
         window: Window,
         out: &mut String,
     ) -> Result<Moments, AllocError> {
+        let script = words.script;
         let ticks = script.ticks();
         let length = script.tick_us();
         let lanes = script.lanes();
         let contexts = script.contexts();
-        writeln!(
+        write!(
             out,
-            "{{\"format\":\"mainctx account\",\"version\":{VERSION},\"ticks\":{ticks},\"tick_us\":{length},\"lanes\":{lanes},\"contexts\":{contexts}}}"
+            "{{\"format\":\"mainctx account\",\"version\":{VERSION},\"ticks\":{ticks},\"tick_us\":{length},\"lanes\":{lanes},\"contexts\":{contexts}"
         )?;
+        push_name_lists(alloc, out, words.names)?;
+        out.push_str("}\n")?;
         Ok(Moments {
             alloc,
             window,
@@ -43,7 +47,7 @@ impl Moments {
     /// Adds the line of the latest moment of a run.
     pub fn tell(
         &mut self,
-        account: &Account,
+        run: Run<'_>,
         moment: &Moment,
         out: &mut String,
     ) -> Result<(), AllocError> {
@@ -54,10 +58,10 @@ impl Moments {
         let tick = moment.tick;
         let number = moment.lane;
         write!(out, "{{\"tick\":{tick},\"lane\":{number},\"did\":")?;
-        push_deed(out, account.script(), moment.deed)?;
-        if let Some(lane) = account.lane(number) {
+        push_deed(out, run.account.script(), moment.deed)?;
+        if let Some(lane) = run.account.lane(number) {
             push_lines(self.alloc, out, lane, moment)?;
-            push_gained(out, account.script(), lane, moment)?;
+            push_gained(self.alloc, out, run.words(), lane, moment)?;
         }
         out.push_str("}\n")
     }
@@ -88,18 +92,21 @@ fn push_ids(out: &mut String, ids: &[u64]) -> Result<(), AllocError> {
 /// Adds the keys of what a move leaves in its lane: the source that it attached, what an iteration selected, and how many calls are in
 /// progress.
 fn push_gained(
+    alloc: Global,
     out: &mut String,
-    script: &Script,
+    words: Words<'_>,
     lane: &LaneState,
     moment: &Moment,
 ) -> Result<(), AllocError> {
-    if let Some(Place { context, id }) = moment.attached(script, lane) {
+    if let Some(Place { context, id }) = moment.attached(words.script, lane) {
         write!(
             out,
-            ",\"attached\":{{\"context\":{context},\"source\":{id}}}"
+            ",\"attached\":{{\"context\":{context},\"source\":{id}"
         )?;
+        push_quoted_name(alloc, out, words.names, context, id)?;
+        out.push_str("}")?;
     }
-    if let Some(ids) = moment.selected(script, lane) {
+    if let Some(ids) = moment.selected(words.script, lane) {
         out.push_str(",\"selected\":")?;
         push_ids(out, ids)?;
     }

@@ -1,8 +1,9 @@
 //! Where GLib does otherwise, told at the move at which it does.
 use account::{Account, Moment};
 use glib_notes::{Difference, Note, Notes};
-use inspect_words::push_tick;
+use inspect_words::{Run, Words, push_tick};
 use loop_script::Script;
+use run_names::Thing;
 use std::alloc::{AllocError, Global};
 
 /// A way in which GLib does otherwise in a thread, for one context or for none, which is told once.
@@ -53,19 +54,31 @@ impl Noted {
 }
 
 /// Adds the line of a note.
-pub(crate) fn push_note(out: &mut String, script: &Script, note: &Note) -> Result<(), AllocError> {
+pub(crate) fn push_note(
+    out: &mut String,
+    words: Words<'_>,
+    note: &Note,
+) -> Result<(), AllocError> {
     out.push_str("note: ")?;
-    push_tick(out, script, note.tick)?;
-    let lane = note.lane;
-    write!(out, ", thread {lane}")?;
-    match (note.context, note.source) {
-        (Some(context), Some(source)) => write!(out, ", source {context}.{source}")?,
-        (Some(context), None) => write!(out, ", context {context}")?,
-        _ => {}
+    push_tick(out, words.script, note.tick)?;
+    out.push_str(", ")?;
+    words.names.push(out, Thing::Thread(note.lane))?;
+    if let Some(thing) = thing_of(note) {
+        out.push_str(", ")?;
+        words.names.push(out, thing)?;
     }
     let told = note.difference.told();
     let name = note.difference.name();
     writeln!(out, ": GLib {told} (docs/GLIB.md, {name})")
+}
+
+/// Of which source or context a note is.
+fn thing_of(note: &Note) -> Option<Thing> {
+    let context = note.context?;
+    match note.source {
+        Some(id) => Some(Thing::Source { context, id }),
+        None => Some(Thing::Context(context)),
+    }
 }
 
 /// Tells where GLib does otherwise, and nothing else.
@@ -87,13 +100,13 @@ impl NoteList {
     /// Adds what the latest moment of a run says.
     pub fn tell(
         &mut self,
-        account: &Account,
+        run: Run<'_>,
         moment: &Moment,
         out: &mut String,
     ) -> Result<(), AllocError> {
-        for note in self.noted.look(account, moment)?.as_slice() {
+        for note in self.noted.look(run.account, moment)?.as_slice() {
             self.any = true;
-            push_note(out, account.script(), note)?;
+            push_note(out, run.words(), note)?;
         }
         Ok(())
     }

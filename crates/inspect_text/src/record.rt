@@ -1,7 +1,7 @@
 //! What is counted of a source.
 use context_core::Standing;
-use inspect_words::{Span, push_many, push_source, push_tick};
-use loop_script::Script;
+use inspect_words::{Span, Words, push_many, push_priority, push_source, push_tick};
+use run_names::{RunNames, Thing};
 use source_rows::Row;
 use std::alloc::AllocError;
 
@@ -55,48 +55,50 @@ impl Record {
         }
     }
 
-    /// Adds the source's name, `source C.S`.
-    pub(crate) fn push_name(&self, out: &mut String) -> Result<(), AllocError> {
+    /// Adds what the source is called.
+    pub(crate) fn push_name(&self, out: &mut String, names: &RunNames) -> Result<(), AllocError> {
         let context = self.context;
         let id = self.row.id;
-        write!(out, "source {context}.{id}")
+        names.push(out, Thing::Source { context, id })
     }
 
     /// Adds its line of the summary.
-    pub(crate) fn push(&self, out: &mut String, script: &Script) -> Result<(), AllocError> {
-        self.push_name(out)?;
+    pub(crate) fn push(&self, out: &mut String, words: Words<'_>) -> Result<(), AllocError> {
+        let names = words.names;
+        self.push_name(out, names)?;
         out.push_str(", ")?;
-        push_source(out, &self.row)?;
+        push_source(out, names, self.context, &self.row)?;
         out.push_str(", attached in ")?;
-        push_tick(out, script, self.attached)?;
+        push_tick(out, words.script, self.attached)?;
         if self.dispatches.count == 0 {
             out.push_str(": never dispatched")?;
         } else {
             out.push_str(": dispatched ")?;
             push_times(out, self.dispatches.count)?;
             out.push_str(", ")?;
-            self.dispatches.push_ticks(out, script)?;
+            self.dispatches.push_ticks(out, words.script)?;
         }
         if self.waits.count != 0 {
             out.push_str("; ready but left out by ")?;
             push_many(out, self.waits.count, "iteration", "iterations")?;
             out.push_str(", ")?;
-            self.waits.push_ticks(out, script)?;
+            self.waits.push_ticks(out, words.script)?;
             out.push_str(", behind ")?;
-            self.push_behind(out)?;
+            self.push_behind(out, names)?;
         }
         out.push_str("\n")
     }
 
     /// Adds the priorities behind which it waited.
-    pub(crate) fn push_behind(&self, out: &mut String) -> Result<(), AllocError> {
-        let least = self.least;
-        let greatest = self.greatest;
-        if least == greatest {
-            write!(out, "priority {least}")
-        } else {
-            write!(out, "priorities from {least} to {greatest}")
+    pub(crate) fn push_behind(&self, out: &mut String, names: &RunNames) -> Result<(), AllocError> {
+        if self.least == self.greatest {
+            out.push_str("priority ")?;
+            return push_priority(out, names, self.least);
         }
+        out.push_str("priorities from ")?;
+        push_priority(out, names, self.least)?;
+        out.push_str(" to ")?;
+        push_priority(out, names, self.greatest)
     }
 }
 

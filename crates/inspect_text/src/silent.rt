@@ -3,29 +3,30 @@ use crate::counts::{ContextCount, Counts};
 use crate::record::Record;
 use account::Account;
 use context_core::Standing;
-use inspect_words::{action_word, push_halt, push_many, push_standing, push_tick};
+use inspect_words::{Run, Words, action_word, push_halt, push_many, push_standing, push_tick};
 use lane_turn::{Activity, Awaited, LaneState, Origin};
 use loop_script::{Action, Body, Script};
+use run_names::Thing;
 use std::alloc::AllocError;
 
 /// Adds a line for each source that was never dispatched, each loop that did not end and each thread that did not come to the end of its
 /// start list.
 pub(crate) fn push_silent(
     out: &mut String,
-    account: &Account,
+    run: Run<'_>,
     counts: &Counts,
 ) -> Result<(), AllocError> {
-    let script = account.script();
+    let words = run.words();
     for context in counts.contexts.as_slice() {
         for record in context.sources.as_slice() {
             if record.dispatches.count == 0 {
-                push_undispatched(out, account, context, record)?;
+                push_undispatched(out, run, context, record)?;
             }
         }
     }
-    for number in 0..script.lanes() {
-        if let Some(lane) = account.lane(number) {
-            push_unended(out, script, number, lane)?;
+    for number in 0..words.script.lanes() {
+        if let Some(lane) = run.account.lane(number) {
+            push_unended(out, words, number, lane)?;
         }
     }
     Ok(())
@@ -34,49 +35,64 @@ pub(crate) fn push_silent(
 /// Adds that a source was never dispatched, and why.
 fn push_undispatched(
     out: &mut String,
-    account: &Account,
+    run: Run<'_>,
     context: &ContextCount,
     record: &Record,
 ) -> Result<(), AllocError> {
-    let script = account.script();
-    record.push_name(out)?;
-    if let Some(awaited) = awaited_by(account, record) {
-        let sender = awaited.sender;
-        let task = awaited.reply.task;
-        write!(out, ", the reply of task {sender}.{task},")?;
-    } else if let Some(sender) = record.sender {
-        write!(out, ", which thread {sender} sent,")?;
-    }
+    let words = run.words();
+    record.push_name(out, words.names)?;
+    push_sender(out, run, record)?;
     out.push_str(" was never dispatched: ")?;
-    if !is_there(account, record) {
+    if !is_there(run.account, record) {
         out.push_str("it was destroyed before")?;
     } else if record.iterations.count == 0 {
-        push_not_iterated(out, script, context, record)?;
+        push_not_iterated(out, words, context, record)?;
     } else if record.waits.count == record.iterations.count {
         out.push_str("it was ready in ")?;
         push_many(out, record.waits.count, "iteration", "iterations")?;
-        let number = record.context;
-        write!(out, " of context {number}, and sources of ")?;
-        record.push_behind(out)?;
+        out.push_str(" of ")?;
+        words.names.push(out, Thing::Context(record.context))?;
+        out.push_str(", and sources of ")?;
+        record.push_behind(out, words.names)?;
         out.push_str(" went first")?;
     } else if let Some(standing) = record.latest {
-        push_latest(out, script, record, standing)?;
+        push_latest(out, words, record, standing)?;
     }
     out.push_str("\n")
+}
+
+/// Adds whose reply a source is, or which thread sent it, where that is so.
+fn push_sender(out: &mut String, run: Run<'_>, record: &Record) -> Result<(), AllocError> {
+    if let Some(awaited) = awaited_by(run.account, record) {
+        out.push_str(", the reply of ")?;
+        let task = Thing::Task {
+            lane: awaited.sender,
+            number: awaited.reply.task,
+        };
+        run.names.push(out, task)?;
+    } else if let Some(sender) = record.sender {
+        out.push_str(", which ")?;
+        run.names.push(out, Thing::Thread(sender))?;
+        out.push_str(" sent")?;
+    } else {
+        return Ok(());
+    }
+    out.push_str(",")
 }
 
 /// Adds how a source stood when its context was last iterated.
 fn push_latest(
     out: &mut String,
-    script: &Script,
+    words: Words<'_>,
     record: &Record,
     standing: Standing,
 ) -> Result<(), AllocError> {
-    let number = record.context;
-    write!(out, "in the last iteration of context {number}, ")?;
-    push_tick(out, script, record.iterations.last)?;
+    out.push_str("in the last iteration of ")?;
+    words.names.push(out, Thing::Context(record.context))?;
     out.push_str(", ")?;
-    push_standing(out, script, record.row.id, standing)?;
+    push_tick(out, words.script, record.iterations.last)?;
+    out.push_str(", ")?;
+    push_standing(out, words, record.context, record.row.id, standing)?;
     if standing == Standing::Selected {
         out.push_str(", but its thread came to no dispatch of it")?;
     }
@@ -111,18 +127,18 @@ fn is_there(account: &Account, record: &Record) -> bool {
 /// Adds why a source met no iteration of its context.
 fn push_not_iterated(
     out: &mut String,
-    script: &Script,
+    words: Words<'_>,
     context: &ContextCount,
     record: &Record,
 ) -> Result<(), AllocError> {
-    let number = record.context;
+    words.names.push(out, Thing::Context(record.context))?;
     if context.iterations.count != 0 {
-        write!(out, "context {number} was last iterated in ")?;
-        push_tick(out, script, context.iterations.last)?;
+        out.push_str(" was last iterated in ")?;
+        push_tick(out, words.script, context.iterations.last)?;
         return out.push_str(", before it was attached");
     }
-    write!(out, "context {number} was never iterated, since ")?;
-    out.push_str(if has_loop(script, number) {
+    out.push_str(" was never iterated, since ")?;
+    out.push_str(if has_loop(words.script, record.context) {
         "no loop of it ran and no action iterated it"
     } else {
         "it has no loop and no action iterated it"
@@ -169,22 +185,22 @@ fn in_progress(lane: &LaneState) -> Unended {
 /// Adds that loops of a thread did not end, that it halted, and to what of its start list it did not come.
 fn push_unended(
     out: &mut String,
-    script: &Script,
+    words: Words<'_>,
     number: u32,
     lane: &LaneState,
 ) -> Result<(), AllocError> {
     for one in lane.frames() {
         if let Activity::Loop { number, context } = one {
-            writeln!(
-                out,
-                "loop {number} of context {context} had not ended when the run did"
-            )?;
+            words.names.push(out, Thing::Loop(number))?;
+            out.push_str(" of ")?;
+            words.names.push(out, Thing::Context(context))?;
+            out.push_str(" had not ended when the run did\n")?;
         }
     }
-    push_halt(out, script, number, lane)?;
+    push_halt(out, words, number, lane)?;
     let left = in_progress(lane);
     match left.place {
-        Some(place) => push_rest(out, script, number, place, lane.halted(), left.outermost),
+        Some(place) => push_rest(out, words, number, place, lane.halted(), left.outermost),
         None => Ok(()),
     }
 }
@@ -192,22 +208,23 @@ fn push_unended(
 /// Adds to what of its start list a thread did not come.
 fn push_rest(
     out: &mut String,
-    script: &Script,
+    words: Words<'_>,
     number: u32,
     place: usize,
     halted: bool,
     running: Option<u32>,
 ) -> Result<(), AllocError> {
-    let Some(rest) = script.actions(Body::Start(number)).get(place..) else {
+    let Some(rest) = words.script.actions(Body::Start(number)).get(place..) else {
         return Ok(());
     };
     let Some(next) = rest.first() else {
         return Ok(());
     };
     let word = action_word(next);
+    words.names.push(out, Thing::Thread(number))?;
     write!(
         out,
-        "thread {number} did not come to action {place} of its start list ({word})"
+        " did not come to action {place} of its start list ({word})"
     )?;
     if rest.len() > 1 {
         out.push_str(" or those behind it")?;
@@ -215,7 +232,9 @@ fn push_rest(
     if halted {
         out.push_str(", since it halted")?;
     } else if let Some(running) = running {
-        write!(out, ", since loop {running} had not ended")?;
+        out.push_str(", since ")?;
+        words.names.push(out, Thing::Loop(running))?;
+        out.push_str(" had not ended")?;
     }
     let sources = attaches(rest);
     if sources != 0 {

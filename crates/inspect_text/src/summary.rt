@@ -4,8 +4,9 @@ use crate::noted::{Noted, push_note};
 use crate::silent::push_silent;
 use account::{Account, Moment};
 use glib_notes::Note;
-use inspect_words::{push_many, push_ticks};
+use inspect_words::{Run, Words, push_many, push_ticks};
 use loop_script::Script;
+use run_names::Thing;
 use std::alloc::{AllocError, Global};
 
 /// Counts what happens in a run, and tells of it in the end.
@@ -38,38 +39,39 @@ impl Summary {
     }
 
     /// Adds a line for each source and each loop, and then one for each that was silent.
-    pub fn end(&self, account: &Account, out: &mut String) -> Result<(), AllocError> {
-        let script = account.script();
+    pub fn end(&self, run: Run<'_>, out: &mut String) -> Result<(), AllocError> {
+        let words = run.words();
+        let script = words.script;
         push_ticks(out, script, 0, script.ticks().saturating_sub(1))?;
         out.push_str("\n")?;
         for context in self.counts.contexts.as_slice() {
             for record in context.sources.as_slice() {
-                record.push(out, script)?;
+                record.push(out, words)?;
             }
         }
         for number in 0..script.loops() {
-            self.push_loop(out, script, number)?;
+            self.push_loop(out, words, number)?;
         }
-        self.push_rest(account, out)?;
-        self.push_notes(script, out)
+        self.push_rest(run, out)?;
+        self.push_notes(words, out)
     }
 
     /// Adds where GLib does otherwise.
-    fn push_notes(&self, script: &Script, out: &mut String) -> Result<(), AllocError> {
+    fn push_notes(&self, words: Words<'_>, out: &mut String) -> Result<(), AllocError> {
         if self.notes.is_empty() {
             return Ok(());
         }
         out.push_str("\n")?;
         for note in self.notes.as_slice() {
-            push_note(out, script, note)?;
+            push_note(out, words, note)?;
         }
         Ok(())
     }
 
     /// Adds what was silent.
-    fn push_rest(&self, account: &Account, out: &mut String) -> Result<(), AllocError> {
+    fn push_rest(&self, run: Run<'_>, out: &mut String) -> Result<(), AllocError> {
         let mut silent = String::new(self.alloc);
-        push_silent(&mut silent, account, &self.counts)?;
+        push_silent(&mut silent, run, &self.counts)?;
         if silent.is_empty() {
             return out.push_str("\nEach source was dispatched, and each loop that ran ended.\n");
         }
@@ -78,23 +80,29 @@ impl Summary {
     }
 
     /// Adds the line of a loop.
-    fn push_loop(&self, out: &mut String, script: &Script, number: u32) -> Result<(), AllocError> {
+    fn push_loop(
+        &self,
+        out: &mut String,
+        words: Words<'_>,
+        number: u32,
+    ) -> Result<(), AllocError> {
         let Some(count) = self.counts.loops.get(number as usize) else {
             return Ok(());
         };
-        write!(out, "loop {number}: ")?;
+        words.names.push(out, Thing::Loop(number))?;
+        out.push_str(": ")?;
         if count.iterations.count == 0 {
             out.push_str("never iterated")?;
         } else {
             push_many(out, count.iterations.count, "iteration", "iterations")?;
             out.push_str(", ")?;
-            count.iterations.push_ticks(out, script)?;
+            count.iterations.push_ticks(out, words.script)?;
         }
         if count.ends.count != 0 {
             out.push_str("; ended ")?;
             push_many(out, count.ends.count, "time", "times")?;
             out.push_str(", ")?;
-            count.ends.push_ticks(out, script)?;
+            count.ends.push_ticks(out, words.script)?;
         }
         out.push_str("\n")
     }

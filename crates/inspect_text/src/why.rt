@@ -3,10 +3,11 @@ use crate::alike::Alike;
 use crate::block::block_of;
 use crate::noted::{Noted, push_note};
 use crate::rests::Rests;
-use account::{Account, Deed, Moment};
-use inspect_words::{Begun, Window, begun_by, halt_reason, push_tick};
+use account::{Deed, Moment};
+use inspect_words::{Begun, Run, Window, Words, begun_by, halt_reason, push_tick};
 use lane_turn::LaneState;
 use loop_script::Script;
+use run_names::Thing;
 use std::alloc::{AllocError, Global};
 
 /// Tells of each iteration why each source of its context is dispatched or not.
@@ -40,15 +41,15 @@ impl Why {
     /// else comes of their thread. Where GLib does otherwise a note says so, each way once for each thread and context.
     pub fn tell(
         &mut self,
-        account: &Account,
+        run: Run<'_>,
         moment: &Moment,
         out: &mut String,
     ) -> Result<(), AllocError> {
-        self.tell_move(account, moment, out)?;
-        for note in self.noted.look(account, moment)?.as_slice() {
+        self.tell_move(run, moment, out)?;
+        for note in self.noted.look(run.account, moment)?.as_slice() {
             if self.window.has(moment.lane, moment.tick) {
-                self.flush(account.script(), moment.lane, out)?;
-                push_note(out, account.script(), note)?;
+                self.flush(run.words(), moment.lane, out)?;
+                push_note(out, run.words(), note)?;
             }
         }
         Ok(())
@@ -56,19 +57,19 @@ impl Why {
 
     fn tell_move(
         &mut self,
-        account: &Account,
+        run: Run<'_>,
         moment: &Moment,
         out: &mut String,
     ) -> Result<(), AllocError> {
-        let Some(lane) = account.lane(moment.lane) else {
+        let Some(lane) = run.account.lane(moment.lane) else {
             return Ok(());
         };
-        let script = account.script();
-        if let Some(iteration) = begun_by(account, moment) {
+        let words = run.words();
+        if let Some(iteration) = begun_by(run.account, moment) {
             let lost = self.rests.begin(lane, iteration.context)?;
             if self.window.has(moment.lane, moment.tick) {
                 let tick = moment.tick;
-                self.tell_iteration(script, tick, lane, &iteration, lost.as_slice(), out)?;
+                self.tell_iteration(words, tick, lane, &iteration, lost.as_slice(), out)?;
             }
             return Ok(());
         }
@@ -77,28 +78,28 @@ impl Why {
             Deed::PassedOver { context, source } => {
                 self.rests.take(context);
                 if self.window.has(moment.lane, moment.tick) {
-                    self.flush(script, moment.lane, out)?;
-                    push_passed_over(out, script, moment, context, source)?;
+                    self.flush(words, moment.lane, out)?;
+                    push_passed_over(out, words, moment, context, source)?;
                 }
             }
             _ => {}
         }
         if self.window.has(moment.lane, moment.tick) {
-            self.tell_halt(script, lane, moment, out)?;
+            self.tell_halt(words, lane, moment, out)?;
         }
         Ok(())
     }
 
     fn tell_iteration(
         &mut self,
-        script: &Script,
+        words: Words<'_>,
         tick: u32,
         lane: &LaneState,
         iteration: &Begun,
         lost: &[u64],
         out: &mut String,
     ) -> Result<(), AllocError> {
-        let block = block_of(self.alloc, script, tick, lane, iteration.context, lost)?;
+        let block = block_of(self.alloc, words, tick, lane, iteration.context, lost)?;
         let Some(place) = self.alike.get_mut(iteration.lane as usize) else {
             return Ok(());
         };
@@ -107,7 +108,7 @@ impl Why {
                 alike.add(tick);
                 return Ok(());
             }
-            alike.push(out, script)?;
+            alike.push(out, words)?;
         }
         *place = Some(Alike::new(*iteration, block, tick));
         Ok(())
@@ -116,7 +117,7 @@ impl Why {
     /// Adds that a thread halts, where a moment says so.
     fn tell_halt(
         &mut self,
-        script: &Script,
+        words: Words<'_>,
         lane: &LaneState,
         moment: &Moment,
         out: &mut String,
@@ -126,31 +127,32 @@ impl Why {
         };
         for line in lines {
             if let Some(reason) = halt_reason(line.event) {
-                self.flush(script, moment.lane, out)?;
-                push_tick(out, script, moment.tick)?;
-                let number = moment.lane;
-                writeln!(out, ", thread {number} halts: {reason}")?;
+                self.flush(words, moment.lane, out)?;
+                push_tick(out, words.script, moment.tick)?;
+                out.push_str(", ")?;
+                words.names.push(out, Thing::Thread(moment.lane))?;
+                writeln!(out, " halts: {reason}")?;
             }
         }
         Ok(())
     }
 
     /// Adds what is not told yet of a thread.
-    fn flush(&mut self, script: &Script, lane: u32, out: &mut String) -> Result<(), AllocError> {
+    fn flush(&mut self, words: Words<'_>, lane: u32, out: &mut String) -> Result<(), AllocError> {
         let Some(place) = self.alike.get_mut(lane as usize) else {
             return Ok(());
         };
         match place.take() {
-            Some(alike) => alike.push(out, script),
+            Some(alike) => alike.push(out, words),
             None => Ok(()),
         }
     }
 
     /// Adds what is not told yet at the end of the run.
-    pub fn end(&mut self, account: &Account, out: &mut String) -> Result<(), AllocError> {
-        let script = account.script();
-        for lane in 0..script.lanes() {
-            self.flush(script, lane, out)?;
+    pub fn end(&mut self, run: Run<'_>, out: &mut String) -> Result<(), AllocError> {
+        let words = run.words();
+        for lane in 0..words.script.lanes() {
+            self.flush(words, lane, out)?;
         }
         Ok(())
     }
@@ -158,15 +160,17 @@ impl Why {
 
 fn push_passed_over(
     out: &mut String,
-    script: &Script,
+    words: Words<'_>,
     moment: &Moment,
     context: u32,
     source: u64,
 ) -> Result<(), AllocError> {
-    let lane = moment.lane;
-    push_tick(out, script, moment.tick)?;
-    writeln!(
-        out,
-        ", thread {lane}: source {source} of context {context} is passed over: it was destroyed"
-    )
+    push_tick(out, words.script, moment.tick)?;
+    out.push_str(", ")?;
+    words.names.push(out, Thing::Thread(moment.lane))?;
+    out.push_str(": ")?;
+    words.names.push_source(out, context, source)?;
+    out.push_str(" of ")?;
+    words.names.push(out, Thing::Context(context))?;
+    out.push_str(" is passed over: it was destroyed\n")
 }

@@ -1,6 +1,8 @@
 //! Actions, and what did something, in words.
 use account::{Deed, Moment};
+use lane_turn::Word;
 use loop_script::{Action, Body};
+use run_names::{RunNames, Thing};
 use std::alloc::AllocError;
 
 /// The word of an action, as scripts write it.
@@ -30,62 +32,98 @@ pub fn action_word(action: &Action) -> &'static str {
     }
 }
 
+/// The word of an action that missed, as scripts write it.
+pub(crate) fn miss_word(word: Word) -> &'static str {
+    match word {
+        Word::Attach => "attach",
+        Word::Child => "child",
+        Word::Destroy => "destroy",
+        Word::SetReady => "set_ready",
+        Word::SetPriority => "set_priority",
+        Word::Run => "run",
+        Word::Quit => "quit",
+        Word::Disconnect => "disconnect",
+        Word::Push => "push",
+        Word::Pop => "pop",
+        Word::Release => "release",
+        Word::Give => "give",
+    }
+}
+
 /// Adds which list of actions it is.
-pub fn push_list(out: &mut String, body: Body) -> Result<(), AllocError> {
+pub fn push_list(out: &mut String, names: &RunNames, body: Body) -> Result<(), AllocError> {
     match body {
-        Body::Start(lane) => write!(out, "the start list of thread {lane}"),
-        Body::Procedure(proc) => write!(out, "procedure {proc}"),
+        Body::Start(lane) => {
+            out.push_str("the start list of ")?;
+            names.push(out, Thing::Thread(lane))
+        }
+        Body::Procedure(proc) => names.push(out, Thing::Procedure(proc)),
         Body::Nothing => out.push_str("no procedure"),
     }
 }
 
 /// Adds what a moment was, as the cause of something.
-pub fn push_cause(out: &mut String, moment: &Moment) -> Result<(), AllocError> {
+pub fn push_cause(
+    out: &mut String,
+    names: &RunNames,
+    moment: &Moment,
+) -> Result<(), AllocError> {
     match moment.deed {
         Deed::Acted { body, place } => {
             write!(out, "action {place} of ")?;
-            push_list(out, body)
+            push_list(out, names, body)
         }
         Deed::Returned { body } => {
             out.push_str("the end of a call of ")?;
-            push_list(out, body)
+            push_list(out, names, body)
         }
-        Deed::Received { sender, .. } => write!(out, "what thread {sender} sent"),
+        Deed::Received { sender, .. } => {
+            out.push_str("what ")?;
+            names.push(out, Thing::Thread(sender))?;
+            out.push_str(" sent")
+        }
         _ => out.push_str("the run"),
     }
 }
 
-/// Adds an action: its word, and the number that stands next to it in the script.
-pub fn push_action(out: &mut String, action: &Action) -> Result<(), AllocError> {
+/// Adds an action: its word, and what stands next to it in the script.
+pub fn push_action(
+    out: &mut String,
+    names: &RunNames,
+    action: &Action,
+) -> Result<(), AllocError> {
     out.push_str(action_word(action))?;
-    match number_of(action) {
-        Some(number) => write!(out, " {number}"),
+    match thing_of(action) {
+        Some(thing) => {
+            out.push_str(" ")?;
+            names.push_bare(out, thing)
+        }
         None => Ok(()),
     }
 }
 
-/// The first number of an action.
-fn number_of(action: &Action) -> Option<u32> {
+/// What an action names first.
+fn thing_of(action: &Action) -> Option<Thing> {
     match action {
-        Action::Attach { context, .. } => Some(*context),
-        Action::Invoke { context, .. } => Some(*context),
-        Action::Give { context, .. } => Some(*context),
-        Action::Connect { cancellable, .. } => Some(*cancellable),
-        Action::Child { parent, .. } => Some(u32::from(*parent)),
-        Action::Destroy(slot) => Some(u32::from(*slot)),
-        Action::SetReady(slot, _) => Some(u32::from(*slot)),
-        Action::SetPriority(slot, _) => Some(u32::from(*slot)),
-        Action::Disconnect(slot) => Some(u32::from(*slot)),
-        Action::Iterate(number) => Some(*number),
-        Action::Pending(number) => Some(*number),
-        Action::Run(number) => Some(*number),
-        Action::Quit(number) => Some(*number),
-        Action::Cancel(number) => Some(*number),
-        Action::Push(number) => Some(*number),
-        Action::Pop(number) => Some(*number),
-        Action::Acquire(number) => Some(*number),
-        Action::Release(number) => Some(*number),
-        Action::Log(number) => Some(*number),
+        Action::Attach { context, .. } => Some(Thing::Context(*context)),
+        Action::Invoke { context, .. } => Some(Thing::Context(*context)),
+        Action::Give { context, .. } => Some(Thing::Context(*context)),
+        Action::Connect { cancellable, .. } => Some(Thing::Cancellable(*cancellable)),
+        Action::Child { parent, .. } => Some(Thing::Slot(u32::from(*parent))),
+        Action::Destroy(slot) => Some(Thing::Slot(u32::from(*slot))),
+        Action::SetReady(slot, _) => Some(Thing::Slot(u32::from(*slot))),
+        Action::SetPriority(slot, _) => Some(Thing::Slot(u32::from(*slot))),
+        Action::Disconnect(slot) => Some(Thing::Slot(u32::from(*slot))),
+        Action::Iterate(number) => Some(Thing::Context(*number)),
+        Action::Pending(number) => Some(Thing::Context(*number)),
+        Action::Run(number) => Some(Thing::Loop(*number)),
+        Action::Quit(number) => Some(Thing::Loop(*number)),
+        Action::Cancel(number) => Some(Thing::Cancellable(*number)),
+        Action::Push(number) => Some(Thing::Context(*number)),
+        Action::Pop(number) => Some(Thing::Context(*number)),
+        Action::Acquire(number) => Some(Thing::Context(*number)),
+        Action::Release(number) => Some(Thing::Context(*number)),
+        Action::Log(number) => Some(Thing::Text(*number)),
         Action::Task(_) => None,
         Action::ShowDefault => None,
     }

@@ -4,6 +4,7 @@ use crate::window::SourceName;
 use account::{Account, Deed, Moment};
 use lane_turn::{Activity, Asker, Call, LaneState, Origin};
 use loop_script::{Action, Body};
+use run_names::{RunNames, Thing};
 use std::alloc::AllocError;
 
 /// Who asked for an iteration.
@@ -114,28 +115,29 @@ pub fn begun_by(account: &Account, moment: &Moment) -> Option<Begun> {
 
 impl Begun {
     /// Adds which iteration it is: its thread, who asked for it, and its context.
-    pub fn push(&self, out: &mut String) -> Result<(), AllocError> {
-        let lane = self.lane;
-        let context = self.context;
-        write!(out, ", thread {lane}: ")?;
-        self.asker.push(out)?;
-        write!(out, " iterates context {context}")
+    pub fn push(&self, out: &mut String, names: &RunNames) -> Result<(), AllocError> {
+        out.push_str(", ")?;
+        names.push(out, Thing::Thread(self.lane))?;
+        out.push_str(": ")?;
+        self.asker.push(out, names)?;
+        out.push_str(" iterates ")?;
+        names.push(out, Thing::Context(self.context))
     }
 }
 
 impl AskedBy {
     /// Adds who asked.
-    pub fn push(self, out: &mut String) -> Result<(), AllocError> {
+    pub fn push(self, out: &mut String, names: &RunNames) -> Result<(), AllocError> {
         match self {
-            AskedBy::Loop(number) => write!(out, "loop {number}"),
+            AskedBy::Loop(number) => names.push(out, Thing::Loop(number)),
             AskedBy::Action {
                 caller,
                 body,
                 place,
             } => {
                 write!(out, "action {place} of ")?;
-                push_list(out, body)?;
-                caller.push(out)
+                push_list(out, names, body)?;
+                caller.push(out, names)
             }
         }
     }
@@ -143,11 +145,13 @@ impl AskedBy {
 
 impl Caller {
     /// Adds what made the call, where that is not the thread itself.
-    fn push(self, out: &mut String) -> Result<(), AllocError> {
+    fn push(self, out: &mut String, names: &RunNames) -> Result<(), AllocError> {
         match self {
             Caller::Start => Ok(()),
             Caller::Source(SourceName { context, id }) => {
-                write!(out, ", which source {context}.{id} calls,")
+                out.push_str(", which ")?;
+                names.push(out, Thing::Source { context, id })?;
+                out.push_str(" calls,")
             }
             Caller::Invoke => out.push_str(", which is invoked,"),
         }

@@ -1,7 +1,8 @@
 //! When threads halted, and why.
+use crate::run::Words;
 use crate::time::push_tick;
 use lane_turn::{Event, LaneState, Line};
-use loop_script::Script;
+use run_names::Thing;
 use std::alloc::AllocError;
 
 /// Why a thread halts, where a line says that it does.
@@ -37,14 +38,15 @@ pub fn halt_of(lane: &LaneState) -> Option<Halt> {
 /// Adds when and why a thread halted, if it did.
 pub fn push_halt(
     out: &mut String,
-    script: &Script,
+    words: Words<'_>,
     number: u32,
     lane: &LaneState,
 ) -> Result<(), AllocError> {
     let Some(Halt { tick, reason }) = halt_of(lane) else {
         return Ok(());
     };
-    write!(out, "thread {number} halted in ")?;
-    push_tick(out, script, tick)?;
+    words.names.push(out, Thing::Thread(number))?;
+    out.push_str(" halted in ")?;
+    push_tick(out, words.script, tick)?;
     writeln!(out, ": {reason}")
 }

@@ -4,7 +4,10 @@
 
 mod action_words;
 mod begun;
+mod follow;
 mod halt;
+mod named_line;
+mod run;
 mod span;
 mod time;
 mod window;
@@ -13,7 +16,10 @@ mod written;
 
 pub use action_words::{action_word, push_action, push_cause, push_list};
 pub use begun::{AskedBy, Begun, Caller, begun_by, caller_of};
+pub use follow::follow;
 pub use halt::{Halt, halt_of, halt_reason, push_halt};
+pub use named_line::{line_text_of, named_text_of, push_priority};
+pub use run::{Run, Words};
 pub use span::{Span, push_many};
 pub use time::{push_milliseconds, push_tick, push_ticks, push_time_to_come};
 pub use window::{SourceName, Window};

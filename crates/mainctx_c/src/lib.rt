@@ -12,6 +12,7 @@ use inspect_text::{Asked, push_asked};
 use inspect_words::{SourceName, Window};
 use loop_script::{Script, ScriptFault};
 use mainctx::{MainFault, OverWrite, run_alone};
+use run_names::RunNames;
 use script_report::{Form, check_script};
 use std::alloc::Global;
 
@@ -121,7 +122,7 @@ fn tell(alloc: Global, script: &[u8], asked: Asked, room: &mut [u8], needed: &mu
         Err(fault) => return class_of(fault),
     };
     let mut told = String::new(alloc);
-    match push_asked(alloc, script, asked, &mut told) {
+    match push_asked(alloc, script, RunNames::numbers(alloc), asked, &mut told) {
         Err(_) => MEMORY,
         Ok(()) => {
             *needed = told.len();
