@@ -40,6 +40,11 @@ impl Command {
         self.takes_ticks() || self == Command::Stack
     }
 
+    /// Whether what it writes may have the names of the script.
+    fn tells_names(self) -> bool {
+        self != Command::Translate
+    }
+
     /// Whether it can end after some lines.
     fn takes_most_lines(self) -> bool {
         match self {
@@ -66,6 +71,8 @@ pub(crate) struct Order<'a> {
     pub most_lines: Option<u32>,
     /// Whether the text says where GLib does otherwise.
     pub notes: bool,
+    /// Whether it tells numbers where the script has names.
+    pub numbers: bool,
     /// None is standard input.
     pub file: Option<&'a str>,
 }
@@ -151,6 +158,7 @@ fn read_rest(command: Command, words: &[String]) -> Asked<'_> {
         columns: USUAL_COLUMNS,
         most_lines: None,
         notes: false,
+        numbers: false,
         file: None,
     };
     let mut wanted = Wanted::Any;
@@ -211,6 +219,10 @@ fn read_flag<'a>(order: &mut Order<'a>, text: &'a str) -> Option<Wanted> {
         "--most-lines" if order.command.takes_most_lines() => Some(Wanted::MostLines),
         "--notes" if order.command == Command::Text => {
             order.notes = true;
+            Some(Wanted::Any)
+        }
+        "--numbers" if order.command.tells_names() => {
+            order.numbers = true;
             Some(Wanted::Any)
         }
         _ if text.len() > 1 && text.starts_with("-") => None,
