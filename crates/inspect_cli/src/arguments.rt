@@ -40,7 +40,7 @@ impl Command {
         self.takes_ticks() || self == Command::Stack
     }
 
-    /// Whether it tells of things that may have names.
+    /// Whether what it writes may have the names of the script.
     fn tells_names(self) -> bool {
         self != Command::Translate
     }
@@ -71,7 +71,7 @@ pub(crate) struct Order<'a> {
     pub most_lines: Option<u32>,
     /// Whether the text says where GLib does otherwise.
     pub notes: bool,
-    /// Whether numbers are told where the script has names.
+    /// Whether it tells numbers where the script has names.
     pub numbers: bool,
     /// None is standard input.
     pub file: Option<&'a str>,
@@ -217,12 +217,12 @@ fn read_flag<'a>(order: &mut Order<'a>, text: &'a str) -> Option<Wanted> {
         "--step" if order.command == Command::Stack => Some(Wanted::Step),
         "--columns" if order.command == Command::Timeline => Some(Wanted::Columns),
         "--most-lines" if order.command.takes_most_lines() => Some(Wanted::MostLines),
-        "--numbers" if order.command.tells_names() => {
-            order.numbers = true;
-            Some(Wanted::Any)
-        }
         "--notes" if order.command == Command::Text => {
             order.notes = true;
+            Some(Wanted::Any)
+        }
+        "--numbers" if order.command.tells_names() => {
+            order.numbers = true;
             Some(Wanted::Any)
         }
         _ if text.len() > 1 && text.starts_with("-") => None,
