@@ -221,11 +221,7 @@ fn push_next(words: Words<'_>, call: Call, out: &mut String) -> Result<(), Alloc
 }
 
 /// Adds what began an iteration, by what is just outside of it.
-fn push_asker(
-    names: &RunNames,
-    outside: Outside,
-    out: &mut String,
-) -> Result<(), AllocError> {
+fn push_asker(names: &RunNames, outside: Outside, out: &mut String) -> Result<(), AllocError> {
     match outside {
         Outside::Nothing => out.push_str("the thread"),
         Outside::Loop(number) => AskedBy::Loop(number).push(out, names),

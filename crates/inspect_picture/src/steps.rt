@@ -109,7 +109,10 @@ pub(crate) fn is_step(deed: Deed) -> bool {
 
 /// How many characters a text has.
 pub(crate) fn width_of(text: &str) -> usize {
-    text.as_bytes().iter().filter(|byte| is_first(**byte)).count()
+    text.as_bytes()
+        .iter()
+        .filter(|byte| is_first(**byte))
+        .count()
 }
 
 /// Whether a character begins with a byte.
@@ -200,11 +203,7 @@ pub(crate) fn push_stack(
 }
 
 /// Adds one of the things in progress.
-fn push_activity(
-    row: &mut String,
-    names: &RunNames,
-    one: Activity<'_>,
-) -> Result<(), AllocError> {
+fn push_activity(row: &mut String, names: &RunNames, one: Activity<'_>) -> Result<(), AllocError> {
     match one {
         Activity::Call(call) if call.origin == Origin::Start => row.push_str("start"),
         Activity::Call(call) => match call.body {

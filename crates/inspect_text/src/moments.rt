@@ -99,10 +99,7 @@ fn push_gained(
     moment: &Moment,
 ) -> Result<(), AllocError> {
     if let Some(Place { context, id }) = moment.attached(words.script, lane) {
-        write!(
-            out,
-            ",\"attached\":{{\"context\":{context},\"source\":{id}"
-        )?;
+        write!(out, ",\"attached\":{{\"context\":{context},\"source\":{id}")?;
         push_quoted_name(alloc, out, words.names, context, id)?;
         out.push_str("}")?;
     }

@@ -54,11 +54,7 @@ impl Noted {
 }
 
 /// Adds the line of a note.
-pub(crate) fn push_note(
-    out: &mut String,
-    words: Words<'_>,
-    note: &Note,
-) -> Result<(), AllocError> {
+pub(crate) fn push_note(out: &mut String, words: Words<'_>, note: &Note) -> Result<(), AllocError> {
     out.push_str("note: ")?;
     push_tick(out, words.script, note.tick)?;
     out.push_str(", ")?;

@@ -80,12 +80,7 @@ impl Summary {
     }
 
     /// Adds the line of a loop.
-    fn push_loop(
-        &self,
-        out: &mut String,
-        words: Words<'_>,
-        number: u32,
-    ) -> Result<(), AllocError> {
+    fn push_loop(&self, out: &mut String, words: Words<'_>, number: u32) -> Result<(), AllocError> {
         let Some(count) = self.counts.loops.get(number as usize) else {
             return Ok(());
         };

@@ -63,11 +63,7 @@ pub fn push_list(out: &mut String, names: &RunNames, body: Body) -> Result<(), A
 }
 
 /// Adds what a moment was, as the cause of something.
-pub fn push_cause(
-    out: &mut String,
-    names: &RunNames,
-    moment: &Moment,
-) -> Result<(), AllocError> {
+pub fn push_cause(out: &mut String, names: &RunNames, moment: &Moment) -> Result<(), AllocError> {
     match moment.deed {
         Deed::Acted { body, place } => {
             write!(out, "action {place} of ")?;
@@ -87,11 +83,7 @@ pub fn push_cause(
 }
 
 /// Adds an action: its word, and what stands next to it in the script.
-pub fn push_action(
-    out: &mut String,
-    names: &RunNames,
-    action: &Action,
-) -> Result<(), AllocError> {
+pub fn push_action(out: &mut String, names: &RunNames, action: &Action) -> Result<(), AllocError> {
     out.push_str(action_word(action))?;
     match thing_of(action) {
         Some(thing) => {

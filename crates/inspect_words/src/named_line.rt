@@ -70,11 +70,7 @@ fn priority_word(priority: i32) -> Option<&'static str> {
 }
 
 /// Adds the procedure that something calls, where it calls one.
-fn push_callee(
-    out: &mut String,
-    names: &RunNames,
-    callee: Option<u32>,
-) -> Result<(), AllocError> {
+fn push_callee(out: &mut String, names: &RunNames, callee: Option<u32>) -> Result<(), AllocError> {
     match callee {
         Some(procedure) => {
             out.push_str(" -> ")?;

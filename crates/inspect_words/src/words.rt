@@ -84,11 +84,7 @@ pub fn push_source(
 }
 
 /// Adds a ready time that a source has beside what it waits for.
-fn push_or_time(
-    out: &mut String,
-    script: &Script,
-    until: Option<u64>,
-) -> Result<(), AllocError> {
+fn push_or_time(out: &mut String, script: &Script, until: Option<u64>) -> Result<(), AllocError> {
     match until {
         Some(us) => {
             out.push_str(", or for ")?;

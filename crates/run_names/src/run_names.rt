@@ -1,11 +1,14 @@
 //! What the things of a run are called.
+ghost use Rattle.std.specs.Prelude.{◌≡◌, Some, None, IfOk, IfSome};
+ghost use Rattle.named.specs.Names.{number_of, of_kind};
+ghost use Rattle.run_names.specs.Called.{AreOf};
+
 use crate::label::{Label, Origin};
 use crate::labels::{Labels, Seat};
 use crate::quoted::{push_name, push_quoted};
 use crate::table::Table;
 use crate::thing::Thing;
-use json::{Error, Scratch, Value};
-use named::{Kind, Names, is_named};
+use named::Kind;
 use std::alloc::{AllocError, Global};
 
 /// What the things of a run are called: by names where its script has names, else by numbers.
@@ -19,7 +22,9 @@ pub struct RunNames {
 
 impl RunNames {
     /// Everything is called by its number.
-    pub fn numbers(alloc: Global) -> RunNames {
+    pub fn numbers(alloc: Global) -> RunNames
+        ensures { result.table ≡ None }
+    {
         RunNames {
             alloc,
             table: None,
@@ -29,18 +34,15 @@ impl RunNames {
     }
 
     /// The names of a script with names, before anything has happened; of other bytes numbers.
-    pub fn of_bytes(alloc: Global, bytes: &[u8]) -> Result<RunNames, AllocError> {
-        let mut names = RunNames::numbers(alloc);
-        let mut scratch = Scratch::new(alloc);
-        let script = match Value::from_slice(alloc, bytes, &mut scratch) {
-            Ok(script) => script,
-            Err(Error::OutOfMemory) => return Err(AllocError),
-            Err(_) => return Ok(names),
-        };
-        if is_named(&script) {
-            names.table = Some(Table::new(alloc, &Names::of(alloc, &script)?)?);
-        }
-        Ok(names)
+    pub fn of_bytes(alloc: Global, bytes: &[u8]) -> Result<RunNames, AllocError>
+        ensures { IfOk result (λ names. AreOf bytes.now names.table) }
+    {
+        Ok(RunNames {
+            alloc,
+            table: Table::of_bytes(alloc, bytes)?,
+            sources: Labels::new(alloc),
+            handlers: Labels::new(alloc),
+        })
     }
 
     /// Whether there are names.
@@ -174,7 +176,10 @@ impl RunNames {
         write!(out, " #{place}")
     }
 
-    fn name(&self, kind: Kind, number: u32) -> Option<&str> {
+    /// The name of a number, where there is one. It is that of no other: each name put back to its number gives the number.
+    pub fn name(&self, kind: Kind, number: u32) -> Option<&str>
+        ensures { IfSome result (λ name. IfSome self.now.table (λ names. number_of name.now (of_kind kind names) ≡ Some number)) }
+    {
         match &self.table {
             Some(table) => table.name(kind, number),
             None => None,

@@ -1,6 +1,14 @@
 //! The names that a script gives.
-use named::{Kind, Names};
+ghost use Rattle.std.specs.Prelude.{◌≡◌, Some, IfOk, IfSome, string_bytes};
+ghost use Rattle.json.specs.Value.{value_view};
+ghost use Rattle.named.specs.Names.{names_in, number_of, of_kind};
+ghost use Rattle.named.specs.Views as views;
+ghost use Rattle.run_names.specs.Called.{as_texts, AreOf, HaveNumbers};
+
+use json::{Error, Scratch, Value};
+use named::{Kind, Names, is_named};
 use std::alloc::{AllocError, Global};
+use std::marker::Model;
 
 /// The names of a script by kind; the number of a name is its place among those of its kind.
 #[derive(Drop)]
@@ -15,9 +23,24 @@ pub(crate) struct Table {
     texts: Vec<String>,
 }
 
+impl Model for Table {
+    ghost use Rattle.named.specs.Names.{Names};
+    ghost use Rattle.run_names.specs.Called.{as_texts, HaveNumbers};
+
+    ghost Value = { Names };
+
+    ghost view = { λ t. record { threads = as_texts t.threads.items; contexts = as_texts t.contexts.items; loops = as_texts t.loops.items; procedures = as_texts t.procedures.items; cancellables = as_texts t.cancellables.items; descriptors = as_texts t.descriptors.items; slots = as_texts t.slots.items; texts = as_texts t.texts.items } };
+
+    ghost invariant = { λ t. HaveNumbers (record { threads = as_texts t.threads.items; contexts = as_texts t.contexts.items; loops = as_texts t.loops.items; procedures = as_texts t.procedures.items; cancellables = as_texts t.cancellables.items; descriptors = as_texts t.descriptors.items; slots = as_texts t.slots.items; texts = as_texts t.texts.items }) };
+}
+
 impl Table {
-    /// The same names.
-    pub(crate) fn new(alloc: Global, names: &Names<'_>) -> Result<Table, AllocError> {
+    /// The names of a script with names.
+
+    pub(crate) fn of(alloc: Global, script: &Value<'_>) -> Result<Table, AllocError>
+        ensures { IfOk result (λ table. table ≡ names_in (value_view script.now)) }
+    {
+        let names = Names::of(alloc, script)?;
         Ok(Table {
             threads: copied(alloc, names.of_kind(Kind::Thread))?,
             contexts: copied(alloc, names.of_kind(Kind::Context))?,
@@ -30,8 +53,28 @@ impl Table {
         })
     }
 
+    /// The names of bytes, where they are a script with names.
+    pub(crate) fn of_bytes(alloc: Global, bytes: &[u8]) -> Result<Option<Table>, AllocError>
+        ensures { IfOk result (λ table. AreOf bytes.now table) }
+    {
+        let mut scratch = Scratch::new(alloc);
+        let script = match Value::from_slice(alloc, bytes, &mut scratch) {
+            Ok(script) => script,
+            Err(Error::Invalid) => return Ok(None),
+            // (the others but want of memory never come)
+            Err(_) => return Err(AllocError),
+        };
+        if !is_named(&script) {
+            return Ok(None);
+        }
+        Ok(Some(Table::of(alloc, &script)?))
+    }
+
     /// Those of a kind.
-    pub(crate) fn of_kind(&self, kind: Kind) -> &[String] {
+    pub(crate) fn of_kind(&self, kind: Kind) -> &[String]
+        ensures texts { as_texts result.now ≡ of_kind kind self.now }
+        ensures numbers { HaveNumbers self.now }
+    {
         match kind {
             Kind::Thread => self.threads.as_slice(),
             Kind::Context => self.contexts.as_slice(),
@@ -44,15 +87,19 @@ impl Table {
         }
     }
 
-    /// The name of a number.
-    pub(crate) fn name(&self, kind: Kind, number: u32) -> Option<&str> {
+    /// The name of a number, whose number is that one: no two things of a kind share a name.
+    pub(crate) fn name(&self, kind: Kind, number: u32) -> Option<&str>
+        ensures { IfSome result (λ name. number_of name.now (of_kind kind self.now) ≡ Some number) }
+    {
         let name = self.of_kind(kind).get(number as usize)?;
         Some(name.as_str())
     }
 }
 
 /// The same texts.
-fn copied(alloc: Global, names: &[&str]) -> Result<Vec<String>, AllocError> {
+fn copied(alloc: Global, names: &[&str]) -> Result<Vec<String>, AllocError>
+    ensures { IfOk result (λ list. as_texts list.items ≡ views.texts names.now) }
+{
     let mut list = Vec::new(alloc);
     for name in names {
         list.push(String::from_str(alloc, name)?)?;
