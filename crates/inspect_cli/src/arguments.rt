@@ -1,4 +1,6 @@
 //! The arguments.
+use crate::flag::Flag;
+use crate::wrong::Wrong;
 use inspect_picture::Point;
 use inspect_words::{SourceName, Window};
 
@@ -11,7 +13,7 @@ const LEAST_COLUMNS: u32 = 50;
 const MOST_COLUMNS: u32 = 9999;
 
 /// What of a run is asked for.
-#[derive(Clone, Copy, Debug, PartialEq, Eq)]
+#[derive(Clone, Copy, Debug, Drop, PartialEq, Eq)]
 pub(crate) enum Command {
     Text,
     Why,
@@ -25,9 +27,37 @@ pub(crate) enum Command {
     Translate,
 }
 
+/// The words of all commands.
+pub(crate) const COMMANDS: [&str; 9] = [
+    "text",
+    "why",
+    "summary",
+    "account",
+    "steps",
+    "stack",
+    "timeline",
+    "notes",
+    "translate",
+];
+
 impl Command {
+    /// Its word.
+    pub(crate) fn word(self) -> &'static str {
+        match self {
+            Command::Text => "text",
+            Command::Why => "why",
+            Command::Summary => "summary",
+            Command::Account => "account",
+            Command::Steps => "steps",
+            Command::Stack => "stack",
+            Command::Timeline => "timeline",
+            Command::Notes => "notes",
+            Command::Translate => "translate",
+        }
+    }
+
     /// Whether it can tell of some ticks alone.
-    fn takes_ticks(self) -> bool {
+    pub(crate) fn takes_ticks(self) -> bool {
         match self {
             Command::Why | Command::Account | Command::Steps | Command::Timeline => true,
             Command::Text | Command::Summary | Command::Stack => false,
@@ -36,17 +66,17 @@ impl Command {
     }
 
     /// Whether it can tell of one thread alone.
-    fn takes_lane(self) -> bool {
+    pub(crate) fn takes_lane(self) -> bool {
         self.takes_ticks() || self == Command::Stack
     }
 
     /// Whether what it writes may have the names of the script.
-    fn tells_names(self) -> bool {
+    pub(crate) fn tells_names(self) -> bool {
         self != Command::Translate
     }
 
     /// Whether it can end after some lines.
-    fn takes_most_lines(self) -> bool {
+    pub(crate) fn takes_most_lines(self) -> bool {
         match self {
             Command::Text | Command::Why | Command::Account | Command::Steps => true,
             Command::Summary | Command::Stack | Command::Timeline => false,
@@ -98,8 +128,7 @@ impl Order<'_> {
 pub(crate) enum Asked<'a> {
     Help(Option<Command>),
     Run(Order<'a>),
-    /// Other arguments.
-    Wrong,
+    Wrong(Wrong<'a>),
 }
 
 /// The command of a word.
@@ -121,14 +150,14 @@ fn command_of(word: &str) -> Option<Command> {
 /// Reads `COMMAND [FLAGS] [FILE]`, `--help` or `COMMAND --help`; behind `--` stands a file.
 pub(crate) fn read_words(words: &[String]) -> Asked<'_> {
     let Some((first, rest)) = words.split_first() else {
-        return Asked::Wrong;
+        return Asked::Wrong(Wrong::Nothing);
     };
     if first.as_str() == "--help" {
         return Asked::Help(None);
     }
     match command_of(first.as_str()) {
         Some(command) => read_rest(command, rest),
-        None => Asked::Wrong,
+        None => Asked::Wrong(Wrong::NoCommand(first.as_str())),
     }
 }
 
@@ -136,13 +165,8 @@ pub(crate) fn read_words(words: &[String]) -> Asked<'_> {
 #[derive(Clone, Copy, PartialEq, Eq)]
 enum Wanted {
     Any,
-    Lane,
-    Ticks,
-    Source,
-    Tick,
-    Step,
-    Columns,
-    MostLines,
+    /// What a flag wants behind it.
+    Value(Flag),
     /// A file alone.
     File,
 }
@@ -168,75 +192,92 @@ fn read_rest(command: Command, words: &[String]) -> Asked<'_> {
             return Asked::Help(Some(command));
         }
         match read_word(&mut order, wanted, text) {
-            Some(next) => wanted = next,
-            None => return Asked::Wrong,
+            Ok(next) => wanted = next,
+            Err(wrong) => return Asked::Wrong(wrong),
         }
     }
-    let is_read = wanted == Wanted::Any || wanted == Wanted::File;
-    if is_read && order.is_whole() {
-        Asked::Run(order)
-    } else {
-        Asked::Wrong
+    match wanted {
+        Wanted::Value(flag) => Asked::Wrong(Wrong::NoValue(flag)),
+        _ if !order.is_whole() => Asked::Wrong(Wrong::NoPoint),
+        _ => Asked::Run(order),
     }
 }
 
-/// Takes a word into what is asked for, and answers what the next has to be; None where the word is wrong.
-fn read_word<'a>(order: &mut Order<'a>, wanted: Wanted, text: &'a str) -> Option<Wanted> {
+/// Takes a word into what is asked for, and answers what the next has to be.
+fn read_word<'a>(
+    order: &mut Order<'a>,
+    wanted: Wanted,
+    text: &'a str,
+) -> Result<Wanted, Wrong<'a>> {
     match wanted {
-        Wanted::Any => return read_flag(order, text),
-        Wanted::File => return read_file(order, text, Wanted::File),
-        Wanted::Lane => order.window.lane = Some(number_of(text)?),
-        Wanted::Ticks => {
+        Wanted::Any => read_flag(order, text),
+        Wanted::File => read_file(order, text, Wanted::File),
+        Wanted::Value(flag) => match read_value(order, flag, text) {
+            Some(()) => Ok(Wanted::Any),
+            None => Err(Wrong::Value { flag, word: text }),
+        },
+    }
+}
+
+/// Takes what stands behind a flag; None where it is wrong.
+fn read_value(order: &mut Order<'_>, flag: Flag, text: &str) -> Option<()> {
+    match flag {
+        Flag::Lane => order.window.lane = Some(number_of(text)?),
+        Flag::Ticks => {
             let (first, last) = text.split_once("..")?;
             order.window.first = number_of(first)?;
             order.window.last = number_of(last)?;
         }
-        Wanted::Source => {
+        Flag::Source => {
             let (context, id) = text.split_once(".")?;
             order.source = Some(SourceName {
                 context: number_of(context)?,
                 id: u64::from(number_of(id)?),
             });
         }
-        Wanted::Tick => order.tick = Some(number_of(text)?),
-        Wanted::Step => order.step = Some(u64::from(number_of(text)?)),
-        Wanted::Columns => order.columns = columns_of(text)?,
-        Wanted::MostLines => order.most_lines = Some(number_of(text)?),
+        Flag::Tick => order.tick = Some(number_of(text)?),
+        Flag::Step => order.step = Some(u64::from(number_of(text)?)),
+        Flag::Columns => order.columns = columns_of(text)?,
+        Flag::MostLines => order.most_lines = Some(number_of(text)?),
+        Flag::Notes | Flag::Numbers => return None,
     }
-    Some(Wanted::Any)
+    Some(())
 }
 
 /// Takes a flag or a file.
-fn read_flag<'a>(order: &mut Order<'a>, text: &'a str) -> Option<Wanted> {
-    match text {
-        "--" => Some(Wanted::File),
-        "--lane" if order.command.takes_lane() => Some(Wanted::Lane),
-        "--ticks" if order.command.takes_ticks() => Some(Wanted::Ticks),
-        "--source" if order.command == Command::Why => Some(Wanted::Source),
-        "--tick" if order.command == Command::Stack => Some(Wanted::Tick),
-        "--step" if order.command == Command::Stack => Some(Wanted::Step),
-        "--columns" if order.command == Command::Timeline => Some(Wanted::Columns),
-        "--most-lines" if order.command.takes_most_lines() => Some(Wanted::MostLines),
-        "--notes" if order.command == Command::Text => {
-            order.notes = true;
-            Some(Wanted::Any)
-        }
-        "--numbers" if order.command.tells_names() => {
-            order.numbers = true;
-            Some(Wanted::Any)
-        }
-        _ if text.len() > 1 && text.starts_with("-") => None,
-        _ => read_file(order, text, Wanted::Any),
+fn read_flag<'a>(order: &mut Order<'a>, text: &'a str) -> Result<Wanted, Wrong<'a>> {
+    if text == "--" {
+        return Ok(Wanted::File);
+    }
+    if text.len() <= 1 || !text.starts_with("-") {
+        return read_file(order, text, Wanted::Any);
+    }
+    match Flag::of_word(text) {
+        Some(flag) if flag.is_of(order.command) => Ok(take_flag(order, flag)),
+        _ => Err(Wrong::NoFlag {
+            command: order.command,
+            word: text,
+        }),
     }
 }
 
+/// Takes a flag that the command has, and answers what the next word has to be.
+fn take_flag(order: &mut Order<'_>, flag: Flag) -> Wanted {
+    match flag {
+        Flag::Notes => order.notes = true,
+        Flag::Numbers => order.numbers = true,
+        _ => return Wanted::Value(flag),
+    }
+    Wanted::Any
+}
+
 /// Takes a file, where there is none yet.
-fn read_file<'a>(order: &mut Order<'a>, text: &'a str, next: Wanted) -> Option<Wanted> {
+fn read_file<'a>(order: &mut Order<'a>, text: &'a str, next: Wanted) -> Result<Wanted, Wrong<'a>> {
     if order.file.is_some() {
-        return None;
+        return Err(Wrong::SecondFile(text));
     }
     order.file = Some(text);
-    Some(next)
+    Ok(next)
 }
 
 /// How many characters a line is to have.

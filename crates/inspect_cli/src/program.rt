@@ -47,7 +47,12 @@ pub(crate) fn run(rt: &HostRuntime) -> u8 {
 fn attempt(rt: &HostRuntime) -> Result<u8, Failure> {
     let words = words(rt)?;
     match read_words(words.as_slice()) {
-        Asked::Wrong => Err(Failure::Usage),
+        Asked::Wrong(wrong) => {
+            let line = wrong.line(rt.alloc())?;
+            Failure::Usage.write(&mut rt.stderr());
+            let _ = rt.stderr().write_all(line.as_bytes());
+            Ok(Failure::Usage.status())
+        }
         Asked::Help(command) => {
             write_out(rt, help_text(command))?;
             Ok(0)
