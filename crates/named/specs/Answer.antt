@@ -1,5 +1,5 @@
 -- What is answered of a script with names.
-use Rattle.std.specs.Prelude.{◌≡◌, ◌≢◌, ℕ, List, [], Bool, true, false, map, codes, Option, None, Some, option_and_then}
+use Rattle.std.specs.Prelude.{◌≡◌, ◌≢◌, ℕ, List, [], Bool, true, false, map, codes, if◌then◌else◌, Option, None, Some, is_some, option_and_then, IsUtf8}
 use Rattle.std.specs.Str.{bytes_eq}
 use Rattle.json.specs.Json.{Json, document}
 use Rattle.json.specs.Find.{as_str}
@@ -19,6 +19,10 @@ says_names (Some s) = bytes_eq s (codes "names")
 abbrev pub is_named : Json → Bool
 is_named j = says_names (option_and_then as_str (under word.Form j))
 
+-- it has a key that no script of numbers has: that of the form or that of the threads
+abbrev pub is_meant_named : Json → Bool
+is_meant_named j = if is_some (under word.Form j) then true else is_some (under word.Threads j)
+
 -- a script without a fault is translated, and of any other all faults are told
 abbrev pub Translates : Json → Translation → Type 0
 Translates j (translations.Script bytes) = (script_faults j ≡ []) × (bytes.items ≡ print (script_tokens j))
@@ -26,4 +30,9 @@ Translates j (translations.Faults fs) = (map found_of fs.items ≡ script_faults
 
 -- bytes are a script with names without a fault, and these are the script of numbers
 abbrev pub StandsFor : List ℕ → List ℕ → Type 0
-StandsFor bytes numbered = (j : Json) × (document bytes ≡ Some j) × (is_named j ≡ true) × (script_faults j ≡ []) × (numbered ≡ print (script_tokens j))
+StandsFor bytes numbered = (j : Json) × IsUtf8 bytes × (document bytes ≡ Some j) × (is_named j ≡ true) × (script_faults j ≡ []) × (numbered ≡ print (script_tokens j))
+
+-- that script of numbers, where bytes stand for one
+abbrev pub StandsForAny : List ℕ → Option (List ℕ) → Type 0
+StandsForAny bytes (Some numbered) = StandsFor bytes numbered
+StandsForAny bytes None = (numbered : List ℕ) → StandsFor bytes numbered → ⊥

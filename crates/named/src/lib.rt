@@ -24,5 +24,5 @@ pub use piece::{Step, chosen};
 pub use place::{Numbered, origin};
 pub use sort::{Choice, Kind, Leaf, Object, Sort};
 pub use table::{beside, words};
-pub use translation::{Translation, is_named, translate, translate_bytes};
+pub use translation::{Translation, is_meant_named, is_named, translate, translate_bytes};
 pub use word::Word;

@@ -1,7 +1,7 @@
 //! A script with names, translated.
-ghost use Rattle.std.specs.Prelude.{◌≡◌, IfOk, IfSome};
+ghost use Rattle.std.specs.Prelude.{◌≡◌, option_map, IfOk};
 ghost use Rattle.json.specs.Value.{value_view};
-ghost use Rattle.named.specs.Answer.{StandsFor, Translates, is_named};
+ghost use Rattle.named.specs.Answer.{StandsForAny, Translates, is_named, is_meant_named};
 
 use crate::check::script_faults;
 use crate::fault::Fault;
@@ -30,6 +30,13 @@ pub fn is_named(document: &Value<'_>) -> bool
     }
 }
 
+/// Whether a document is meant as a script with names: it has the key `form` or the key `threads`, of which a script of numbers has none.
+pub fn is_meant_named(document: &Value<'_>) -> bool
+    ensures { result ≡ is_meant_named (value_view document.now) }
+{
+    document.get(Word::Form.text()).is_some() || document.get(Word::Threads.text()).is_some()
+}
+
 /// The script of numbers that a script with names stands for, or what is wrong with it. `AllocError` comes only where a request for memory
 /// was refused, or where a number of the document is none of JSON's, which `Value::parse` leaves in none.
 pub fn translate<'a>(alloc: Global, script: &Value<'a>) -> Result<Translation<'a>, AllocError>
@@ -47,7 +54,7 @@ pub fn translate<'a>(alloc: Global, script: &Value<'a>) -> Result<Translation<'a
 /// that they are a script with names, or have a fault. `AllocError` comes only where a request for
 /// memory was refused.
 pub fn translate_bytes(alloc: Global, bytes: &[u8]) -> Result<Option<Vec<u8>>, AllocError>
-    ensures { IfOk result (λ script. IfSome script (λ numbered. StandsFor bytes.now numbered.items)) }
+    ensures { IfOk result (λ script. StandsForAny bytes.now (option_map (λ numbered. numbered.items) script)) }
 {
     let mut scratch = Scratch::new(alloc);
     let script = match Value::from_slice(alloc, bytes, &mut scratch) {

@@ -1,2 +1,3 @@
 mod Depths
 mod Judged
+mod OfForm

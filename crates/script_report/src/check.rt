@@ -6,7 +6,7 @@ use crate::cursor::Cursor;
 use crate::excerpt::push_excerpt;
 use crate::layout::layout_of;
 use crate::report::{Form, push_faults, push_object};
-use crate::summary::summary;
+use crate::summary::{Threads, summary};
 use loop_script::Script;
 use script_check::script_faults;
 use serde_json::Value;
@@ -35,7 +35,7 @@ pub fn check_script(
     };
     let faults = script_faults(alloc, &value)?;
     if faults.is_empty() {
-        push_summary(alloc, form, bytes, out)?;
+        push_summary(alloc, form, Threads::Lanes, bytes, out)?;
         return Ok(true);
     }
     let text = from_utf8(bytes).unwrap_or("");
@@ -48,6 +48,7 @@ pub fn check_script(
 pub(crate) fn push_summary(
     alloc: Global,
     form: &Form<'_>,
+    threads: Threads,
     bytes: &[u8],
     out: &mut String,
 ) -> Result<(), AllocError> {
@@ -55,7 +56,7 @@ pub(crate) fn push_summary(
         return Ok(());
     }
     match Script::read(alloc, bytes) {
-        Ok(script) => out.push_str(summary(alloc, &script)?.as_str()),
+        Ok(script) => out.push_str(summary(alloc, threads, &script)?.as_str()),
         Err(_) => Err(AllocError),
     }
 }

@@ -4,9 +4,12 @@
 mod check;
 mod cursor;
 mod excerpt;
+mod forms;
 mod input;
 mod layout;
 mod lead;
+mod named_entries;
+mod named_keys;
 mod named_report;
 mod named_words;
 mod nearest;
@@ -18,6 +21,6 @@ mod twice;
 mod words;
 
 pub use check::check_script;
+pub use forms::{Either, check_either, read_either};
 pub use input::{InputFault, read_input};
-pub use named_report::check_either;
 pub use report::Form;

@@ -1,156 +1,23 @@
 //! The faults of a script with names, with their places.
-use crate::check::{check_script, push_summary};
 use crate::cursor::Cursor;
 use crate::layout::{Layout, layout_of};
-use crate::lead::value_at;
-use crate::named_words::{class_of, named_found, named_wanted, nth_key};
-use crate::report::{Form, MOST_TOLD, Said, TextPlace, class_text, push_told};
+use crate::named_entries::{Entry, entries_of};
+use crate::report::{Form, MOST_TOLD, Said, TextPlace, push_told};
 use crate::told::push_escaped;
-use crate::twice::second;
-use crate::words::{found_text, push_quoted, wanted_text};
-use json::{Scratch, Value};
-use named::{Cause, Fault, Names, Numbered, Step, Translation, is_named, origin, translate};
-use script_check::{Step as NumberedStep, script_faults};
+use json::Value;
+use named::Step;
 use std::alloc::{AllocError, Global};
-use std::str::from_utf8;
 
-/// A fault in words, with the steps to the value that has it.
-#[derive(Drop)]
-struct Entry<'a> {
-    place: Vec<Step<'a>>,
-    class: &'static str,
-    wanted: String,
-    found: String,
-}
-
-/// Adds what is wrong with a script of either form, each fault with its place, or that nothing is; and answers whether nothing is. After
-/// an error a part of that was added.
-pub fn check_either(
-    alloc: Global,
-    form: &Form<'_>,
-    bytes: &[u8],
-    out: &mut String,
-) -> Result<bool, AllocError> {
-    let text = from_utf8(bytes).unwrap_or("");
-    let mut scratch = Scratch::new(alloc);
-    match Value::parse(alloc, text, &mut scratch) {
-        Ok(document) if is_named(&document) => { check_named(alloc, form, text, &document, out) }
-        Err(json::Error::OutOfMemory) => Err(AllocError),
-        _ => check_script(alloc, form, bytes, out),
-    }
-}
-
-fn check_named(
+/// Adds all faults of a script that is meant as one with names.
+pub(crate) fn push_named(
     alloc: Global,
     form: &Form<'_>,
     text: &str,
     document: &Value<'_>,
     out: &mut String,
-) -> Result<bool, AllocError> {
-    let entries = match translate(alloc, document)? {
-        Translation::Faults(faults) => named_entries(alloc, document, faults.as_slice())?,
-        Translation::Script(numbered) => {
-            let entries = numbered_entries(alloc, document, numbered.as_slice())?;
-            if entries.is_empty() {
-                push_summary(alloc, form, numbered.as_slice(), out)?;
-                return Ok(true);
-            }
-            entries
-        }
-    };
-    push_entries(alloc, form, text, entries.as_slice(), out)?;
-    Ok(false)
-}
-
-/// The faults of the form.
-fn named_entries<'a>(
-    alloc: Global,
-    document: &Value<'a>,
-    faults: &[Fault<'a>],
-) -> Result<Vec<Entry<'a>>, AllocError> {
-    let names = Names::of(alloc, document)?;
-    let mut entries = Vec::new(alloc);
-    for fault in faults {
-        let value = reached(document, fault.place.as_slice());
-        let mut place = Vec::from_slice(alloc, fault.place.as_slice())?;
-        if let Cause::OtherKey(n) = fault.cause {
-            if let Some(key) = nth_key(value, n) {
-                place.push(Step::Key(key))?;
-            }
-        }
-        let mut found = named_found(alloc, &names, fault, value)?;
-        if let Cause::Twice(kind) = fault.cause {
-            if let Some(standing) = second(alloc, document, kind)? {
-                place = standing.place;
-                found = twice_found(alloc, standing.name)?;
-            }
-        }
-        entries.push(Entry {
-            place,
-            class: class_of(fault, value),
-            wanted: named_wanted(alloc, fault, value)?,
-            found,
-        })?;
-    }
-    Ok(entries)
-}
-
-fn twice_found(alloc: Global, name: &str) -> Result<String, AllocError> {
-    let mut text = String::new(alloc);
-    push_quoted(&mut text, name)?;
-    text.push_str(" stands twice")?;
-    Ok(text)
-}
-
-/// The faults that a script without a fault of the form has as one of numbers: limits and rules.
-fn numbered_entries<'a>(
-    alloc: Global,
-    document: &Value<'a>,
-    numbered: &[u8],
-) -> Result<Vec<Entry<'a>>, AllocError> {
-    let mut entries = Vec::new(alloc);
-    let value = match serde_json::Value::from_slice(alloc, numbered) {
-        Ok(value) => value,
-        Err(_) => return Err(AllocError),
-    };
-    let faults = script_faults(alloc, &value)?;
-    for fault in faults.as_slice() {
-        let here = value_at(&value, fault.place.steps());
-        let mut steps = Vec::new(alloc);
-        for step in fault.place.steps() {
-            steps.push(match step {
-                NumberedStep::Key(name) => Numbered::Key(name.text()),
-                NumberedStep::Item(n) => Numbered::Item(*n),
-            })?;
-        }
-        entries.push(Entry {
-            place: origin(alloc, document, steps.as_slice())?,
-            class: class_text(fault.cause.class()),
-            wanted: wanted_text(alloc, fault, here)?,
-            found: found_text(alloc, fault, here)?,
-        })?;
-    }
-    Ok(entries)
-}
-
-/// The value to which steps lead; where one leads nowhere, that before it.
-fn reached<'v, 'a>(value: &'v Value<'a>, steps: &[Step<'a>]) -> &'v Value<'a> {
-    match steps.split_first() {
-        None => value,
-        Some((step, rest)) => match next(value, step) {
-            None => value,
-            Some(inner) => reached(inner, rest),
-        },
-    }
-}
-
-/// What stands a step further.
-fn next<'v, 'a>(value: &'v Value<'a>, step: &Step<'a>) -> Option<&'v Value<'a>> {
-    match step {
-        Step::Key(key) => value.get(key),
-        Step::Item(n) => value.at(*n),
-        Step::Same => Some(value),
-    }
+) -> Result<(), AllocError> {
+    let entries = entries_of(alloc, document)?;
+    push_entries(alloc, form, text, entries.as_slice(), out)
 }
 
 /// A fault with where its value lies.

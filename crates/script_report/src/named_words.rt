@@ -1,10 +1,9 @@
 //! What was wanted in a script with names, and what stands there.
-use crate::nearest::push_nearest;
+use crate::named_keys::{SCRIPT, known_keys, meant_key, nth_key, slip_among, slip_for};
+use crate::nearest::nearest;
 use crate::words::push_quoted;
 use json::Value;
-use named::{
-    Cause, Choice, Fault, Kind, Leaf, Names, Sort, Word, beside, chosen, keys, most, words,
-};
+use named::{Cause, Choice, Fault, Kind, Leaf, Names, Sort, Word, most, words};
 use std::alloc::{AllocError, Global};
 
 /// All kinds of names, but the texts of logs.
@@ -63,7 +62,7 @@ fn name_wanted(alloc: Global, kind: Kind) -> Result<String, AllocError> {
 
 fn key_wanted(alloc: Global, word: Word) -> Result<String, AllocError> {
     let key = word.text();
-    format!(in alloc; "the key {key} must stand here")
+    format!(in alloc; "the key \"{key}\" must stand here")
 }
 
 fn names_wanted(alloc: Global, kind: Kind) -> Result<String, AllocError> {
@@ -79,7 +78,8 @@ fn leaf_wanted(alloc: Global, leaf: Leaf) -> Result<String, AllocError> {
         }
         Leaf::Names => "a list of names is wanted",
         Leaf::Priority => "a priority is a number, HIGH, DEFAULT, HIGH_IDLE, DEFAULT_IDLE or LOW",
-        Leaf::Bits => "conditions are IN, PRI, OUT, ERR, HUP and NVAL, with bars between them",
+        Leaf::Bits =>
+            "conditions are IN, PRI, OUT, ERR, HUP and NVAL, with bars and no spaces between them",
         Leaf::Milliseconds => "a time is wanted in whole milliseconds, as \"16 ms\" or \"2 s\"",
         Leaf::Microseconds => "a time is wanted, as \"500 us\", \"16 ms\" or \"2 s\"",
         Leaf::ReadyTime => "a time is wanted, as \"500 us\", \"16 ms\" or \"2 s\", or \"never\"",
@@ -135,7 +135,7 @@ fn words_wanted(alloc: Global, choice: Choice) -> Result<String, AllocError> {
 fn push_words(text: &mut String, words: &[Word]) -> Result<(), AllocError> {
     for (n, word) in words.iter().enumerate() {
         text.push_str(if n == 0 { " " } else { ", " })?;
-        text.push_str(word.text())?;
+        push_quoted(text, word.text())?;
     }
     Ok(())
 }
@@ -144,30 +144,6 @@ fn keys_wanted(alloc: Global, sort: Sort, value: &Value<'_>) -> Result<String, A
     let mut text = String::from_str(alloc, "the keys here are")?;
     push_words(&mut text, known_keys(alloc, sort, value)?.as_slice())?;
     Ok(text)
-}
-
-/// The keys that may stand in an object.
-fn known_keys(alloc: Global, sort: Sort, value: &Value<'_>) -> Result<Vec<Word>, AllocError> {
-    let mut known = Vec::new(alloc);
-    match sort {
-        Sort::An(object) => known.extend_from_slice(keys(object))?,
-        Sort::OneOf(choice) => {
-            if let Some(word) = chosen(choice, value) {
-                known.push(word)?;
-                for each in beside(word) {
-                    if *each != word {
-                        known.push(*each)?;
-                    }
-                }
-                if matches!(word, Word::Attach | Word::Child) {
-                    known.extend_from_slice(words(Choice::Source))?;
-                    known.push(Word::Events)?;
-                }
-            }
-        }
-        _ => {}
-    }
-    Ok(known)
 }
 
 /// What stands there.
@@ -232,38 +208,44 @@ fn name_found(
     } else {
         " is none"
     })?;
-    push_nearest(alloc, &mut text, names.of_kind(kind), name)?;
+    push_meant(&mut text, nearest(alloc, names.of_kind(kind), name)?)?;
     Ok(text)
 }
 
-/// A key that is unknown, and the nearest that is known.
-fn key_found(alloc: Global, sort: Sort, value: &Value<'_>, n: usize) -> Result<String, AllocError> {
-    let mut text = String::from_str(alloc, "this is ")?;
-    let key = nth_key(value, n).unwrap_or("");
-    push_quoted(&mut text, key)?;
-    let known = known_keys(alloc, sort, value)?;
-    push_nearest_word(alloc, &mut text, known.as_slice(), key)?;
-    Ok(text)
-}
-
-fn push_nearest_word(
-    alloc: Global,
-    text: &mut String,
-    words: &[Word],
-    given: &str,
-) -> Result<(), AllocError> {
-    let mut texts = Vec::new(alloc);
-    for word in words {
-        texts.push(word.text())?;
+/// Adds what may be meant, where something may.
+fn push_meant(text: &mut String, meant: Option<&str>) -> Result<(), AllocError> {
+    match meant {
+        Some(word) => {
+            text.push_str(", did you mean ")?;
+            push_quoted(text, word)?;
+            text.push_str("?")
+        }
+        None => Ok(()),
     }
-    push_nearest(alloc, text, texts.as_slice(), given)
 }
 
-/// The key of a member, by its place.
-pub(crate) fn nth_key<'a>(value: &Value<'a>, n: usize) -> Option<&'a str> {
-    match value {
-        Value::Object(members) => Some(members.as_slice().get(n)?.0),
-        _ => None,
+/// A key that is unknown, and the one that is meant, where one may be.
+fn key_found(alloc: Global, sort: Sort, value: &Value<'_>, n: usize) -> Result<String, AllocError> {
+    let key = nth_key(value, n).unwrap_or("");
+    key_text(alloc, key, meant_key(alloc, sort, value, key)?)
+}
+
+fn key_text(alloc: Global, key: &str, meant: Option<&str>) -> Result<String, AllocError> {
+    let mut text = String::from_str(alloc, "this is ")?;
+    push_quoted(&mut text, key)?;
+    push_meant(&mut text, meant)?;
+    Ok(text)
+}
+
+/// What stands in the place of the key `form`.
+pub(crate) fn form_found(alloc: Global, script: &Value<'_>) -> Result<String, AllocError> {
+    let key = Word::Form.text();
+    if let Some(value) = script.get(key) {
+        return value_found(alloc, value);
+    }
+    match slip_for(alloc, SCRIPT, script, Word::Form)? {
+        Some(slip) => key_text(alloc, slip, Some(key)),
+        None => String::from_str(alloc, "it is missing"),
     }
 }
 
@@ -292,8 +274,8 @@ fn object_word_found(
         return String::from_str(alloc, "this has more than one of them");
     }
     let mut text = String::from_str(alloc, "this has none of them")?;
-    if let Some(first) = nth_key(value, 0) {
-        push_nearest_word(alloc, &mut text, words(choice), first)?;
+    if let Some(slip) = slip_among(alloc, Sort::OneOf(choice), value, words(choice))? {
+        push_meant(&mut text, Some(slip.meant))?;
     }
     Ok(text)
 }

@@ -5,6 +5,30 @@ use strsim::osa_distance;
 /// How many slips are forgiven.
 const SLIPS: usize = 2;
 
+/// The longest text whose nearest word is looked for, in bytes.
+const LONGEST: usize = 64;
+
+/// The nearest of some words, where one is near.
+pub(crate) fn nearest<'w>(
+    alloc: Global,
+    words: &[&'w str],
+    given: &str,
+) -> Result<Option<&'w str>, AllocError> {
+    if given.len() > LONGEST {
+        return Ok(None);
+    }
+    let mut best = SLIPS.saturating_add(1);
+    let mut nearest = None;
+    for word in words {
+        let distance = osa_distance(alloc, *word, given)?;
+        if distance < best && distance.saturating_mul(2) < word.len() {
+            best = distance;
+            nearest = Some(*word);
+        }
+    }
+    Ok(nearest)
+}
+
 /// Adds the nearest of some words, where one is near.
 pub(crate) fn push_nearest(
     alloc: Global,
@@ -12,22 +36,12 @@ pub(crate) fn push_nearest(
     words: &[&str],
     given: &str,
 ) -> Result<(), AllocError> {
-    if given.len() > 64 {
-        return Ok(());
-    }
-    let mut best = SLIPS.saturating_add(1);
-    let mut nearest = "";
-    for word in words {
-        let distance = osa_distance(alloc, *word, given)?;
-        if distance < best && distance.saturating_mul(2) < word.len() {
-            best = distance;
-            nearest = *word;
+    match nearest(alloc, words, given)? {
+        Some(word) => {
+            out.push_str(", did you mean ")?;
+            out.push_str(word)?;
+            out.push_str("?")
         }
+        None => Ok(()),
     }
-    if !nearest.is_empty() {
-        out.push_str(", did you mean ")?;
-        out.push_str(nearest)?;
-        out.push_str("?")?;
-    }
-    Ok(())
 }

@@ -2,8 +2,21 @@
 use loop_script::{Action, LaneSpec, Script};
 use std::alloc::{AllocError, Global};
 
+/// What the threads of a script are called.
+#[derive(Clone, Copy, Debug, PartialEq, Eq)]
+pub(crate) enum Threads {
+    /// In a script of numbers.
+    Lanes,
+    /// In one with names.
+    Threads,
+}
+
 /// One line that sums a script up.
-pub(crate) fn summary(alloc: Global, script: &Script) -> Result<String, AllocError> {
+pub(crate) fn summary(
+    alloc: Global,
+    threads: Threads,
+    script: &Script,
+) -> Result<String, AllocError> {
     let lanes = script.lanes();
     let contexts = script.contexts();
     let ticks = script.ticks();
@@ -11,7 +24,12 @@ pub(crate) fn summary(alloc: Global, script: &Script) -> Result<String, AllocErr
     for n in 0..lanes {
         sources = sources.saturating_add(attached(script.lane(n)));
     }
-    let lane_word = if lanes == 1 { "lane" } else { "lanes" };
+    let lane_word = match (threads, lanes) {
+        (Threads::Lanes, 1) => "lane",
+        (Threads::Lanes, _) => "lanes",
+        (Threads::Threads, 1) => "thread",
+        (Threads::Threads, _) => "threads",
+    };
     let context_word = if contexts == 1 { "context" } else { "contexts" };
     let source_word = if sources == 1 { "source" } else { "sources" };
     let tick_word = if ticks == 1 { "tick" } else { "ticks" };
