@@ -28,20 +28,20 @@ export class Detail {
         const own = moments.did.at(place) === DID.iteration_ended ? frames.innermost[place - 1] : null;
         const frame = own?.kind === ITERATION ? own : stack.findLast((it) => it.kind === ITERATION);
         if (!frame) return null;
-        const asked = frame.loop >= 0 ? `loop ${frame.loop}` : "an iterate";
-        this.#add("Iteration", `of context ${frame.of}, by ${asked}, from tick ${moments.tick.at(frame.from)}; dispatches `, [frame.from, ...frame.items], (at) =>
-            at === frame.from ? "its beginning" : `${moments.of.at(at)}.${moments.at.at(at)}${moments.did.at(at) === DID.passed_over ? " (passed over)" : ""}`);
+        const { names } = moments, by = frame.loop >= 0 ? `loop ${names.of("loops", frame.loop)}` : "an iterate";
+        this.#add("Iteration", `of context ${names.of("contexts", frame.of)}, by ${by}, from tick ${moments.tick.at(frame.from)}; dispatches `, [frame.from, ...frame.items], (at) =>
+            at === frame.from ? "its beginning" : `${names.source(moments.of.at(at), moments.at.at(at))}${moments.did.at(at) === DID.passed_over ? " (passed over)" : ""}`);
         return frame;
     }
 
     #source(model, stack) {
         const frame = stack.findLast((it) => it.source !== undefined);
         if (!frame) return;
-        const { spans } = frame.row, here = spans.indexOf(frame), first = Math.max(0, here - SHOWN / 2), name = `${frame.context}.${frame.source}`;
+        const { spans } = frame.row, here = spans.indexOf(frame), first = Math.max(0, here - SHOWN / 2), { names } = model.moments;
         const near = spans.slice(first, first + SHOWN).map((it) => it.from);
-        this.#add("Source", `${name}, dispatch ${here + 1} of ${spans.length}; in tick `, near, (at) => `${model.moments.tick.at(at)}`);
+        this.#add("Source", `${names.sourceAndNumbers(frame.context, frame.source)}, dispatch ${here + 1} of ${spans.length}; in tick `, near, (at) => `${model.moments.tick.at(at)}`);
         const life = element("dd", "");
-        life.append(button(`Life of source ${name}`, () => this.why.life(life, model, frame.context, frame.source)));
+        life.append(button(`Life of ${names.phrase(frame.context, frame.source)}`, () => this.why.life(life, model, frame.context, frame.source)));
         this.list.append(life);
     }
 

@@ -10,9 +10,10 @@ export class Frames {
     innermost = [];
     #top = [];
 
-    /** `script` is what was run, as JSON tells it; `rows` is told of each frame and of each moment. */
-    constructor(moments, script, rows) {
-        [this.moments, this.script, this.rows] = [moments, script, rows];
+    /** `script` is what was run, as it is written and in numbers; `rows` is told of each frame and of each moment. */
+    constructor(moments, { written, numbers }, rows) {
+        [this.moments, this.rows, this.script] = [moments, rows, JSON.parse(numbers)];
+        this.written = written === numbers ? this.script : JSON.parse(written);
     }
 
     /** Takes the next moment. */
@@ -26,7 +27,7 @@ export class Frames {
 
     #moved(place, lane, told) {
         const { moments } = this, did = moments.did.at(place), of = moments.of.at(place), at = moments.at.at(place), top = this.#top[lane];
-        if (top?.kind === CALL && (did === DID.acted || did === DID.returned)) top.of = of;
+        if (top?.kind === CALL && (did === DID.acted || did === DID.returned)) this.#calls(top, of);
         if (did === DID.dispatched || did === DID.passed_over) top?.items?.push(place);
         switch (did) {
             case DID.acted:
@@ -35,7 +36,11 @@ export class Frames {
                 // where the thread is halted in its place, no line tells of a dispatch
                 for (const words of told) {
                     if (words[0] === "dispatch") this.#push(place, lane, { kind: CALL, of: undefined, context: of, source: at, depth: Number(words[8]) });
+                    if (words[0] === "task") this.rows.replied(of, at, ...words[1].split(".").map(Number));
                 }
+                return;
+            case DID.received:
+                if (moments.attached[place]) this.rows.arrived(moments.attached[place], moments.at.at(place) === lane);
                 return;
             case DID.iterated:
                 if (top?.kind === LOOP) top.of = at;
@@ -47,6 +52,12 @@ export class Frames {
         }
     }
 
+    /** A call is known by its list of actions once it does something. */
+    #calls(frame, list) {
+        if (frame.source !== undefined && frame.of === undefined) this.rows.calls(frame.context, frame.source, list);
+        frame.of = list;
+    }
+
     /** Three actions leave a frame where nothing was missed, answered at once or halted; one starts a task. */
     #acted(place, lane, told) {
         const { moments } = this, says = (word) => told.some((words) => words[0] === word);
@@ -56,8 +67,8 @@ export class Frames {
         if (action === "run" && !says("miss")) this.#push(place, lane, { kind: LOOP, of: first ?? -1 });
         else if (action === "iterate" && !says("iterate")) this.#iterate(place, lane, first ?? -1, -1);
         else if (action === "invoke" && told.some((words) => words[3] === "direct")) this.#push(place, lane, { kind: CALL, of: second ?? -1 });
-        else if (action === "task") this.rows.started(place, lane);
-        else if (moments.attached[place]) this.rows.attached(place, lane, moments.attached[place]);
+        else if (action === "task") this.rows.started(place, lane, this.writtenAt(place)?.task);
+        else if (moments.attached[place]) this.rows.attached(place, lane, moments.attached[place], action === "invoke" ? second : undefined);
     }
 
     /** An iteration begins: what older ones of its context have left is dropped. */
@@ -68,11 +79,19 @@ export class Frames {
         this.#push(place, lane, { kind: ITERATION, of, loop, items: [], selected: this.moments.selected[place], dropped: Infinity });
     }
 
-    /** The action of a moment as the script has it. */
+    /** The action of a moment, in numbers. */
     actionAt(place) {
         const { moments, script } = this, list = moments.of.at(place);
         const actions = list === START ? script.lanes?.[moments.lane.at(place)]?.start : script.procs?.[list]?.do;
         return actions?.[moments.at.at(place)];
+    }
+
+    /** The action of a moment as it is written: an object where the script has names. */
+    writtenAt(place) {
+        const { moments, written } = this, { names } = moments, list = moments.of.at(place);
+        const start = () => written.threads?.[names.whole("threads", moments.lane.at(place))]?.start;
+        const actions = list === START ? start() : written.procedures?.[names.whole("procedures", list)]?.do;
+        return actions?.[moments.at.at(place)] ?? this.actionAt(place);
     }
 
     #push(place, lane, frame) {

@@ -2,7 +2,7 @@
 import { MainctxError } from "../../bindings/web/mainctx.mjs";
 import { Detail } from "./detail.mjs";
 import { Editor } from "./editor.mjs";
-import { MOST_MOMENTS, begun, pieces } from "./engine.mjs";
+import { MOST_MOMENTS, asked, begun, pieces, scriptOf } from "./engine.mjs";
 import { bytesOf, inflated, packed, unpacked } from "./link.mjs";
 import { Model } from "./model.mjs";
 import { button, element } from "./parts.mjs";
@@ -54,7 +54,7 @@ async function run() {
         const faults = await engine.check(script);
         if (!isLatest()) return;
         editor.mark(faults);
-        await show(script, isLatest);
+        await show(await scriptOf(engine, script), isLatest);
     } catch (thrown) {
         if (isLatest()) refused(thrown);
     } finally {
@@ -94,7 +94,7 @@ async function show(script, isLatest) {
             present(model);
             await pause();
         }
-        const ran = isLatest() && !shown.text ? await engine.run(script) : null;
+        const ran = isLatest() && !shown.text ? await engine.run(script.numbers) : null;
         if (!isLatest()) return;
         if (ran) text.show((shown.text = ran.text), model);
     }
@@ -123,7 +123,7 @@ async function ask(call, model, ...words) {
     if (model !== shown.model) throw new MainctxError("aborted");
     if (call === "why" && shown.asks) engine.abort();
     shown.asks++;
-    const { text: answer } = await engine[call](model.script, ...words).finally(() => shown.asks--);
+    const { text: answer } = await asked(engine, call, model.script, ...words).finally(() => shown.asks--);
     return answer;
 }
 
@@ -224,10 +224,13 @@ async function linked() {
     }
 }
 
-for (const { name, sentence: words, script } of examples) {
+/** An example with names, where the engine takes those. */
+const exampleOf = ({ named, script }) => (named && typeof engine.translate === "function" ? named : script);
+
+for (const example of examples) {
     const item = element("li", "");
-    item.append(button(name, () => put(script)), ` ${words}`);
+    item.append(button(example.name, () => put(exampleOf(example))), ` ${example.sentence}`);
     part("gallery").append(item);
 }
 // else the script that `mainctx_inspect page` put into this page, or the first example
-if ((await linked()) === null) put(given("given") ? new TextDecoder().decode(bytesOf(given("given"))) : examples[0].script);
+if ((await linked()) === null) put(given("given") ? new TextDecoder().decode(bytesOf(given("given"))) : exampleOf(examples[0]));

@@ -12,10 +12,11 @@ export class Model {
     /** What the engine said of why sources were dispatched, by tick. */
     why = new Map();
 
-    /** `script` is what was run. */
+    /** `script` is what was run, as it is written and in numbers (engine.mjs). */
     constructor(script) {
-        [this.script, this.moments, this.rows] = [script, new Moments(), new Rows()];
-        this.frames = new Frames(this.moments, JSON.parse(script), this.rows);
+        [this.script, this.moments] = [script, new Moments()];
+        this.rows = new Rows(this.moments.names);
+        this.frames = new Frames(this.moments, script, this.rows);
         this.places = new Places(this.moments);
     }
 

@@ -1,4 +1,5 @@
 // The moments of a run, read from the lines of its account (docs/ACCOUNT.md) into columns, since there may be a million of them.
+import { Names } from "./names.mjs";
 
 /** What a moment does, by the words of the account. */
 const WORDS = ["polled", "acted", "returned", "dispatched", "passed_over", "iteration_ended", "iterated", "loop_ended", "rests", "handed_over", "received", "other"];
@@ -13,6 +14,7 @@ export class Moments {
     ticks = 0;
     tickUs = 0;
     lanes = 0;
+    names = new Names();
     /** Whether the last line of the account was read. */
     isOver = false;
     tick = [];
@@ -33,7 +35,10 @@ export class Moments {
     /** Reads a line of the account: its first one, a move, or its last one. */
     read(line) {
         const told = JSON.parse(line);
-        if (told.format) return void ([this.ticks, this.tickUs, this.lanes] = [told.ticks, told.tick_us, told.lanes]);
+        if (told.format) {
+            [this.ticks, this.tickUs, this.lanes] = [told.ticks, told.tick_us, told.lanes];
+            return this.names.take(told.names);
+        }
         if (told.did === "over") return void (this.isOver = true);
         const place = this.count++;
         this.tick[place] = told.tick;
@@ -43,6 +48,7 @@ export class Moments {
         this.at[place] = told.place ?? told.source ?? told.loop ?? told.from ?? told.sender ?? -1;
         if (told.action) this.action[place] = told.action;
         for (const key of ["lines", "attached", "selected"]) if (told[key]) this[key][place] = told[key];
+        if (told.attached) this.names.attached(told.attached);
     }
 }
 

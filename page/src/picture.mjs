@@ -4,7 +4,7 @@ import { firstOf } from "./places.mjs";
 import { ROW } from "./rows.mjs";
 import { timeOf } from "./words.mjs";
 
-const HIGH = 20, AXIS = 36, LABELS = 132, NARROW_LABELS = 94, NARROW = 480; // pixels
+const HIGH = 20, AXIS = 36, LABELS = 132, NARROW_LABELS = 94, NARROW = 480, MOST_LABELS = 240; // pixels
 const LEAST_ZOOM = 0.002, LEGIBLE_ZOOM = 8, MOST_ZOOM = 32; // pixels of a unit
 const WIDEST = 15_000_000; // pixels that browsers scroll over
 const FAR = 200; // units to both sides within which arrows may be seen
@@ -54,7 +54,7 @@ export class Picture {
 
     #resized() {
         const { clientWidth: width, clientHeight: height } = this.box, scale = devicePixelRatio || 1;
-        this.labels = width < NARROW ? NARROW_LABELS : LABELS;
+        this.labels = width < NARROW ? NARROW_LABELS : this.#labelsWidth();
         Object.assign(this.canvas, { width: width * scale, height: height * scale });
         Object.assign(this.canvas.style, { width: `${width}px`, height: `${height}px` });
         this.paper.setTransform(scale, 0, 0, scale, 0, 0);
@@ -63,6 +63,14 @@ export class Picture {
         this.spacer.style.width = `${this.labels + this.model.places.width * this.zoom + NARROW_LABELS}px`;
         this.spacer.style.height = `${AXIS + this.rows.length * HIGH + HIGH}px`;
         this.draw();
+    }
+
+    /** The room that labels take, which names may make wider. */
+    #labelsWidth() {
+        if (!this.model?.moments.names.isNamed) return LABELS;
+        this.paper.font = FONT;
+        const longest = this.rows.reduce((most, { label }) => (label.length > most.length ? label : most), "");
+        return Math.min(Math.max(this.paper.measureText(longest).width + SOURCE_INDENT + APART, LABELS), MOST_LABELS);
     }
 
     /** Makes units wider or narrower; the unit in the middle, or at a pixel, stays where it is. */

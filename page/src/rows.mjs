@@ -3,10 +3,12 @@ import { CALL, ITERATION } from "./frames.mjs";
 
 /** The kinds of rows, in their order within a band. */
 export const ROW = Object.freeze({ thread: 0, calls: 1, log: 2, cancel: 3, loop: 4, context: 5, source: 6, task: 7 });
-const NAMES = [
-    (lane) => `thread ${lane}`, () => "calls", () => "log, miss", () => "cancellables", (lane, of) => `loop ${of}`, (lane, of) => `context ${of}`,
-    (lane, of, source) => `source ${of}.${source}`, (lane, of) => `task ${lane}.${of}`,
+const LABELS_OF = [
+    (names, lane) => `thread ${names.of("threads", lane)}`, () => "calls", () => "log, miss", () => "cancellables",
+    (names, lane, of) => `loop ${names.of("loops", of)}`, (names, lane, of) => `context ${names.of("contexts", of)}`,
+    (names, lane, of, source) => names.nameOf(of, source) ?? `source ${of}.${source}`, (names, lane, of) => `task ${names.task(lane, of)}`,
 ];
+const LONGEST_SIGN = 12; // characters of a text that is logged
 
 /** The row and the sign of each line that is no dispatch. */
 const SIGNS = new Map([
@@ -23,20 +25,35 @@ export class Rows {
     #byKey = new Map();
     #isSorted = true;
     #tasks = [];
+    #unknown = new Set();
+    #ofSource = new Map();
+
+    /** `names` has those of the script. */
+    constructor(names) {
+        this.names = names;
+    }
 
     /** A row, which is made where there is none. */
     row(lane, kind, of = -1, source = -1) {
         const key = `${lane}/${kind}/${of}/${source}`;
         let row = this.#byKey.get(key);
         if (!row) {
-            row = { lane, kind, of, source, label: NAMES[kind](lane, of, source), spans: [], marks: [], isHead: kind === ROW.thread, isContext: kind === ROW.context };
+            row = { lane, kind, of, source, label: LABELS_OF[kind](this.names, lane, of, source), spans: [], marks: [] };
+            Object.assign(row, { isHead: kind === ROW.thread, isContext: kind === ROW.context });
             this.#byKey.set(key, row);
             this.list.push(row);
             this.#isSorted = false;
             if (kind !== ROW.thread) this.row(lane, ROW.thread);
-            if (kind === ROW.source) this.row(lane, ROW.context, of);
+            if (kind === ROW.source) this.#known(row);
         }
         return row;
+    }
+
+    /** Keeps the row of a source, and makes that of its context. */
+    #known(row) {
+        const key = `${row.of}.${row.source}`;
+        if (this.names.isNamed) this.#ofSource.set(key, [...(this.#ofSource.get(key) ?? []), row]);
+        this.row(row.lane, ROW.context, row.of);
     }
 
     /** Takes a frame that begins. */
@@ -47,17 +64,42 @@ export class Rows {
         else this.#begun(frame, this.row(lane, kind === ITERATION ? ROW.context : ROW.loop, of));
     }
 
-    /** Takes the start of a task, which is the next one of its thread. */
-    started(place, lane) {
+    /** Takes the start of a task, which is the next one of its thread, with its name, if it has one. */
+    started(place, lane, name) {
         this.#tasks[lane] = (this.#tasks[lane] ?? -1) + 1;
+        this.names.started(lane, this.#tasks[lane], name);
         const row = this.row(lane, ROW.task, this.#tasks[lane]);
         this.#begun({ from: place, to: Infinity }, row);
         row.marks.push({ from: place, glyph: "s" });
     }
 
-    /** Takes a source that the thread itself attached. */
-    attached(place, lane, { context, source }) {
+    /** Takes a source that the thread itself attached, by an invoke of a procedure where that is given. */
+    attached(place, lane, { context, source }, invoked) {
+        if (invoked !== undefined) this.#describe(context, source, `invoke of ${this.names.of("procedures", invoked)}`);
         this.row(lane, ROW.source, context, source).marks.push({ from: place, glyph: "+" });
+    }
+
+    /** Takes a source that a letter brings: a reply where it comes from the thread itself, else that or an invoke, which its dispatch tells. */
+    arrived({ context, source, name }, isOwn) {
+        if (name !== undefined) return;
+        this.#unknown.add(`${context}.${source}`);
+        this.#describe(context, source, isOwn ? "reply" : "reply or invoke");
+    }
+
+    /** Takes the task of which a source is the reply. */
+    replied(context, source, lane, number) {
+        this.#unknown.delete(`${context}.${source}`);
+        this.#describe(context, source, `reply of task ${this.names.task(lane, number)}`);
+    }
+
+    /** Takes the list that the call of a source has: no reply is left that is unknown then. */
+    calls(context, source, list) {
+        if (this.#unknown.delete(`${context}.${source}`)) this.#describe(context, source, `invoke of ${this.names.of("procedures", list)}`);
+    }
+
+    #describe(context, source, what) {
+        this.names.describe(context, source, what);
+        for (const row of this.#ofSource.get(`${context}.${source}`) ?? []) row.label = LABELS_OF[ROW.source](this.names, row.lane, context, source);
     }
 
     #begun(span, row) {
@@ -78,7 +120,7 @@ export class Rows {
             const [kind, glyph] = SIGNS.get(words[0]) ?? [];
             if (kind === undefined) continue;
             const row = kind === ROW.task ? this.#told(place, words) : this.row(lane, kind, ...numbersIn(kind, words));
-            row.marks.push({ from: place, glyph: words[0] === "log" ? words[1] : words[2] === "late" ? "L" : glyph });
+            row.marks.push({ from: place, glyph: words[0] === "log" ? this.names.of("texts", words[1]).slice(0, LONGEST_SIGN) : words[2] === "late" ? "L" : glyph });
             if (comes && number === 0) this.letters.push({ place, row });
         }
     }

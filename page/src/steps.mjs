@@ -20,7 +20,8 @@ export class Steps {
     #row({ moments, frames }, place, isCurrent) {
         const row = element("tr", "", place), tick = moments.tick.at(place);
         if (isCurrent) row.setAttribute("aria-current", "step");
-        const cells = [tick, timeOf(moments, tick), moments.lane.at(place), done(frames, place), stackWords(frames, place, true), (moments.lines[place] ?? []).join("\n")];
+        const lane = moments.names.of("threads", moments.lane.at(place));
+        const cells = [tick, timeOf(moments, tick), lane, done(frames, place), stackWords(frames, place, true), (moments.lines[place] ?? []).join("\n")];
         row.append(...cells.map((words) => element("td", words)));
         return row;
     }

@@ -4,15 +4,24 @@ import { element } from "./parts.mjs";
 const STILL = 150; // milliseconds for which a moment is the current one before the engine is asked
 const KEPT = 64; // ticks
 const MOST_TOLD = 400;
-const HEADING = /^(?:note: )?ticks? .*?, thread (\d+)/, ITERATES = / iterates context (\d+)/, NOTE = "note: ";
+const HEADING = /^(?:note: )?ticks? .*?, thread ([^:,]+)/, ITERATES = / iterates context ([^:,]+)/, NOTE = "note: ";
 
 /** The lines that tell of a thread, and of iterations of one context where it is given: lines that are set in belong to the one above them that is not. */
-function linesOf(text, lane, context) {
+function linesOf(text, names, lane, context) {
+    const is = (list, told, number) => told === undefined || number === null || told === String(number) || told === names.of(list, number);
     let isKept = true;
     return text.split("\n").slice(0, -1).filter((line) => {
         if (line.startsWith(" ")) return isKept;
-        const thread = HEADING.exec(line)?.[1], of = ITERATES.exec(line)?.[1];
-        return (isKept = (thread === undefined || Number(thread) === lane) && (of === undefined || context === null || Number(of) === context));
+        return (isKept = is("threads", HEADING.exec(line)?.[1], lane) && is("contexts", ITERATES.exec(line)?.[1], context));
+    });
+}
+
+/** Lines of the engine with the names of the script: those that are set in speak of sources of the context above them. */
+function named(lines, names) {
+    let context = null;
+    return lines.map((line) => {
+        if (!line.startsWith(" ")) context = ITERATES.exec(line)?.[1] ?? null;
+        return names.put(line, context);
     });
 }
 
@@ -26,8 +35,8 @@ export class Why {
 
     /** Fills a part with what is said of the tick of a moment. */
     tick(shown, model, place, context) {
-        const tick = model.moments.tick.at(place), known = model.why.get(tick);
-        const tell = (text) => told(shown, linesOf(text, model.moments.lane.at(place), context), "no iteration begins");
+        const { moments } = model, { names } = moments, tick = moments.tick.at(place), known = model.why.get(tick);
+        const tell = (text) => told(shown, named(linesOf(text, names, moments.lane.at(place), context), names), "no iteration begins");
         clearTimeout(this.#timer);
         if (known !== undefined) return void tell(known);
         this.#timer = setTimeout(() => this.#asked(shown, "why", [model, tick, tick], (text) => {
@@ -38,7 +47,7 @@ export class Why {
     }
 
     life(shown, model, context, source) {
-        return this.#asked(shown, "life", [model, context, source], (text) => told(shown, text.split("\n").slice(0, -1), "nothing"));
+        return this.#asked(shown, "life", [model, context, source], (text) => told(shown, named(text.split("\n").slice(0, -1), model.moments.names), "nothing"));
     }
 
     #asked(shown, call, words, tell) {

@@ -15,46 +15,48 @@ export function timeOf(moments, tick) {
 /** When a moment is, and in which thread. */
 export function when(moments, place) {
     const tick = moments.tick.at(place);
-    return `tick ${tick}, ${timeOf(moments, tick)}, thread ${moments.lane.at(place)}`;
+    return `tick ${tick}, ${timeOf(moments, tick)}, thread ${moments.names.of("threads", moments.lane.at(place))}`;
 }
 
 /** The name of a list of actions. */
-function listName(of) {
+function listName(names, of) {
     if (of === START) return "the start list";
-    return of === NOTHING ? "the call of a dummy" : `procedure ${of}`;
+    return of === NOTHING ? "the call of a dummy" : `procedure ${names.of("procedures", of)}`;
 }
 
 /** What a moment does. */
 export function done(frames, place) {
-    const { moments } = frames, of = moments.of.at(place), at = moments.at.at(place);
+    const { moments } = frames, { names } = moments, of = moments.of.at(place), at = moments.at.at(place);
     switch (moments.did.at(place)) {
         case DID.polled: return "the turn begins, tasks are polled";
-        case DID.acted: return actionWords(frames.actionAt(place) ?? [moments.action[place]]);
-        case DID.returned: return `${listName(of)} is over`;
-        case DID.dispatched: return `source ${of}.${at} is dispatched`;
-        case DID.passed_over: return `source ${of}.${at} is passed over`;
+        case DID.acted: return actionWords(frames.writtenAt(place) ?? [moments.action[place]]);
+        case DID.returned: return `${listName(names, of)} is over`;
+        case DID.dispatched: return `${names.phrase(of, at)} is dispatched`;
+        case DID.passed_over: return `${names.phrase(of, at)} is passed over`;
         case DID.iteration_ended: return "the iteration is over";
-        case DID.iterated: return `loop ${at} iterates context ${of}`;
-        case DID.loop_ended: return `loop ${at} ends`;
+        case DID.iterated: return `loop ${names.of("loops", at)} iterates context ${names.of("contexts", of)}`;
+        case DID.loop_ended: return `loop ${names.of("loops", at)} ends`;
         case DID.rests: return "the thread rests";
-        case DID.handed_over: return `context ${of} comes from thread ${at}`;
-        case DID.received: return `thread ${at} sent something`;
+        case DID.handed_over: return `context ${names.of("contexts", of)} comes from thread ${names.of("threads", at)}`;
+        case DID.received: return `thread ${names.of("threads", at)} sent something`;
         default: return "a move that this page does not know";
     }
 }
 
+/** An action in words: its parts, or of one with names its keys and what stands under them, but for what is only true. */
 function actionWords(action) {
-    const words = action.map((part) => (typeof part === "object" ? JSON.stringify(part) : String(part))).join(" ");
+    const parts = Array.isArray(action) ? action : Object.entries(action).flatMap(([key, part]) => (part === true ? [key] : [key, part]));
+    const words = parts.map((part) => (typeof part === "object" ? JSON.stringify(part) : String(part))).join(" ");
     return words.length > SHOWN_WORDS ? `${words.slice(0, SHOWN_WORDS)}…` : words;
 }
 
 /** A frame as docs/STEP.md draws it. */
 export function frameWords(frames, frame, place) {
-    const { moments } = frames;
-    if (frame.kind === LOOP) return `loop ${frame.of}`;
-    if (frame.kind === CALL) return frame.of === START ? "start" : frame.of >= 0 ? `call ${frame.of}` : "call";
-    const ids = idsLeft(moments, frame, place);
-    return `iter [${ids.slice(0, SHOWN_IDS).join(" ")}${ids.length > SHOWN_IDS ? " …" : ""}]`;
+    const { moments } = frames, { names } = moments;
+    if (frame.kind === LOOP) return `loop ${names.of("loops", frame.of)}`;
+    if (frame.kind === CALL) return frame.of === START ? "start" : frame.of >= 0 ? `call ${names.of("procedures", frame.of)}` : "call";
+    const ids = idsLeft(moments, frame, place).map((id) => names.sourceIn(frame.of, id));
+    return `iter [${ids.slice(0, SHOWN_IDS).join(names.isNamed ? ", " : " ")}${ids.length > SHOWN_IDS ? " …" : ""}]`;
 }
 
 /** The ids that an iteration has left after a moment; where the account does not tell what it selected, those that it still comes to. */
