@@ -3,7 +3,7 @@ use crate::arguments::Command;
 
 const HELP: &str = "usage: mainctx_inspect COMMAND [FLAGS] [FILE]\n
 Runs a script, and tells what the run did and why; without FILE, of standard input.\n
-  text      the text of the run, as mainctx writes it
+  text      the text of the run, as mainctx writes it, or with the names of its script
   why       each iteration, and why each source is dispatched by it or not
   summary   each source and loop in one line, and what was silent
   account   each move of the run as JSON, an object a line
@@ -23,7 +23,7 @@ page of the form with names, which each command takes.\n
   mainctx_inspect translate examples/named/ten_lines.json\n";
 
 const TEXT: &str = "usage: mainctx_inspect text [--notes] [--numbers] [--most-lines N] [FILE]\n
-Writes the text of the run, as mainctx writes it.\n
+Writes the text of the run, as mainctx writes it; of a script with names with these, and with times in the place of ticks (docs/NAMES.md).\n
   --notes          with a line behind what a move writes where the real GLib does otherwise in it, as notes tells it; it
                    comes when the run is over
   --numbers        numbers where the script has names
