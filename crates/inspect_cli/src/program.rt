@@ -7,7 +7,7 @@ use crate::progress::Progress;
 use crate::teller::Teller;
 use account::Account;
 use inspect_picture::{Point, Reach, Stack};
-use inspect_words::{Run, Words, follow};
+use inspect_words::{Run, Words, follow_names};
 use loop_script::{Script, ScriptFault};
 use mainctx::{MainFault, OverWrite, run_alone};
 use named::translate_bytes;
@@ -217,7 +217,7 @@ fn tell_each(
             }
         }
         progress.show(moment.tick);
-        follow(&mut names, &account, &moment)?;
+        follow_names(&mut names, &account, &moment)?;
         let run = Run {
             account: &account,
             names: &names,
@@ -264,7 +264,7 @@ fn find(
             break;
         };
         progress.show(moment.tick);
-        follow(&mut names, &account, &moment)?;
+        follow_names(&mut names, &account, &moment)?;
         let run = Run {
             account: &account,
             names: &names,

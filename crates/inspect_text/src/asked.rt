@@ -3,7 +3,7 @@ use crate::life::Life;
 use crate::moments::Moments;
 use crate::why::Why;
 use account::{Account, Moment};
-use inspect_words::{Run, SourceName, Window, Words, follow};
+use inspect_words::{Run, SourceName, Window, Words, follow_names};
 use loop_script::Script;
 use run_names::RunNames;
 use std::alloc::{AllocError, Global};
@@ -23,7 +23,7 @@ pub enum Asked {
 fn next_of(account: &mut Account, names: &mut RunNames) -> Result<Option<Moment>, AllocError> {
     match account.next() {
         Ok(Some(moment)) => {
-            follow(names, account, &moment)?;
+            follow_names(names, account, &moment)?;
             Ok(Some(moment))
         }
         Ok(None) => Ok(None),

@@ -6,7 +6,11 @@ use run_names::{Origin, RunNames};
 use std::alloc::AllocError;
 
 /// Gives names to what the latest moment of a run attached or connected.
-pub fn follow(names: &mut RunNames, account: &Account, moment: &Moment) -> Result<(), AllocError> {
+pub fn follow_names(
+    names: &mut RunNames,
+    account: &Account,
+    moment: &Moment,
+) -> Result<(), AllocError> {
     if !names.are_there() {
         return Ok(());
     }

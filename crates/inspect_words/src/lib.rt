@@ -16,7 +16,7 @@ mod written;
 
 pub use action_words::{action_word, push_action, push_cause, push_list};
 pub use begun::{AskedBy, Begun, Caller, begun_by, caller_of};
-pub use follow::follow;
+pub use follow::follow_names;
 pub use halt::{Halt, halt_of, halt_reason, push_halt};
 pub use named_line::{line_text_of, named_text_of, push_priority};
 pub use run::{Run, Words};
