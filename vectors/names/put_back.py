@@ -12,7 +12,7 @@ from typing import Any
 
 from translate import PRIORITIES, Names, Value, read, translated
 
-WORD = r'(?:"(?:[^"\\]|\\.)*"|[\w.:-]+)'  # a name: as it is, or in quotes
+WORD = r'(?:"(?:[^"\\]|\\.)*"|[A-Za-z0-9_.:-]+)'  # a name: as it is, or in quotes
 TASK = rf"{WORD}(?:\.\d+)?"  # (the point and the digits behind it may be told as letters of a name)
 LABEL = rf"(?:reply of task {TASK}|invoke of {WORD}|{WORD})(?: #\d+)?"  # what a source or a handler is called
 EVENTS = {
@@ -35,6 +35,11 @@ def bare(word: str) -> str:
     return json.loads(word) if word.startswith('"') else word
 
 
+def told(name: str) -> str:
+    """A name as it stands in a text: in quotes where it has other characters than these."""
+    return name if re.fullmatch(r"[A-Za-z0-9_.:-]+", name) else json.dumps(name, ensure_ascii=False)
+
+
 class Run:
     """What the things of one run are called."""
 
@@ -55,7 +60,7 @@ class Run:
             if one.get("action") != "connect":
                 continue
             actions = self.numbers["procs"][one["procedure"]]["do"] if one["list"] == "procedure" else self.numbers["lanes"][one["lane"]]["start"]
-            slot = self.names.lists["slot"][actions[one["place"]][2]]
+            slot = told(self.names.lists["slot"][actions[one["place"]][2]])
             if any(line.partition(" ")[2] == "handler 0" for line in one.get("lines", ())):  # it is connected too late, and has no id
                 of_slot[slot] += one["lane"] not in late
                 late.add(one["lane"])
@@ -106,7 +111,7 @@ class Run:
         return f"{tick} {self.event(lane, event, connecting)}"
 
 
-def put_back(text: str, told: str, account: list[dict[str, Any]]) -> str:
+def put_back(text: str, run_text: str, account: list[dict[str, Any]]) -> str:
     """The text in numbers of what is told of the run of a script, which has this account."""
     run = Run(text, account)
     # of each line, whether it is that of a handler which an action connects too late
@@ -115,7 +120,7 @@ def put_back(text: str, told: str, account: list[dict[str, Any]]) -> str:
         if "lines" in one:
             late.setdefault(one["lane"], []).extend(one.get("action") == "connect" and line.endswith(" handler 0") for line in one["lines"])
     lines, lane, place = [], -1, 0
-    for line in told.splitlines():
+    for line in run_text.splitlines():
         if line.startswith("thread "):
             lane, place = lane + 1, 0
             lines.append(f"thread {run.number('thread', line.removeprefix('thread '))}")
