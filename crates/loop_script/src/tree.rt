@@ -1,8 +1,9 @@
-//! The tree of a task.
+//! The tree of a task, whose parts are shared by all that run it.
 ghost use Rattle.std.specs.Prelude.{◌≡◌, IfOk};
 
 use std::alloc::{AllocError, Global};
 use std::marker::Model;
+use std::sync::Arc;
 
 /// What a task does.
 #[cycle(tree)]
@@ -20,18 +21,18 @@ pub enum Node {
     Sleep(u64),
     Check,
     Seq {
-        first: Box<TaskTree>,
-        next: Box<TaskTree>,
+        first: Arc<TaskTree, Global>,
+        next: Arc<TaskTree, Global>,
     },
     Both {
-        one: Box<TaskTree>,
-        other: Box<TaskTree>,
+        one: Arc<TaskTree, Global>,
+        other: Arc<TaskTree, Global>,
     },
     First {
-        one: Box<TaskTree>,
-        other: Box<TaskTree>,
+        one: Arc<TaskTree, Global>,
+        other: Arc<TaskTree, Global>,
     },
-    Within(u64, Box<TaskTree>),
+    Within(u64, Arc<TaskTree, Global>),
 }
 
 impl Model for TaskTree {
@@ -55,8 +56,9 @@ impl Model for TaskTree {
 }
 
 impl TaskTree {
-    /// The same tree in memory of its own.
-    pub fn copy(&self, alloc: Global) -> Result<TaskTree, AllocError>
+    /// The same tree: both share what stands below the top, and no memory is taken. It is refused only where a part has
+    /// more sharers than can be counted.
+    pub fn share(&self) -> Result<TaskTree, AllocError>
         ensures { IfOk result (λ t. t ≡ self.now) }
     {
         let node = match &self.node {
@@ -64,22 +66,19 @@ impl TaskTree {
             Node::Fail => Node::Fail,
             Node::Sleep(us) => Node::Sleep(*us),
             Node::Check => Node::Check,
-            Node::Seq { first, next } => {
-                let first = Box::new(alloc, first.copy(alloc)?)?;
-                let next = Box::new(alloc, next.copy(alloc)?)?;
-                Node::Seq { first, next }
-            }
-            Node::Both { one, other } => {
-                let one = Box::new(alloc, one.copy(alloc)?)?;
-                let other = Box::new(alloc, other.copy(alloc)?)?;
-                Node::Both { one, other }
-            }
-            Node::First { one, other } => {
-                let one = Box::new(alloc, one.copy(alloc)?)?;
-                let other = Box::new(alloc, other.copy(alloc)?)?;
-                Node::First { one, other }
-            }
-            Node::Within(us, body) => Node::Within(*us, Box::new(alloc, body.copy(alloc)?)?),
+            Node::Seq { first, next } => Node::Seq {
+                first: Arc::try_clone(first)?,
+                next: Arc::try_clone(next)?,
+            },
+            Node::Both { one, other } => Node::Both {
+                one: Arc::try_clone(one)?,
+                other: Arc::try_clone(other)?,
+            },
+            Node::First { one, other } => Node::First {
+                one: Arc::try_clone(one)?,
+                other: Arc::try_clone(other)?,
+            },
+            Node::Within(us, body) => Node::Within(*us, Arc::try_clone(body)?),
         };
         Ok(TaskTree { node })
     }
@@ -127,8 +126,8 @@ impl TaskTree {
     ) -> Result<TaskTree, AllocError>
         ensures { IfOk result (λ t. t ≡ seq first next) }
     {
-        let first = Box::new(alloc, first)?;
-        let next = Box::new(alloc, next)?;
+        let first = Arc::new(alloc, first)?;
+        let next = Arc::new(alloc, next)?;
         Ok(TaskTree {
             node: Node::Seq { first, next },
         })
@@ -141,8 +140,8 @@ impl TaskTree {
     ) -> Result<TaskTree, AllocError>
         ensures { IfOk result (λ t. t ≡ both one other) }
     {
-        let one = Box::new(alloc, one)?;
-        let other = Box::new(alloc, other)?;
+        let one = Arc::new(alloc, one)?;
+        let other = Arc::new(alloc, other)?;
         Ok(TaskTree {
             node: Node::Both { one, other },
         })
@@ -155,8 +154,8 @@ impl TaskTree {
     ) -> Result<TaskTree, AllocError>
         ensures { IfOk result (λ t. t ≡ first one other) }
     {
-        let one = Box::new(alloc, one)?;
-        let other = Box::new(alloc, other)?;
+        let one = Arc::new(alloc, one)?;
+        let other = Arc::new(alloc, other)?;
         Ok(TaskTree {
             node: Node::First { one, other },
         })
@@ -166,7 +165,7 @@ impl TaskTree {
         requires { us ≤ longest_time }
         ensures { IfOk result (λ t. t ≡ within us body) }
     {
-        let body = Box::new(alloc, body)?;
+        let body = Arc::new(alloc, body)?;
         Ok(TaskTree {
             node: Node::Within(us, body),
         })

@@ -53,7 +53,7 @@ impl TaskRun {
         ensures { IfOk result (λ r. r ≡ record { tree = tree.now; tick_us = tick_us; stage = Fresh; clear = None; cancelled = None; wake = None }) }
     {
         let steps = Steps::of(alloc, tree, tick_us)?;
-        let tree = tree.copy(alloc)?;
+        let tree = tree.share()?;
         Ok(TaskRun {
             tree,
             tick_us,

@@ -4,6 +4,7 @@ ghost use Rattle.loop_script.specs.Bounds.{longest_time};
 
 use loop_script::{Node, TaskTree};
 use std::alloc::{AllocError, Global};
+use std::sync::Arc;
 
 pub(crate) fn value(value: i64) -> TaskTree {
     TaskTree {
@@ -28,24 +29,24 @@ pub(crate) fn sleep(us: u64) -> TaskTree
 }
 
 pub(crate) fn seq(alloc: Global, first: TaskTree, next: TaskTree) -> Result<TaskTree, AllocError> {
-    let first = Box::new(alloc, first)?;
-    let next = Box::new(alloc, next)?;
+    let first = Arc::new(alloc, first)?;
+    let next = Arc::new(alloc, next)?;
     Ok(TaskTree {
         node: Node::Seq { first, next },
     })
 }
 
 pub(crate) fn both(alloc: Global, one: TaskTree, other: TaskTree) -> Result<TaskTree, AllocError> {
-    let one = Box::new(alloc, one)?;
-    let other = Box::new(alloc, other)?;
+    let one = Arc::new(alloc, one)?;
+    let other = Arc::new(alloc, other)?;
     Ok(TaskTree {
         node: Node::Both { one, other },
     })
 }
 
 pub(crate) fn first(alloc: Global, one: TaskTree, other: TaskTree) -> Result<TaskTree, AllocError> {
-    let one = Box::new(alloc, one)?;
-    let other = Box::new(alloc, other)?;
+    let one = Arc::new(alloc, one)?;
+    let other = Arc::new(alloc, other)?;
     Ok(TaskTree {
         node: Node::First { one, other },
     })
@@ -54,7 +55,7 @@ pub(crate) fn first(alloc: Global, one: TaskTree, other: TaskTree) -> Result<Tas
 pub(crate) fn within(alloc: Global, us: u64, body: TaskTree) -> Result<TaskTree, AllocError>
     requires { us ≤ longest_time }
 {
-    let body = Box::new(alloc, body)?;
+    let body = Arc::new(alloc, body)?;
     Ok(TaskTree {
         node: Node::Within(us, body),
     })
