@@ -9,7 +9,7 @@ use Rattle.cancel_view.specs.Seen.{Seen, has, cancelled}
 use Rattle.task_steps.specs.Task.{Task}
 use Rattle.task_steps.specs.Book.{Book, started, with_task, all_noticed, wake_under, IsIn, IsQuietTo}
 use Rattle.task_steps.specs.Run.{IsUpTo, IsAfter}
-use Rattle.task_steps.specs.Rest.{sooner}
+use Rattle.task_steps.specs.Wake.{sooner}
 use Rattle.lane_watch.specs.Tasks.{came_in}
 use Rattle.lane_watch.specs.Watch.{AreDated, IsBelow, SeenAs, Fits, Numbered, IsJoined, nothing_seen}
 use Rattle.lane_watch.proofs.Dated.{dated_none, past_none, dated_noted, past_noted, later_all}

@@ -1,4 +1,8 @@
-pub mod Late
+pub mod Begins
+pub mod Ends
+pub mod Sleeping
+pub mod Parts
+pub mod Runs
 pub mod Wakes
 pub mod Replies
 pub mod Nodes
@@ -10,5 +14,4 @@ pub mod Heeding
 pub mod PollAll
 pub mod Waiting
 pub mod Once
-pub mod Begins
 pub mod Shown

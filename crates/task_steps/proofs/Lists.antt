@@ -5,7 +5,7 @@ use Rattle.cancel_view.specs.Seen.{Seen}
 use Rattle.task_steps.specs.declared.entry.Entry.{Entry}
 use Rattle.task_steps.specs.declared.entry.Reply.{Reply}
 use Rattle.task_steps.specs.Reply.{reply_of_task}
-use Rattle.task_steps.specs.Rest.{sooner}
+use Rattle.task_steps.specs.Wake.{sooner}
 use Rattle.task_steps.specs.Run.{IsUpTo}
 use Rattle.task_steps.specs.Task.{Task, body_end, reply_in, is_late_in}
 use Rattle.task_steps.specs.Book.{HasGrown, MayComeToAll, noticed_in, all_noticed, replies_in, late_in, goes_on}

@@ -2,7 +2,7 @@
 use Rattle.std.proofs.Common.{◌≡◌, ℕ, ◌||◌, Bool, true, false, Option, Some, None, List, [], ◌∷◌, ◌++◌, min, arith, refl, ap, sym, ◌∙◌}
 use Rattle.std.specs.List.{list_any}
 use Rattle.task_steps.specs.declared.entry.Entry.{Entry}
-use Rattle.task_steps.specs.Rest.{sooner}
+use Rattle.task_steps.specs.Wake.{sooner}
 use Rattle.task_steps.specs.BookInside.{wake_of_entry, wake_of_all, heeds, mark_of, joined_mark}
 
 min-assoc : (a b c : ℕ) → min (min a b) c ≡ min a (min b c)

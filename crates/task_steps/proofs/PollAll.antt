@@ -8,7 +8,7 @@ use Rattle.task_steps.specs.declared.entry.Answer.{Answer}
 use Rattle.task_steps.specs.declared.entry.Reply.{Reply}
 use Rattle.task_steps.specs.declared.stage.Stage.{Stage}
 use Rattle.task_steps.specs.declared.stage.Stage.TheVariants.{Fresh, Set, Polled, Done}
-use Rattle.task_steps.specs.Rest.{sooner}
+use Rattle.task_steps.specs.Wake.{sooner}
 use Rattle.task_steps.specs.Run.{Run, NoneBefore, IsUpTo, IsAfter, IsLater, wakes_later, MaySet, StaysSet, seen_from, clear_to, WakesLater}
 use Rattle.task_steps.specs.RunInside.{IsBy}
 use Rattle.task_steps.specs.Reply.{reply_of_task}

@@ -8,7 +8,7 @@ use Rattle.task_steps.specs.declared.entry.Entry.{Entry}
 use Rattle.task_steps.specs.declared.stage.Stage.{Stage}
 use Rattle.task_steps.specs.declared.stage.Stage.TheVariants.{Fresh, Set, Polled, Done}
 use Rattle.task_steps.specs.End.{ending, end_of, seen}
-use Rattle.task_steps.specs.Rest.{sooner}
+use Rattle.task_steps.specs.Wake.{sooner}
 use Rattle.task_steps.specs.Run.{Run, NoneBefore, MayCome, IsAfter, IsLater, seen_from, clear_to}
 use Rattle.task_steps.specs.RunInside.{IsBy}
 use Rattle.task_steps.specs.Task.{Task, body_end, is_early, is_at, reply_in, is_late_in, IsBefore, IsSeenExactly, MayComeTo}

@@ -7,7 +7,7 @@ use Rattle.task_steps.specs.declared.stage.Stage.{Stage}
 use Rattle.task_steps.specs.declared.stage.Stage.TheVariants.{Fresh, Set, Polled, Done}
 use Rattle.task_steps.specs.declared.tasks.Tasks.{Tasks}
 use Rattle.task_steps.specs.End.{end_of}
-use Rattle.task_steps.specs.Rest.{sooner}
+use Rattle.task_steps.specs.Wake.{sooner}
 use Rattle.task_steps.specs.Run.{Run, NoneBefore, MayCome, IsLater}
 use Rattle.task_steps.specs.Task.{IsBefore}
 use Rattle.task_steps.specs.Book.{MayComeToAll, all_noticed}

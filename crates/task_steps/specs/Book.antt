@@ -7,7 +7,7 @@ use Rattle.cancel_view.specs.Seen.{Seen, has}
 use Rattle.task_steps.specs.declared.entry.Reply.{Reply}
 use Rattle.task_steps.specs.Reply.{reply_of_task}
 use Rattle.task_steps.specs.Run.{StaysSet, IsAfter}
-use Rattle.task_steps.specs.Rest.{sooner}
+use Rattle.task_steps.specs.Wake.{sooner}
 use Rattle.task_steps.specs.Task.{Task, noticed, body_end, reply_in, is_late_in, MayComeTo}
 
 -- how long a tick is; the tasks whose body has not ended, in start order, and the number of the next; the last tick that was

@@ -9,7 +9,7 @@ use Rattle.task_steps.specs.declared.stage.Stage.TheVariants.{Fresh, Set, Polled
 use Rattle.task_steps.specs.declared.tasks.Mark.{Mark}
 use Rattle.task_steps.specs.declared.tasks.Round.{Round}
 use Rattle.task_steps.specs.declared.tasks.Tasks.{Tasks, Gone, One, Two'}
-use Rattle.task_steps.specs.Rest.{sooner}
+use Rattle.task_steps.specs.Wake.{sooner}
 use Rattle.task_steps.specs.Run.{Run, IsAfter, IsLater, NoneBefore, stage_to, clear_passed}
 use Rattle.task_steps.specs.RunInside.{IsBy}
 use Rattle.task_steps.specs.Task.{Task, task_of, IsBefore}

@@ -1,6 +1,6 @@
 pub mod End
-pub mod Moments
-pub mod Rest
+pub mod Wake
+pub mod Progress
 pub mod Run
 pub mod RunInside
 pub mod Task

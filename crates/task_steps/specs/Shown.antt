@@ -5,7 +5,7 @@ use Rattle.loop_script.specs.Units.{Tick, TaskNumber}
 use Rattle.cancel_view.specs.Seen.{Seen}
 use Rattle.task_steps.specs.declared.entry.Entry.{Entry}
 use Rattle.task_steps.specs.declared.look.TaskShown.{TaskShown}
-use Rattle.task_steps.specs.Rest.{sooner}
+use Rattle.task_steps.specs.Wake.{sooner}
 use Rattle.task_steps.specs.Task.{Task, body_end, IsBefore}
 use Rattle.task_steps.specs.Book.{IsNext, MayComeToAll, all_noticed}
 use Rattle.task_steps.specs.BookInside.{wake_of_entry}

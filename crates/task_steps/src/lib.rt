@@ -1,4 +1,4 @@
-//! Tasks as trees of steps that are polled tick by tick: the run of one task, and the book of a lane's tasks.
+//! Tasks as trees that are asked tick by tick how far they are: the run of one task, and the book of a lane's tasks.
 #![tactic(auto)]
 
 mod book;
@@ -8,12 +8,10 @@ mod heeded;
 pub mod laws;
 mod look;
 mod polls;
+mod progress;
 mod run;
 mod stage;
-mod steps;
 mod tasks;
-mod time;
-mod wait;
 
 pub use book::{BookFault, Polled, TaskBook};
 pub use entry::Reply;

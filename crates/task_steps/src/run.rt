@@ -1,13 +1,13 @@
 //! The run of one task.
 ghost use Rattle.std.specs.Prelude.{◌≡◌, ℕ, ◌+◌, ◌<◌, ◌≤◌, None, is_some, IfOk, IsTrue, ◌↔◌};
 
+use crate::progress::{Moment, Progress, progress_of};
 use crate::stage::{Stage, clear_to, is_asleep, seen_from, set_to};
-use crate::steps::Steps;
 use loop_script::{Outcome, TaskTree};
 use std::alloc::{AllocError, Global};
 use std::marker::Model;
 
-/// A task in progress, as a tree of steps that are polled.
+/// A task in progress. It shares its tree with the script, and keeps nothing else that grows with it.
 ///
 /// In each tick in which it is polled, `set_tick` comes first, then `poll`. It is begun in the tick that is set first.
 /// Ticks may be passed over, but none at which a wait ends (`next_wake`).
@@ -15,7 +15,6 @@ use std::marker::Model;
 pub struct TaskRun {
     tree: TaskTree,
     tick_us: u64,
-    steps: Steps,
     stage: Stage,
     clear: Option<u32>,
     cancelled: Option<u32>,
@@ -36,9 +35,9 @@ impl Model for TaskRun {
 
     ghost use Rattle.task_steps.specs.RunInside.{IsHeld, wake_in};
 
-    ghost view = { λ r. record { tree = r.tree; tick_us = r.tick_us; stage = r.stage; clear = r.clear; cancelled = r.cancelled; wake = wake_in r.stage r.steps } };
+    ghost view = { λ r. record { tree = r.tree; tick_us = r.tick_us; stage = r.stage; clear = r.clear; cancelled = r.cancelled; wake = wake_in r.stage r.wake } };
 
-    ghost invariant = { λ r. IsHeld r.tick_us r.tree r.steps r.clear r.cancelled r.stage r.wake };
+    ghost invariant = { λ r. IsHeld r.tick_us r.tree r.clear r.cancelled r.stage r.wake };
 }
 
 impl TaskRun {
@@ -46,18 +45,16 @@ impl TaskRun {
     ghost use Rattle.task_steps.specs.Run.{MaySet, StaysSet, IsSet, Answered, WakesLater, NoneBefore, MayPass, stage_to, clear_passed, set_to, seen_from, clear_to, stage_after};
     ghost use Rattle.task_steps.specs.declared.stage.Stage.TheVariants.{Fresh, Done};
 
-    /// A task that no poll has begun, with all the memory that it will take; a tick is so many microseconds long.
-    pub fn new(alloc: Global, tree: &TaskTree, tick_us: u64) -> Result<TaskRun, AllocError>
+    /// A task that no poll has begun; a tick is so many microseconds long. It takes no memory of the allocator, and is refused
+    /// only where a part of the tree has more sharers than can be counted.
+    pub fn new(_alloc: Global, tree: &TaskTree, tick_us: u64) -> Result<TaskRun, AllocError>
         requires some { 0 < tick_us }
         requires short { tick_us ≤ longest_tick }
         ensures { IfOk result (λ r. r ≡ record { tree = tree.now; tick_us = tick_us; stage = Fresh; clear = None; cancelled = None; wake = None }) }
     {
-        let steps = Steps::of(alloc, tree, tick_us)?;
-        let tree = tree.share()?;
         Ok(TaskRun {
-            tree,
+            tree: tree.share()?,
             tick_us,
-            steps,
             stage: Stage::Fresh,
             clear: None,
             cancelled: None,
@@ -78,7 +75,6 @@ impl TaskRun {
 
     /// Notes a tick before its wake as one in which a poll would have seen it as not cancelled and found it pending, in place
     /// of that poll. One that no poll has begun stays as it is.
-    #[tactic(auto, using(crate::proofs::Wakes::up_to_next))]
     pub(crate) fn pass_to(&mut self, tick: u32)
         requires { MayPass tick self.old.cancelled self.old.wake self.old.stage }
         ensures { self.new ≡ record self.old { stage = stage_to tick self.old.stage; clear = clear_passed tick self.old.stage self.old.clear } }
@@ -112,7 +108,6 @@ impl TaskRun {
 
     /// The outcome, where the task ends in the tick that was set; none where it is pending. Before its wake that costs the
     /// same however large the task is.
-    #[tactic(auto, using(crate::proofs::Wakes::wakes_later_now, crate::proofs::Wakes::seen_now, crate::proofs::Late::not_before, crate::proofs::Wakes::none_before_wake))]
     pub fn poll(&mut self) -> Option<Outcome>
         requires { IsSet self.old.stage }
         ensures answer { Answered self.old result }
@@ -126,13 +121,22 @@ impl TaskRun {
                     self.stage = Stage::Polled { begun, tick };
                     return None;
                 }
-                let answer = self.steps.poll(tick, self.cancelled.is_some());
-                self.stage = match answer {
-                    None => Stage::Polled { begun, tick },
-                    Some(_) => Stage::Done,
+                let moment = Moment {
+                    tick,
+                    tick_us: self.tick_us,
+                    cancelled: self.cancelled,
                 };
-                self.wake = self.steps.next_wake();
-                answer
+                match progress_of(&self.tree, begun, moment) {
+                    Progress::Ended { outcome, .. } => {
+                        self.stage = Stage::Done;
+                        Some(outcome)
+                    }
+                    Progress::Waits(wake) => {
+                        self.stage = Stage::Polled { begun, tick };
+                        self.wake = Some(wake);
+                        None
+                    }
+                }
             }
             _ => None,
         }

@@ -2,14 +2,25 @@
 ghost use Rattle.std.specs.Prelude.{◌≡◌, ◌+◌, ◌<◌, ◌++◌, [], IsOk, IfOk, OnOk, false, true, IsTrue, ◌↔◌, map};
 ghost use Rattle.std.specs.List.{list_any};
 ghost use Rattle.task_steps.specs.BookInside.{entries_of, mark_of, joined_mark, shown, IsMarked, IsQuiet};
+ghost use Rattle.task_steps.specs.Wake.{sooner};
 ghost use Rattle.task_steps.specs.Polls.{CanPollAll, HasPolledAll, NoneComes, owes_reply};
 
 use crate::entry::{Entry, Reply};
 use crate::polls::{owes_reply, poll_entry};
-use crate::steps::sooner;
 use cancel_view::View;
 use std::alloc::{AllocError, Global};
 use std::mem;
+
+/// The lesser of two ticks, where there are such.
+fn sooner(a: Option<u64>, b: Option<u64>) -> Option<u64>
+    ensures { result ≡ sooner a b }
+{
+    match (a, b) {
+        (None, _) => b,
+        (Some(_), None) => a,
+        (Some(a), Some(b)) => Some(a.min(b)),
+    }
+}
 
 /// What is known of some tasks without a look at each.
 #[derive(Clone, Copy)]

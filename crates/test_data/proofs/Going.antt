@@ -5,7 +5,7 @@ use Rattle.cancel_view.specs.Seen.{Seen, has, cancelled}
 use Rattle.loop_script.specs.declared.task.TaskSpec.{TaskSpec}
 use Rattle.task_steps.specs.Task.{Task}
 use Rattle.task_steps.specs.Run.{IsAfter, StaysSet}
-use Rattle.task_steps.specs.Rest.{sooner}
+use Rattle.task_steps.specs.Wake.{sooner}
 use Rattle.task_steps.specs.Book.{Book, started, with_task, sees, IsIn, HasGrown}
 use Rattle.test_data.specs.Going.{GoesOn, IsKnown}
 

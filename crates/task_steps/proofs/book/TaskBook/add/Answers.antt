@@ -1,7 +1,7 @@
 use Rattle.std.proofs.Common.{◌≡◌, ◌∙◌, ◌+◌, Some, Option, ℕ, false, subst, sym, ap, ◌++◌, ◌∷◌, [], rules, List}
 use Rattle.task_steps.specs.declared.entry.Entry.{Entry}
 use Rattle.task_steps.specs.declared.tasks.Tasks.{Tasks}
-use Rattle.task_steps.specs.Rest.{sooner}
+use Rattle.task_steps.specs.Wake.{sooner}
 use Rattle.task_steps.specs.Task.{Task}
 use Rattle.task_steps.specs.Book.{Book, IsStart, started, with_task}
 use Rattle.task_steps.specs.BookInside.{AreWaiting, AreListed, entries_of, wake_of_all, heeding}

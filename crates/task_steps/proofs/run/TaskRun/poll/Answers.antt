@@ -1,22 +1,33 @@
-use Rattle.std.proofs.Common.{None, refl, subst}
-use Rattle.task_steps.specs.declared.stage.Stage.TheVariants.{Polled}
+use Rattle.std.proofs.Common.{Some, None, subst}
 use Rattle.task_steps.specs.Run.{Run, Answered}
-use Rattle.task_steps.proofs.Wakes.{sleeps, pends, none_before_wake}
+use Rattle.task_steps.proofs.Runs.{answered, is_over, waits_on}
 use Rattle.task_steps.proofs.run.TaskRun.poll.Goals as goal
 
-pub invariant_of-self : goal.invariant_of-self
-invariant_of-self c =
+pub invariant_of-self-in-Waits : goal.invariant_of-self-in-Waits
+invariant_of-self-in-Waits c =
     let r = c.self.inside in
-    (sleeps r.tick_us r.tree r.steps r.clear r.cancelled r.stage c.in-Set.begun c.in-Set.tick r.wake c.in-Set.is c.self.invariant (c.if-is_asleep.ensures.0 refl)).held
+    (waits_on r.tick_us r.tree r.clear r.cancelled r.stage c.in-Set.begun c.in-Set.tick c.in-Waits.wake r.wake c.in-Set.is c.self.invariant c.in-Waits.ensures).held
 
-pub returns-then-is_asleep-clause-answer : goal.returns-then-is_asleep-clause-answer
-returns-then-is_asleep-clause-answer c =
+pub returns-in-Ended-clause-answer : goal.returns-in-Ended-clause-answer
+returns-in-Ended-clause-answer c =
     let r = c.self.inside in
-    let asleep = sleeps r.tick_us r.tree r.steps r.clear r.cancelled r.stage c.in-Set.begun c.in-Set.tick r.wake c.in-Set.is c.self.invariant (c.if-is_asleep.ensures.0 refl) in
-    subst (λ (x : Run). Answered x None) c.self.view_is (pends r.tick_us r.tree r.steps r.clear r.cancelled r.stage c.in-Set.begun c.in-Set.tick r.wake c.in-Set.is asleep)
+    subst (λ (x : Run). Answered x (Some c.in-Ended.outcome)) c.self.view_is
+    (answered r.tick_us r.tree r.clear r.cancelled r.stage c.in-Set.begun c.in-Set.tick r.wake (Some c.in-Ended.outcome) c.in-Set.is
+    (is_over r.tick_us r.tree r.clear r.cancelled r.stage c.in-Set.begun c.in-Set.tick c.in-Ended.tick c.in-Ended.outcome r.wake c.in-Set.is c.self.invariant c.in-Ended.ensures))
 
-pub returns-then-is_asleep-clause-end : goal.returns-then-is_asleep-clause-end
-returns-then-is_asleep-clause-end c =
+pub returns-in-Waits-clause-answer : goal.returns-in-Waits-clause-answer
+returns-in-Waits-clause-answer c =
     let r = c.self.inside in
-    let asleep = sleeps r.tick_us r.tree r.steps r.clear r.cancelled r.stage c.in-Set.begun c.in-Set.tick r.wake c.in-Set.is c.self.invariant (c.if-is_asleep.ensures.0 refl) in
-    none_before_wake r.tick_us r.tree r.steps r.clear r.cancelled (Polled c.in-Set.begun c.in-Set.tick) asleep.held.carried
+    subst (λ (x : Run). Answered x None) c.self.view_is
+    (answered r.tick_us r.tree r.clear r.cancelled r.stage c.in-Set.begun c.in-Set.tick r.wake None c.in-Set.is
+    (waits_on r.tick_us r.tree r.clear r.cancelled r.stage c.in-Set.begun c.in-Set.tick c.in-Waits.wake r.wake c.in-Set.is c.self.invariant c.in-Waits.ensures).answers)
+
+pub returns-in-Waits-clause-wakes : goal.returns-in-Waits-clause-wakes
+returns-in-Waits-clause-wakes c =
+    let r = c.self.inside in
+    (waits_on r.tick_us r.tree r.clear r.cancelled r.stage c.in-Set.begun c.in-Set.tick c.in-Waits.wake r.wake c.in-Set.is c.self.invariant c.in-Waits.ensures).later
+
+pub returns-in-Waits-clause-end : goal.returns-in-Waits-clause-end
+returns-in-Waits-clause-end c =
+    let r = c.self.inside in
+    (waits_on r.tick_us r.tree r.clear r.cancelled r.stage c.in-Set.begun c.in-Set.tick c.in-Waits.wake r.wake c.in-Set.is c.self.invariant c.in-Waits.ensures).held.standing.3.ends
