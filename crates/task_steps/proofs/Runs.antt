@@ -8,11 +8,11 @@ use Rattle.task_steps.specs.declared.progress.Progress.TheVariants.{Ended, Waits
 use Rattle.task_steps.specs.End.{End, ending, end_of}
 use Rattle.task_steps.specs.Wake.{wait_of}
 use Rattle.task_steps.specs.Progress.{IsProgress}
-use Rattle.task_steps.specs.Run.{Run, NoneBefore, Answered, MayCome, due, IsUpTo, IsLater, MaySet, StaysSet, set_to, seen_from, clear_to}
-use Rattle.task_steps.specs.RunInside.{IsBy, IsClearBefore, IsKnownAt, AgreeFrom, SleepsTo, SleepsToAny, IsStanding, IsHeld, wake_in}
+use Rattle.task_steps.specs.Run.{Answered, MayCome, due, IsUpTo, IsLater, MaySet, StaysSet, set_to, seen_from, clear_to}
+use Rattle.task_steps.specs.RunInside.{IsBy, IsClearBefore, IsKnownAt, AgreeFrom, SleepsTo, SleepsToAny, IsLeastAfter, IsStanding, IsNoted, IsHeld, wake_in}
 use Rattle.task_steps.proofs.Begins.{not_sooner}
 use Rattle.task_steps.proofs.Ends.{AgreeTo, by_le, by_lt, same-tick, from_on, causal, pending_too}
-use Rattle.task_steps.proofs.Sleeping.{waits, same_wait, still}
+use Rattle.task_steps.proofs.Sleeping.{waits, same_wait, still, wait_on}
 
 -- ---- what may come from a tick on might have come before
 pub may_before : (last tick : ℕ) (flag : Bool) (clear cancelled c : Option ℕ) → last < tick → IsBy last clear → MayCome (clear_to tick flag clear) (seen_from tick flag cancelled) c → MayCome clear cancelled c
@@ -67,6 +67,36 @@ sleeps-up-to : (us : ℕ) (t : Tree) (b : ℕ) (clear cancelled wake : Option �
 sleeps-up-to us t b clear cancelled None at tick l u h = absurd l
 sleeps-up-to us t b clear cancelled (Some w) at tick l u h = sooner-sleep us t b clear cancelled w tick u h
 
+-- ---- the least wait stays the least
+unseen-before : (from : ℕ) (clear : Option ℕ) → IsClearBefore from clear → MayCome clear (Some from) (Some from)
+unseen-before from None h = (tt, λ t le. by_le from t le)
+unseen-before from (Some last) h = (λ t le. by_lt from t (omega arith), λ t le. by_le from t le)
+
+none-unseen : (clear : Option ℕ) → MayCome clear None None
+none-unseen None = (tt, tt)
+none-unseen (Some last) = (λ t le. refl, tt)
+
+-- what was seen so far may be all that comes
+may-stay : (tick : ℕ) (clear cancelled : Option ℕ) → IsKnownAt tick clear cancelled → MayCome clear cancelled cancelled
+may-stay tick clear None k = none-unseen clear
+may-stay tick clear (Some from) k = unseen-before from clear k.1
+
+agree-on : (at tick : ℕ) (flag : Bool) (cancelled : Option ℕ) → at < tick → AgreeTo at cancelled (seen_from tick flag cancelled)
+agree-on at tick true None lt = λ t le. sym (by_lt tick t (omega arith))
+agree-on at tick false None lt = λ t le. refl
+agree-on at tick flag (Some from) lt = λ t le. refl
+
+least-on : (us : ℕ) (t : Tree) (begun at tick : ℕ) (flag : Bool) (clear cancelled wake : Option ℕ) → begun ≤ at → at < tick → IsKnownAt at clear cancelled → IsLater at wake → IsNoted us t begun clear cancelled at wake → IsLeastAfter us t begun (seen_from tick flag cancelled) tick wake
+least-on us t begun at tick flag clear cancelled None b lt k l n = tt
+least-on us t begun at tick flag clear cancelled (Some w) b lt k l n = λ before.
+    let least : w ≡ wait_of us t begun cancelled at = n.least l in
+    let by : w ≤ (end_of us t begun cancelled).tick = n.sleeps.ends cancelled (may-stay at clear cancelled k) in
+    let late : at < (end_of us t begun cancelled).tick = omega arith in
+    let d = seen_from tick flag cancelled in
+    let agree = agree-on at tick flag cancelled lt in
+    let same = same_wait us t begun at cancelled d b agree late in
+    least ∙ same ∙ sym (wait_on us t begun at tick d b (omega arith) (pending_too us t begun at cancelled d agree late) (omega arith))
+
 -- ---- a tick that is set
 standing-on : (tick us : ℕ) (flag : Bool) (t : Tree) (clear cancelled : Option ℕ) (stage : Stage) (wake : Option ℕ) → IsStanding us t clear cancelled stage wake → MaySet tick stage (wake_in stage wake) → StaysSet cancelled flag
     → IsStanding us t (clear_to tick flag clear) (seen_from tick flag cancelled) (set_to tick stage) wake
@@ -74,15 +104,18 @@ standing-on tick us flag t clear cancelled Fresh wake h k stays = (
   rw (h.0, h.1) (known-first tick flag),
   omega arith,
   record { ends = λ c m. not_sooner us t tick c; same = λ c d m n g. from_on us t tick c d g },
-  rw h.2 tt,
+  rw h.2 (record { sleeps = tt; least = tt }),
 )
 standing-on tick us flag t clear cancelled (Set begun at) wake h k stays = absurd k
 standing-on tick us flag t clear cancelled (Polled begun at) wake h k stays =
     let may = λ (c : Option ℕ) (m : MayCome (clear_to tick flag clear) (seen_from tick flag cancelled) c). may_before at tick flag clear cancelled c k.0 (known-by at clear cancelled h.0) m in (
       known-next at tick flag clear cancelled k.0 h.0 stays,
       (let later : at < tick = k.0 in omega (arith, h.1)),
-      narrow us t begun clear cancelled (clear_to tick flag clear) (seen_from tick flag cancelled) tick may (sleeps-up-to us t begun clear cancelled wake at tick h.2 k.1 h.3),
-      narrow-any us t begun clear cancelled (clear_to tick flag clear) (seen_from tick flag cancelled) wake may h.3,
+      narrow us t begun clear cancelled (clear_to tick flag clear) (seen_from tick flag cancelled) tick may (sleeps-up-to us t begun clear cancelled wake at tick h.2 k.1 h.3.sleeps),
+      record {
+        sleeps = narrow-any us t begun clear cancelled (clear_to tick flag clear) (seen_from tick flag cancelled) wake may h.3.sleeps;
+        least = least-on us t begun at tick flag clear cancelled wake h.1 k.0 h.0 h.2 h.3;
+      },
     )
 standing-on tick us flag t clear cancelled Done wake h k stays = absurd k
 
@@ -94,27 +127,32 @@ held_on tick us flag t clear cancelled stage wake h k stays = record { some = h.
 clear-on : (at tick : ℕ) (clear c : Option ℕ) → clear ≡ Some at → at ≤ tick → MayCome (Some tick) None c → MayCome clear None c
 clear-on at tick clear c e le m = rw e ((λ t below. m.0 t (omega arith)), tt)
 
+later-back : (at tick : ℕ) (wake : Option ℕ) → at ≤ tick → IsLater tick wake → IsLater at wake
+later-back at tick None le l = absurd l
+later-back at tick (Some w) le l = omega arith
+
+passed-least : (us : ℕ) (t : Tree) (begun at tick : ℕ) (clear wake : Option ℕ) → begun ≤ at → at ≤ tick → IsKnownAt at clear None → IsLater at wake → IsNoted us t begun clear None at wake → IsLeastAfter us t begun None tick wake
+passed-least us t begun at tick clear None b le k l n = tt
+passed-least us t begun at tick clear (Some w) b le k l n = λ before.
+    let least : w ≡ wait_of us t begun None at = n.least l in
+    let by : w ≤ (end_of us t begun None).tick = n.sleeps.ends None (may-stay at clear None k) in
+    least ∙ sym (wait_on us t begun at tick None b le (omega arith) (omega arith))
+
 pub held_passed : (us : ℕ) (t : Tree) (clear cancelled : Option ℕ) (begun at tick : ℕ) (wake : Option ℕ) → IsHeld us t clear cancelled (Polled begun at) wake → at ≤ tick → IsLater tick wake → cancelled ≡ None → IsHeld us t (Some tick) cancelled (Polled begun tick) wake
 held_passed us t clear None begun at tick wake h le l n = record {
   some = h.some;
   short = h.short;
-  standing = (refl, (let begins : begun ≤ at = h.standing.1 in omega arith), l, narrow-any us t begun clear None (Some tick) None wake (λ c m. clear-on at tick clear c h.standing.0 le m) h.standing.3);
+  standing = (
+    refl,
+    (let begins : begun ≤ at = h.standing.1 in omega arith),
+    l,
+    record {
+      sleeps = narrow-any us t begun clear None (Some tick) None wake (λ c m. clear-on at tick clear c h.standing.0 le m) h.standing.3.sleeps;
+      least = passed-least us t begun at tick clear wake h.standing.1 le h.standing.0 (later-back at tick wake le l) h.standing.3;
+    },
+  );
 }
 held_passed us t clear (Some from) begun at tick wake h le l n = absurd (cc)
-
--- ---- no end is before the wake
-none-before-any : (us : ℕ) (t : Tree) (clear cancelled : Option ℕ) (begun at : ℕ) (wake : Option ℕ) → SleepsToAny us t begun clear cancelled wake → NoneBefore (record { tree = t; tick_us = us; stage = Polled begun at; clear = clear; cancelled = cancelled; wake = wake }) wake
-none-before-any us t clear cancelled begun at None h = tt
-none-before-any us t clear cancelled begun at (Some w) h = h.ends
-
-none-before-none : (r : Run) → NoneBefore r None
-none-before-none r = tt
-
-pub none_before_wake : (us : ℕ) (t : Tree) (clear cancelled : Option ℕ) (stage : Stage) (wake : Option ℕ) → IsHeld us t clear cancelled stage wake → NoneBefore (record { tree = t; tick_us = us; stage = stage; clear = clear; cancelled = cancelled; wake = wake_in stage wake }) (wake_in stage wake)
-none_before_wake us t clear cancelled Fresh wake h = tt
-none_before_wake us t clear cancelled (Set begun at) wake h = tt
-none_before_wake us t clear cancelled (Polled begun at) wake h = none-before-any us t clear cancelled begun at wake h.standing.3
-none_before_wake us t clear cancelled Done wake h = tt
 
 -- ---- what a poll may answer
 none_due : (tick : ℕ) (e : End) → tick < e.tick → None ≡ due tick e
@@ -132,26 +170,11 @@ pub answered : (us : ℕ) (t : Tree) (clear cancelled : Option ℕ) (stage : Sta
 answered us t clear cancelled stage begun tick wake answer e h =
     subst (λ (x : Stage). Answered (record { tree = t; tick_us = us; stage = x; clear = clear; cancelled = cancelled; wake = wake_in x wake }) answer) (sym e) h
 
--- ---- a poll before the wake finds it pending
-asleep-answers : (us : ℕ) (t : Tree) (begun tick : ℕ) (clear cancelled wake : Option ℕ) → IsLater tick wake → SleepsToAny us t begun clear cancelled wake → AnswersNow us t begun tick clear cancelled None
-asleep-answers us t begun tick clear cancelled None l h = absurd l
-asleep-answers us t begun tick clear cancelled (Some w) l h = λ c m. let late : w ≤ (end_of us t begun c).tick = h.ends c m in (none_due tick (end_of us t begun c) (omega arith), omega arith)
-
 -- what a poll leaves, and what it answers
 pub record Leaves (us : ℕ) (t : Tree) (clear cancelled : Option ℕ) (begun tick : ℕ) (wake : Option ℕ) : Type 0 where
   pub held : IsHeld us t clear cancelled (Polled begun tick) wake
   pub later : IsLater tick wake
   pub answers : AnswersNow us t begun tick clear cancelled None
-
-asleep : (us : ℕ) (t : Tree) (clear cancelled : Option ℕ) (begun tick : ℕ) (wake : Option ℕ) → IsHeld us t clear cancelled (Set begun tick) wake → IsLater tick wake → Leaves us t clear cancelled begun tick wake
-asleep us t clear cancelled begun tick wake h l = record {
-  held = record { some = h.some; short = h.short; standing = (h.standing.0, h.standing.1, l, h.standing.3) };
-  later = l;
-  answers = asleep-answers us t begun tick clear cancelled wake l h.standing.3;
-}
-
-pub sleeps : (us : ℕ) (t : Tree) (clear cancelled : Option ℕ) (stage : Stage) (begun tick : ℕ) (wake : Option ℕ) → stage ≡ Set begun tick → IsHeld us t clear cancelled stage wake → IsLater tick wake → Leaves us t clear cancelled begun tick wake
-sleeps us t clear cancelled stage begun tick wake e h l = asleep us t clear cancelled begun tick wake (subst (λ (x : Stage). IsHeld us t clear cancelled x wake) e h) l
 
 -- ---- a poll that looks at the tree
 unseen-to : (tick : ℕ) (clear c : Option ℕ) → clear ≡ Some tick → MayCome clear None c → AgreeTo tick None c
@@ -159,10 +182,6 @@ unseen-to tick clear c e m = λ t le. sym ((rw e at m).0 t le)
 
 from-known : (from tick : ℕ) (clear c : Option ℕ) → from ≤ tick → MayCome clear (Some from) c → AgreeFrom tick c (Some from)
 from-known from tick clear c le m = λ t late. m.1 t (omega arith) ∙ sym (by_le from t (omega arith))
-
-unseen-before : (from : ℕ) (clear : Option ℕ) → IsClearBefore from clear → MayCome clear (Some from) (Some from)
-unseen-before from None h = (tt, λ t le. by_le from t le)
-unseen-before from (Some last) h = (λ t le. by_lt from t (omega arith), λ t le. by_le from t le)
 
 -- a cancellation that was seen fixes the end
 one-end : (us : ℕ) (t : Tree) (begun tick from : ℕ) (clear c : Option ℕ) → IsKnownAt tick clear (Some from) → SleepsTo us t begun clear (Some from) tick → MayCome clear (Some from) c → end_of us t begun c ≡ end_of us t begun (Some from)
@@ -219,17 +238,10 @@ waiting-on us t clear cancelled begun tick w wake h p =
     let wait = waits us t begun tick cancelled s.1 p.0 in
     let later : tick < w = let l : tick < wait_of us t begun cancelled tick = wait.0 in omega (arith, p.1) in
     record {
-      held = record { some = h.some; short = h.short; standing = (s.0, s.1, later, g.0) };
+      held = record { some = h.some; short = h.short; standing = (s.0, s.1, later, record { sleeps = g.0; least = λ l. p.1 }) };
       later = later;
       answers = λ c m. let late : tick < (end_of us t begun c).tick = g.1 c m in (none_due tick (end_of us t begun c) late, omega arith);
     }
 
 pub waits_on : (us : ℕ) (t : Tree) (clear cancelled : Option ℕ) (stage : Stage) (begun tick w : ℕ) (wake : Option ℕ) → stage ≡ Set begun tick → IsHeld us t clear cancelled stage wake → IsProgress us t begun cancelled tick (Waits w) → Leaves us t clear cancelled begun tick (Some w)
 waits_on us t clear cancelled stage begun tick w wake e h p = waiting-on us t clear cancelled begun tick w wake (subst (λ (x : Stage). IsHeld us t clear cancelled x wake) e h) p
-
--- a tick that is set is not before the one in which the run was begun
-begins-by : (us : ℕ) (t : Tree) (clear cancelled : Option ℕ) (begun tick : ℕ) (wake : Option ℕ) → IsHeld us t clear cancelled (Set begun tick) wake → begun ≤ tick
-begins-by us t clear cancelled begun tick wake h = h.standing.1
-
-pub begun_by : (us : ℕ) (t : Tree) (clear cancelled : Option ℕ) (stage : Stage) (begun tick : ℕ) (wake : Option ℕ) → stage ≡ Set begun tick → IsHeld us t clear cancelled stage wake → begun ≤ tick
-begun_by us t clear cancelled stage begun tick wake e h = begins-by us t clear cancelled begun tick wake (subst (λ (x : Stage). IsHeld us t clear cancelled x wake) e h)

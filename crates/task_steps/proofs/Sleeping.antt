@@ -5,7 +5,7 @@ use Rattle.task_steps.specs.End.{End, is_ok, followed, joined, earlier, limited,
 use Rattle.task_steps.specs.Wake.{wait_of}
 use Rattle.task_steps.specs.RunInside.{AgreeFrom}
 use Rattle.task_steps.proofs.Begins.{not_sooner}
-use Rattle.task_steps.proofs.Ends.{AgreeTo, agree_back, le_by, lt_by, same-tick, earlier_tick, limited_tick, cond-tick, cond-late, is-on, followed-same, from_on, causal}
+use Rattle.task_steps.proofs.Ends.{AgreeTo, agree_back, le_by, lt_by, by_le, by_lt, same-tick, earlier_tick, limited_tick, cond-tick, cond-late, is-on, followed-same, from_on, causal}
 
 -- ---- the wait of a tree that goes on is later than the tick, and not later than the end
 abbrev pub IsWait : (k wait end : ℕ) → Type 0
@@ -156,3 +156,57 @@ still us (within n a) f k wake c d le h g late by =
     let e = limited_tick (f + ticks_of us n) (end_of us a f c) in
     let r = still us a f k wake c d le h g (omega arith) (omega arith) in
     λ i. limited (f + ticks_of us n) (r i)
+
+-- ---- until it ends it stays the least
+seq-on : (p : Bool) (k m : ℕ) (x u : End) (v v2 w w2 : ℕ) → nat_le x.tick k ≡ p → k ≤ m → k < (cond (is_ok x.outcome) u x).tick → m < cond p w v → (k < x.tick → IsWait k v x.tick) → (k < x.tick → m < v → v2 ≡ v) → (x.tick ≤ k → k < u.tick → m < w → w2 ≡ w)
+    → cond (nat_le x.tick m) w2 v2 ≡ cond p w v
+seq-on true k m x u v v2 w w2 hp le late h wait f g =
+    let over : x.tick ≤ k = le_by x.tick k hp in
+    let ok : is_ok x.outcome ≡ true = is-on (is_ok x.outcome) k u x late over in
+    rw (by_le x.tick m (omega arith)) (g over (cond-late (is_ok x.outcome) k u x late ok) h)
+seq-on false k m x u v v2 w w2 hp le late h wait f g =
+    let lt : k < x.tick = lt_by x.tick k hp in
+    let by : v ≤ x.tick = (wait lt).1 in
+    rw (by_lt x.tick m (omega arith)) (f lt h)
+
+both-on : (p q : Bool) (k m x y v v2 w w2 : ℕ) → nat_le x k ≡ p → nat_le y k ≡ q → k ≤ m → k < max x y → m < cond p w (cond q v (min v w)) → (k < x → IsWait k v x) → (k < y → IsWait k w y) → (k < x → m < v → v2 ≡ v) → (k < y → m < w → w2 ≡ w)
+    → cond (nat_le x m) w2 (cond (nat_le y m) v2 (min v2 w2)) ≡ cond p w (cond q v (min v w))
+both-on true true k m x y v v2 w w2 hp hq le late h a b f g = let i : x ≤ k = le_by x k hp in let j : y ≤ k = le_by y k hq in absurd (omega arith)
+both-on true false k m x y v v2 w w2 hp hq le late h a b f g =
+    let i : x ≤ k = le_by x k hp in
+    rw (by_le x m (omega arith)) (g (lt_by y k hq) h)
+both-on false true k m x y v v2 w w2 hp hq le late h a b f g =
+    let i : k < x = lt_by x k hp in
+    let j : y ≤ k = le_by y k hq in
+    let by : v ≤ x = (a i).1 in
+    rw (by_lt x m (omega arith), by_le y m (omega arith)) (f i h)
+both-on false false k m x y v v2 w w2 hp hq le late h a b f g =
+    let i : k < x = lt_by x k hp in
+    let j : k < y = lt_by y k hq in
+    let one : v ≤ x = (a i).1 in
+    let other : w ≤ y = (b j).1 in
+    let r = f i (omega arith) in
+    let s = g j (omega arith) in
+    rw (by_lt x m (omega arith), by_lt y m (omega arith)) (λ t. min (r t) (s t))
+
+pub wait_on : (us : ℕ) (t : Tree) (f k m : ℕ) (c : Option ℕ) → f ≤ k → k ≤ m → k < (end_of us t f c).tick → m < wait_of us t f c k → wait_of us t f c m ≡ wait_of us t f c k
+wait_on us (value v) f k m c le on late h = refl
+wait_on us fail f k m c le on late h = refl
+wait_on us (sleep n) f k m c le on late h = refl
+wait_on us check f k m c le on late h = refl
+wait_on us (seq a b) f k m c le on late h =
+    let x : End = end_of us a f c in
+    seq-on (nat_le x.tick k) k m x (end_of us b x.tick c) (wait_of us a f c k) (wait_of us a f c m) (wait_of us b x.tick c k) (wait_of us b x.tick c m) refl on late h
+    (waits us a f k c le) (wait_on us a f k m c le on) (λ over. wait_on us b x.tick k m c over on)
+wait_on us (both a b) f k m c le on late h =
+    both-on (nat_le (end_of us a f c).tick k) (nat_le (end_of us b f c).tick k) k m (end_of us a f c).tick (end_of us b f c).tick (wait_of us a f c k) (wait_of us a f c m) (wait_of us b f c k) (wait_of us b f c m) refl refl on late h
+    (waits us a f k c le) (waits us b f k c le) (wait_on us a f k m c le on) (wait_on us b f k m c le on)
+wait_on us (first a b) f k m c le on late h =
+    let e = earlier_tick (end_of us a f c) (end_of us b f c) in
+    let r = wait_on us a f k m c le on (omega arith) (omega arith) in
+    let s = wait_on us b f k m c le on (omega arith) (omega arith) in
+    λ t. min (r t) (s t)
+wait_on us (within n a) f k m c le on late h =
+    let e = limited_tick (f + ticks_of us n) (end_of us a f c) in
+    let r = wait_on us a f k m c le on (omega arith) (omega arith) in
+    λ t. min (f + ticks_of us n) (r t)

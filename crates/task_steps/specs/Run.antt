@@ -6,6 +6,7 @@ use Rattle.loop_script.specs.declared.outcome.Outcome.{Outcome}
 use Rattle.task_steps.specs.declared.stage.Stage.{Stage}
 use Rattle.task_steps.specs.declared.stage.Stage.TheVariants.{Fresh, Set, Polled, Done}
 use Rattle.task_steps.specs.End.{End, end_of, seen}
+use Rattle.task_steps.specs.Wake.{wait_of}
 
 -- a tree, how long a tick is, the stage of its run, the last tick that was set as not cancelled, the first that was set as
 -- cancelled, and the least tick at which a wait in progress ends
@@ -129,6 +130,17 @@ none_before Done r wake = Unit {0}
 abbrev pub NoneBefore : Run → Option Tick → Type 0
 NoneBefore r None = Unit {0}
 NoneBefore r (Some wake) = none_before r.stage r wake
+
+-- the wake in a stage: of a run that is pending the least tick at which a sleep or limit in progress ends, as far as polls saw
+abbrev pub is_least : Stage → Run → Option Tick → Type 0
+is_least Fresh r wake = wake ≡ None
+is_least (Set begun tick) r wake = wake ≡ None
+is_least (Polled begun tick) r wake = wake ≡ Some (wait_of r.tick_us r.tree begun r.cancelled tick)
+is_least Done r wake = wake ≡ None
+
+-- the wake is the least tick at which a sleep or limit in progress ends; one that is not pending after a poll has none
+abbrev pub IsLeastWait : Run → Option Tick → Type 0
+IsLeastWait r wake = is_least r.stage r wake
 
 -- a later tick may stand for a poll that found a run pending: none but one that was not seen as cancelled, before its wake
 abbrev pub MayPass : Tick → Option Tick → Option Tick → Stage → Type 0

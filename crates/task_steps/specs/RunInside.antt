@@ -6,6 +6,7 @@ use Rattle.loop_script.specs.Tree.{Tree}
 use Rattle.task_steps.specs.declared.stage.Stage.{Stage}
 use Rattle.task_steps.specs.declared.stage.Stage.TheVariants.{Fresh, Set, Polled, Done}
 use Rattle.task_steps.specs.End.{end_of, seen}
+use Rattle.task_steps.specs.Wake.{wait_of}
 use Rattle.task_steps.specs.Run.{MayCome, IsLater}
 
 -- a wake at a tick at the latest
@@ -38,13 +39,23 @@ abbrev pub SleepsToAny : Microseconds → Tree → Tick → Option Tick → Opti
 SleepsToAny tick_us tree begun clear cancelled None = Unit {0}
 SleepsToAny tick_us tree begun clear cancelled (Some wake) = SleepsTo tick_us tree begun clear cancelled wake
 
+-- a wake that is later than a tick is the least wait there
+abbrev pub IsLeastAfter : Microseconds → Tree → Tick → Option Tick → Tick → Option Tick → Type 0
+IsLeastAfter tick_us tree begun cancelled tick None = Unit {0}
+IsLeastAfter tick_us tree begun cancelled tick (Some wake) = tick < wake → wake ≡ wait_of tick_us tree begun cancelled tick
+
+-- what a run has noted of its wake: nothing happens before it, and until it comes it is the least wait
+pub record IsNoted (tick_us : Microseconds) (tree : Tree) (begun : Tick) (clear cancelled : Option Tick) (tick : Tick) (wake : Option Tick) : Type 0 where
+  pub sleeps : SleepsToAny tick_us tree begun clear cancelled wake
+  pub least : IsLeastAfter tick_us tree begun cancelled tick wake
+
 -- how a run stands in each stage: it sleeps to the tick that is set, and to the wake that the last poll left, where it left one
 abbrev pub IsStanding : Microseconds → Tree → Option Tick → Option Tick → Stage → Option Tick → Type 0
 IsStanding tick_us tree clear cancelled Fresh wake = (cancelled ≡ None) × (clear ≡ None) × (wake ≡ None)
 IsStanding tick_us tree clear cancelled (Set begun tick) wake =
-    IsKnownAt tick clear cancelled × (begun ≤ tick) × SleepsTo tick_us tree begun clear cancelled tick × SleepsToAny tick_us tree begun clear cancelled wake
+    IsKnownAt tick clear cancelled × (begun ≤ tick) × SleepsTo tick_us tree begun clear cancelled tick × IsNoted tick_us tree begun clear cancelled tick wake
 IsStanding tick_us tree clear cancelled (Polled begun tick) wake =
-    IsKnownAt tick clear cancelled × (begun ≤ tick) × IsLater tick wake × SleepsToAny tick_us tree begun clear cancelled wake
+    IsKnownAt tick clear cancelled × (begun ≤ tick) × IsLater tick wake × IsNoted tick_us tree begun clear cancelled tick wake
 IsStanding tick_us tree clear cancelled Done wake = Unit {0}
 
 -- a tick is some time, and the run stands as its stage says

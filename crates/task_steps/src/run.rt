@@ -42,7 +42,7 @@ impl Model for TaskRun {
 
 impl TaskRun {
     ghost use Rattle.loop_script.specs.Bounds.{longest_tick};
-    ghost use Rattle.task_steps.specs.Run.{MaySet, StaysSet, IsSet, Answered, WakesLater, NoneBefore, MayPass, stage_to, clear_passed, set_to, seen_from, clear_to, stage_after};
+    ghost use Rattle.task_steps.specs.Run.{MaySet, StaysSet, IsSet, Answered, WakesLater, NoneBefore, IsLeastWait, MayPass, stage_to, clear_passed, set_to, seen_from, clear_to, stage_after};
     ghost use Rattle.task_steps.specs.declared.stage.Stage.TheVariants.{Fresh, Done};
 
     /// A task that no poll has begun; a tick is so many microseconds long. It takes no memory of the allocator, and is refused
@@ -145,6 +145,7 @@ impl TaskRun {
     /// The least tick at which a sleep or limit in progress ends; none for a done one. The task ends in none before it.
     pub fn next_wake(&self) -> Option<u64>
         ensures wake { result ≡ self.now.wake }
+        ensures least { IsLeastWait self.now result }
         ensures end { NoneBefore self.now self.now.wake }
     {
         match self.stage {

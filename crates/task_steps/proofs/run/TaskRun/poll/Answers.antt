@@ -30,4 +30,4 @@ returns-in-Waits-clause-wakes c =
 pub returns-in-Waits-clause-end : goal.returns-in-Waits-clause-end
 returns-in-Waits-clause-end c =
     let r = c.self.inside in
-    (waits_on r.tick_us r.tree r.clear r.cancelled r.stage c.in-Set.begun c.in-Set.tick c.in-Waits.wake r.wake c.in-Set.is c.self.invariant c.in-Waits.ensures).held.standing.3.ends
+    (waits_on r.tick_us r.tree r.clear r.cancelled r.stage c.in-Set.begun c.in-Set.tick c.in-Waits.wake r.wake c.in-Set.is c.self.invariant c.in-Waits.ensures).held.standing.3.sleeps.ends
