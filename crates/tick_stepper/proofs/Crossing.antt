@@ -12,7 +12,6 @@ use Rattle.loop_script.proofs.tree.TaskTree.TheLaws.TheKnot.{crosses as trees}
 use Rattle.loop_script.specs.contracts.tree.TaskTree as Tree
 use Rattle.loop_script.specs.contracts.action.Action as Action
 use Rattle.loop_script.specs.contracts.script.Script as Script
-use Rattle.task_steps.proofs.steps.Steps.TheLaws.TheKnot.{crosses as steps}
 use Rattle.task_steps.proofs.tasks.Tasks.TheLaws.TheKnot.{crosses as tasks}
 use Rattle.task_steps.specs.contracts.book.TaskBook as Book
 use Rattle.cancel_view.specs.contracts.handlers.Handlers as Handlers
@@ -56,7 +55,7 @@ pub tree_sync : IsSync Tree.the_row
 tree_sync = search (trees, sendable, crosses) depth 40
 
 book_send : IsSend Book.the_row
-book_send = search (tasks, trees, steps, sendable, crosses) depth 100 fits 20000
+book_send = search (tasks, trees, sendable, crosses) depth 100 fits 20000
 
 handlers_send : IsSend Handlers.the_row
 handlers_send = search (BTreeMap-send, sendable, crosses) depth 60 fits 10000
