@@ -16,19 +16,23 @@ use Rattle.loop_script.specs.declared.plan.LaneSpec.{LaneSpec}
 use Rattle.loop_script.specs.declared.plan.Proc.{Proc}
 use Rattle.loop_script.specs.declared.plan.Plan.{Plan}
 
--- what stands under a key, and at a place of a list
+-- what stands under a key
 abbrev pub under : List ℕ → Option Data → Option Data
 under k o = option_and_then (get k) o
 
+-- what stands at a place of a list
 abbrev pub nth : ℕ → Option Data → Option Data
 nth n o = option_and_then (at n) o
 
+-- a whole number from 0 on
 abbrev pub IsWhole : Option Data → ℕ → Type 0
 IsWhole o n = o ≡ Some (number (unsigned n))
 
+-- a whole number, which may be below 0
 abbrev pub IsInteger : Option Data → ℤ → Type 0
 IsInteger o z = option_and_then integer_of o ≡ Some z
 
+-- true or false
 abbrev pub IsTruth : Option Data → Bool → Type 0
 IsTruth o b = o ≡ Some (boolean b)
 

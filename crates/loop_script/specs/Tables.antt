@@ -3,10 +3,11 @@
 use Rattle.std.specs.Prelude.{ℕ, pos, negsuc, true, false, List, [], ◌∷◌, codes}
 use Rattle.loop_script.specs.Form.{Object, script, lane, procedure, source, child, task, Choice, kind, action, tree, Form, whole, whole_or_null, signed, truth, list, lanes, pair, an, one_of, Key, Word}
 
--- a key that must be there, and one that may be absent
+-- a key that must be there
 abbrev pub needed : List ℕ → Form → Key
 needed name form = record { name = name; form = form; needed = true }
 
+-- a key that may be absent
 abbrev pub optional : List ℕ → Form → Key
 optional name form = record { name = name; form = form; needed = false }
 

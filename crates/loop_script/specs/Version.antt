@@ -18,15 +18,15 @@ IsGive o = option_and_then front o ≡ Some (codes "give")
 abbrev pub SomeAt : (Option Data → Type 0) → Option Data → Type 0
 SomeAt P o = (n : ℕ) × P (nth n o)
 
--- of the items under the first key some has one in the list under the second
+-- of the items under the first key some has a `give` in the list under the second
 abbrev pub GivesUnder : List ℕ → List ℕ → Data → Type 0
 GivesUnder owners actions d = SomeAt (λ owner. SomeAt IsGive (under actions owner)) (under owners (Some d))
 
--- some lane or procedure has one
+-- some lane or procedure has a `give`
 abbrev pub Gives : Data → Type 0
 Gives d = GivesUnder (codes "lanes") (codes "start") d ⊎ GivesUnder (codes "procs") (codes "do") d
 
--- a script of another version than 2 has one
+-- a script of another version than 2 has a `give`
 pub record GivesOutsideVersion2 (d : Data) : Type 0 where
   pub version : IsWhole (under (codes "version") (Some d)) 2 → ⊥
   pub gives : Gives d
@@ -55,11 +55,11 @@ items_or_none (Some ds) = items_in ds
 abbrev pub listed : Option Data → List Data
 listed o = items_or_none (option_and_then as_array o)
 
--- some action of a list begins so
+-- some action of a list begins with the word `give`
 abbrev pub list_gives : Option Data → Bool
 list_gives o = list_any begins_give (listed o)
 
--- some action of the lists under a key of some lanes or procedures
+-- some action in the lists under a key of lanes or procedures begins so
 abbrev pub some_gives : List ℕ → Option Data → Bool
 some_gives key o = list_any (λ d. list_gives (get key d)) (listed o)
 

@@ -58,11 +58,12 @@ abbrev pub other_keys : List Word → ℕ → Members → List Cause
 other_keys ws n no_members = []
 other_keys ws n (member k d ms) = where_so (not (list_any (λ w. bytes_eq (text_of w) k) ws)) (OtherKey n) ++ other_keys ws (suc n) ms
 
--- the keys that may stand in an action, and those of its kind of source where it makes one
+-- the keys of a kind of source, and where none is chosen the words of all kinds
 abbrev pub of_kind : Option Word → List Word
 of_kind None = words choices.Source
 of_kind (Some w) = w ∷ beside w
 
+-- the keys that may stand in an action, and those of its kind of source where it makes one
 abbrev pub allowed : Word → Json → List Word
 allowed w j = (w ∷ beside w) ++ (if makes_source w then of_kind (chosen choices.Source j) else [])
 
@@ -135,6 +136,6 @@ unfoldable pub faults_in : ℕ → Names → List Step → Sort → Json → Lis
 faults_in zero ns place s j = []
 faults_in (suc n) ns place s j = found_at place s (own s ns j) ++ together (within (λ step. faults_in n ns (place ++ step ∷ []))) (pieces s ns j)
 
--- of a whole script
+-- the faults of a whole script
 abbrev pub script_faults : Json → List Found
 script_faults j = faults_in levels (names_in j) [] (sorts.An objects.Script) j

@@ -10,6 +10,7 @@ use Rattle.named.specs.declared.word.Word.TheVariants as word
 use Rattle.named.specs.declared.sort.Kind.{Kind}
 use Rattle.named.specs.declared.sort.Kind.TheVariants as kinds
 
+-- the names of a script, by kinds, each list in the order of their numbers
 pub record Names : Type 0 where
   pub threads : List (List ℕ)
   pub contexts : List (List ℕ)
@@ -20,7 +21,7 @@ pub record Names : Type 0 where
   pub slots : List (List ℕ)
   pub texts : List (List ℕ)
 
--- those of a kind
+-- the names of a kind
 abbrev pub of_kind : Kind → Names → List (List ℕ)
 of_kind kinds.Thread ns = ns.threads
 of_kind kinds.Context ns = ns.contexts
@@ -43,7 +44,7 @@ abbrev pub number_from : ℕ → List ℕ → List (List ℕ) → Option ℕ
 number_from n name [] = None
 number_from n name (x ∷ xs) = if bytes_eq x name then Some n else number_from (suc n) name xs
 
--- its place among those of its kind
+-- the place of a name among those of its kind
 abbrev pub number_of : List ℕ → List (List ℕ) → Option ℕ
 number_of name names = number_from 0 name names
 
@@ -56,7 +57,7 @@ abbrev pub all_added : ℕ → List (List ℕ) → List (List ℕ) → List (Lis
 all_added limit xs [] = xs
 all_added limit xs (name ∷ names) = all_added limit (added limit name xs) names
 
--- the items of a list, and the members of an object, where there is one
+-- the items, where there are some
 abbrev pub items_or_none : Option Items → Items
 items_or_none None = no_items
 items_or_none (Some js) = js
@@ -64,6 +65,7 @@ items_or_none (Some js) = js
 abbrev pub items_in : Option Json → Items
 items_in o = items_or_none (option_and_then as_array o)
 
+-- the members, where there are some
 abbrev pub members_or_none : Option Members → Members
 members_or_none None = no_members
 members_or_none (Some ms) = ms
@@ -128,7 +130,7 @@ declared kinds.Descriptor j = keys_of (members_in (under word.Descriptors j))
 declared kinds.Slot j = said_under naming j
 declared kinds.Text j = said_under logging j
 
--- each once, as far as there are numbers
+-- the names of a kind, each once, as far as there are numbers
 abbrev pub numbered : Kind → Json → List (List ℕ)
 numbered k j = all_added (most k) [] (declared k j)
 

@@ -27,6 +27,6 @@ written (suc n) ns s j = together (filled (written n ns)) (pieces s ns j)
 abbrev pub levels : ℕ
 levels = 160
 
--- a whole script
+-- the tokens of a whole script
 abbrev pub script_tokens : Json → List Token
 script_tokens j = written levels (names_in j) (sorts.An objects.Script) j

@@ -45,7 +45,7 @@ abbrev pub fault : List Step → Form → Cause → List Found
 fault place f c = record { place = place; form = f; cause = c } ∷ []
 
 -- ---- references
--- at a place stands a number of this sort
+-- at a place stands a number of this sort, which is a fault where the script has not so many
 abbrev pub missing : Counts → Sort → List Step → ℕ → List Found
 missing n s place k = if nat_lt k (count n s) then [] else fault place index (Missing (count n s))
 
@@ -117,7 +117,7 @@ not_rising place [] = []
 not_rising place (l ∷ ls) = not_above place l.tick 1 ls
 
 -- ---- the whole script
--- the actions of a list, from the k-th on
+-- the faults of the actions of a list, from the k-th on
 abbrev pub in_actions : Counts → List Proc → List Step → ℕ → List Action → List Found
 in_actions n procs place k [] = []
 in_actions n procs place k (a ∷ rest) = (action_missing n (place ++ nth k ∷ []) a ++ action_broken procs (place ++ nth k ∷ []) a) ++ in_actions n procs place (suc k) rest
