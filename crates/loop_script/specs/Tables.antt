@@ -19,15 +19,19 @@ word w parts = record { word = w; parts = parts }
 abbrev pub index : Form
 index = whole 0 4294967295
 
+-- the same, or null
 abbrev pub index_or_null : Form
 index_or_null = whole_or_null 0 4294967295
 
+-- the number of a slot of a lane
 abbrev pub slot : Form
 slot = whole 0 255
 
+-- the bits of a descriptor, added up
 abbrev pub bits : Form
 bits = whole 0 63
 
+-- a priority
 abbrev pub priority : Form
 priority = signed (negsuc 2147483647) (pos 2147483647)
 

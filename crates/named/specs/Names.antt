@@ -62,6 +62,7 @@ abbrev pub items_or_none : Option Items → Items
 items_or_none None = no_items
 items_or_none (Some js) = js
 
+-- the items of a list, where there is one
 abbrev pub items_in : Option Json → Items
 items_in o = items_or_none (option_and_then as_array o)
 
@@ -70,9 +71,11 @@ abbrev pub members_or_none : Option Members → Members
 members_or_none None = no_members
 members_or_none (Some ms) = ms
 
+-- the members of an object, where there is one
 abbrev pub members_in : Option Json → Members
 members_in o = members_or_none (option_and_then as_object o)
 
+-- what an object has under a key
 abbrev pub under : Word → Json → Option Json
 under w j = get (text_of w) j
 
@@ -81,6 +84,7 @@ abbrev pub texts_of : Items → List (List ℕ)
 texts_of no_items = []
 texts_of (item j js) = option_to_list (as_str j) ++ texts_of js
 
+-- the keys of members
 abbrev pub keys_of : Members → List (List ℕ)
 keys_of no_members = []
 keys_of (member k j ms) = k ∷ keys_of ms
@@ -90,6 +94,7 @@ abbrev pub contexts_or : List ℕ → Option Json → List (List ℕ)
 contexts_or thread None = thread ∷ []
 contexts_or thread (Some j) = texts_of (items_in (Some j))
 
+-- the contexts of threads, one thread after the other
 abbrev pub contexts_of : Members → List (List ℕ)
 contexts_of no_members = []
 contexts_of (member thread j ms) = contexts_or thread (under word.Contexts j) ++ contexts_of ms
@@ -99,6 +104,7 @@ abbrev pub said : List Word → Json → List (List ℕ)
 said [] j = []
 said (w ∷ ws) j = option_to_list (option_and_then as_str (under w j)) ++ said ws j
 
+-- what actions say under some keys
 abbrev pub said_in : List Word → Items → List (List ℕ)
 said_in ws no_items = []
 said_in ws (item j js) = said ws j ++ said_in ws js
@@ -116,6 +122,7 @@ said_under ws j = said_by ws word.Start (members_in (under word.Threads j)) ++ s
 abbrev pub naming : List Word
 naming = word.Attach ∷ word.Child ∷ word.Connect ∷ []
 
+-- the actions that write a text
 abbrev pub logging : List Word
 logging = word.Log ∷ []
 

@@ -31,6 +31,7 @@ leaf key l = part (ats.Key key) (sorts.Leaf l)
 abbrev pub name : Word → Kind → Part
 name key kind = leaf key (leaves.Name kind)
 
+-- the value itself
 abbrev pub itself : Sort → Part
 itself s = part ats.Same s
 
@@ -94,6 +95,7 @@ parts_of_tree word.First = tree_at 1 ∷ tree_at 2 ∷ []
 parts_of_tree word.Within = item_at 1 leaves.Microseconds ∷ tree_at 2 ∷ []
 parts_of_tree w = []
 
+-- what stands behind a word of a choice
 abbrev pub parts : Choice → Word → List Part
 parts choices.Action w = parts_of_action w
 parts choices.Source w = parts_of_source w

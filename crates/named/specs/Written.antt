@@ -14,6 +14,7 @@ abbrev pub filled : (Sort → Json → List Token) → Piece → List Token
 filled f (tokens ts) = ts
 filled f (inner step s d) = f s d
 
+-- the tokens of pieces, one after the other
 abbrev pub together : (Piece → List Token) → List Piece → List Token
 together f [] = []
 together f (p ∷ ps) = f p ++ together f ps

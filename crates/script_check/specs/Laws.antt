@@ -68,6 +68,7 @@ pub data Leads : List Step → Form → Data → Form → Data → Type 0 where
 abbrev pub IsShallow : Data → Type 0
 IsShallow d = depth d < levels
 
+-- the faults of shape and of limits are those of the tables, each in its place
 pub record FormFaults : Type 0 where
   -- a fault of shape is told exactly where some part of the script is misshapen by the tables, and one of limits exactly where some is out of range
   pub shape : (d : Data) → IsShallow d → (has is_shape (form_faults d) ≡ true) ↔ IsMisshapen (an script) d

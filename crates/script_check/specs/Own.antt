@@ -20,6 +20,7 @@ where_so false c = []
 abbrev pub is_outside : ℕ → ℕ → ℕ → Bool
 is_outside low high n = not (nat_le low n && nat_le n high)
 
+-- the same of a number that may be below 0
 abbrev pub is_integer_outside : ℤ → ℤ → ℤ → Bool
 is_integer_outside low high z = not (int_le low z && int_le z high)
 
