@@ -34,9 +34,8 @@ pub fn iterations_go_on()
 {}
 
 /// Before and after each step of a run the sources of each context stand in trees at no more levels than the script's
-/// version has: two in version 1, four in version 2. So a script of version 1 gives the text that it gave when
-/// there were no more: what is selected and blocked, where a child or a priority is refused, and what a destroy and a
-/// change of priority leave is what the rules of two levels say.
+/// version has: two in version 1, four in version 2. So in version 1 what is selected, where a child or a priority is refused, and
+/// what a destroy and a change of priority leave is what the rules of a root and its children say.
 pub fn levels_go_by_version()
     ensures { LevelsHold }
 {}

@@ -46,7 +46,7 @@ pub record HasPassed (tick : Tick) (one : Resting) : Type 0 where
   pub past : one.lane.state.lane.tasks.tick ≤ tick
   pub tasks : (k : Tick) → one.lane.state.lane.tasks.tick ≤ k → k < tick → GivesNothing k one.lane.state.lane.tasks
 
--- a lane so, whose turns from there on are quiet, up to its next one
+-- such a lane, whose turns from the tick on are quiet, up to its next one
 pub record Rests (script : Plan) (tick : Tick) (one : Resting) : Type 0 where
   pub passed : HasPassed tick one
   pub quiet : (k : Tick) → tick ≤ k → k < script.ticks → IsAfter k one.next → IsQuiet script k one.lane.state.lane
