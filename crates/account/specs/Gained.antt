@@ -64,7 +64,7 @@ ids_left (CallOf call ∷ below) = None
 ids_left (IterOf context ids asker ∷ below) = Some ids
 ids_left (LoopOf number context ∷ below) = None
 
--- whether an action asks for an iteration
+-- the ids that the innermost iteration has left, where the action is one that asks for it
 abbrev pub asked_by : Option Action → List Frame → Option (List SourceId)
 asked_by (Some (actions.Iterate context)) frames = ids_left frames
 asked_by _ frames = None

@@ -13,5 +13,6 @@ gift_by sender (mails.Attach context spec) = None
 gift_by sender (mails.Complete reply) = None
 gift_by sender (mails.Cancelled c) = None
 
+-- the context that a letter gives, if it gives one
 abbrev pub gift_of : Letter → Option Gift
 gift_of letter = gift_by letter.sender letter.body

@@ -21,11 +21,11 @@ unspent lane = record { lane = lane; spent = false }
 abbrev pub lanes_of : List State → List Lane
 lanes_of states = map (λ (s : State). s.lane) states
 
--- no call of them was refused memory
+-- no call of these lanes was refused memory
 abbrev pub AreUnspent : List State → Type 0
 AreUnspent states = states ≡ map unspent (lanes_of states)
 
--- nor is one out of the place of its number
+-- no call of them was refused memory, and each stands in the place of its number
 pub record AreLined (states : List State) : Type 0 where
   pub unspent : AreUnspent states
   pub places : StandFrom 0 (lanes_of states)
@@ -34,12 +34,12 @@ pub record AreLined (states : List State) : Type 0 where
 abbrev pub turn_in : Lane → Begun → Turn
 turn_in lane begun = turn_at lane begun.turn begun.post
 
--- the first lane that waits is in that turn, whose bounds it keeps
+-- the first lane that waits is in a turn that was begun, whose bounds it keeps
 abbrev pub IsInTurn : Plan → Tick → List Lane → Begun → Type 0
 IsInTurn script tick [] begun = Unit {0}
 IsInTurn script tick (lane ∷ waiting) begun = IsHeld script tick (Some (turn_in lane begun))
 
--- that turn is one of its own
+-- a turn that was begun is one of the first lane that waits
 abbrev pub OwnsTurn : List Lane → Option Begun → Type 0
 OwnsTurn [] begun = Unit {0}
 OwnsTurn (lane ∷ waiting) None = Unit {0}
@@ -55,7 +55,7 @@ turning_from over (lane ∷ waiting) (Some begun) posted = Turning over (Some (t
 abbrev pub turning : ℕ → List Lane → Option Begun → List Letter → Place
 turning n lanes begun posted = turning_from (take n lanes) (drop n lanes) begun posted
 
--- the same after a step of the turn, or after its end, where there was none
+-- the same after a step of the turn, or after its end where no step was left
 abbrev pub turning_after : Bool → ℕ → List Lane → Begun → List Letter → Place
 turning_after true n lanes begun posted = turning n lanes (Some begun) posted
 turning_after false n lanes begun posted = turning (n + 1) lanes None (posted ++ begun.post)
@@ -70,7 +70,7 @@ place_at lanes letters begun (phases.Turning n) = turning n lanes begun letters
 place_at lanes letters begun (phases.Giving k) = Giving lanes (drop k letters) letters
 place_at lanes letters begun (phases.Bringing n k) = bringing n k lanes letters
 
--- that of all fields
+-- the place that all fields of a tick in progress stand for
 abbrev pub place_of : Going → Place
 place_of g = place_at (lanes_of g.lanes.items) g.letters.items g.begun g.phase
 

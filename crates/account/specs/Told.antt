@@ -41,7 +41,7 @@ abbrev pub did_iteration : Lane → ContextNumber → Option SourceId → Deed
 did_iteration lane context None = deeds.IterationEnded context
 did_iteration lane context (Some id) = did_id context id (row_of context id lane)
 
--- by what the innermost takes next
+-- what a step does, by what the innermost takes next
 abbrev pub did_top : Plan → Lane → Top → Deed
 did_top script lane tops.Nothing = deeds.Rests
 did_top script lane (tops.Call call) = did_call call.body call.place (slice_get (actions_of script call.body) call.place)
@@ -92,7 +92,7 @@ pub record Spot : Type 0 where
   pub tick : Tick
   pub place : Place
 
--- the tick goes on, or where no move is left the next begins
+-- where a run is after a move: the tick goes on, or where no move is left the next begins
 abbrev pub goes_on : Tick → Place → Option Place → Spot
 goes_on tick place (Some next) = record { tick = tick; place = next }
 goes_on tick place None = record { tick = tick + 1; place = started (lanes_in place) }
@@ -102,10 +102,11 @@ abbrev pub quiet_by : Plan → Tick → Place → Option Told → Option Spot
 quiet_by script tick place (Some tells) = None
 quiet_by script tick place None = Some (goes_on tick place (moved script tick place))
 
+-- the same from where a run is
 abbrev pub quiet : Plan → Spot → Option Spot
 quiet script spot = quiet_by script spot.tick spot.place (told script spot.tick spot.place)
 
--- so many of them
+-- so many such moves
 abbrev pub quiet_moves : Plan → ℕ → Spot → Option Spot
 quiet_moves script zero spot = Some spot
 quiet_moves script (suc n) spot = option_and_then (quiet script) (quiet_moves script n spot)

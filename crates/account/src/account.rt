@@ -148,7 +148,7 @@ impl Account {
         self.tick
     }
 
-    /// The lane of a number, as it stands now; None where the script has none.
+    /// The lane of a number, as it stands now; None where the script has none. Of a spent account nothing is promised.
     pub fn lane(&self, number: u32) -> Option<&LaneState>
         ensures lane { self.now.spent ≡ false → option_map (λ s. s.lane) (option_copied result) ≡ slice_get (lanes_in self.now.place) number }
         ensures unspent { self.now.spent ≡ false → IfSome result (λ s. s.now.spent ≡ false) }

@@ -7,7 +7,7 @@ use Rattle.cancel_view.specs.declared.handler.Connected.{Connected}
 use Rattle.cancel_view.specs.declared.handler.Connected.TheVariants.{Id, Already}
 use Rattle.cancel_view.specs.Units.{CancellableNumber, HandlerId, ProcNumber}
 
--- per cancellable whether the view has it; the handlers in the order in which they were connected
+-- per cancellable whether the view has it; the handlers in the order in which they were connected; and the id that the next one gets
 pub record Seen : Type 0 where
   pub members : List Bool
   pub handlers : List Handler
@@ -47,7 +47,7 @@ connected c proc v =
 abbrev pub has_id : HandlerId → Handler → Bool
 has_id id h = h.id == id
 
--- whether it has another
+-- whether a handler has another id
 abbrev pub has_other_id : HandlerId → Handler → Bool
 has_other_id id h = not (h.id == id)
 
@@ -59,7 +59,7 @@ may_disconnect id v = (id == 0) || list_any (has_id id) v.handlers
 abbrev pub without : HandlerId → Seen → Seen
 without id v = if id == 0 then v else record v { handlers = filter (has_other_id id) v.handlers }
 
--- ids rise, all above one
+-- ids rise, all above this one
 abbrev pub RiseFrom : HandlerId → List Fired → Type 0
 RiseFrom low [] = Unit {0}
 RiseFrom low (f ∷ fs) = (low < f.id) × RiseFrom f.id fs
@@ -68,7 +68,7 @@ RiseFrom low (f ∷ fs) = (low < f.id) × RiseFrom f.id fs
 abbrev pub IsRising : List Fired → Type 0
 IsRising fs = RiseFrom 0 fs
 
--- ids rise, all between two
+-- ids rise, all between these two
 abbrev pub RiseWithin : (low high : HandlerId) → List Handler → Type 0
 RiseWithin low high [] = low < high
 RiseWithin low high (h ∷ hs) = (low < h.id) × RiseWithin h.id high hs

@@ -37,6 +37,6 @@ TellsOfIds ids places = (id : SourceId) → place_of id places ≡ 0 → list_an
 abbrev pub TellsNone : List Shown → List ℕ → Type 0
 TellsNone list places = (fd : Descriptor) → place_of fd places ≡ 0 → shown list fd ≡ 0
 
--- and one that stands at the place of its class shows what is listed there
+-- a descriptor that stands at the place of its class shows what is listed there
 abbrev pub TellsFirst : List Shown → List ℕ → Type 0
 TellsFirst list places = (s : Shown) (n : ℕ) → place_of s.fd places ≡ suc n → suc n < far → slice_get list n ≡ Some s → shown list s.fd ≡ s.level

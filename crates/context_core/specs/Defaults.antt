@@ -1,4 +1,4 @@
--- Who owns a context, and the stack of thread-default contexts.
+-- How often a context is acquired, and the stack of thread-default contexts.
 use Rattle.std.specs.Prelude.{◌+◌, ◌-◌, ◌==◌, Bool, false, Option, Some, None, List, [], ◌∷◌, ◌++◌, length, take, slice_get, nat_lt, if◌then◌else◌}
 use Rattle.std.specs.List.{list_any}
 use Rattle.context_core.specs.declared.context.Context.{Context}

@@ -79,5 +79,7 @@ pub record ParentLaws : Type 0 where
   -- at any level: a source is ready where no call blocks it, and it is so by itself or a child of it is ready
   pub lends : (rows : List Row) → IsForest rows → (own : Own) (busy : List SourceId)
       → AllByRecursion (λ r. is_ready own busy rows r ≡ (is_free busy r && (own r || list_any (λ q. is_child_of r.id q && is_ready own busy rows q) rows))) rows
+  -- what is ready is what these rules say
   pub ready : (rows : List Row) → IsForest rows → (own : Own) (busy : List SourceId) → AllByRecursion (λ r. is_ready own busy rows r ≡ is_ready_at_four own busy rows r) rows
+  -- and so is what is selected
   pub selected : (rows : List Row) → IsForest rows → (own : Own) (busy : List SourceId) → selected own busy rows ≡ selected_at_four own busy rows

@@ -6,6 +6,6 @@ use Rattle.source_rows.specs.Rows.{is_under}
 use Rattle.context_core.specs.Ready.{Own, is_callable}
 use Rattle.loop_script.specs.Units.{SourceId}
 
--- it calls, it is a child, and it or one above it has the id
+-- a child is callable, and it or one above it has the id
 abbrev pub lends : Own → List SourceId → SourceId → Row → Bool
 lends own busy id q = (is_some q.parent && is_under id q) && is_callable own busy q

@@ -51,7 +51,7 @@ is_fd (ReadyTime us) = false
 is_fd (Fd fd bits) = true
 is_fd (Cancel c) = false
 
--- its descriptor
+-- the descriptor of a source of one
 abbrev pub fd_of : Kind → Descriptor
 fd_of Idle = 0
 fd_of (Timeout ms) = 0
@@ -59,7 +59,7 @@ fd_of (ReadyTime us) = 0
 fd_of (Fd fd bits) = fd
 fd_of (Cancel c) = 0
 
--- the bits that it asks for
+-- the bits that a source of a descriptor asks for
 abbrev pub bits_of : Kind → Bits
 bits_of Idle = 0
 bits_of (Timeout ms) = 0
@@ -71,11 +71,11 @@ bits_of (Cancel c) = 0
 abbrev pub is_asked : Option ℤ → List SourceId → Row → Bool
 is_asked priority busy r = is_fd r.kind && (is_free busy r && not (less_urgent priority r.priority))
 
--- the rows that are, in order
+-- the rows that are so, in order
 abbrev pub asked_rows : Option ℤ → List SourceId → List Row → List Row
 asked_rows priority busy rows = filter (is_asked priority busy) (in_order rows)
 
--- what they ask of their descriptors
+-- what a row asks of its descriptor
 abbrev pub interest_of : Row → Interest
 interest_of r = record { fd = fd_of r.kind; bits = bits_of r.kind }
 

@@ -52,11 +52,11 @@ is_blocked busy r = list_any (λ id. list_any (λ b. b == id) busy) r.lineage
 abbrev pub is_free : List SourceId → Row → Bool
 is_free busy r = not (is_blocked busy r)
 
--- free, and ready by itself
+-- the source is callable: free, and ready by itself
 abbrev pub is_callable : Own → List SourceId → Row → Bool
 is_callable own busy r = is_free busy r && own r
 
--- free, and it or a source below it calls
+-- free, and it or a source below it is callable
 abbrev pub is_ready : Own → List SourceId → List Row → Row → Bool
 is_ready own busy rows r = is_free busy r && list_any (λ q. is_under r.id q && is_callable own busy q) rows
 

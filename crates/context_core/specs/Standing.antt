@@ -103,7 +103,7 @@ pub record StandingsTell : Type 0 where
   pub blocked : (level : Descriptor → Bits) (cancelled : CancellableNumber → Bool) (now : Microseconds) (busy : List SourceId) (rows : List Row)
       → AllByRecursion (λ r. is_held (standing level cancelled now busy rows r) ≡ is_blocked busy r) rows
 
--- a ready time that has not come
+-- a ready time has not come, where there is one
 abbrev pub IsAhead : Microseconds → Option Microseconds → Type 0
 IsAhead now None = Unit {0}
 IsAhead now (Some time) = now < time

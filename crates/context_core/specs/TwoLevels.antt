@@ -50,6 +50,6 @@ pub record LevelLaws : Type 0 where
   pub by_parents : (rows : List Row) → IsForest rows → (busy : List SourceId) → AllByRecursion (λ r. is_blocked busy r ≡ (is_above_blocked busy (parent_of rows r.parent) || is_busy busy r.id)) rows
   -- at two levels: a call of the source, or of its parent
   pub blocked : (rows : List Row) → IsForest rows → IsWithinLevels 2 rows → (busy : List SourceId) → AllByRecursion (λ r. is_blocked busy r ≡ is_blocked_at_two busy r) rows
-  -- at two levels a child that calls lends its readiness to its parent
+  -- at two levels a child that is free and ready by itself makes its parent ready
   pub ready : (rows : List Row) → IsForest rows → IsWithinLevels 2 rows → (own : Own) (busy : List SourceId) → AllByRecursion (λ r. is_ready own busy rows r ≡ is_ready_at_two own busy rows r) rows
   pub selected : (rows : List Row) → IsForest rows → IsWithinLevels 2 rows → (own : Own) (busy : List SourceId) → selected own busy rows ≡ selected_at_two own busy rows

@@ -332,8 +332,8 @@ fn first_of(first: Option<Row>, row: &Row, ready: bool) -> Option<Row>
     }
 }
 
-/// Whether a row is ready, where `lent` has the ids that the rows before it lend to. A child that calls then lends to
-/// those above it.
+/// Whether a row is ready, where `lent` has the ids that the rows before it lend to. A child that is free and ready by itself then lends
+/// to those above it.
 fn visit(
     lent: &mut BTreeSet<u64>,
     row: &Row,

@@ -1,4 +1,4 @@
--- What each action and each dispatch does to a lane stays within what it pays for.
+-- No action and no dispatch adds more to a lane than one that is counted may: to its rows, its frames and its counters.
 use Rattle.std.proofs.Common.{◌≡◌, ℕ, ℤ, ◌+◌, ◌≤◌, Bool, true, false, cond, Option, Some, None, List, [], ◌∷◌, ◌++◌, filter, length, refl, arith, ◌==◌}
 use Rattle.std.specs.Prelude.{nat_lt}
 use Rattle.loop_script.specs.declared.plan.Plan.{Plan}

@@ -1,4 +1,4 @@
--- What letters attach, and whose contexts are.
+-- What letters attach, and which lane has which context.
 use Rattle.std.proofs.Common.{◌≡◌, ◌≢◌, ◌⊎◌, inl, inr, ℕ, zero, suc, ◌+◌, ◌<◌, ◌≤◌, ◌==◌, Bool, true, false, cond, Option, Some, None, List, [], ◌∷◌, ◌++◌, length, slice_set, refl, ap, sym, ◌∙◌, arith, subst, append-nil, ltb-true, ltb-false}
 use Rattle.std.specs.Prelude.{not, ◌&&◌, unwrap_or, is_some, slice_get, slice_index_or, option_map, nat_lt}
 use Rattle.std.specs.List.{AllByRecursion, cons_option}

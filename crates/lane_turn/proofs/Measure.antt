@@ -15,7 +15,7 @@ no_more_to_begin : (iterated : Bool) (rows rows' : ℕ) → rows' ≤ rows → t
 no_more_to_begin true rows rows' h = omega arith
 no_more_to_begin false rows rows' h = omega arith
 
--- what is counted pays for a row, and for as many ids as there were rows
+-- what is counted may add a row, and as many ids as there were rows
 pub pays : (n rows rows' frames frames' : ℕ) (iterated : Bool) → rows' ≤ rows + 1 → frames' ≤ frames + rows + 2
     → work_of n rows' frames' iterated < work_of (suc n) rows frames iterated
 pays n rows rows' frames frames' iterated r f =

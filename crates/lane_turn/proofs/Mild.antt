@@ -1,4 +1,4 @@
--- What a counted thing does to a lane stays within what it pays for.
+-- What an action or dispatch that is counted may add to a lane at most: to its rows, its frames and its counters.
 use Rattle.std.proofs.Common.{◌≡◌, ℕ, ℤ, zero, suc, ◌+◌, ◌≤◌, Bool, true, false, not, cond, Option, Some, None, List, [], ◌∷◌, map, length, slice_set, refl, ap, sym, ◌∙◌, arith, subst, ◌==◌, length-append, option_map}
 use Rattle.std.specs.Prelude.{slice_get}
 use Rattle.std.proofs.lemmas.List.{length-map}

@@ -1,4 +1,4 @@
--- What is done in a turn, beside a lane's number, its tasks and the size of its view.
+-- What is done in a turn leaves a lane its number, its contexts and the size of its view, and adds no more to its tasks than is counted.
 use Rattle.std.proofs.Common.{◌≡◌, ◌≢◌, ◌⊎◌, inl, inr, subst, ℕ, ℤ, zero, suc, ◌+◌, ◌≤◌, ◌<◌, ◌==◌, ◌||◌, sym, Bool, true, false, cond, Option, Some, None, List, [], ◌∷◌, ◌++◌, map, length, slice_set, refl, ap, ◌∙◌, arith, length-append, filter}
 use Rattle.std.proofs.lemmas.List.{length-set}
 use Rattle.loop_script.specs.declared.plan.Plan.{Plan}

@@ -1,4 +1,4 @@
--- What each action does. Each stands on a lane whose innermost call has taken it.
+-- What each action does, to a lane whose innermost call has taken the action already.
 use Rattle.std.specs.Prelude.{List, [], ◌∷◌, ℤ, Bool, true, false, Option, Some, None, ◌&&◌, is_some, is_none, if◌then◌else◌}
 use Rattle.loop_script.specs.declared.action.Action.{Action}
 use Rattle.loop_script.specs.declared.action.Action.TheVariants.{Attach, Child, Destroy, SetReady, SetPriority, Iterate, Pending, Run, Quit, Cancel, Connect, Disconnect, Task, Push, Pop, ShowDefault, Acquire, Release, Invoke, Give, Log}
@@ -26,18 +26,18 @@ use Rattle.lane_watch.specs.Watch.{starting}
 use Rattle.lane_turn.specs.Lane.{Lane, written, pushed, set_running, context_at, is_own, edited, place_at, handler_at, row_at, next_place, set_slot, viewing, noting, chosen, is_any, iterating}
 use Rattle.loop_script.specs.Units.{Tick, Microseconds, ContextNumber, LoopNumber, CancellableNumber, ProcNumber, Slot, SourceId, HandlerId, Priority}
 
--- an action that found nothing to act on
+-- the line of an action that found nothing to act on
 abbrev pub missed : Tick → Word → Lane → Lane
 missed tick word lane = written tick (events.Miss word) lane
 
--- a slot names the source that a context gets
+-- a context gets a source, which a slot names; a miss where the context is not the lane's own
 abbrev pub attach : Tick → Microseconds → ContextNumber → Slot → SourceSpec → Lane → Lane
 attach tick now context slot spec lane =
     if is_own context lane
     then set_slot slot (Source (next_place context lane)) (edited context (attached spec now) lane)
     else missed tick words.Attach lane
 
--- a source below the one of an id
+-- the source of an id gets a child
 abbrev pub born : SourceSpec → Microseconds → SourceId → RowSet → RowSet
 born spec now id s = child_added spec now (row_with id s.rows) s
 
@@ -62,7 +62,7 @@ child_of tick now slot spec (Some place) lane =
 abbrev pub child : Tick → Microseconds → Slot → Slot → SourceSpec → Lane → Lane
 child tick now parent slot spec lane = child_of tick now slot spec (place_at parent lane) lane
 
--- an edit of a source that is there
+-- an edit of a source that is there; a miss where it is not
 abbrev pub on_source : Tick → Word → (SourceId → RowSet → RowSet) → Option Place → Lane → Lane
 on_source tick word edit None lane = missed tick word lane
 on_source tick word edit (Some place) lane =
@@ -88,27 +88,27 @@ set_priority_of tick priority (Some place) lane =
 abbrev pub set_priority : Tick → Slot → Priority → Lane → Lane
 set_priority tick slot priority lane = set_priority_of tick priority (place_at slot lane) lane
 
--- an iteration of a context begins, whose `iterate` is told whether anything was selected; of another lane's it is told false
+-- an iteration of a context begins, whose `iterate` is told whether anything was selected; of a context that is not the lane's own it is told false
 abbrev pub iterate : Plan → Tick → ContextNumber → Lane → Lane
 iterate script tick context lane =
     if is_own context lane
     then iterating script tick context (askers.Iterate (is_any (chosen script tick context lane))) lane
     else written tick (events.Iterate context false) lane
 
--- it is told whether an iteration of a context would dispatch anything now
+-- a line tells whether an iteration of a context would dispatch anything now
 abbrev pub pending : Plan → Tick → ContextNumber → Lane → Lane
 pending script tick context lane = written tick (events.Pending context (is_own context lane && is_any (chosen script tick context lane))) lane
 
--- a loop runs, in the innermost
+-- a run of a loop begins in the innermost frame; a miss where its context is not the lane's own
 abbrev pub run : Tick → LoopNumber → ContextNumber → Lane → Lane
 run tick number context lane =
     if is_own context lane then pushed (LoopOf number context) (set_running number true lane) else missed tick words.Run lane
 
--- a loop does not run any more
+-- a loop is quit; a miss where its context is not the lane's own
 abbrev pub quit : Tick → LoopNumber → ContextNumber → Lane → Lane
 quit tick number context lane = if is_own context lane then set_running number false lane else missed tick words.Quit lane
 
--- what a handler does of an action: no handler holds others
+-- what an action does that a handler takes; a script gives handlers no others
 abbrev pub plain_acted : Plan → Tick → Action → Lane → Lane
 plain_acted script tick (Destroy slot) lane = destroy tick slot lane
 plain_acted script tick (SetReady slot us) lane = set_ready tick slot us lane
@@ -116,7 +116,7 @@ plain_acted script tick (Quit number) lane = quit tick number (context_of script
 plain_acted script tick (Log n) lane = written tick (events.Log n) lane
 plain_acted script tick _ lane = lane
 
--- what a handler does of a list
+-- what a handler does: its actions, one after another
 abbrev pub all_acted : Plan → Tick → List Action → Lane → Lane
 all_acted script tick [] lane = lane
 all_acted script tick (action ∷ actions) lane = all_acted script tick actions (plain_acted script tick action lane)
@@ -136,7 +136,7 @@ cancel script tick c lane =
     if has c lane.view then lane
     else all_handled script tick (fired c lane.view) (written tick (events.Cancel c) (noting tick c (viewing (cancelled c lane.view) lane)))
 
--- to what was cancelled nothing is connected: the handler is called at once, and the slot names none
+-- a handler is connected, which a slot names; where the cancellable was cancelled before, none is: the handler is called at once, and the slot names none
 abbrev pub connect : Plan → Tick → CancellableNumber → Slot → ProcNumber → Lane → Lane
 connect script tick c slot proc lane =
     if has c lane.view

@@ -1,4 +1,4 @@
--- Which lane has which context, and what its letters attach there.
+-- What the letters of a tick attach to contexts, with which ids and in which order.
 use Rattle.std.specs.Prelude.{◌≡◌, ◌<◌, ◌==◌, Bool, true, false, pos, Option, Some, None, List, [], ◌∷◌, ◌+◌, ◌++◌, map, if◌then◌else◌}
 use Rattle.std.specs.List.{AllByRecursion, filter_map}
 use Rattle.loop_script.specs.declared.plan.Plan.{Plan}
@@ -45,7 +45,7 @@ arrival_of context _ = None
 abbrev pub arrivals : ContextNumber → List Line → List SourceId
 arrivals context lines = filter_map (λ line. arrival_of context line.event) lines
 
--- the ids that the letters for a context get: each the next one
+-- the ids that the sources of letters for a context get: each the next one
 abbrev pub ids_for : ContextNumber → SourceId → List Letter → List SourceId
 ids_for context next [] = []
 ids_for context next (letter ∷ letters) = if is_for context letter then next ∷ ids_for context (next + 1) letters else ids_for context next letters
@@ -90,7 +90,7 @@ abbrev pub rows_of_context : Option Context → List Row
 rows_of_context None = []
 rows_of_context (Some context) = context.rows.rows
 
--- the order number that its next source gets
+-- the order number that the next source of a context gets
 abbrev pub next_order : Option Context → Order
 next_order None = 0
 next_order (Some context) = context.rows.next_order
@@ -108,9 +108,11 @@ CallsNone (Give c to) = Unit {0}
 
 -- what a lane has after a delivery of what letters attach to a context of it
 pub record AreAttached (script : Plan) (tick : Tick) (context : ContextNumber) (letters : List Letter) (lane after : Lane) : Type 0 where
-  -- the rows that handlers left of those before, and then those of the letters' sources, under the next ids, in the order of the letters
+  -- the rows that handlers left of those before
   pub left : List Row
+  -- those, and then the rows of the letters' sources, under the next ids, in the order of the letters
   pub rows : rows_of_context (context_at context after) ≡ left ++ rows_from (time_of script tick) (next_id (context_at context lane)) (next_order (context_at context lane)) (comings context letters)
+  -- each row that was left is one of those before, but for its ready time; and their ids rise
   pub among : AllByRecursion (IsAmong (rows_of_context (context_at context lane))) left
   pub rising : IdsRise left
   -- all of those before, where no letter is a cancellation

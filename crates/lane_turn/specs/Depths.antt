@@ -35,7 +35,7 @@ abbrev pub IsShallow : Event → Type 0
 IsShallow (events.Dispatch context id priority depth) = (1 ≤ depth) × (depth ≤ 32)
 IsShallow _ = Unit {0}
 
--- it is the number of dispatches in progress, this one among them
+-- the depth of a dispatch is the number of dispatches in progress, this one among them
 abbrev pub TellsDepth : List Frame → Event → Type 0
 TellsDepth frames (events.Dispatch context id priority depth) = depth ≡ length (callers frames)
 TellsDepth frames _ = Unit {0}

@@ -44,31 +44,31 @@ emptied_one context (LoopOf number c) = LoopOf number c
 abbrev pub emptied : ContextNumber → List Frame → List Frame
 emptied context frames = map (emptied_one context) frames
 
--- a call that is a dispatch
+-- whether a call is a dispatch, by where it came from
 abbrev pub is_source : Origin → Bool
 is_source Start = false
 is_source (Source caller) = true
 is_source (Invoke acquired) = false
 
--- a frame that is a dispatch
+-- whether a frame is a dispatch
 abbrev pub is_dispatch : Frame → Bool
 is_dispatch (CallOf call) = is_source call.origin
 is_dispatch (IterOf context ids asker) = false
 is_dispatch (LoopOf number context) = false
 
--- a call that is not that of the start list
+-- whether a call is not that of the start list, by where it came from
 abbrev pub is_dispatch_or_invoke : Origin → Bool
 is_dispatch_or_invoke Start = false
 is_dispatch_or_invoke (Source caller) = true
 is_dispatch_or_invoke (Invoke acquired) = true
 
--- a frame that is such a call
+-- whether a frame is a call, but for that of the start list
 abbrev pub is_call : Frame → Bool
 is_call (CallOf call) = is_dispatch_or_invoke call.origin
 is_call (IterOf context ids asker) = false
 is_call (LoopOf number context) = false
 
--- how many such calls are in progress
+-- how many calls are in progress, but for that of the start list
 abbrev pub calls_in_progress : List Frame → ℕ
 calls_in_progress frames = count_by is_call frames
 
@@ -105,14 +105,14 @@ owns context (CallOf call) = is_acquired_by context call.origin
 owns context (IterOf c ids asker) = c == context
 owns context (LoopOf number c) = c == context
 
--- the place of an innermost call can be counted on
+-- the place of the innermost frame can be raised by one, where it is a call
 abbrev pub HasRoom : List Frame → Type 0
 HasRoom [] = Unit {0}
 HasRoom (CallOf call ∷ below) = call.place < count_end
 HasRoom (IterOf context ids asker ∷ below) = Unit {0}
 HasRoom (LoopOf number context ∷ below) = Unit {0}
 
--- the frames before and after what the innermost took next, where it is told at once
+-- the frames before and after a take, by what was taken: the innermost call or iteration has gone on by one, and what is below it stands
 abbrev pub IsTaken : Top → List Frame → List Frame → Type 0
 IsTaken tops.Nothing old new = new ≡ old
 IsTaken (tops.Call call) old new = (call.place < count_end → new ≡ advanced old) × (drop 1 new ≡ drop 1 old)

@@ -35,7 +35,7 @@ give script tick context to lane =
     then written tick (events.Give context to) (with_given context true lane)
     else written tick (events.Miss words.Give) lane
 
--- and its letter tells whose it will be
+-- what a `give` sends: a letter that tells whose the context will be
 abbrev pub give_sends : Plan → ContextNumber → LaneNumber → Lane → Option Mail
 give_sends script context to lane = if may_give script context to lane then Some (mails.Give context to) else None
 
@@ -49,14 +49,15 @@ kept_of context lane c = record { number = context; context = c; replies = repli
 abbrev pub handed_of : ContextNumber → Lane → Option Kept
 handed_of context lane = if is_given context lane then option_map (kept_of context lane) (context_at context lane) else None
 
--- a place of the lane's contexts has another context, or none; its sources hold other replies
+-- a place of the lane's contexts has another context, or none
 abbrev pub with_place : ContextNumber → Option Context → Lane → Lane
 with_place context o lane = record lane { contexts = slice_set lane.contexts context o }
 
+-- the sources of a context hold other replies
 abbrev pub with_replies : ContextNumber → Replies → Lane → Lane
 with_replies context held lane = record lane { replies = slice_set lane.replies context held }
 
--- a lane without a context
+-- a lane without a context and its replies, in which the context is not given any more
 abbrev pub without_context : ContextNumber → Lane → Lane
 without_context context lane = with_given context false (with_replies context [] (with_place context None lane))
 
@@ -78,7 +79,7 @@ pub record Handing : Type 0 where
 abbrev pub let_go : Handing → Lane → Lane
 let_go h lane = if lane.number == h.sender then without_context h.kept.number lane else lane
 
--- one that is given a context takes it over
+-- a lane that is given a context takes it over
 abbrev pub got : Tick → Handing → Lane → Lane
 got tick h lane = if lane.number == h.to then taken_over tick h.kept lane else lane
 
@@ -86,7 +87,7 @@ got tick h lane = if lane.number == h.to then taken_over tick h.kept lane else l
 abbrev pub handed : Tick → Handing → Lane → Lane
 handed tick h lane = got tick h (let_go h lane)
 
--- and of several, in order
+-- a lane's part of several, in order
 abbrev pub all_handed : Tick → List Handing → Lane → Lane
 all_handed tick [] lane = lane
 all_handed tick (h ∷ hs) lane = all_handed tick hs (handed tick h lane)
@@ -97,12 +98,12 @@ all_handed tick (h ∷ hs) lane = all_handed tick hs (handed tick h lane)
 abbrev pub lane_of_number : LaneNumber → List Lane → Option Lane
 lane_of_number number lanes = find (λ lane. lane.number == number) lanes
 
--- what a lane of a number hands over of a context
+-- the handing over of a context from one lane to another, where the first has something to hand over
 abbrev pub handing : (sender to : LaneNumber) → Option Kept → Option Handing
 handing sender to None = None
 handing sender to (Some kept) = Some (record { sender = sender; to = to; kept = kept })
 
--- what a letter hands over
+-- what the mail of a sender hands over
 abbrev pub handing_by : LaneNumber → Mail → List Lane → Option Handing
 handing_by sender (mails.Give context to) lanes = handing sender to (option_and_then (handed_of context) (lane_of_number sender lanes))
 handing_by sender (mails.Attach context spec) lanes = None
@@ -113,7 +114,7 @@ handing_by sender (mails.Cancelled c) lanes = None
 abbrev pub handing_of : Letter → List Lane → Option Handing
 handing_of letter lanes = handing_by letter.sender letter.body lanes
 
--- all lanes after it
+-- all lanes after one handing over, if there is one
 abbrev pub moved : Tick → Option Handing → List Lane → List Lane
 moved tick None lanes = lanes
 moved tick (Some h) lanes = map (handed tick h) lanes

@@ -28,7 +28,7 @@ gives_context context (mails.Attach c spec) = false
 gives_context context (mails.Complete reply) = false
 gives_context context (mails.Cancelled c) = false
 
--- the lane that has a context after a letter, and after several
+-- the lane that has a context after a letter
 abbrev pub given_by : ContextNumber → Mail → LaneNumber → LaneNumber
 given_by context (mails.Give c to) holder = if c == context then to else holder
 given_by context (mails.Attach c spec) holder = holder
@@ -40,7 +40,7 @@ abbrev pub given_to : ContextNumber → List Letter → LaneNumber → LaneNumbe
 given_to context [] holder = holder
 given_to context (letter ∷ letters) holder = given_to context letters (given_by context letter.body holder)
 
--- at first the lane to which the script gives it; then the one to which it was given last
+-- the lane that has a context when so many ticks are over: at first the one to which the script gives it, then the one to which it was given last
 abbrev pub holder_at : Plan → ContextNumber → Tick → LaneNumber
 holder_at script context zero = home_of script context
 holder_at script context (suc k) = given_to context (posted_at script k (lanes_at script k)) (holder_at script context k)
@@ -57,7 +57,7 @@ pub record ContextsAreHeld : Type 0 where
 
 -- ---- what goes over
 
--- a context with its replies
+-- a context stands as it stood before, with the replies of its sources
 pub record Stands (context : ContextNumber) (before now : Lane) : Type 0 where
   pub rows : context_at context now ≡ context_at context before
   pub replies : replies_at context now.replies ≡ replies_at context before.replies

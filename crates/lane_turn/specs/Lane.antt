@@ -29,7 +29,7 @@ pub record Kept : Type 0 where
 
 -- a lane: its number; its contexts by number, where those of other lanes are none; which of them it gave in this tick; what its slots name; its view of
 -- cancellations, with its handlers; its tasks; its frames with the innermost first; the loops that run; the stack of its
--- thread-default contexts; the replies that its sources hold, by context; what it wrote
+-- thread-default contexts; the replies that its sources hold, by context; what it wrote; and whether it goes on, has ended or is halted
 pub record Lane : Type 0 where
   pub number : LaneNumber
   pub contexts : List (Option Context)
@@ -71,11 +71,11 @@ pushed frame lane = record lane { frames = frame ∷ lane.frames }
 abbrev pub popped : Lane → Lane
 popped lane = record lane { frames = drop 1 lane.frames }
 
--- its next action or id taken
+-- the next action or id of the innermost frame taken
 abbrev pub taken : Lane → Lane
 taken lane = record lane { frames = advanced lane.frames }
 
--- a lane that takes no further step
+-- a lane that takes no further step, with the status that says why
 abbrev pub stopped : Status → Lane → Lane
 stopped status lane = record lane { status = status }
 
@@ -167,7 +167,7 @@ next_place context lane = record { context = context; id = next_id (context_at c
 abbrev pub set_slot : Slot → Named → Lane → Lane
 set_slot slot thing lane = record lane { slots = slice_set lane.slots slot (Some thing) }
 
--- another view
+-- the lane with another view
 abbrev pub viewing : Seen → Lane → Lane
 viewing view lane = record lane { view = view }
 

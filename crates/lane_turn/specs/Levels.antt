@@ -45,5 +45,5 @@ OfAllLanes script P = (tick : Tick) (steps : ℕ) → tick ≤ 4096 → AllByRec
 pub record LevelsHold : Type 0 where
   -- sources stand at no more levels than the script's version has
   pub grown : (script : Plan) → length script.lanes ≤ 64 → OfAllLanes script (λ lane. AllByRecursion (Grown (tree_levels script)) lane.contexts)
-  -- in version 1 what is selected, what is refused and what an edit leaves is what it was with two levels alone
+  -- in version 1 what is selected, what is refused and what an edit leaves is what the rules of two levels say
   pub version_1 : (script : Plan) → length script.lanes ≤ 64 → script.version ≡ 1 → OfAllLanes script (λ lane. AllByRecursion OfTwoLevels lane.contexts)

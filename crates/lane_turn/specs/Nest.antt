@@ -16,7 +16,7 @@ use Rattle.loop_script.specs.Units.{ContextNumber, SourceId}
 abbrev pub Height : Type 0
 Height = ℕ
 
--- the height that a context names, where it names one
+-- a height, where one stands there
 abbrev pub named_height : Option (Option Height) → Option Height
 named_height None = None
 named_height (Some height) = height
@@ -110,23 +110,23 @@ advanced_layer (layers.Call call) = layers.Call (record call { place = call.plac
 advanced_layer (layers.Iteration i) = layers.Iteration (record i { place = if nat_lt i.place (length i.ids.items) then i.place + 1 else i.place })
 advanced_layer (layers.Loop number context) = layers.Loop number context
 
--- the same of the innermost alone
+-- the layers when the innermost has taken its next action or id
 abbrev pub advanced_layers : List Layer → List Layer
 advanced_layers [] = []
 advanced_layers (layer ∷ outer) = advanced_layer layer ∷ outer
 
--- the same where a place beyond all actions stays
+-- a layer that has taken its next action or id, where a place that can't be raised stays
 abbrev pub taken_layer : Layer → Layer
 taken_layer (layers.Call call) = layers.Call (record call { place = if nat_lt call.place count_end then call.place + 1 else call.place })
 taken_layer (layers.Iteration i) = advanced_layer (layers.Iteration i)
 taken_layer (layers.Loop number context) = layers.Loop number context
 
--- the same of the innermost alone
+-- the same of the innermost alone, where a place that can't be raised stays
 abbrev pub taken_layers : List Layer → List Layer
 taken_layers [] = []
 taken_layers (layer ∷ outer) = taken_layer layer ∷ outer
 
--- the place of a call can be counted on
+-- the place of a layer can be raised by one, where it is a call
 abbrev pub HasRoomLayer : Layer → Type 0
 HasRoomLayer (layers.Call call) = call.place < count_end
 HasRoomLayer (layers.Iteration i) = Unit {0}

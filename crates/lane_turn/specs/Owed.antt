@@ -26,12 +26,12 @@ replies_in tasks t = reply_tick t.spec.return_on_cancel (first_seen tasks.came t
 abbrev pub owes : Tick → TaskNumber → Tasks → Started → Bool
 owes tick number tasks t = (t.number == number) && nat_le tick (replies_in tasks t)
 
--- how many replies of a number are owed from a tick on: by the tasks that go on, and by the one that is still to be started
+-- how many replies of a number these tasks owe from a tick on
 abbrev pub owed_by : Tick → TaskNumber → Tasks → List Started → ℕ
 owed_by tick number tasks [] = 0
 owed_by tick number tasks (t ∷ ts) = one_for (owes tick number tasks t) + owed_by tick number tasks ts
 
--- how many replies a lane still owes under a number
+-- how many replies a lane still owes under a number: by the tasks that go on, and by the one that is still to be started
 abbrev pub owed : Tick → TaskNumber → Tasks → ℕ
 owed tick number tasks = owed_by tick number tasks tasks.started + one_for (nat_le tasks.next number)
 
@@ -52,7 +52,7 @@ abbrev pub lane_under : Plan → (Tick → List Letter) → (Tick → List Handi
 lane_under script mail over number zero = opening script number
 lane_under script mail over number (suc k) = received_all script k (mail k) (all_handed k (over k) (turned script k (lane_under script mail over number k)))
 
--- no context goes over
+-- what goes over in a tick where nothing does
 abbrev pub none_goes : Tick → List Handing
 none_goes k = []
 

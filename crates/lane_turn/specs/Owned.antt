@@ -42,12 +42,12 @@ grounds_in context (Some c) lane = Some (record { acquires = c.acquires; pushed 
 abbrev pub grounds : ContextNumber → Lane → Option Grounds
 grounds context lane = grounds_in context (context_at context lane) lane
 
--- whether there is one
+-- whether there is a ground of ownership
 abbrev pub has_any : Option Grounds → Bool
 has_any None = false
 has_any (Some g) = nat_lt 0 g.acquires || g.pushed || g.in_progress
 
--- what was acquired can be released
+-- whether an acquire of a context is left, which can be released
 abbrev pub may_release : Option Context → Bool
 may_release None = false
 may_release (Some context) = is_acquired context
@@ -77,7 +77,7 @@ acquire tick context lane =
     then written tick (events.Acquire context true) (with_context context acquired lane)
     else written tick (events.Acquire context false) lane
 
--- and released, where an acquire of it is left
+-- a context is released, where an acquire of it is left
 abbrev pub release : Tick → ContextNumber → Lane → Lane
 release tick context lane =
     if may_release (context_at context lane) then with_context context released lane else written tick (events.Miss words.Release) lane
@@ -98,12 +98,12 @@ called_at_once tick context proc acquires lane =
     then calling tick context proc acquires lane
     else stopped Halted (written tick events.HaltDepth lane)
 
--- a procedure is attached to a context of the lane
+-- a context of the lane gets a source that calls a procedure
 abbrev pub attaching : Tick → Microseconds → ContextNumber → ProcNumber → Lane → Lane
 attaching tick now context proc lane = written tick (events.Invoke context Attached) (edited context (attached (invoke_spec proc) now) lane)
 
--- a context that is owned needs not be acquired; the thread-default one is acquired; any other of the lane gets a source, and one of
--- another lane is sent it
+-- an invoke in a context of the lane: where it is owned, the procedure is called at once, and nothing is acquired; the thread-default context is
+-- acquired until the call returns; any other gets a source
 abbrev pub invoke_own : Tick → Microseconds → ContextNumber → ProcNumber → Lane → Lane
 invoke_own tick now context proc lane =
     if is_owned context lane then called_at_once tick context proc None lane

@@ -28,7 +28,7 @@ IsQuietUntil script tick limit lane = (k : Tick) → tick < k → k < script.tic
 
 -- ---- what makes it so
 
--- an iteration of a context that has ids left
+-- whether a frame is an iteration of a context that has ids left
 abbrev pub has_rest : ContextNumber → Frame → Bool
 has_rest context (CallOf call) = false
 has_rest context (IterOf c ids asker) = c == context && is_any ids

@@ -14,12 +14,12 @@ pub record IsBounded (m : ℕ) (s : RowSet) : Type 0 where
   pub order : s.next_order ≤ m
   pub counts : AllByRecursion (λ r. r.count ≤ m) s.rows
 
--- nor how often it is acquired
+-- no counter of a context is above m: those of its sources, and how often it is acquired
 pub record IsBoundedContext (m : ℕ) (context : Context) : Type 0 where
   pub sources : IsBounded m context.rows
   pub acquires : context.acquires ≤ m
 
--- the same of a context, where there is one
+-- no counter of a context is above m, where there is one
 abbrev pub Bounded : ℕ → Option Context → Type 0
 Bounded m None = Unit {0}
 Bounded m (Some context) = IsBoundedContext m context
@@ -62,6 +62,6 @@ pub record IsTidy (n m tick size : ℕ) (t : Turn) : Type 0 where
   pub now : t.lane.tasks.tick ≡ tick
   pub view : length t.lane.view.members ≡ size
 
--- a turn of a script's lane at a tick, in which no counter passes m any more
+-- a turn of a script's lane at a tick, in the rest of which no counter passes m
 abbrev pub IsGoing : (script : Plan) (tick : Tick) (m : ℕ) → Turn → Type 0
 IsGoing script tick m t = IsTidy (most_steps * (tick + 1)) m (tick + 1) script.cancellables t

@@ -91,7 +91,7 @@ Begins others before now _ = Unit {0}
 abbrev pub lines_but : LaneNumber → List Lane → List Line
 lines_but number lanes = flat_map (λ lane. if lane.number == number then [] else lane.trace) lanes
 
--- after its n-th dispatch a source is there exactly where `keep` says so
+-- after its n-th dispatch a source that is not destroyed by then is there exactly where `keep` says so, and it held no reply
 pub record SourcesStay : Type 0 where
   -- in a run each dispatch begins a call of that source, and the n-th a call that knows that it is the n-th, whichever lanes had its context before
   pub begins : (script : Plan) (tick : Tick) (steps : ℕ) → AllByRecursion (λ lane. (u : Turn) → step script tick (turn_within script tick steps lane) ≡ Some u

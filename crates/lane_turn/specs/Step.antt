@@ -104,7 +104,7 @@ answered tick context (askers.Iterate any) lane = written tick (events.Iterate c
 abbrev pub with_lane : (Lane → Lane) → Turn → Turn
 with_lane f t = record t { lane = f t.lane }
 
--- a letter of the turn: they are numbered from 0
+-- a change of a turn's lane
 abbrev pub letter : (tick : Tick) (sender : LaneNumber) (number : ℕ) → Mail → Letter
 letter tick sender number body = record { tick = tick; sender = sender; number = number; body = body }
 
@@ -136,7 +136,7 @@ abbrev pub step_call : Plan → Tick → Turn → Call → Option Action → Tur
 step_call script tick t call (Some action) = limited tick (sends script action (taken t.lane)) (λ lane. acted script tick action (taken lane)) t
 step_call script tick t call None = with_lane (λ lane. returned script tick call.body call.origin (popped lane)) t
 
--- a destroyed source is passed over, and not counted
+-- an id was taken: its source is dispatched; one that is destroyed is passed over, and not counted
 abbrev pub step_id : Tick → Turn → ContextNumber → Option Row → Turn
 step_id tick t context None = with_lane taken t
 step_id tick t context (Some row) = limited tick None (dispatching tick context row) t
@@ -146,7 +146,7 @@ abbrev pub step_iteration : Tick → Turn → ContextNumber → Asker → Option
 step_iteration tick t context asker None = with_lane (λ lane. answered tick context asker (popped lane)) t
 step_iteration tick t context asker (Some id) = step_id tick t context (row_of context id t.lane)
 
--- a loop takes one iteration; where one was taken in this tick the lane rests
+-- a loop that was quit ends; one that runs begins an iteration, and no step is left where a loop did so in this tick already
 abbrev pub step_loop : Plan → Tick → Turn → LoopNumber → ContextNumber → Option Turn
 step_loop script tick t number context =
     if is_running number t.lane
@@ -178,7 +178,7 @@ step_going script tick t Halted = None
 abbrev pub late_line : Tick → LaneNumber → TaskNumber → Line
 late_line tick lane number = record { tick = tick; event = events.TaskLate lane number }
 
--- one, if so
+-- a list of one, if so
 abbrev pub one_if : {A : Type 0} → Bool → A → List A
 one_if true x = x ∷ []
 one_if false x = []
@@ -195,7 +195,7 @@ abbrev pub mail_of : Option Reply → Option Mail
 mail_of None = None
 mail_of (Some reply) = Some (mails.Complete reply)
 
--- one poll: the reply is sent
+-- one poll: the reply is sent if it comes now, and the lane is told of the task as `told` says
 abbrev pub polled : Tick → Started → Turn → Turn
 polled tick task t = record (sending tick (mail_of (reply_at tick t.lane.tasks task)) t) {
   lane = told tick (is_late_at tick t.lane.tasks task) (stays_at tick t.lane.tasks task) task t.lane;

@@ -34,7 +34,7 @@ is_awaited sender number awaited = (awaited.sender == sender) && (awaited.reply.
 abbrev pub awaited_in : LaneNumber → TaskNumber → Replies → ℕ
 awaited_in sender number replies = count_by (λ entry. is_awaited sender number entry.1) replies
 
--- how many those of all contexts hold
+-- how many replies of the task the sources of all contexts hold
 abbrev pub awaited : LaneNumber → TaskNumber → List Replies → ℕ
 awaited sender number all = sum_by (awaited_in sender number) all
 
@@ -49,16 +49,16 @@ brings number lane (Complete reply) = (reply.task == number) && is_own reply.ctx
 brings number lane (Cancelled c) = false
 brings number lane (Give context to) = false
 
--- how many of its replies letters bring to the lane
+-- how many replies of the task letters bring to the lane
 abbrev pub brought : LaneNumber → TaskNumber → Lane → List Letter → ℕ
 brought sender number lane letters = count_by (λ letter. (letter.sender == sender) && brings number lane letter.body) letters
 
--- how many came to a lane before a tick, whatever letters are delivered to it, where no context goes over
+-- how many replies of a task came to a lane before a tick, whatever letters are delivered to it, where no context goes over
 abbrev pub brought_before : Plan → (Tick → List Letter) → (lane sender : LaneNumber) (number : TaskNumber) (tick : Tick) → ℕ
 brought_before script mail lane sender number zero = 0
 brought_before script mail lane sender number (suc k) = brought_before script mail lane sender number k + brought sender number (turned script k (lane_under script mail none_goes lane k)) (mail k)
 
--- how many came to the lanes of a run before a tick: by each delivery to those that have the contexts once these went over
+-- how many replies of a task came to the lanes of a run before a tick: by each delivery to those that have the contexts once these went over
 abbrev pub came_before : Plan → (sender : LaneNumber) (number : TaskNumber) (tick : Tick) → ℕ
 came_before script sender number zero = 0
 came_before script sender number (suc k) =

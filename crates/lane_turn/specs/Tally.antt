@@ -8,7 +8,7 @@ use Rattle.lane_turn.specs.Nest.{is_dispatch_layer, is_call_layer, is_blocking_l
 abbrev pub one_if : Bool → ℕ
 one_if b = if b then 1 else 0
 
--- with one layer more
+-- the counts with one layer more
 abbrev pub more : Layer → Tally → Tally
 more layer tally = record {
   layers = tally.layers + 1;

@@ -35,17 +35,17 @@ abbrev pub nest_work : List Frame → ℕ
 nest_work [] = 0
 nest_work (frame ∷ below) = frame_work frame + nest_work below
 
--- how many rows there are in all
+-- how many rows a context has
 abbrev pub rows_in : Option Context → ℕ
 rows_in None = 0
 rows_in (Some context) = length context.rows.rows
 
--- the same of all contexts
+-- how many rows all contexts have
 abbrev pub row_count : List (Option Context) → ℕ
 row_count [] = 0
 row_count (context ∷ contexts) = rows_in context + row_count contexts
 
--- what is counted may begin an iteration of as many ids as there are rows then
+-- at most how many steps are left after the polls: each that is counted may begin an iteration of as many ids as there are rows then
 abbrev pub work_of : (left rows frames : ℕ) → Bool → ℕ
 work_of left rows frames iterated = left * (rows + left + 4) + frames + (if iterated then 0 else rows + 2)
 
@@ -113,7 +113,7 @@ abbrev pub open_slots : ℕ → List (Option Named)
 open_slots zero = []
 open_slots (suc n) = open_slots n ++ None ∷ []
 
--- loops that do not run
+-- so many that are not so: no loop runs, or no context is given
 abbrev pub open_loops : ℕ → List Bool
 open_loops zero = []
 open_loops (suc n) = open_loops n ++ false ∷ []

@@ -34,9 +34,8 @@ pub fn iterations_go_on()
 {}
 
 /// Before and after each step of a run the sources of each context stand in trees at no more levels than the script's
-/// version has: two in version 1, four in version 2. So a script of version 1 gives the text that it gave when
-/// there were no more: what is selected and blocked, where a child or a priority is refused, and what a destroy and a
-/// change of priority leave is what the rules of two levels say.
+/// version has: two in version 1, four in version 2. So in version 1 what is selected, where a child or a priority is refused, and
+/// what a destroy and a change of priority leave is what the rules of a root and its children say.
 pub fn levels_go_by_version()
     ensures { LevelsHold }
 {}
@@ -67,9 +66,9 @@ pub fn replies_come_once()
     ensures { RepliesComeOnce }
 {}
 
-/// What came to a lane of a task's replies it holds still, or it told the result, each once, whatever letters it is sent. So of
-/// each task of a run at most one result is told, in all lanes together, and none as long as a reply of it is held; and no
-/// reply is lost where the script has a context: what a lane posted in earlier ticks is then held, or its result was told.
+/// What came to the lanes of a run of a task's replies they hold still, or they told the result, each once; and so does one lane,
+/// whatever letters it is sent, where no context goes over. So of each task of a run at most one result is told, in all lanes together,
+/// and none as long as a reply of it is held; and no reply is lost where the script has a context: what a lane posted earlier is then held, or its result told.
 pub fn replies_are_taken_once()
     ensures { RepliesAreTakenOnce }
 {}
@@ -97,8 +96,8 @@ pub fn blocked_sources_wait()
     ensures { BlockedWait }
 {}
 
-/// What an iteration dispatches: the most urgent ready sources of its context, all of these and no other, of one priority, in the
-/// order of their numbers and each behind those under it, and none twice.
+/// What an iteration selects: the most urgent ready sources of its context, all of these and no other, of one priority, in the
+/// order of their numbers and each behind those under it. None is dispatched twice by it.
 pub fn iterations_have_order()
     ensures { IterationsHaveOrder }
 {}
@@ -151,7 +150,7 @@ pub fn runs_stay()
 {}
 
 /// Two scripts whose lanes give contexts, computed: what is handed over keeps its ready times, a letter of the same tick follows it,
-/// and each kind of give that misses.
+/// and gives that miss.
 pub fn contexts_go()
     ensures { ContextsGo }
 {}

@@ -36,7 +36,7 @@ pub enum Event {
     Default(u32),
     /// A procedure was invoked in a context.
     Invoke(u32, Invoked),
-    /// A source that was posted to a context is attached, with its id.
+    /// A source that came with a letter, of a reply or an invoke, is attached to a context, with its id.
     Arrive(u32, u64),
     /// A cancellable is cancelled.
     Cancel(u32),
@@ -51,18 +51,18 @@ pub enum Event {
     },
     /// A task of a lane whose reply came early ends.
     TaskLate(u32, u64),
-    /// A context is handed over to a lane.
+    /// A context is given to a lane, to which it goes at the end of the tick.
     Give {
         context: u32,
         lane: u32,
     },
-    /// A context is taken over.
+    /// A context that another lane gave is taken over.
     Hold(u32),
     /// An action found nothing to act on, and changed nothing.
     Miss(Word),
-    /// The lane halts: too many dispatches would be in progress.
+    /// The lane halts: more than 32 calls would be in progress.
     HaltDepth,
-    /// The lane halts: the turn would take too many steps.
+    /// The lane halts: the turn would take more than 10,000 actions and dispatches.
     HaltSteps,
     /// The lane's start list is over.
     End,
@@ -73,9 +73,9 @@ pub enum Event {
 pub enum Invoked {
     /// At once.
     Direct,
-    /// By a source of the same lane.
+    /// By a source that is attached to a context of the same lane.
     Attached,
-    /// By a source of another lane's context.
+    /// By a source that is posted to another lane's context.
     Posted,
 }
 

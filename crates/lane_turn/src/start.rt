@@ -76,7 +76,7 @@ fn open_watch(alloc: Global, script: &Script) -> Result<Watch, AllocError>
     }
 }
 
-/// Loops that do not run.
+/// So many that are not so: no loop runs, or no context is given.
 fn open_loops(alloc: Global, loops: u32) -> Result<Vec<bool>, AllocError>
     ensures { IfOk result (λ running. running.items ≡ open_loops loops) }
 {

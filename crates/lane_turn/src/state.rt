@@ -49,7 +49,7 @@ impl From<AllocError> for LaneFault {
     }
 }
 
-/// Why a context was not handed over.
+/// Why a context was not handed over, or not taken over.
 #[derive(Clone, Copy, Debug, PartialEq, Eq, Error)]
 pub enum HandFault {
     /// An earlier call was refused memory, so the lane is not that of any turn.
@@ -217,8 +217,8 @@ impl LaneState {
         Ok(())
     }
 
-    /// Delivers the letters of a tick, in order, once after its turn: replies for the lane's contexts are attached, and
-    /// cancellations that it has not seen are seen, with their handlers. It sends nothing.
+    /// Delivers the letters of a tick, in order, once after its turn: replies and invoked procedures for the lane's contexts are
+    /// attached, and cancellations that it has not seen are seen, with their handlers. It sends nothing.
     ///
     /// After `OutOfMemory` the lane is spent, as after `turn`.
     pub fn deliver(

@@ -16,11 +16,11 @@ pub record Watched : Type 0 where
   pub view : Seen
   pub tasks : Tasks
 
--- nothing seen cancelled of so many, no handler, and no task
+-- a view of so many cancellables with none seen as cancelled, and no handler
 abbrev pub nothing_seen : (cancellables : ℕ) → Seen
 nothing_seen n = record { members = replicate n false; handlers = []; next_id = 1 }
 
--- no task was started, and nothing came into the view
+-- no task was started, and none of so many cancellables came into the view
 abbrev pub no_tasks : (n : ℕ) (tick_us : Microseconds) → Tasks
 no_tasks n tick_us = record { started = []; next = 0; tick_us = tick_us; came = replicate n None; tick = 0 }
 

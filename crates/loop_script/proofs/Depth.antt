@@ -1,4 +1,4 @@
--- No tree has no depth.
+-- Each tree has one level at least.
 use Rattle.std.proofs.Common.{◌≡◌, ℕ, ◌<◌, false, arith}
 use Rattle.std.proofs.lemmas.Bool.Decides.{nat_tests}
 use Rattle.loop_script.specs.Tree.{Tree, value, fail, sleep, check, seq, both, first, within}

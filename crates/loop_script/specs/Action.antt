@@ -123,7 +123,7 @@ pop d = do
   context ← index (part 1 d)
   done (Pop context)
 
--- `["default"]`
+-- `["show_default"]`
 unfoldable pub show_default : Option Data → Read Action
 show_default d = do
   _ ← arity 1 d

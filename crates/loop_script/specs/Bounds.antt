@@ -17,7 +17,7 @@ most_procs = 1024
 abbrev pub most_ticks : ℕ
 most_ticks = 4096
 
--- in microseconds, as the next two
+-- the longest tick, in microseconds, as the next two are
 abbrev pub longest_tick : ℕ
 longest_tick = 1000000000
 

@@ -31,6 +31,7 @@ pub record GoesByTables (read : Data → Result Plan ScriptFault) : Type 0 where
   -- else references and rules are looked at on the script that the value denotes
   pub script : (d : Data) → (IsMalformed d → ⊥) → (IsBeyond (an script) d → ⊥) → (p : Plan) × Denotes (Some d) p × (read d ≡ judged p)
 
+-- the reading goes by the tables, and no other reading does
 pub record ReadByTables : Type 0 where
   pub goes : GoesByTables script_of
   -- a value denotes one script at most

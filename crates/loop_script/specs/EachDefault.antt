@@ -55,6 +55,7 @@ task_alone =
     let procedure : Data = object (member (codes "do") (row []) no_members) in
     object (member (codes "lanes") (row (lane (row (word (codes "task") ∷ task ∷ []) ∷ []) ∷ [])) (member (codes "procs") (row (procedure ∷ [])) timed))
 
+-- the task checks its cancellable, does not return on cancel, and has priority 0; a source that calls the procedure goes after one call
 abbrev pub usual_task : Plan
 usual_task = record {
   version = 1;
@@ -70,7 +71,7 @@ usual_task = record {
   procs = (record { actions = []; keep = Some 0 }) ∷ [];
 }
 
--- they are read as those
+-- the two scripts are read as those
 pub record EachDefault : Type 0 where
   pub sources : script_of sources_alone ≡ Ok usual_sources
   pub task : script_of task_alone ≡ Ok usual_task

@@ -10,7 +10,7 @@ abbrev pub is_give : Action → Bool
 is_give (Give context lane) = true
 is_give _ = false
 
--- no list of actions has one
+-- no list of actions hands a context over
 pub record GivesNone (p : Plan) : Type 0 where
   pub lanes : list_any (λ l. list_any is_give l.start) p.lanes ≡ false
   pub procs : list_any (λ q. list_any is_give q.actions) p.procs ≡ false

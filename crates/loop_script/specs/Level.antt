@@ -36,7 +36,7 @@ abbrev pub least : List ℕ → Option ℕ
 least [] = None
 least (n ∷ ns) = Some (min n (unwrap_or (least ns) n))
 
--- the levels whose tick has come, and those whose tick is to come
+-- the levels whose tick has come
 abbrev pub come : Tick → List Level → List Level
 come tick ls = filter (λ l. nat_le l.tick tick) ls
 

@@ -16,19 +16,23 @@ use Rattle.loop_script.specs.declared.plan.LaneSpec.{LaneSpec}
 use Rattle.loop_script.specs.declared.plan.Proc.{Proc}
 use Rattle.loop_script.specs.declared.plan.Plan.{Plan}
 
--- what stands under a key, and at a place of a list
+-- what stands under a key
 abbrev pub under : List ℕ → Option Data → Option Data
 under k o = option_and_then (get k) o
 
+-- what stands at a place of a list
 abbrev pub nth : ℕ → Option Data → Option Data
 nth n o = option_and_then (at n) o
 
+-- a whole number from 0 on
 abbrev pub IsWhole : Option Data → ℕ → Type 0
 IsWhole o n = o ≡ Some (number (unsigned n))
 
+-- a whole number, which may be below 0
 abbrev pub IsInteger : Option Data → ℤ → Type 0
 IsInteger o z = option_and_then integer_of o ≡ Some z
 
+-- true or false
 abbrev pub IsTruth : Option Data → Bool → Type 0
 IsTruth o b = o ≡ Some (boolean b)
 
@@ -49,6 +53,7 @@ EachIs Is no_items (x ∷ xs) = ⊥
 EachIs Is (item d ds) [] = ⊥
 EachIs Is (item d ds) (x ∷ xs) = Is (Some d) x × EachIs Is ds xs
 
+-- a list, item for item
 abbrev pub IsList : {A : Type 0} → (Option Data → A → Type 0) → Option Data → List A → Type 0
 IsList Is o xs = (ds : Items) × (o ≡ Some (array ds)) × EachIs Is ds xs
 
@@ -60,6 +65,7 @@ HasSize n o = option_and_then size o ≡ Some n
 abbrev pub Begins : List ℕ → ℕ → Option Data → Type 0
 Begins w n o = (option_and_then front o ≡ Some w) × HasSize n o
 
+-- a kind of source, by its word
 abbrev pub IsKind : Option Data → Kind → Type 0
 IsKind o kinds.Idle = Begins (codes "idle") 1 o
 IsKind o (kinds.Timeout ms) = Begins (codes "timeout") 2 o × IsWhole (nth 1 o) ms
@@ -75,6 +81,7 @@ usual (kinds.ReadyTime us) = pos 0
 usual (kinds.Fd fd bits) = pos 0
 usual (kinds.Cancel c) = pos 0
 
+-- a source that is attached
 pub record IsSource (o : Option Data) (s : SourceSpec) : Type 0 where
   pub kind : IsKind (under (codes "kind") o) s.kind
   pub priority : Or (usual s.kind) IsInteger (under (codes "priority") o) s.priority
@@ -88,6 +95,7 @@ pub record IsChild (o : Option Data) (s : SourceSpec) : Type 0 where
   pub recurse : Or false IsTruth (under (codes "recurse") o) s.recurse
   pub call : Or None (OrNull IsWhole) (under (codes "call") o) s.call
 
+-- a task's tree, by its word
 abbrev pub IsTree : Option Data → Tree → Type 0
 IsTree o (value v) = Begins (codes "value") 2 o × IsInteger (nth 1 o) v
 IsTree o fail = Begins (codes "fail") 1 o
@@ -98,6 +106,7 @@ IsTree o (both a b) = Begins (codes "both") 3 o × IsTree (nth 1 o) a × IsTree 
 IsTree o (first a b) = Begins (codes "first") 3 o × IsTree (nth 1 o) a × IsTree (nth 2 o) b
 IsTree o (within us a) = Begins (codes "within") 3 o × IsWhole (nth 1 o) us × IsTree (nth 2 o) a
 
+-- a task
 pub record IsTask (o : Option Data) (t : TaskSpec) : Type 0 where
   pub tree : IsTree (under (codes "tree") o) t.tree
   pub call : IsWhole (under (codes "call") o) t.call
@@ -106,6 +115,7 @@ pub record IsTask (o : Option Data) (t : TaskSpec) : Type 0 where
   pub return_on_cancel : Or false IsTruth (under (codes "return_on_cancel") o) t.return_on_cancel
   pub priority : Or (pos 0) IsInteger (under (codes "priority") o) t.priority
 
+-- an action, by its word
 abbrev pub IsAction : Option Data → Action → Type 0
 IsAction o (Attach context slot spec) = Begins (codes "attach") 4 o × IsWhole (nth 1 o) context × IsWhole (nth 2 o) slot × IsSource (nth 3 o) spec
 IsAction o (Child parent slot spec) = Begins (codes "child") 4 o × IsWhole (nth 1 o) parent × IsWhole (nth 2 o) slot × IsChild (nth 3 o) spec
@@ -135,10 +145,12 @@ pub record IsLevel (o : Option Data) (l : Level) : Type 0 where
   pub tick : IsWhole (nth 0 o) l.tick
   pub bits : IsWhole (nth 1 o) l.bits
 
+-- a procedure
 pub record IsProc (o : Option Data) (p : Proc) : Type 0 where
   pub actions : IsList IsAction (under (codes "do") o) p.actions
   pub keep : Or (Some 0) (OrNull IsWhole) (under (codes "keep") o) p.keep
 
+-- a lane
 pub record IsLane (o : Option Data) (l : LaneSpec) : Type 0 where
   pub contexts : IsWhole (under (codes "contexts") o) l.contexts
   pub start : IsList IsAction (under (codes "start") o) l.start

@@ -21,7 +21,7 @@ sizes p = record {
   procs = length p.procs;
 }
 
--- a number that may be absent
+-- what a number names that may be absent is there
 abbrev pub option_refers : ℕ → Option ℕ → Bool
 option_refers n None = true
 option_refers n (Some i) = nat_lt i n

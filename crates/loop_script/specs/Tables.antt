@@ -3,10 +3,11 @@
 use Rattle.std.specs.Prelude.{ℕ, pos, negsuc, true, false, List, [], ◌∷◌, codes}
 use Rattle.loop_script.specs.Form.{Object, script, lane, procedure, source, child, task, Choice, kind, action, tree, Form, whole, whole_or_null, signed, truth, list, lanes, pair, an, one_of, Key, Word}
 
--- a key that must be there, and one that may be absent
+-- a key that must be there
 abbrev pub needed : List ℕ → Form → Key
 needed name form = record { name = name; form = form; needed = true }
 
+-- a key that may be absent
 abbrev pub optional : List ℕ → Form → Key
 optional name form = record { name = name; form = form; needed = false }
 
@@ -18,15 +19,19 @@ word w parts = record { word = w; parts = parts }
 abbrev pub index : Form
 index = whole 0 4294967295
 
+-- the same, or null
 abbrev pub index_or_null : Form
 index_or_null = whole_or_null 0 4294967295
 
+-- the number of a slot of a lane
 abbrev pub slot : Form
 slot = whole 0 255
 
+-- the bits of a descriptor, added up
 abbrev pub bits : Form
 bits = whole 0 63
 
+-- a priority
 abbrev pub priority : Form
 priority = signed (negsuc 2147483647) (pos 2147483647)
 

@@ -13,6 +13,6 @@ tree_depth (both a b) = max (tree_depth a) (tree_depth b) + 1
 tree_depth (first a b) = max (tree_depth a) (tree_depth b) + 1
 tree_depth (within us a) = tree_depth a + 1
 
--- whether it goes so deep at most
+-- whether a tree goes so deep at most
 abbrev pub fits_in : ℕ → Tree → Bool
 fits_in n t = nat_le (tree_depth t) n

@@ -40,7 +40,7 @@ check_form d = do
   _ ← arity 1 d
   done check
 
--- from the readings of the parts: two trees joined, and a time with a tree
+-- two trees joined, from the readings of the parts
 abbrev pub pair_from : (Tree → Tree → Tree) → Option Data → (ℕ → Read Tree) → Read Tree
 pair_from join d parts = do
   _ ← arity 3 d
@@ -92,7 +92,7 @@ unfoldable pub tree : Option Data → Read Tree
 tree None = misshapen fail
 tree (Some d) = tree_in d
 
--- a tree by the trees of its parts
+-- `["seq",a,b]`
 unfoldable pub seq_form : Option Data → Read Tree
 seq_form d = pair_from seq d (λ n. tree (part n d))
 

@@ -57,6 +57,6 @@ TaskNumber = ℕ
 abbrev pub Priority : Type 0
 Priority = ℤ
 
--- the order of attaching: a source that came later has a greater one
+-- an order number: the later a source was attached, or its priority set, the greater
 abbrev pub Order : Type 0
 Order = ℕ

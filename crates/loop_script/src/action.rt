@@ -62,7 +62,7 @@ pub enum Action {
         context: u32,
         proc: u32,
     },
-    /// Hands a context over to a lane.
+    /// Gives a context to a lane, to which it goes at the end of the tick.
     Give {
         context: u32,
         lane: u32,

@@ -1,3 +1,4 @@
+//! Reading a part of a script into a value, with the faults in it.
 ghost use Rattle.std.specs.Prelude.{◌≡◌, ◌≤◌, length, IfOk, OnOk};
 ghost use Rattle.loop_script.specs.Read.{after};
 ghost use Rattle.loop_script.specs.Rows.{rows, rows_or, of_length, each};

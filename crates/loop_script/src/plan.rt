@@ -35,7 +35,7 @@ pub struct LaneSpec {
 #[derive(Drop)]
 pub struct Proc {
     pub actions: Items<Action>,
-    /// After how many dispatches the source stays; none is always.
+    /// How many dispatches a source outlives; none is all of them.
     pub keep: Option<u32>,
 }
 

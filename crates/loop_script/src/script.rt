@@ -60,7 +60,7 @@ impl Script {
         judged(plan, faults)
     }
 
-    /// The version of the rules: in version 1 a child has no children, in version 2 it may have some.
+    /// The version of the rules: in version 2 a child may have children and a context may be given to another lane, in version 1 neither.
     pub fn version(&self) -> u32
         ensures version { result ≡ self.now.version }
         ensures first { 1 ≤ result }

@@ -42,7 +42,7 @@ IsLoneFaultOf bytes (faults.Setup fault) = ⊥
 IsLoneFaultOf bytes faults.OutOfMemory = Unit {0}
 IsLoneFaultOf bytes faults.Write = (script : Plan) × IsScriptOf bytes script
 
--- the same of a run of a script: nothing was written yet
+-- a run of a script may end with this fault before anything is written
 abbrev pub IsSetupFaultOf : Plan → (workers : ℕ) → Sharing → MainFault → Type 0
 IsSetupFaultOf script workers sharing (faults.Script fault) = ⊥
 IsSetupFaultOf script workers sharing (faults.Setup fault) = refusal_of script workers sharing ≡ Some fault

@@ -12,10 +12,12 @@ use Rattle.named.specs.declared.word.Word.TheVariants as word
 use Rattle.named.specs.declared.translation.Translation.{Translation}
 use Rattle.named.specs.declared.translation.Translation.TheVariants as translations
 
+-- a text says that a script has names
 abbrev pub says_names : Option (List ℕ) → Bool
 says_names None = false
 says_names (Some s) = bytes_eq s (codes "names")
 
+-- a script says under `form` that it has names
 abbrev pub is_named : Json → Bool
 is_named j = says_names (option_and_then as_str (under word.Form j))
 

@@ -38,17 +38,21 @@ abbrev pub lack : At → Bool → List Cause
 lack (ats.Key w) true = NoKey w ∷ []
 lack at b = []
 
+-- those of the parts of a word that are absent
 abbrev pub lacks : List Part → Json → List Cause
 lacks [] j = []
 lacks (p ∷ ps) j = lack p.at (is_none (found p.at j)) ++ lacks ps j
 
+-- whether a key must be there
 abbrev pub must_be_there : Absent → Bool
 must_be_there absents.Fault = true
 must_be_there a = false
 
+-- that a key of an object is absent, where it must be there
 abbrev pub field_lack : Field → Json → List Cause
 field_lack f j = if must_be_there f.absent then lack f.at (is_none (found f.at j)) else []
 
+-- those of the keys of an object that are absent and must be there
 abbrev pub field_lacks : List Field → Json → List Cause
 field_lacks [] j = []
 field_lacks (f ∷ fs) j = field_lack f j ++ field_lacks fs j
@@ -58,11 +62,12 @@ abbrev pub other_keys : List Word → ℕ → Members → List Cause
 other_keys ws n no_members = []
 other_keys ws n (member k d ms) = where_so (not (list_any (λ w. bytes_eq (text_of w) k) ws)) (OtherKey n) ++ other_keys ws (suc n) ms
 
--- the keys that may stand in an action, and those of its kind of source where it makes one
+-- the keys of a kind of source, and where none is chosen the words of all kinds
 abbrev pub of_kind : Option Word → List Word
 of_kind None = words choices.Source
 of_kind (Some w) = w ∷ beside w
 
+-- the keys that may stand in an action, and those of its kind of source where it makes one
 abbrev pub allowed : Word → Json → List Word
 allowed w j = (w ∷ beside w) ++ (if makes_source w then of_kind (chosen choices.Source j) else [])
 
@@ -81,15 +86,18 @@ abbrev pub of_size : ℕ → Option Items → List Cause
 of_size n None = OtherLength ∷ []
 of_size n (Some ds) = where_so (not (count ds == n)) OtherLength
 
+-- what is wrong where one word is to stand, by the one that does
 abbrev pub of_word : Choice → Json → Option Word → List Cause
 of_word c j None = NoWord ∷ []
 of_word choices.Tree j (Some w) = of_size (suc (length (parts choices.Tree w))) (as_array j)
 of_word choices.Source j (Some w) = lacks (parts choices.Source w) j
 of_word choices.Action j (Some w) = lacks (parts choices.Action w) j ++ unknown_in (allowed w j) (as_object j)
 
+-- the names of a kind are not each once, or too many
 abbrev pub of_names : Kind → Names → Json → List Cause
 of_names k ns j = where_so (not (has_all k ns j)) (Twice k)
 
+-- the same of some kinds
 abbrev pub twice : List Kind → Names → Json → List Cause
 twice [] ns j = []
 twice (k ∷ ks) ns j = of_names k ns j ++ twice ks ns j
@@ -98,6 +106,7 @@ twice (k ∷ ks) ns j = of_names k ns j ++ twice ks ns j
 abbrev pub declaring : List Kind
 declaring = kinds.Thread ∷ kinds.Context ∷ kinds.Loop ∷ kinds.Procedure ∷ kinds.Cancellable ∷ kinds.Descriptor ∷ []
 
+-- what is wrong with j itself where it should be an object
 abbrev pub of_object : Object → Json → List Cause
 of_object o j = where_so (is_none (as_object j)) OtherType ++ (field_lacks (fields o) j ++ unknown_in (keys o) (as_object j))
 
@@ -118,6 +127,7 @@ pub record Found : Type 0 where
   pub sort : Sort
   pub cause : Cause
 
+-- causes at a place, as faults
 abbrev pub found_at : List Step → Sort → List Cause → List Found
 found_at place s cs = map (λ c. record { place = place; sort = s; cause = c }) cs
 
@@ -126,6 +136,7 @@ abbrev pub within : (Step → Sort → Json → List Found) → Piece → List F
 within f (tokens ts) = []
 within f (inner step s d) = f step s d
 
+-- what each piece gives, one after the other
 abbrev pub together : (Piece → List Found) → List Piece → List Found
 together f [] = []
 together f (p ∷ ps) = f p ++ together f ps
@@ -135,6 +146,6 @@ unfoldable pub faults_in : ℕ → Names → List Step → Sort → Json → Lis
 faults_in zero ns place s j = []
 faults_in (suc n) ns place s j = found_at place s (own s ns j) ++ together (within (λ step. faults_in n ns (place ++ step ∷ []))) (pieces s ns j)
 
--- of a whole script
+-- the faults of a whole script
 abbrev pub script_faults : Json → List Found
 script_faults j = faults_in levels (names_in j) [] (sorts.An objects.Script) j

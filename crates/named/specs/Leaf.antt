@@ -29,6 +29,7 @@ is_digit x = nat_le 48 x && nat_le x 57
 abbrev pub top : ℕ
 top = 2 ^ 64 - 1
 
+-- an amount with one more digit behind it, at most the greatest
 abbrev pub and_digit : ℕ → ℕ → ℕ
 and_digit n x = min (min (n * 10) top + (x - 48)) top
 
@@ -80,6 +81,7 @@ abbrev pub both : Option ℕ → Option ℕ → Option ℕ
 both (Some b) (Some c) = Some (bit_or b c)
 both a b = None
 
+-- the bits of so many words at most
 abbrev pub bits_in : ℕ → List ℕ → Option ℕ
 bits_in zero s = None
 bits_in (suc n) s = if has_bar s then both (bit (before_first is_bar s)) (bits_in n (after_first is_bar s)) else bit s
@@ -100,6 +102,7 @@ priority s =
     else if bytes_eq s (codes "LOW") then Some (codes "300")
     else None
 
+-- how many dispatches a source outlives, in GLib's words: all, or none
 abbrev pub keep : List ℕ → Option (List Token)
 keep s = if bytes_eq s (codes "CONTINUE") then Some (token.null ∷ []) else if bytes_eq s (codes "REMOVE") then Some (whole 0) else None
 
@@ -110,9 +113,11 @@ abbrev pub names_among : ℕ → Items → Option ℕ
 names_among n no_items = Some n
 names_among n (item j js) = if is_some (as_str j) then names_among (suc n) js else None
 
+-- the number of a name of a kind
 abbrev pub name : Kind → Names → Json → Option (List Token)
 name k ns j = option_map whole (option_and_then (λ s. number_of s (of_kind k ns)) (as_str j))
 
+-- how many names a list has
 abbrev pub count : Json → Option (List Token)
 count j = option_map whole (option_and_then (names_among 0) (as_array j))
 
@@ -126,6 +131,7 @@ abbrev pub is_never : Option (List ℕ) → Bool
 is_never None = false
 is_never (Some s) = bytes_eq s (codes "never")
 
+-- true, and nothing for it
 abbrev pub true_alone : Option Bool → Option (List Token)
 true_alone None = None
 true_alone (Some false) = None

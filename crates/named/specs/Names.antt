@@ -10,6 +10,7 @@ use Rattle.named.specs.declared.word.Word.TheVariants as word
 use Rattle.named.specs.declared.sort.Kind.{Kind}
 use Rattle.named.specs.declared.sort.Kind.TheVariants as kinds
 
+-- the names of a script, by kinds, each list in the order of their numbers
 pub record Names : Type 0 where
   pub threads : List (List ℕ)
   pub contexts : List (List ℕ)
@@ -20,7 +21,7 @@ pub record Names : Type 0 where
   pub slots : List (List ℕ)
   pub texts : List (List ℕ)
 
--- those of a kind
+-- the names of a kind
 abbrev pub of_kind : Kind → Names → List (List ℕ)
 of_kind kinds.Thread ns = ns.threads
 of_kind kinds.Context ns = ns.contexts
@@ -43,7 +44,7 @@ abbrev pub number_from : ℕ → List ℕ → List (List ℕ) → Option ℕ
 number_from n name [] = None
 number_from n name (x ∷ xs) = if bytes_eq x name then Some n else number_from (suc n) name xs
 
--- its place among those of its kind
+-- the place of a name among those of its kind
 abbrev pub number_of : List ℕ → List (List ℕ) → Option ℕ
 number_of name names = number_from 0 name names
 
@@ -56,21 +57,25 @@ abbrev pub all_added : ℕ → List (List ℕ) → List (List ℕ) → List (Lis
 all_added limit xs [] = xs
 all_added limit xs (name ∷ names) = all_added limit (added limit name xs) names
 
--- the items of a list, and the members of an object, where there is one
+-- the items, where there are some
 abbrev pub items_or_none : Option Items → Items
 items_or_none None = no_items
 items_or_none (Some js) = js
 
+-- the items of a list, where there is one
 abbrev pub items_in : Option Json → Items
 items_in o = items_or_none (option_and_then as_array o)
 
+-- the members, where there are some
 abbrev pub members_or_none : Option Members → Members
 members_or_none None = no_members
 members_or_none (Some ms) = ms
 
+-- the members of an object, where there is one
 abbrev pub members_in : Option Json → Members
 members_in o = members_or_none (option_and_then as_object o)
 
+-- what an object has under a key
 abbrev pub under : Word → Json → Option Json
 under w j = get (text_of w) j
 
@@ -79,6 +84,7 @@ abbrev pub texts_of : Items → List (List ℕ)
 texts_of no_items = []
 texts_of (item j js) = option_to_list (as_str j) ++ texts_of js
 
+-- the keys of members
 abbrev pub keys_of : Members → List (List ℕ)
 keys_of no_members = []
 keys_of (member k j ms) = k ∷ keys_of ms
@@ -88,6 +94,7 @@ abbrev pub contexts_or : List ℕ → Option Json → List (List ℕ)
 contexts_or thread None = thread ∷ []
 contexts_or thread (Some j) = texts_of (items_in (Some j))
 
+-- the contexts of threads, one thread after the other
 abbrev pub contexts_of : Members → List (List ℕ)
 contexts_of no_members = []
 contexts_of (member thread j ms) = contexts_or thread (under word.Contexts j) ++ contexts_of ms
@@ -97,6 +104,7 @@ abbrev pub said : List Word → Json → List (List ℕ)
 said [] j = []
 said (w ∷ ws) j = option_to_list (option_and_then as_str (under w j)) ++ said ws j
 
+-- what actions say under some keys
 abbrev pub said_in : List Word → Items → List (List ℕ)
 said_in ws no_items = []
 said_in ws (item j js) = said ws j ++ said_in ws js
@@ -114,6 +122,7 @@ said_under ws j = said_by ws word.Start (members_in (under word.Threads j)) ++ s
 abbrev pub naming : List Word
 naming = word.Attach ∷ word.Child ∷ word.Connect ∷ []
 
+-- the actions that write a text
 abbrev pub logging : List Word
 logging = word.Log ∷ []
 
@@ -128,7 +137,7 @@ declared kinds.Descriptor j = keys_of (members_in (under word.Descriptors j))
 declared kinds.Slot j = said_under naming j
 declared kinds.Text j = said_under logging j
 
--- each once, as far as there are numbers
+-- the names of a kind, each once, as far as there are numbers
 abbrev pub numbered : Kind → Json → List (List ℕ)
 numbered k j = all_added (most k) [] (declared k j)
 

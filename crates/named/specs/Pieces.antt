@@ -28,6 +28,7 @@ pub data Step : Type 0 where
   nth : ℕ → Step
   same : Step
 
+-- tokens, or a value at the end of a step with what it should be
 pub data Piece : Type 0 where
   tokens : List Token → Piece
   inner : Step → Sort → Json → Piece
@@ -37,11 +38,13 @@ one t = tokens (t ∷ [])
 
 -- ---- what stands where
 
+-- the step to a part
 abbrev pub step_of : At → Step
 step_of (ats.Key w) = under (text_of w)
 step_of (ats.Item n) = nth n
 step_of ats.Same = same
 
+-- what stands where a part is to stand
 abbrev pub found : At → Json → Option Json
 found (ats.Key w) j = get (text_of w) j
 found (ats.Item n) j = at n j
@@ -49,6 +52,7 @@ found ats.Same j = Some j
 
 -- ---- the word that chooses
 
+-- whether a word stands as a key
 abbrev pub stands : Json → Word → Bool
 stands j w = is_some (get (text_of w) j)
 
@@ -62,12 +66,14 @@ abbrev pub spelt : List Word → List ℕ → Option Word
 spelt [] s = None
 spelt (w ∷ ws) s = if bytes_eq (text_of w) s then Some w else spelt ws s
 
+-- the word that chooses: in a tree the first item, elsewhere the only one that stands as a key
 abbrev pub chosen : Choice → Json → Option Word
 chosen choices.Tree j = option_and_then (spelt (words choices.Tree)) (option_and_then as_str (at 0 j))
 chosen c j = only (words c) j
 
 -- ---- pieces
 
+-- a part of what a word says, null where it is absent
 abbrev pub part_piece : Part → Option Json → Piece
 part_piece p None = one token.null
 part_piece p (Some d) = inner (step_of p.at) p.sort d
@@ -76,10 +82,12 @@ abbrev pub part_pieces : List Part → Json → List Piece
 part_pieces [] j = []
 part_pieces (p ∷ ps) j = part_piece p (found p.at j) ∷ part_pieces ps j
 
+-- what stands for a key that is absent
 abbrev pub absent_pieces : Word → Absent → List Piece
 absent_pieces key (absents.Number n) = one (token.key (text_of key)) ∷ tokens (whole n) ∷ []
 absent_pieces key a = []
 
+-- a key of an object with its value, or what stands for it
 abbrev pub field_piece : Field → Option Json → List Piece
 field_piece f None = absent_pieces f.key f.absent
 field_piece f (Some d) = one (token.key (text_of f.key)) ∷ inner (step_of f.at) f.sort d ∷ []
@@ -106,6 +114,7 @@ in_list ps = one token.begin_array ∷ (ps ++ one token.end_array ∷ [])
 abbrev pub in_object : List Piece → List Piece
 in_object ps = one token.begin_object ∷ (ps ++ one token.end_object ∷ [])
 
+-- a word with what stands behind it; null where none is chosen
 abbrev pub word_pieces : Choice → Json → Option Word → List Piece
 word_pieces c j None = one token.null ∷ []
 word_pieces c j (Some w) = in_list (one (token.string (text_of (numbered_word w))) ∷ part_pieces (parts c w) j)

@@ -23,13 +23,15 @@ use Rattle.named.specs.declared.field.Field.{Field}
 abbrev pub part : At → Sort → Part
 part at s = record { at = at; sort = s }
 
--- what stands under a key: a value without parts, a name
+-- what stands under a key: a value without parts
 abbrev pub leaf : Word → Leaf → Part
 leaf key l = part (ats.Key key) (sorts.Leaf l)
 
+-- what stands under a key: a name
 abbrev pub name : Word → Kind → Part
 name key kind = leaf key (leaves.Name kind)
 
+-- the value itself
 abbrev pub itself : Sort → Part
 itself s = part ats.Same s
 
@@ -93,12 +95,13 @@ parts_of_tree word.First = tree_at 1 ∷ tree_at 2 ∷ []
 parts_of_tree word.Within = item_at 1 leaves.Microseconds ∷ tree_at 2 ∷ []
 parts_of_tree w = []
 
+-- what stands behind a word of a choice
 abbrev pub parts : Choice → Word → List Part
 parts choices.Action w = parts_of_action w
 parts choices.Source w = parts_of_source w
 parts choices.Tree w = parts_of_tree w
 
--- the keys that may stand beside the word of an action or of a kind of source; where it makes a source, also those of its kind
+-- the keys that may stand with the word of an action or of a kind of source, itself among them; none where it stands alone
 abbrev pub beside : Word → List Word
 beside word.Attach = word.Attach ∷ word.To ∷ word.Priority ∷ word.CanRecurse ∷ word.Call ∷ []
 beside word.Child = word.Child ∷ word.Below ∷ word.CanRecurse ∷ word.Call ∷ []

@@ -14,6 +14,7 @@ abbrev pub filled : (Sort → Json → List Token) → Piece → List Token
 filled f (tokens ts) = ts
 filled f (inner step s d) = f s d
 
+-- the tokens of pieces, one after the other
 abbrev pub together : (Piece → List Token) → List Piece → List Token
 together f [] = []
 together f (p ∷ ps) = f p ++ together f ps
@@ -27,6 +28,6 @@ written (suc n) ns s j = together (filled (written n ns)) (pieces s ns j)
 abbrev pub levels : ℕ
 levels = 160
 
--- a whole script
+-- the tokens of a whole script
 abbrev pub script_tokens : Json → List Token
 script_tokens j = written levels (names_in j) (sorts.An objects.Script) j

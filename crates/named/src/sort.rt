@@ -36,7 +36,7 @@ pub enum Leaf {
     ReadyTime,
     /// How many dispatches a source outlives, null, `CONTINUE` or `REMOVE`.
     Keep,
-    /// True: the word above it says all.
+    /// True: the key that it stands under says all.
     True,
     /// A text for readers, or true.
     Label,

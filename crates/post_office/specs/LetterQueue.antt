@@ -7,15 +7,15 @@ use Rattle.post_office.specs.declared.letter.Letter.{Letter}
 use Rattle.post_office.specs.declared.views.PostView.{PostView}
 use Rattle.post_office.specs.Parts.{Mail, IsPosted}
 
--- what the office's own pass knows, and what another does: 1 where it is out
+-- what the office's own pass knows: what each pass posted that came back, what was drained, and how many passes are out
 abbrev pub keeper : List (List Letter) → List Letter → ℕ → PostView
 keeper recorded drained out = record { is_own = true; posted = []; recorded = recorded; drained = drained; out = out }
 
--- a pass of a thread that posts, and the passes that are out
+-- what a thread's pass knows: what it posted, and 1 where it is out
 abbrev pub poster : List Letter → ℕ → PostView
 poster posted out = record { is_own = false; posted = posted; recorded = []; drained = []; out = out }
 
--- it posts x
+-- a pass posts x
 abbrev pub posted : PostView → Letter → PostView
 posted v x = record { is_own = v.is_own; posted = v.posted ++ x ∷ []; recorded = v.recorded; drained = v.drained; out = v.out }
 
@@ -23,7 +23,7 @@ posted v x = record { is_own = v.is_own; posted = v.posted ++ x ∷ []; recorded
 abbrev pub posted_of : List PostView → List (List Letter)
 posted_of vs = map (λ v. v.posted) vs
 
--- how many are out
+-- how many passes are out
 abbrev pub outs : List PostView → ℕ
 outs vs = sum_by (λ v. v.out) vs
 

@@ -16,7 +16,7 @@ InOrder (x ∷ xs) = AllByRecursion (MayPrecede x) xs × InOrder xs
 abbrev pub same_place : Letter → Letter → Bool
 same_place x y = (x.sender == y.sender) && (x.number == y.number)
 
--- letters of which no two do
+-- letters of which no two have the same sender and number
 abbrev pub AreApart : List Letter → Type 0
 AreApart letters = IsDistinct same_place letters
 

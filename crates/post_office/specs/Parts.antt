@@ -18,20 +18,22 @@ module _ {T : Type 0} where
   without zero (x ∷ xs) = xs
   without (suc n) (x ∷ xs) = x ∷ without n xs
 
-  -- worker w takes the value at place n of those that wait; where there is none of either, nothing changes
+  -- what a claim leaves, by what the worker has taken so far and by what waits at the place; where there is none of either, nothing changes
   abbrev pub claim_of : ℕ → ℕ → Work T → Option (List T) → Option T → Work T
   claim_of w n work (Some list) (Some x) = record { waiting = without n work.waiting; taken = set work.taken w (list ++ x ∷ []) }
   claim_of w n work (Some list) None = work
   claim_of w n work None value = work
 
+  -- worker w takes the value at place n of those that wait
   abbrev pub claims : ℕ → ℕ → Work T → Work T
   claims w n work = claim_of w n work (slice_get work.taken w) (slice_get work.waiting n)
 
-  -- worker w posts x
+  -- what a post leaves, by what the worker has posted so far; where there is no such worker, nothing changes
   abbrev pub post_of : ℕ → T → Mail T → Option (List T) → Mail T
   post_of w x mail (Some list) = record { posted = set mail.posted w (list ++ x ∷ []); office = mail.office ++ x ∷ [] }
   post_of w x mail None = mail
 
+  -- worker w posts x
   abbrev pub posts : ℕ → T → Mail T → Mail T
   posts w x mail = post_of w x mail (slice_get mail.posted w)
 

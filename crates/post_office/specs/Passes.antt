@@ -50,11 +50,11 @@ module _ {T : Type 0} where
   abbrev pub lets_out : WorkState T → WorkState T
   lets_out list = record list { out = list.out + 1 }
 
-  -- and when one comes back
+  -- the list, when a pass comes back, with what it took
   abbrev pub takes_in : WorkState T → Taking T → WorkState T
   takes_in list pass = record list { recorded = list.recorded ++ pass.taken ∷ []; out = list.out - 1 }
 
-  -- the pass takes x
+  -- a pass takes x
   abbrev pub takes : Taking T → T → Taking T
   takes pass x = record pass { taken = pass.taken ++ x ∷ [] }
 
@@ -70,7 +70,7 @@ new_posting office = record { home = office.home; posted = [] }
 abbrev pub opens : OfficeState → OfficeState
 opens office = record office { out = office.out + 1 }
 
--- and when one comes back, with what it posted
+-- the office, when a pass comes back, with what it posted
 abbrev pub closes : OfficeState → Posting → OfficeState
 closes office pass = record office { recorded = office.recorded ++ pass.posted ∷ []; out = office.out - 1 }
 
@@ -78,6 +78,6 @@ closes office pass = record office { recorded = office.recorded ++ pass.posted �
 abbrev pub drains : OfficeState → List Letter → OfficeState
 drains office letters = record office { drained = office.drained ++ letters }
 
--- the pass posts a letter
+-- a pass posts a letter
 abbrev pub posts : Posting → Letter → Posting
 posts pass letter = record pass { posted = pass.posted ++ letter ∷ [] }

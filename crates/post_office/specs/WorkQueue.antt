@@ -8,21 +8,23 @@ use Rattle.post_office.specs.Parts.{Work, IsClaimed}
 use Rattle.post_office.specs.Passes.{Taking}
 
 module _ {T : Type 0} where
-  -- what the list's own pass knows, and what another does: 1 where it is out
+  -- what the list's own pass knows: what was put, what the list took itself, what each pass took that came back, and how many passes are out
   abbrev pub keeper : List T → List T → List (List T) → ℕ → WorkView T
   keeper put taken recorded out = record { is_own = true; put = put; taken = taken; recorded = recorded; out = out }
 
+  -- what a thread's pass knows: what was put, what it took, and 1 where it is out
   abbrev pub taker : List T → List T → ℕ → WorkView T
   taker put taken out = record { is_own = false; put = put; taken = taken; recorded = []; out = out }
 
-  -- it takes x
+  -- a pass takes x
   abbrev pub took : WorkView T → T → WorkView T
   took v x = record { is_own = v.is_own; put = v.put; taken = v.taken ++ x ∷ []; recorded = v.recorded; out = v.out }
 
+  -- what each pass took
   abbrev pub taken_of : List (WorkView T) → List (List T)
   taken_of vs = map (λ v. v.taken) vs
 
-  -- how many are out
+  -- how many passes are out
   abbrev pub outs : List (WorkView T) → ℕ
   outs vs = sum_by (λ v. v.out) vs
 
@@ -30,6 +32,7 @@ module _ {T : Type 0} where
   abbrev pub Fits : List T → WorkView T → Type 0
   Fits put v = (v.is_own ≡ false) × (v.out ≡ 0 → v.taken ≡ []) × (v.out ≢ 0 → v.put ≡ put)
 
+  -- each pass fits
   abbrev pub AllFit : List T → List (WorkView T) → Type 0
   AllFit put vs = (port : ℕ) (v : WorkView T) → get_elem? vs port ≡ some v → Fits put v
 

@@ -2,7 +2,7 @@
 use loop_script::SourceSpec;
 use task_steps::Reply;
 
-/// What one turn of a lane sends. Lanes, contexts and cancellables go by their number in the script.
+/// A letter that a lane sends in its turn. Lanes, contexts and cancellables go by their number in the script.
 #[derive(Clone, Copy, Debug, PartialEq, Eq)]
 pub struct Letter {
     /// The tick of the turn.

@@ -1,7 +1,7 @@
 //! Letters, and where turns post them.
 //!
-//! A letter is what a lane sends in its turn of a tick: a reply of a task, or that a cancellable is cancelled. What a tick's
-//! turns posted is put in order and delivered when the turns are over.
+//! A letter is what a lane sends in its turn of a tick: a reply of a task, a procedure that it invokes in another lane's context, that a
+//! cancellable is cancelled, or that it gives a context. What a tick's turns posted is put in order and delivered when the turns are over.
 //!
 //! Two queues may be shared by the workers that take these turns: a work list, from which they take lanes, and an office, to which they
 //! post. Each worker uses them through a pass of its own, which is made before and taken back after.

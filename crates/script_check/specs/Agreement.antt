@@ -26,6 +26,7 @@ abbrev pub Agrees : List Found → Result Plan ScriptFault → Type 0
 Agrees faults (Ok p) = faults ≡ []
 Agrees faults (Err class) = ClassIs faults class
 
+-- the faults of a script agree with the class by which it is refused
 abbrev pub ClassesAgree : Type 0
 ClassesAgree = (d : Data) → IsShallow d → Agrees (script_faults d) (script_of d)
 

@@ -34,7 +34,7 @@ is_shape (NotPlain n) = false
 is_shape Stays = false
 is_shape Unchecked = false
 
--- of the class limit
+-- a cause of the class limit
 abbrev pub is_limit : Cause → Bool
 is_limit Range = true
 is_limit Count = true
@@ -42,12 +42,12 @@ is_limit Contexts = true
 is_limit Depth = true
 is_limit _ = false
 
--- of the class reference
+-- a cause of the class reference
 abbrev pub is_reference : Cause → Bool
 is_reference (Missing n) = true
 is_reference _ = false
 
--- of the class rule
+-- a cause of the class rule
 abbrev pub is_rule : Cause → Bool
 is_rule (NotAbove tick) = true
 is_rule (NotPlain n) = true
@@ -68,6 +68,7 @@ pub data Leads : List Step → Form → Data → Form → Data → Type 0 where
 abbrev pub IsShallow : Data → Type 0
 IsShallow d = depth d < levels
 
+-- the faults of shape and of limits are those of the tables, each in its place
 pub record FormFaults : Type 0 where
   -- a fault of shape is told exactly where some part of the script is misshapen by the tables, and one of limits exactly where some is out of range
   pub shape : (d : Data) → IsShallow d → (has is_shape (form_faults d) ≡ true) ↔ IsMisshapen (an script) d

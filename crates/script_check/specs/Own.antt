@@ -20,6 +20,7 @@ where_so false c = []
 abbrev pub is_outside : ℕ → ℕ → ℕ → Bool
 is_outside low high n = not (nat_le low n && nat_le n high)
 
+-- the same of a number that may be below 0
 abbrev pub is_integer_outside : ℤ → ℤ → ℤ → Bool
 is_integer_outside low high z = not (int_le low z && int_le z high)
 
@@ -47,7 +48,7 @@ abbrev pub of_contexts : ℕ → Option Items → List Cause
 of_contexts most None = []
 of_contexts most (Some ds) = where_so (nat_lt most (contexts_in ds)) Contexts
 
--- what should be a list of n parts
+-- whether a list has n parts, by its size where it is one
 abbrev pub has_size : ℕ → Option ℕ → Bool
 has_size n None = false
 has_size n (Some m) = m == n
@@ -72,7 +73,7 @@ abbrev pub of_word : Option (List Form) → Data → List Cause
 of_word None d = OtherWord ∷ []
 of_word (Some fs) d = where_so (not (has_size (suc (length fs)) (size d))) OtherLength
 
--- what is wrong with d
+-- what is wrong with d where it should have the form
 abbrev pub own : Form → Data → List Cause
 own (whole low high) d = of_whole low high (as_number d)
 own (whole_or_null low high) d = if is_some (as_null d) then [] else of_whole low high (as_number d)

@@ -22,6 +22,7 @@ abbrev pub items_from : ℕ → Form → Items → List Part
 items_from n f no_items = []
 items_from n f (item d ds) = record { step = nth n; form = f; inner = d } ∷ items_from (suc n) f ds
 
+-- the items of a list, where it is one
 abbrev pub items_in : Form → Option Items → List Part
 items_in f None = []
 items_in f (Some ds) = items_from 0 f ds
@@ -31,6 +32,7 @@ abbrev pub from : ℕ → List Form → Data → List Part
 from n [] d = []
 from n (f ∷ fs) d = there (nth n) f (at n d) ++ from (suc n) fs d
 
+-- the parts behind a word, where it has some
 abbrev pub behind : Option (List Form) → Data → List Part
 behind None d = []
 behind (Some fs) d = from 1 fs d

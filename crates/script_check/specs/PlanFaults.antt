@@ -32,6 +32,7 @@ counts_of p = record {
   fds = length p.fds;
 }
 
+-- how many of a sort there are
 abbrev pub count : Counts → Sort → ℕ
 count n sorts.Lane = n.lanes
 count n sorts.Context = n.contexts
@@ -45,10 +46,11 @@ abbrev pub fault : List Step → Form → Cause → List Found
 fault place f c = record { place = place; form = f; cause = c } ∷ []
 
 -- ---- references
--- at a place stands a number of this sort
+-- at a place stands a number of this sort, which is a fault where the script has not so many
 abbrev pub missing : Counts → Sort → List Step → ℕ → List Found
 missing n s place k = if nat_lt k (count n s) then [] else fault place index (Missing (count n s))
 
+-- the same where the number may be absent
 abbrev pub option_missing : Counts → Sort → List Step → Option ℕ → List Found
 option_missing n s place None = []
 option_missing n s place (Some k) = missing n s place k
@@ -96,6 +98,7 @@ abbrev pub first_not_plain : ℕ → List Action → Option ℕ
 first_not_plain k [] = None
 first_not_plain k (a ∷ rest) = if is_plain a then first_not_plain (suc k) rest else Some k
 
+-- that a procedure is connected and holds an action that no handler may hold
 abbrev pub connected : List Step → Option ℕ → List Found
 connected place None = []
 connected place (Some k) = fault place index (NotPlain k)
@@ -112,32 +115,38 @@ abbrev pub not_above : List Step → ℕ → ℕ → List Level → List Found
 not_above place before k [] = []
 not_above place before k (l ∷ ls) = (if nat_lt before l.tick then [] else fault (place ++ nth k ∷ []) pair (NotAbove before)) ++ not_above place l.tick (suc k) ls
 
+-- the pairs of a descriptor whose tick is not above that of the pair before
 abbrev pub not_rising : List Step → List Level → List Found
 not_rising place [] = []
 not_rising place (l ∷ ls) = not_above place l.tick 1 ls
 
 -- ---- the whole script
--- the actions of a list, from the k-th on
+-- the faults of the actions of a list, from the k-th on
 abbrev pub in_actions : Counts → List Proc → List Step → ℕ → List Action → List Found
 in_actions n procs place k [] = []
 in_actions n procs place k (a ∷ rest) = (action_missing n (place ++ nth k ∷ []) a ++ action_broken procs (place ++ nth k ∷ []) a) ++ in_actions n procs place (suc k) rest
 
+-- the faults in the start lists of lanes, from the k-th on
 abbrev pub in_lanes : Counts → List Proc → ℕ → List LaneSpec → List Found
 in_lanes n procs k [] = []
 in_lanes n procs k (l ∷ ls) = in_actions n procs (under (codes "lanes") ∷ nth k ∷ under (codes "start") ∷ []) 0 l.start ++ in_lanes n procs (suc k) ls
 
+-- the faults in the lists of procedures, from the k-th on
 abbrev pub in_procs : Counts → List Proc → ℕ → List Proc → List Found
 in_procs n procs k [] = []
 in_procs n procs k (q ∷ qs) = in_actions n procs (under (codes "procs") ∷ nth k ∷ under (codes "do") ∷ []) 0 q.actions ++ in_procs n procs (suc k) qs
 
+-- the loops, from the k-th on, whose context the script has not
 abbrev pub in_loops : Counts → ℕ → List ℕ → List Found
 in_loops n k [] = []
 in_loops n k (c ∷ cs) = missing n sorts.Context (under (codes "loops") ∷ nth k ∷ []) c ++ in_loops n (suc k) cs
 
+-- the descriptors, from the k-th on, whose ticks do not rise
 abbrev pub in_fds : ℕ → List (List Level) → List Found
 in_fds k [] = []
 in_fds k (f ∷ fs) = not_rising (under (codes "fds") ∷ nth k ∷ []) f ++ in_fds (suc k) fs
 
+-- the faults of references and of rules in a script
 unfoldable pub plan_faults : Plan → List Found
 plan_faults p =
     in_lanes (counts_of p) p.procs 0 p.lanes

@@ -18,5 +18,6 @@ Fits _ e = Unit {0}
 abbrev pub StandsAt : Data → Found → Type 0
 StandsAt d x = (e : Data) × (at_place x.place d ≡ Some e) × Fits x.cause e
 
+-- the place of each fault of references and of rules leads to a value of the document
 abbrev pub PlacesLead : Type 0
 PlacesLead = (d : Data) (p : Plan) → Denotes (Some d) p → (x : Found) → In x (plan_faults p) → StandsAt d x

@@ -8,7 +8,7 @@ use Rattle.script_check.specs.Faults.{form_faults}
 use Rattle.script_check.specs.VersionFaults.{version_faults}
 use Rattle.script_check.specs.PlanFaults.{plan_faults}
 
--- those of what a script says
+-- the faults of what a script says
 abbrev pub said_faults : Option Plan → List Found
 said_faults None = []
 said_faults (Some p) = plan_faults p
@@ -18,5 +18,6 @@ abbrev pub or_else : List Found → List Found → List Found
 or_else [] ys = ys
 or_else (x ∷ xs) ys = x ∷ xs
 
+-- all faults of a script
 abbrev pub script_faults : Data → List Found
 script_faults d = or_else (form_faults d ++ version_faults d) (said_faults (sound_plan d))

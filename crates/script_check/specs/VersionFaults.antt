@@ -37,6 +37,7 @@ action_place owners actions n m = under owners ∷ nth n ∷ under actions ∷ n
 abbrev pub EachIsTold : List ℕ → List ℕ → Data → Type 0
 EachIsTold owners actions d = (n m : ℕ) → IsGive (says.nth m (says.under actions (says.nth n (says.under owners (Some d))))) → In (other_version (action_place owners actions n m)) (version_faults d)
 
+-- the faults of the version are the actions that it has not, each in its place
 pub record VersionFaults : Type 0 where
   -- some fault is told exactly where a script of another version than 2 has a `give`
   pub some : (d : Data) → (has is_shape (version_faults d) ≡ true) ↔ GivesOutsideVersion2 d

@@ -1,4 +1,4 @@
--- What is known of a tree's seats d once its root is a fork.
+-- What is known of a tree's seats once its root is a fork.
 use Rattle.std.proofs.Common.{◌≡◌, ℕ, Some, ◌+◌, ◌≤◌, Bool, true, false, not, cond, ◌||◌, List, [], ◌∷◌, ◌++◌, length, filter, refl, Box, sym, ap, ◌∙◌, subst, arith, length-append}
 use Rattle.std.specs.declared.alloc.Global.{Global}
 use Rattle.source_rows.specs.Inserted.{inserted, Rises}

@@ -6,7 +6,7 @@ use Rattle.source_rows.specs.declared.seats.Seat.{Seat}
 use Rattle.source_rows.specs.Rows.{Key, key_cmp, key_of}
 use Rattle.source_rows.specs.Row.{no_number}
 
--- the keys of a priority and a root's order number lie between these
+-- the key before all rows of a tree, whose keys begin with its priority and its root's order number
 abbrev pub first_key : Row → Key
 first_key r = (r.priority, slice_index r.path 0 ∷ 0 ∷ 0 ∷ 0 ∷ [])
 
@@ -18,10 +18,10 @@ last_key r = (r.priority, slice_index r.path 0 ∷ no_number ∷ no_number ∷ n
 abbrev pub lies_between : Key → Key → Key → Bool
 lies_between first last k = not (is_lt (key_cmp k first)) && not (is_lt (key_cmp last k))
 
--- a seat stands there
+-- a seat stands between two keys
 abbrev pub is_between : Key → Key → Seat → Bool
 is_between first last s = lies_between first last s.key
 
--- a row stands there
+-- a row stands between two keys
 abbrev pub stands_between : Key → Key → Row → Bool
 stands_between first last r = lies_between first last (key_of r)

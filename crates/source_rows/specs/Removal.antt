@@ -17,7 +17,7 @@ pub record AreDistinct (rows : List Row) : Type 0 where
 abbrev pub NoneBehind : SourceId → Key → List Row → Type 0
 NoneBehind id key rows = AllByRecursion (λ q. is_under id q ≡ true → is_gt (key_cmp (key_of q) key) ≡ false) rows
 
--- what stands from one of them to the key is under the id too
+-- what stands from a row under the id to the key is under the id too
 abbrev pub NoneBetween : SourceId → Key → List Row → Type 0
 NoneBetween id key rows = AllByRecursion (λ q. AllByRecursion (λ x. is_under id q ≡ true → is_lt (key_cmp (key_of x) (key_of q)) ≡ false → is_gt (key_cmp (key_of x) key) ≡ false → is_under id x ≡ true) rows) rows
 

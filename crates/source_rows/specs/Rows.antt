@@ -14,7 +14,7 @@ use Rattle.source_rows.specs.Row.{root_row, child_row}
 use Rattle.source_rows.specs.Inserted.{inserted}
 use Rattle.loop_script.specs.Units.{Microseconds, SourceId, Priority, Order}
 
--- the rows of a context by rising id, and what the next one gets
+-- the rows of a context by rising id, what the next one gets, and at how many levels they may stand
 pub record RowSet : Type 0 where
   pub rows : List Row
   pub next_id : SourceId

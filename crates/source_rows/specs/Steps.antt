@@ -40,7 +40,7 @@ nearer None b = b
 nearer (Some a) None = Some a
 nearer (Some a) (Some b) = if stands_before b a then Some b else Some a
 
--- the last row is one that may be ready
+-- rows stand in trees, and the last one, if there was one, may be ready, by itself or by one under it
 pub record IsStep (rows : List Row) (now : Microseconds) (last : Option Row) : Type 0 where
   pub forest : IsForest rows
   pub apart : AllApart rows

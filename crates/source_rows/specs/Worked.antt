@@ -21,7 +21,7 @@ under id s = child_added idle 0 (row_of id s.rows) s
 abbrev pub ids : RowSet → List SourceId
 ids s = map (λ r. r.id) (in_order s.rows)
 
--- a chain; a tree of two branches and its second root before it after a change of priority
+-- a chain; a tree of two branches; a tree behind another root once its priority is set; a chain whose second row is destroyed
 pub record WorkedOrders : Type 0 where
   pub chain : ids (under 3 (under 2 (under 1 (attached idle 0 fresh)))) ≡ 4 ∷ 3 ∷ 2 ∷ 1 ∷ []
   pub tree : ids (under 3 (under 1 (under 2 (under 1 (attached idle 0 fresh))))) ≡ 5 ∷ 3 ∷ 2 ∷ 4 ∷ 1 ∷ []

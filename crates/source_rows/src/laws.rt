@@ -5,7 +5,7 @@ ghost use Rattle.source_rows.specs.Laws.{OrderLaws, PathLaws, TreeLaws};
 ghost use Rattle.source_rows.specs.TwoLevels.{LevelLaws};
 ghost use Rattle.source_rows.specs.Worked.{WorkedOrders};
 
-/// How the order changes with the rows: a new row is put into its place, and what an edit leaves stands as it stood.
+/// How the order changes with the rows: a new row is put into its place, and where rows go, those that are left stand as they stood.
 pub fn order_changes_little()
     ensures { OrderLaws }
 {}

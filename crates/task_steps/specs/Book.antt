@@ -55,12 +55,12 @@ noticed_in tick view t = noticed tick (sees view t.cancel) t
 abbrev pub all_noticed : Tick → Seen → List Task → List Task
 all_noticed tick view ts = map (noticed_in tick view) ts
 
--- a cancellable that the view has, where there is one
+-- a cancellable is one that the view tells of, where there is one
 abbrev pub IsIn : Seen → Option CancellableNumber → Type 0
 IsIn view None = Unit {0}
 IsIn view (Some c) = c < length view.members
 
--- the view has the cancellables of the tasks, and all that it had
+-- the view tells of the cancellables of the tasks, and has all that the tasks were seen cancelled by
 abbrev pub HasGrown : Seen → List Task → Type 0
 HasGrown view [] = Unit {0}
 HasGrown view (t ∷ ts) = IsIn view t.cancel × StaysSet t.cancelled (sees view t.cancel) × HasGrown view ts
@@ -70,7 +70,7 @@ abbrev pub MayComeToAll : (TaskNumber → Option Tick) → List Task → Type 0
 MayComeToAll c [] = Unit {0}
 MayComeToAll c (t ∷ ts) = MayComeTo t (c t.number) × MayComeToAll c ts
 
--- the replies and late numbers of a tick
+-- the replies that polls of tasks give in a tick
 abbrev pub replies_in : Tick → (TaskNumber → Option Tick) → List Task → List Reply
 replies_in tick c [] = []
 replies_in tick c (t ∷ ts) = option_to_list (option_map (reply_of_task t) (reply_in tick t.return_on_cancel (c t.number) (body_end t (c t.number)))) ++ replies_in tick c ts
@@ -88,7 +88,7 @@ goes_on tick c t = not ((body_end t (c t.number)).tick == tick)
 abbrev pub IsIdle : Tick → (TaskNumber → Option Tick) → List Task → Type 0
 IsIdle tick c ts = (replies_in tick c ts ≡ []) × (late_in tick c ts ≡ []) × (filter (goes_on tick c) ts ≡ ts)
 
--- a poll in the next tick replies that the task is cancelled
+-- whether a poll in the next tick replies that the task is cancelled
 abbrev pub replies_next : Seen → Task → Bool
 replies_next view t = t.return_on_cancel && (sees view t.cancel && not (is_some t.cancelled))
 

@@ -22,7 +22,7 @@ caught_stage None cancelled stage = stage
 caught_stage (Some tick) (Some from) stage = stage
 caught_stage (Some tick) None stage = stage_to tick stage
 
--- up to which tick it was not seen as cancelled
+-- up to which tick a run was not seen as cancelled, once the last poll of all has passed it over
 abbrev pub caught_clear : Option Tick → Option Tick → Stage → Option Tick → Option Tick
 caught_clear None cancelled stage clear = clear
 caught_clear (Some tick) (Some from) stage clear = clear
@@ -66,12 +66,12 @@ pub record IsWaiting (next : Tick) (polled : Option Tick) (e : Entry) : Type 0 w
   pub clear : IsSeenBy polled e.run.clear
   pub end : NoneBefore e.run e.run.wake
 
--- the same of all
+-- all entries are polled again in a tick or after it
 abbrev pub AreWaiting : Tick → Option Tick → List Entry → Type 0
 AreWaiting next polled [] = Unit {0}
 AreWaiting next polled (e ∷ es) = IsWaiting next polled e × AreWaiting next polled es
 
--- the same after the last tick, where there was one
+-- the same of the tick after the last one, where there was one; else there is no entry
 abbrev pub AreWaitingAfter : Option Tick → Option Tick → List Entry → Type 0
 AreWaitingAfter None polled es = es ≡ []
 AreWaitingAfter (Some last) polled es = AreWaiting (last + 1) polled es

@@ -18,13 +18,12 @@ pub record Run : Type 0 where
   pub cancelled : Option Tick
   pub wake : Option Tick
 
--- from when on polls see the cancellable as cancelled, as far as the ticks show that were set: later than one that was not cancelled,
--- and not later than one that was
+-- no poll up to this tick sees the cancellable as cancelled, where there is such a tick
 abbrev pub IsUnseenTo : Option Tick → Option Tick → Type 0
 IsUnseenTo None c = Unit {0}
 IsUnseenTo (Some last) c = (tick : Tick) → tick ≤ last → seen c tick ≡ false
 
--- a cancellable was seen at this tick at the latest
+-- polls from this tick on see the cancellable as cancelled, where there is such a tick
 abbrev pub IsSeenFrom : Option Tick → Option Tick → Type 0
 IsSeenFrom None c = Unit {0}
 IsSeenFrom (Some from) c = (tick : Tick) → from ≤ tick → seen c tick ≡ true
@@ -61,12 +60,12 @@ set_to tick (Set begun at) = Set begun tick
 set_to tick (Polled begun at) = Set begun tick
 set_to tick Done = Done
 
--- from which tick on it was seen
+-- from which tick on the cancellable was seen as cancelled, once a tick is set
 abbrev pub seen_from : Tick → Bool → Option Tick → Option Tick
 seen_from tick cancelled (Some from) = Some from
 seen_from tick cancelled None = if cancelled then Some tick else None
 
--- up to which tick it was not
+-- up to which tick it was not seen so, once a tick is set
 abbrev pub clear_to : Tick → Bool → Option Tick → Option Tick
 clear_to tick cancelled clear = if cancelled then clear else Some tick
 
@@ -103,7 +102,7 @@ stage_after (Set begun tick) None = Polled begun tick
 stage_after (Polled begun tick) None = Polled begun tick
 stage_after Done None = Done
 
--- a wake after a tick
+-- there is a wake, after a tick
 abbrev pub IsLater : Tick → Option Tick → Type 0
 IsLater tick None = ⊥
 IsLater tick (Some wake) = tick < wake

@@ -9,7 +9,7 @@ use Rattle.task_steps.specs.End.{end_of, seen}
 use Rattle.task_steps.specs.Wake.{wait_of}
 use Rattle.task_steps.specs.Run.{MayCome, IsLater}
 
--- a wake at a tick at the latest
+-- a tick that there may be is this one at the latest
 abbrev pub IsBy : Tick → Option Tick → Type 0
 IsBy tick None = Unit {0}
 IsBy tick (Some from) = from ≤ tick

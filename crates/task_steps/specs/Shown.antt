@@ -23,7 +23,7 @@ abbrev pub least_wake : List TaskShown → Option Tick
 least_wake [] = None
 least_wake (s ∷ ss) = sooner s.wake (least_wake ss)
 
--- a wake at a tick at the latest
+-- there is a wake, at a tick at the latest
 abbrev pub WakesBy : Tick → Option Tick → Type 0
 WakesBy tick None = ⊥
 WakesBy tick (Some wake) = wake ≤ tick

@@ -57,7 +57,7 @@ reply_in tick return_on_cancel c e =
 abbrev pub is_late_in : Tick → Bool → Option Tick → End → Bool
 is_late_in tick return_on_cancel c e = is_early return_on_cancel c e && (e.tick == tick)
 
--- from when on the task may be seen as cancelled: a task that returns on cancel is polled in the first such tick
+-- polls see the task as cancelled from exactly this tick on, where there is one: a task that returns on cancel is polled in the first such tick
 abbrev pub IsSeenExactly : Option Tick → Option Tick → Type 0
 IsSeenExactly None c = Unit {0}
 IsSeenExactly (Some from) c = c ≡ Some from

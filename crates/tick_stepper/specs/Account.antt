@@ -58,12 +58,12 @@ abbrev pub held_end : Plan → Tick → Option Turn → Option Turn
 held_end script tick None = None
 held_end script tick (Some t) = Some (finished script tick t)
 
--- what it has posted
+-- what the turn in progress has posted
 abbrev pub held_posted : Option Turn → List Letter
 held_posted None = []
 held_posted (Some t) = t.posted
 
--- those that wait for letters, when all have them
+-- the lanes that wait for letters, when all have them
 abbrev pub all_brought : Plan → Tick → (waiting : List Lane) → (left letters : List Letter) → List Lane
 all_brought script tick [] left letters = []
 all_brought script tick (lane ∷ waiting) left letters = received_all script tick left lane ∷ map (received_all script tick letters) waiting

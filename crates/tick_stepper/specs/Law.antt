@@ -43,7 +43,7 @@ TickIsOne = (script : Plan) (tick : Tick) (workers : ℕ) (lanes : List Lane) (m
     → (let s = after script tick moves (opening workers lanes) in IsFull s → ByNumber lanes → IsPermutation (concat (over_of s)) turns → ByNumber turns
     → IsPermutation s.office letters → InOrder letters → delivered script tick letters turns ≡ ticked script tick lanes)
 
--- a claim changes the work by one taken lane, a step the mail by at most one letter, and nothing else changes either
+-- a claim changes the work by at most one taken lane, a step the mail by at most one letter, and nothing else changes either
 abbrev pub Changes : Move → TickState → TickState → Type 0
 Changes (Claim w n) s s' = ((work_of s' ≡ work_of s) ⊎ (work_of s' ≡ claims w n (work_of s))) × (mail_of s' ≡ mail_of s)
 Changes (Step w) s s' = (work_of s' ≡ work_of s) × ((mail_of s' ≡ mail_of s) ⊎ ((x : Letter) × (mail_of s' ≡ posts w x (mail_of s))))

@@ -44,7 +44,7 @@ goes_on worker t u = record worker { held = Some u; posted = worker.posted ++ po
 abbrev pub lets_go : Worker → Turn → Worker
 lets_go worker t = record worker { held = None; over = worker.over ++ t.lane ∷ [] }
 
--- the tick after that, where worker is the one of number w; without a lane nothing is changed
+-- the tick after the worker of number w has taken the lane of place n; without a lane nothing is changed
 abbrev pub claimed : Tick → TickState → (w n : ℕ) → Worker → Option Lane → TickState
 claimed tick s w n worker None = s
 claimed tick s w n worker (Some lane) = record { waiting = without n s.waiting; workers = set s.workers w (takes tick worker lane); office = s.office }
@@ -113,7 +113,7 @@ pub record IsFull (s : TickState) : Type 0 where
   pub waiting : s.waiting ≡ []
   pub held : AreFree s.workers
 
--- the lanes that the workers took, those whose turn they ended, and what they posted
+-- the lanes that each worker took
 abbrev pub taken_of : TickState → List (List Lane)
 taken_of s = map (λ worker. worker.taken) s.workers
 

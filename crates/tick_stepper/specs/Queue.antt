@@ -19,19 +19,19 @@ pub record IsHired (list office : ℕ × ℕ) (lanes : List Numbered) (hired : H
   pub work : hired.work ≡ record { home = list; put = lanes; taken = [] }
   pub post : hired.post ≡ record { home = office; posted = [] }
 
--- and all lanes that were put may take their turns
+-- such a worker, of a list whose lanes may all take their turns
 pub record MayWork (script : Plan) (tick : Tick) (list office : ℕ × ℕ) (hired : Hired) : Type 0 where
   pub fresh : IsHired list office hired.work.put hired
   pub ready : AllByRecursion (IsReadyOne script tick) hired.work.put
 
--- its lanes are the turns of those that it took, and it posted what these send, in that order
+-- what a worker hands back: its passes are of this list and office, its lanes are the turns of those that it took, and it posted what these send, in order
 pub record IsHaul (script : Plan) (tick : Tick) (list office : ℕ × ℕ) (haul : Haul) : Type 0 where
   pub home : haul.work.home ≡ list
   pub desk : haul.post.home ≡ office
   pub turns : haul.lanes.items ≡ map (turned_one script tick) haul.work.taken
   pub letters : haul.post.posted ≡ flat_map (out_of_one script tick) haul.work.taken
 
--- its passes are of this list and this office
+-- what a worker hands back, with passes of this list and this office
 pub record IsOf (list office : ℕ × ℕ) (haul : Haul) : Type 0 where
   pub home : haul.work.home ≡ list
   pub desk : haul.post.home ≡ office

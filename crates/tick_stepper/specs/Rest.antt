@@ -22,7 +22,7 @@ lane_at tick one = at_tick tick one.lane.state.lane
 abbrev pub all_at : Tick → List Resting → List Lane
 all_at tick ones = map (lane_at tick) ones
 
--- whether its turn comes at a tick
+-- whether a next turn, where there is one, comes at a tick or before it
 abbrev pub comes_by : Tick → Option Tick → Bool
 comes_by tick None = false
 comes_by tick (Some next) = nat_le next tick
@@ -46,7 +46,7 @@ pub record HasPassed (tick : Tick) (one : Resting) : Type 0 where
   pub past : one.lane.state.lane.tasks.tick ≤ tick
   pub tasks : (k : Tick) → one.lane.state.lane.tasks.tick ≤ k → k < tick → GivesNothing k one.lane.state.lane.tasks
 
--- and whose turns from there on are quiet, up to its next one
+-- such a lane, whose turns from the tick on are quiet, up to its next one
 pub record Rests (script : Plan) (tick : Tick) (one : Resting) : Type 0 where
   pub passed : HasPassed tick one
   pub quiet : (k : Tick) → tick ≤ k → k < script.ticks → IsAfter k one.next → IsQuiet script k one.lane.state.lane

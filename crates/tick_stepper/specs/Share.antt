@@ -24,7 +24,7 @@ unspent lane = record { lane = lane; spent = false }
 abbrev pub numbered_one : Lane → Numbered
 numbered_one lane = record { number = lane.number; state = unspent lane }
 
--- lanes with theirs
+-- lanes with their numbers
 abbrev pub numbered : List Lane → List Numbered
 numbered lanes = map numbered_one lanes
 
@@ -41,11 +41,11 @@ pub record AreLined (ones : List Numbered) : Type 0 where
 pub record HasGone (tick : Tick) (letter : Letter) (ones now : List Numbered) : Type 0 where
   pub over : now ≡ numbered (moved tick (handing_of letter (lanes_in ones)) (lanes_in ones))
 
--- the lane of a number after a step
+-- a lane after a step, where it is that of a number
 abbrev pub at_number : LaneNumber → (Lane → Lane) → Lane → Lane
 at_number number step lane = if lane.number == number then step lane else lane
 
--- a lane after a step
+-- a lane with its number after a step
 abbrev pub stepped_one : (Lane → Lane) → Numbered → Numbered
 stepped_one step one = record { number = one.number; state = unspent (step one.state.lane) }
 
@@ -79,7 +79,7 @@ pub record IsTurned (script : Plan) (tick : Tick) (old new : Share) : Type 0 whe
   pub lanes : new.lanes.items ≡ map (turned_one script tick) old.lanes.items
   pub letters : new.tray ≡ flat_map (out_of_one script tick) old.lanes.items
 
--- whether a worker is started
+-- whether a share has lanes: for one that has none no worker is started
 abbrev pub has_lanes : Share → Bool
 has_lanes share = nat_lt 0 (length share.lanes.items)
 

@@ -26,7 +26,7 @@ sparse_at script due (suc k) = ticked_by script k (due k) (sparse_at script due 
 abbrev pub LeavesQuiet : Plan → (Lane → Bool) → Tick → Type 0
 LeavesQuiet script due tick = AllByRecursion (λ lane. due lane ≡ false → IsQuiet script tick lane) (lanes_at script tick)
 
--- then the run is the one in which all take them
+-- where the turns that are left out would be quiet, the run is the one in which all lanes take theirs
 abbrev pub SparseIsDense : Type 0
 SparseIsDense = (script : Plan) (due : Tick → Lane → Bool) (tick : Tick) → length script.lanes ≤ 64 → tick ≤ 4096
     → ((k : Tick) → k < tick → LeavesQuiet script (due k) k) → sparse_at script due tick ≡ lanes_at script tick

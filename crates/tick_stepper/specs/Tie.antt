@@ -19,7 +19,7 @@ use Rattle.loop_script.specs.Units.{Tick}
 abbrev pub lane_of : Numbered → Lane
 lane_of one = one.state.lane
 
--- the same of what waits and of what was taken
+-- what waits and what was taken, as lanes without their numbers
 abbrev pub lanes_of : Work Numbered → Work Lane
 lanes_of work = record { waiting = map lane_of work.waiting; taken = map (map lane_of) work.taken }
 
