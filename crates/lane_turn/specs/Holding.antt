@@ -66,7 +66,7 @@ pub record Stands (context : ContextNumber) (before now : Lane) : Type 0 where
 pub record ContextsMove : Type 0 where
   -- what is handed over is the context as it stands, with its replies
   pub whole : (context : ContextNumber) (lane : Lane) (kept : Kept) → handed_of context lane ≡ Some kept → (context_at context lane ≡ Some kept.context) × (replies_at context lane.replies ≡ kept.replies)
-  -- the lane that takes it over has it so, and its others as before
+  -- the lane that takes it over has the context so, and its others as before
   pub taken : (tick : Tick) (kept : Kept) (lane : Lane) → kept.number < length lane.contexts → context_at kept.number (taken_over tick kept lane) ≡ Some kept.context
   pub others : (tick : Tick) (kept : Kept) (lane : Lane) (context : ContextNumber) → context ≢ kept.number → Stands context lane (taken_over tick kept lane)
   -- the lane that hands it over has its others as before

@@ -128,7 +128,7 @@ pub fn contexts_are_held()
 {}
 
 /// A context is handed over as it stands, with all rows, their ready times and counts, and the replies that they hold; the
-/// lane that takes it over has it so. No other context is changed.
+/// lane that takes it over has the context so. No other context is changed.
 pub fn contexts_move_whole()
     ensures { ContextsMove }
 {}
