@@ -10,11 +10,11 @@
 extern "C" {
 #endif
 
-#define MAINCTX_VERSION 1 /* that of the calls below, as mainctx_version answers it: another library may answer another */
+#define MAINCTX_VERSION 2 /* that of the calls below, as mainctx_version answers it: another library may answer another */
 
 /* What the calls answer. */
 enum {
-    MAINCTX_TEXT = 0,       /* the whole text is in the room; of mainctx_check: nothing is wrong */
+    MAINCTX_TEXT = 0,       /* the whole of what is told is in the room; of mainctx_check: nothing is wrong */
     MAINCTX_NOT_JSON = 1,   /* the bytes are not one JSON value */
     MAINCTX_SHAPE = 2,      /* a value of the wrong type, an unknown key or word, a list of the wrong length */
     MAINCTX_LIMIT = 3,      /* a number or a count outside its range */
@@ -25,7 +25,8 @@ enum {
     MAINCTX_FAULTS = 8      /* all that is wrong with the script is told in the room; of mainctx_check alone */
 };
 
-/* Runs a script to its end in the caller's thread, and puts its text into the room. It answers one of the first eight numbers above.
+/* Runs a script of numbers to its end in the caller's thread, and puts its text into the room. It answers one of the first eight numbers
+   above. One with names (docs/NAMES.md) is refused, as MAINCTX_SHAPE: what mainctx_translate gives of it runs.
 
    MAINCTX_TEXT: the text stands first in the room, *needed is its length in bytes, and what is behind it in the room is as it was.
    The text is ASCII, and no null byte ends it.
@@ -43,36 +44,48 @@ enum {
    handler. A call ends by itself, and can't be interrupted: how long it may take says docs/SPEED.md. */
 uint32_t mainctx_run(const uint8_t *script, size_t script_size, uint8_t *room, size_t room_size, size_t *needed);
 
-/* Tells what is wrong with a script, and runs nothing: each fault as a JSON object on a line of its own, in the order of their places, 100
-   at most, as the program mainctx_check --json tells them (docs/FORMAT.md): class, pointer, line, column, byte, wanted, found.
+/* Puts the script of numbers that a script with names stands for into the room, as the program mainctx_inspect translate writes it but for a
+   newline at the end; and of a script of numbers its own bytes. So mainctx_run takes what it gives, and the calls below tell of that in
+   numbers, where they tell the script's names if they are given the script with names itself.
 
-   MAINCTX_TEXT: nothing is wrong, and mainctx_run runs the script. The room is as it was, and *needed is 0.
-   MAINCTX_FAULTS: the text stands first in the room, in UTF-8, and *needed is its length in bytes; mainctx_run refuses the script.
+   It answers as mainctx_run does, with this script in place of the text. It is UTF-8. Where a script with names stands for a script of
+   numbers that is refused, the class is that one's; each other fault of a script with names is MAINCTX_SHAPE. mainctx_check tells each. */
+uint32_t mainctx_translate(const uint8_t *script, size_t script_size, uint8_t *room, size_t room_size, size_t *needed);
+
+/* Tells what is wrong with a script of either form, and runs nothing: each fault as a JSON object on a line of its own, in the order of their
+   places, 100 at most, as the program mainctx_check --json tells them (docs/FORMAT.md): class, pointer, line, column, byte, wanted, found.
+
+   MAINCTX_TEXT: nothing is wrong, and mainctx_run runs the script, or of one with names what mainctx_translate gives of it. The room is as
+   it was, and *needed is 0.
+   MAINCTX_FAULTS: the text stands first in the room, in UTF-8, and *needed is its length in bytes; the other calls refuse the script.
    MAINCTX_SHORT_ROOM: the room has as much of that text as fits, and *needed is the length of the whole.
    MAINCTX_MEMORY: the room is as it was, *needed is 0, and all memory that was taken is given back.
 
    All else is as of mainctx_run. */
 uint32_t mainctx_check(const uint8_t *script, size_t script_size, uint8_t *room, size_t room_size, size_t *needed);
 
-/* Runs a script, and tells what the run does, a move at a time: the account of the run as JSON, an object a line (docs/ACCOUNT.md), from the
-   move `first` on, counted from 0, and of `most` moves at most. The account's first line goes before them, and its last line, whose `did`
-   is "over", comes where the run is over behind them: who finds none asks again from `first + most` on. Each call runs the script anew.
+/* Runs a script of either form, and tells what the run does, a move at a time: the account of the run as JSON, an object a line
+   (docs/ACCOUNT.md), from the move `first` on, counted from 0, and of `most` moves at most. The account's first line goes before them, and
+   its last line, whose `did` is "over", comes where the run is over behind them: who finds none asks again from `first + most` on. Each
+   call runs the script anew.
 
-   It answers as mainctx_run does, with the lines in place of the text. They are UTF-8. */
+   It answers as mainctx_translate does, with the lines in place of the script. They are UTF-8. */
 uint32_t mainctx_account(const uint8_t *script, size_t script_size, uint64_t first, uint64_t most, uint8_t *room, size_t room_size,
                          size_t *needed);
 
-/* Runs a script, and tells in words why sources were dispatched or not: each iteration that is begun in the ticks from `first` to `last`,
-   with a table of its context's sources, as the program mainctx_inspect why tells it. The run ends behind the tick `last`.
+/* Runs a script of either form, and tells in words why sources were dispatched or not: each iteration that is begun in the ticks from
+   `first` to `last`, with a table of its context's sources, as the program mainctx_inspect why tells it. The run ends behind the tick
+   `last`.
 
-   It answers as mainctx_run does, with these words in place of the text. */
+   It answers as mainctx_translate does, with these words, in UTF-8, in place of the script. */
 uint32_t mainctx_why(const uint8_t *script, size_t script_size, uint32_t first, uint32_t last, uint8_t *room, size_t room_size,
                      size_t *needed);
 
-/* Runs a script, and tells in words the life of the source with this id in a context, as the program mainctx_inspect why --source tells
-   it: attached by whom, each dispatch, each iteration in the ticks from `first` to `last` that left it out and why, destroyed by whom.
+/* Runs a script of either form, and tells in words the life of the source with this id in a context, as the program mainctx_inspect why
+   --source tells it: attached by whom, each dispatch, each iteration in the ticks from `first` to `last` that left it out and why,
+   destroyed by whom.
 
-   It answers as mainctx_run does, with these words in place of the text. */
+   It answers as mainctx_translate does, with these words, in UTF-8, in place of the script. */
 uint32_t mainctx_life(const uint8_t *script, size_t script_size, uint32_t context, uint64_t id, uint32_t first, uint32_t last,
                       uint8_t *room, size_t room_size, size_t *needed);
 

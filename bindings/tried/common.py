@@ -15,6 +15,7 @@ C, PYTHON, RUST = BINDINGS / "c", BINDINGS / "python", BINDINGS / "rust"
 
 SCRIPT = TOP / "examples" / "ten_lines.json"  # a small one
 SCRIPTS = [path for folder in ("vectors", "examples") for path in sorted((TOP / folder).glob("**/*.json")) if path.parent.name != "named"]
+NAMED = sorted((TOP / "examples" / "named").glob("*.json"))  # with names
 MOST = 4_194_304  # bytes that a script may have by docs/FORMAT.md
 
 CLOSING = re.compile(r"(\d+) passed, (\d+) failed")

@@ -6,18 +6,19 @@ import subprocess
 from collections.abc import Iterator
 from pathlib import Path
 
-from .common import C, MOST, SCRIPT, SCRIPTS, TOP, Built, Fault, Missing, Test, ends, vectors
+from .common import C, MOST, NAMED, SCRIPT, SCRIPTS, TOP, Built, Fault, Missing, Test, ends, vectors
 
-EXPORTED = {"mainctx_account", "mainctx_check", "mainctx_life", "mainctx_run", "mainctx_version", "mainctx_why"}
+EXPORTED = {"mainctx_account", "mainctx_check", "mainctx_life", "mainctx_run", "mainctx_translate", "mainctx_version", "mainctx_why"}
 INSTALLED = {"include/mainctx.h", "lib/libmainctx.a", "lib/libmainctx.so", "lib/libmainctx.so.0", "lib/pkgconfig/mainctx.pc"}
 SANITIZERS = ("-fsanitize=address,undefined", "-fno-sanitize-recover=all")
 WARNINGS = ("-std=c11", "-O1", "-g", "-Wall", "-Wextra", "-Werror")
 WRAPPED = "-Wl,--wrap=malloc,--wrap=realloc,--wrap=free"
 
-# of these every request for memory is refused in turn, of each call: each example, and some vectors that are short, refused ones too
+# of these every request for memory is refused in turn, of each call: each example in both forms, and some vectors that are short, refused ones too
 SHORT = 4_000  # bytes
 REFUSED_IN = [path for path in SCRIPTS if path.parent.name == "examples" or path.stem.endswith("-002") and path.stat().st_size < SHORT]
 FAULTY = TOP / "vectors" / "01-idle-sources" / "broken-01-000.json"  # of which mainctx_check tells
+NAMED_SCRIPT = next(path for path in NAMED if path.name == SCRIPT.name)  # the small one with names
 AT_ONCE = [f"examples/{name}.json" for name in ("ten_lines", "idle_starves", "invoke_three_ways", "task_ends", "give_to_worker")]
 
 # a text that is worked out by hand: example.c's socket has data in ticks 0 to 4
@@ -128,7 +129,7 @@ def tests(built: Built) -> Iterator[Test | Missing]:
     sanitizers = sanitizers_of(built)
     if not sanitizers:
         yield Missing("AddressSanitizer for cc", "memory under it: the same tests run without it")
-    yield Test("rooms of each length", lambda: compiled(built, "rooms", sanitizers, SCRIPT, SCRIPT.with_suffix(".out"), FAULTY))
-    yield Test("each request refused", lambda: compiled(built, "refuse", sanitizers, *REFUSED_IN))
+    yield Test("rooms of each length", lambda: compiled(built, "rooms", sanitizers, SCRIPT, SCRIPT.with_suffix(".out"), FAULTY, NAMED_SCRIPT))
+    yield Test("each request refused", lambda: compiled(built, "refuse", sanitizers, *REFUSED_IN, *NAMED))
     yield Test("eight threads at once", lambda: compiled(built, "threads", sanitizers, *(TOP / path for path in AT_ONCE)))
     yield Test("a library that is loaded twice", lambda: twice(built, sanitizers))

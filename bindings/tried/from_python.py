@@ -7,15 +7,19 @@ import os
 import re
 import shutil
 import sys
-from collections.abc import Iterator
+from collections.abc import Callable, Iterator
 from concurrent.futures import ThreadPoolExecutor
 from functools import partial
 from pathlib import Path
 from types import ModuleType
 from typing import Any
 
-from .common import MOST, PYTHON, SCRIPT, SCRIPTS, Built, Count, Ended, Fault, Missing, Test, Variables, ended, ends, python_with
+from .common import MOST, NAMED, PYTHON, SCRIPT, SCRIPTS, TOP, Built, Count, Ended, Fault, Missing, Test, Variables, ended, ends, python_with
 from .from_c import LONG_TEXT, long_script
+
+sys.path.insert(0, str(TOP / "vectors" / "names"))
+
+from translate import read, translated  # noqa: E402
 
 THREADS, ROUNDS = 8, 25
 PART, FEW_MOVES = 7, 300  # the moves of a part, and of the runs whose account is asked for in parts
@@ -45,10 +49,15 @@ def refused_rightly(mainctx: ModuleType, path: Path, refused: Exception) -> Faul
     return None if all(each.line and each.column for each in refused.faults) else "a fault without a place"
 
 
+def lanes_of(run: Any) -> int:
+    keys = json.loads(run.script)
+    return len(keys["threads"] if "form" in keys else keys["lanes"])
+
+
 def accounted(run: Any) -> Fault:
     """the lines of a run's moves, thread by thread, are its text; and moves that are asked for in parts are those of the whole"""
     moves = run.account()
-    lanes: dict[int, list[str]] = {number: [f"thread {number}"] for number in range(len(json.loads(run.script)["lanes"]))}
+    lanes: dict[int, list[str]] = {number: [f"thread {number}"] for number in range(lanes_of(run))}
     for move in moves:
         lanes[move["lane"]] += move.get("lines", [])
     if [line for lines in lanes.values() for line in lines] != run.text.splitlines():
@@ -72,10 +81,30 @@ def vector(mainctx: ModuleType, path: Path) -> Fault:
     return accounted(run) if [str(line) for line in run.lines] == lines else "its lines are written otherwise"
 
 
-def all_vectors(built: Built) -> Count:
+def named(mainctx: ModuleType, path: Path) -> Fault:
+    """what the translator of vectors/names gives, which was written from docs/NAMES.md alone; its text; and each source has a name of that page"""
+    script, wanted = path.read_bytes(), translated(read(path.read_text()))
+    if json.loads(mainctx.translate(script)) != wanted or mainctx.translate(json.dumps(wanted)) != json.dumps(wanted):
+        return "another script of numbers"
+    run = mainctx.run(script)
+    if mainctx.check(script) or run.text != mainctx.run(wanted).text or (run.ticks, run.tick_us) != (wanted["ticks"], wanted["tick_us"]):
+        return "another run"
+    told = [move["attached"]["name"] for move in run.account() if "attached" in move]
+    slots = {action[word] for action in actions_of(json.loads(script)) for word in ("attach", "child") if word in action}
+    other = [name for name in told if re.sub(r" #\d+$", "", name) not in slots and not name.startswith(("reply of task ", "invoke of "))]
+    return accounted(run) if not other else f"sources are called {other}"
+
+
+def actions_of(script: dict[str, Any]) -> Iterator[dict[str, Any]]:
+    for key, inner in (("threads", "start"), ("procedures", "do")):
+        for each in script.get(key, {}).values():
+            yield from each[inner]
+
+
+def over(paths: list[Path], test: Callable[[ModuleType, Path], Fault], built: Built) -> Count:
     mainctx = package(built)
-    faults = [f"{path.name}: {fault}" for path in SCRIPTS if (fault := vector(mainctx, path))]
-    return Count(len(SCRIPTS) - len(faults), len(faults), "\n".join(faults[:40]))
+    faults = [f"{path.name}: {fault}" for path in paths if (fault := test(mainctx, path))]
+    return Count(len(paths) - len(faults), len(faults), "\n".join(faults[:40]))
 
 
 def threads(built: Built) -> Fault:
@@ -162,7 +191,8 @@ def with_mypy(built: Built, mypy: str) -> Iterator[Test]:
 
 
 def tests(built: Built) -> Iterator[Test | Missing]:
-    yield Test("vectors by Python", lambda: all_vectors(built))
+    yield Test("vectors by Python", lambda: over(SCRIPTS, vector, built))
+    yield Test("scripts with names by Python", lambda: over(NAMED, named, built))
     yield Test("eight threads of Python at once", lambda: threads(built))
     yield Test("Python, scripts of 4 MiB", lambda: long_one(built))
     yield Test("Python, the package's tests", lambda: by_unittest(built))

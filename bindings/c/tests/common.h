@@ -22,8 +22,8 @@ struct call {
 /* the calls that take more than a script, each of the whole run; of a life that of source 1 of context 0 */
 library_function account, why, life;
 
-static const struct call RUN = {mainctx_run, MAINCTX_TEXT}, CHECK = {mainctx_check, MAINCTX_FAULTS}, ACCOUNT = {account, MAINCTX_TEXT},
-                         WHY = {why, MAINCTX_TEXT}, LIFE = {life, MAINCTX_TEXT};
+static const struct call RUN = {mainctx_run, MAINCTX_TEXT}, TRANSLATE = {mainctx_translate, MAINCTX_TEXT}, CHECK = {mainctx_check, MAINCTX_FAULTS},
+                         ACCOUNT = {account, MAINCTX_TEXT}, WHY = {why, MAINCTX_TEXT}, LIFE = {life, MAINCTX_TEXT};
 
 /* ends the test: what is wrong, as printf says it */
 noreturn void wrong(const char *what, ...);

@@ -75,7 +75,7 @@ static size_t refuse_each(struct call call, const char *path) {
 
 int main(int count, char **words) {
     size_t requests = 0;
-    const struct call calls[] = {RUN, CHECK, ACCOUNT, WHY, LIFE};
+    const struct call calls[] = {RUN, TRANSLATE, CHECK, ACCOUNT, WHY, LIFE};
     for (int word = 1; word < count; word++)
         for (size_t call = 0; call < sizeof calls / sizeof *calls; call++) requests += refuse_each(calls[call], words[word]);
     printf("%zu requests refused\n", requests);

@@ -1,5 +1,5 @@
-/* rooms SCRIPT TEXT FAULTY: a room of each length from none to more than the text's, than what mainctx_check tells of FAULTY, and than what the
-   other calls tell of SCRIPT. Behind the script and behind each room lies a page that
+/* rooms SCRIPT TEXT FAULTY NAMED: a room of each length from none to more than the text's, than what mainctx_check tells of FAULTY, and than what
+   the other calls tell of SCRIPT and of NAMED, a script with names. Behind the script and behind each room lies a page that
    may not be touched, and where the room is longer than the text its rest has to stay. */
 #define _DEFAULT_SOURCE
 #include "common.h"
@@ -10,6 +10,9 @@
 #include <unistd.h>
 
 enum { LONGER = 100, FILLED = 0xa5 };
+
+/* how a script with names begins */
+#define FORM "{\"form\":\"names\","
 
 /* memory for so many bytes that ends where a page that may not be touched begins */
 static uint8_t *before_the_end(size_t size) {
@@ -60,15 +63,31 @@ static void try_told(struct call call, struct bytes script) {
     free(told.at);
 }
 
-int main(int count, char **words) {
-    if (mainctx_version() != MAINCTX_VERSION) wrong("it is version %u", (unsigned)mainctx_version());
-    if (count != 4) wrong("usage: rooms SCRIPT TEXT FAULTY");
-    struct bytes script = file(words[1]), text = file(words[2]), faulty = file(words[3]), faults = text_of(CHECK, faulty);
-    try_rooms(RUN, script, text);
-    try_rooms(CHECK, faulty, faults);
+/* so of each call that tells of a run */
+static void try_each(struct bytes script) {
     try_told(ACCOUNT, script);
     try_told(WHY, script);
     try_told(LIFE, script);
+}
+
+int main(int count, char **words) {
+    if (mainctx_version() != MAINCTX_VERSION) wrong("it is version %u", (unsigned)mainctx_version());
+    if (count != 5) wrong("usage: rooms SCRIPT TEXT FAULTY NAMED");
+    struct bytes script = file(words[1]), text = file(words[2]), faulty = file(words[3]), faults = text_of(CHECK, faulty);
+    struct bytes named = file(words[4]);
+    try_rooms(RUN, script, text);
+    try_rooms(CHECK, faulty, faults);
+    try_rooms(TRANSLATE, script, script);
+    try_told(TRANSLATE, named);
+    try_each(script);
+    try_each(named);
+    try_none(mainctx_translate, "", MAINCTX_NOT_JSON);
+    try_none(mainctx_translate, "{}", MAINCTX_SHAPE);
+    try_none(mainctx_translate, FORM "\"ticks\":1,\"threads\":{\"t\":{\"start\":[{\"iterate\":\"u\"}]}}}", MAINCTX_SHAPE);
+    try_none(mainctx_translate, FORM "\"ticks\":0,\"threads\":{\"t\":{\"start\":[]}}}", MAINCTX_LIMIT);
+    try_none(account, FORM "\"ticks\":0,\"threads\":{\"t\":{\"start\":[]}}}", MAINCTX_LIMIT);
+    try_none(mainctx_check, FORM "\"ticks\":1,\"threads\":{\"t\":{\"start\":[]}}}", MAINCTX_TEXT);
+    try_none(mainctx_run, FORM "\"ticks\":1,\"threads\":{\"t\":{\"start\":[]}}}", MAINCTX_SHAPE);
     try_none(account, "{}", MAINCTX_SHAPE);
     try_none(why, "", MAINCTX_NOT_JSON);
     try_none(life, "[]", MAINCTX_SHAPE);
@@ -79,5 +98,6 @@ int main(int count, char **words) {
     free(text.at);
     free(faulty.at);
     free(faults.at);
+    free(named.at);
     return 0;
 }

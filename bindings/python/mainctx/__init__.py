@@ -5,7 +5,7 @@
     run = mainctx.run(script)                    a dict, JSON as text or bytes, or the path of a file
     assert run.order((0, 1), (0, 2)) == [(0, 2), (0, 1)]
 
-docs/FORMAT.md of the repository has the script and the lines of the text.
+docs/FORMAT.md of the repository has the script and the lines of the text, docs/NAMES.md scripts with names.
 """
 from .errors import Fault, LibraryNotFound, ScriptError, ScriptFault
 from .lines import (
@@ -34,12 +34,12 @@ from .lines import (
     TaskResult,
     TaskTimedOut,
 )
-from .run import Found, Run, Script, check, run
+from .run import Found, Run, Script, check, run, translate
 
 __version__ = "0.1.0"
 
 __all__ = [
     "Acquire", "Arrive", "Cancel", "Default", "Dispatch", "End", "Fault", "Found", "Give", "Halt", "Handler", "Hold", "Invoke", "Iterate",
     "LibraryNotFound", "Line", "Log", "LoopEnd", "Miss", "Pending", "Run", "Script", "ScriptError", "ScriptFault", "Source", "TaskCancelled",
-    "TaskFailed", "TaskLate", "TaskOk", "TaskResult", "TaskTimedOut", "check", "run",
+    "TaskFailed", "TaskLate", "TaskOk", "TaskResult", "TaskTimedOut", "check", "run", "translate",
 ]  # fmt: skip

@@ -26,6 +26,7 @@ EVER = 2**32 - 1  # no run has so many ticks
 
 CALLS: dict[str, list[Any]] = {  # what each call takes between the script and the room
     "mainctx_run": [],
+    "mainctx_translate": [],
     "mainctx_check": [],
     "mainctx_account": [ctypes.c_uint64, ctypes.c_uint64],
     "mainctx_why": [ctypes.c_uint32, ctypes.c_uint32],
@@ -75,19 +76,25 @@ def _answer(call: Callable[..., int], script: bytes, *asked: int) -> tuple[int, 
         room = needed.value
 
 
-def _told(name: str, script: bytes, *asked: int) -> str:
-    """What a call tells of the run of a script."""
+def _told(name: str, script: bytes, *asked: int) -> bytes:
+    """What a call tells of a script, in UTF-8."""
     __tracebackhide__ = True
     answer, text = _answer(getattr(library(), name), script, *asked)
     if answer != TEXT:
         raise ScriptError(Fault.by_number(answer), faults_of(script))
-    return text.decode("utf-8")
+    return text
+
+
+def numbers_of(script: bytes) -> bytes:
+    """The script of numbers that a script is, or stands for."""
+    __tracebackhide__ = True
+    return _told("mainctx_translate", script)
 
 
 def text_of(script: bytes) -> str:
-    """The text of a script."""
+    """The text of a script of numbers."""
     __tracebackhide__ = True
-    return _told("mainctx_run", script)
+    return _told("mainctx_run", script).decode("utf-8")
 
 
 def account_of(script: bytes, first: int, most: int) -> list[dict[str, Any]]:
@@ -100,13 +107,13 @@ def account_of(script: bytes, first: int, most: int) -> list[dict[str, Any]]:
 def why_of(script: bytes, first: int, last: int) -> str:
     """Why sources were dispatched or not in these ticks, in words."""
     __tracebackhide__ = True
-    return _told("mainctx_why", script, first, last)
+    return _told("mainctx_why", script, first, last).decode("utf-8")
 
 
 def life_of(script: bytes, context: int, source: int, first: int, last: int) -> str:
     """The life of a source in these ticks, in words."""
     __tracebackhide__ = True
-    return _told("mainctx_life", script, context, source, first, last)
+    return _told("mainctx_life", script, context, source, first, last).decode("utf-8")
 
 
 def faults_of(script: bytes) -> tuple[ScriptFault, ...]:

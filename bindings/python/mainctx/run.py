@@ -9,7 +9,7 @@ from functools import cached_property
 from pathlib import Path
 from typing import Any, SupportsIndex, TypeVar, Union, overload
 
-from ._library import ALL, EVER, account_of, faults_of, life_of, text_of, why_of
+from ._library import ALL, EVER, account_of, faults_of, life_of, numbers_of, text_of, why_of
 from .errors import Fault, ScriptError, ScriptFault
 from .lines import Dispatch, Line, Source, read_lines
 from .timeline import draw
@@ -17,7 +17,7 @@ from .timeline import draw
 Item = TypeVar("Item")
 AnyLine = TypeVar("AnyLine", bound=Line)
 
-#: what a script may be given as: a dict, its JSON as text or bytes, or the path of a file
+#: what a script of either form, of numbers or with names, may be given as: a dict, its JSON as text or bytes, or the path of a file
 Script = Union[Mapping[str, Any], str, bytes, "os.PathLike[str]"]
 
 
@@ -47,7 +47,7 @@ class Found(list[Item]):
 
 @dataclass(frozen=True)
 class Run:
-    """A run that has ended: the bytes of its script, and its text, which is the same each time."""
+    """A run that has ended: the bytes of its script, as it was given, and its text in numbers, which is the same each time."""
 
     script: bytes
     text: str
@@ -65,7 +65,7 @@ class Run:
 
     @cached_property
     def _keys(self) -> dict[str, Any]:
-        keys: dict[str, Any] = json.loads(self.script)
+        keys: dict[str, Any] = json.loads(numbers_of(self.script))
         return keys
 
     @property
@@ -125,14 +125,16 @@ class Run:
     def account(self, first: int = 0, most: int | None = None) -> list[dict[str, Any]]:
         """What the run does, a move at a time, as dicts with the keys of docs/ACCOUNT.md: from a move on, counted from 0, so many at most.
 
-        A run is made anew for it. Whoever wants a long run in parts asks again from `first + most` on, until nothing comes.
+        A source that is attached has its name, where the script has names. A run is made anew for it. Whoever wants a long run in parts
+        asks again from `first + most` on, until nothing comes.
         """
         return account_of(self.script, first, ALL if most is None else most)
 
     def why(self, source: tuple[int, int] | None = None, tick: int | None = None) -> str:
         """Why sources were dispatched or not, in words: each iteration of a tick, or of all, with its sources in a table.
 
-        Of one source, a pair of a context and a number: its life, with each iteration that left it out and why.
+        Of one source, a pair of a context and a number: its life, with each iteration that left it out and why. It has the names of a script
+        that has some.
         """
         first, last = (0, EVER) if tick is None else (tick, tick)
         return why_of(self.script, first, last) if source is None else life_of(self.script, *source, first, last)
@@ -162,7 +164,7 @@ def _bytes_of(script: Script) -> bytes:
 
 
 def run(script: Script) -> Run:
-    """Runs a script to its end: a dict, its JSON as text or bytes, or the path of a file (a pathlib.Path; a str is JSON).
+    """Runs a script of either form to its end: a dict, its JSON as text or bytes, or the path of a file (a pathlib.Path; a str is JSON).
 
     A script that is refused is a ScriptError, refused memory a MemoryError, no library a LibraryNotFound, and a file that can't be
     read an OSError. A run can't be interrupted; other threads of Python go on.
@@ -170,15 +172,24 @@ def run(script: Script) -> Run:
     __tracebackhide__ = True  # (pytest shows the call, and not what is in here)
     bytes_of = _bytes_of(script)
     try:
-        return Run(bytes_of, text_of(bytes_of))
+        return Run(bytes_of, text_of(numbers_of(bytes_of)))
     except ScriptError as refused:
         if refused.fault is Fault.NOT_JSON and isinstance(script, str) and not script.lstrip().startswith(("{", "[")):
             raise ScriptError(Fault.NOT_JSON, refused.faults, "a str is the script itself; for a file give pathlib.Path(..)") from None
         raise
 
 
+def translate(script: Script) -> str:
+    """The script of numbers, as JSON, that a script with names stands for; of a script of numbers its own JSON.
+
+    What it raises is as of `run`.
+    """
+    __tracebackhide__ = True
+    return numbers_of(_bytes_of(script)).decode("utf-8")
+
+
 def check(script: Script) -> tuple[ScriptFault, ...]:
-    """What is wrong with a script, in the order of the places, 100 faults at most; nothing where `run` runs it.
+    """What is wrong with a script of either form, in the order of the places, 100 faults at most; nothing where `run` runs it.
 
     Refused memory is a MemoryError, no library a LibraryNotFound, and a file that can't be read an OSError.
     """

@@ -35,6 +35,19 @@ thread 0
 2 log 9
 2 end
 """
+NAMED = {
+    "form": "names", "version": 1, "ticks": 4,
+    "loops": {"main_loop": "ui"},
+    "threads": {"main": {"contexts": ["ui"], "start": [
+        {"attach": "my_idle", "to": "ui", "idle": True, "call": "on_idle"},
+        {"attach": "my_timeout", "to": "ui", "timeout": "2 ms", "call": "on_timeout"},
+        {"run": "main_loop"},
+        {"log": "over"},
+    ]}},
+    "procedures": {"on_idle": {"do": [{"log": "idle"}], "keep": 1}, "on_timeout": {"do": [{"quit": "main_loop"}]}},
+}  # fmt: skip
+NUMBERS = {**TEN_LINES, "procs": [{"do": [["log", 1]], "keep": 1}, {"do": [["quit", 0]]}], "lanes": [{"contexts": 1, "start": [
+    ["attach", 0, 0, {"kind": ["idle"], "call": 0}], ["attach", 0, 1, {"kind": ["timeout", 2], "call": 1}], ["run", 0], ["log", 0]]}]}  # fmt: skip
 LANE = {"contexts": 1, "start": [["attach", 0, 0, {"kind": ["idle"], "call": 0}], ["attach", 0, 1, {"kind": ["idle"]}], ["run", 0]]}
 TWO_THREADS = {
     "version": 1, "ticks": 1, "tick_us": 1, "loops": [0, 1], "procs": [{"do": []}],
@@ -67,6 +80,42 @@ class Checked(unittest.TestCase):
     def test_what_is_no_json(self) -> None:
         (fault,) = mainctx.check(b'{"version": 1,}')
         self.assertEqual((fault.fault, fault.pointer, fault.wanted), (Fault.NOT_JSON, "", "one JSON value"))
+
+
+class Named(unittest.TestCase):
+    """A script with names, worked out by hand from docs/NAMES.md."""
+
+    def test_what_it_stands_for(self) -> None:
+        self.assertEqual(json.loads(mainctx.translate(NAMED)), NUMBERS)
+        self.assertEqual(mainctx.translate("  {}".replace("{}", json.dumps(NUMBERS))), f"  {json.dumps(NUMBERS)}")
+        self.assertEqual(mainctx.check(NAMED), ())
+
+    def test_its_text_has_numbers(self) -> None:
+        run = mainctx.run(NAMED)
+        self.assertEqual(run.text, TEXT.replace("log 7", "log 1").replace("log 9", "log 0"))
+        self.assertEqual((run.ticks, run.tick_us), (4, 1000))
+
+    def test_the_rest_has_names(self) -> None:
+        run, numbers = mainctx.run(NAMED), mainctx.run(NUMBERS)
+        attached = {"context": 0, "source": 1}
+        self.assertEqual(run.account(1, 1)[0]["attached"], {**attached, "name": "my_idle"})
+        self.assertEqual(numbers.account(1, 1)[0]["attached"], attached)
+        told = run.why(tick=0).splitlines()
+        self.assertEqual(told[0], "tick 0 (0 ms), thread main: loop main_loop iterates context ui")
+        self.assertIn("  my_idle, idle, priority DEFAULT_IDLE: to be dispatched", told)
+        self.assertIn("  source 1, idle, priority 200: to be dispatched", numbers.why(tick=0).splitlines())
+        self.assertIn("my_timeout", run.why((0, 2)))
+
+    def test_what_is_refused(self) -> None:
+        unknown: dict[str, object] = {**NAMED, "loops": {"other_loop": "ui"}}
+        with self.assertRaises(ScriptError) as caught:
+            mainctx.run(unknown)
+        self.assertEqual(caught.exception.fault, Fault.SHAPE)
+        self.assertEqual([(each.fault, each.pointer) for each in mainctx.check(unknown)], [
+            (Fault.REFERENCE, "/threads/main/start/2/run"), (Fault.REFERENCE, "/procedures/on_timeout/do/0/quit")])  # fmt: skip
+        with self.assertRaises(ScriptError) as caught:
+            mainctx.translate({**NAMED, "ticks": 0})
+        self.assertEqual(caught.exception.fault, Fault.LIMIT)
 
 
 class Asked(unittest.TestCase):

@@ -50,6 +50,14 @@ extern "C" {
         needed: *mut usize,
     ) -> u32;
 
+    fn mainctx_translate(
+        script: *const u8,
+        script_size: usize,
+        room: *mut u8,
+        room_size: usize,
+        needed: *mut usize,
+    ) -> u32;
+
     fn mainctx_check(
         script: *const u8,
         script_size: usize,
@@ -104,7 +112,8 @@ fn told(call: impl Fn(&mut [u8], &mut usize) -> u32) -> Result<String, Fault> {
     }
 }
 
-/// Runs a script to its end in the caller's thread, and answers its text.
+/// Runs a script of numbers to its end in the caller's thread, and answers its text. One with names (docs/NAMES.md of the repository) runs as
+/// what [`translate`] gives of it.
 ///
 /// # Errors
 ///
@@ -123,8 +132,26 @@ pub fn run(script: &[u8]) -> Result<String, Fault> {
     })
 }
 
-/// Tells what is wrong with a script: each fault as a JSON object on a line, with its class, its place and what was wanted, 100 at
-/// most; nothing exactly where [`run`] runs it.
+/// Answers the script of numbers that a script with names stands for, and of a script of numbers its own text.
+///
+/// # Errors
+///
+/// Where a script with names stands for a script of numbers that is refused, that one's first class of fault; for each other fault of a
+/// script with names `Shape`; of a script of numbers its first class; or `OutOfMemory`.
+pub fn translate(script: &[u8]) -> Result<String, Fault> {
+    told(|room, needed| unsafe {
+        mainctx_translate(
+            script.as_ptr(),
+            script.len(),
+            room.as_mut_ptr(),
+            room.len(),
+            needed,
+        )
+    })
+}
+
+/// Tells what is wrong with a script of either form: each fault as a JSON object on a line, with its class, its place and what was
+/// wanted, 100 at most; nothing exactly where [`translate`] gives a script, which [`run`] runs.
 ///
 /// # Errors
 ///
@@ -141,13 +168,13 @@ pub fn check(script: &[u8]) -> Result<String, Fault> {
     })
 }
 
-/// Tells what the run of a script does, a move at a time, each as a JSON object on a line (docs/ACCOUNT.md of the repository): from the
-/// move `first` on, counted from 0, and `most` of them at most, between the account's first line and, where the run is over behind
-/// them, its last.
+/// Tells what the run of a script of either form does, a move at a time, each as a JSON object on a line (docs/ACCOUNT.md of the
+/// repository): from the move `first` on, counted from 0, and `most` of them at most, between the account's first line and, where the run
+/// is over behind them, its last. It has the script's names where there are some; of what [`translate`] gives it tells numbers.
 ///
 /// # Errors
 ///
-/// As of [`run`].
+/// As of [`translate`].
 pub fn account(script: &[u8], first: u64, most: u64) -> Result<String, Fault> {
     told(|room, needed| unsafe {
         mainctx_account(
@@ -162,11 +189,12 @@ pub fn account(script: &[u8], first: u64, most: u64) -> Result<String, Fault> {
     })
 }
 
-/// Tells in words why sources were dispatched or not: each iteration in these ticks, with a table of its sources.
+/// Tells in words why sources were dispatched or not: each iteration in these ticks, with a table of its sources. The script and its names
+/// are as of [`account`].
 ///
 /// # Errors
 ///
-/// As of [`run`].
+/// As of [`translate`].
 pub fn why(script: &[u8], ticks: std::ops::RangeInclusive<u32>) -> Result<String, Fault> {
     told(|room, needed| unsafe {
         mainctx_why(

@@ -71,6 +71,30 @@ fn what_is_asked_of_a_run() -> Result<(), Fault> {
     Ok(())
 }
 
+/// By docs/NAMES.md: `ui` is context 0, `twice` and its call are slot and procedure 0, and the version is 2 where none is given.
+#[test]
+fn a_script_with_names() -> Result<(), Fault> {
+    let named = br#"{"form": "names", "ticks": 1, "tick": "1 us", "threads": {"main": {"contexts": ["ui"], "start": [
+        {"attach": "twice", "to": "ui", "idle": true, "call": "on_idle"}, {"iterate": "ui"}]}},
+        "procedures": {"on_idle": {"do": [{"log": "hello"}]}}}"#;
+    let numbers = mainctx::translate(named)?;
+    let text = "thread 0\n0 dispatch ctx 0 source 1 priority 200 depth 1\n0 log 0\n0 iterate ctx 0 true\n0 end\n";
+    assert_eq!(run(numbers.as_bytes())?, text);
+    assert_eq!(mainctx::translate(numbers.as_bytes())?, numbers);
+    assert_eq!(run(named), Err(Fault::Shape));
+    assert_eq!(mainctx::check(named)?, "");
+    let told = "  twice, idle, priority DEFAULT_IDLE: to be dispatched\n";
+    assert!(mainctx::why(named, 0..=0)?.contains(told));
+    assert!(mainctx::why(numbers.as_bytes(), 0..=0)?
+        .contains("  source 1, idle, priority 200: to be dispatched\n"));
+    assert!(mainctx::account(named, 0, 0)?.contains(r#""threads":["main"],"contexts":["ui"]"#));
+    let unknown =
+        br#"{"form": "names", "ticks": 1, "threads": {"main": {"start": [{"run": "none"}]}}}"#;
+    assert_eq!(mainctx::translate(unknown), Err(Fault::Shape));
+    assert!(mainctx::check(unknown)?.contains(r#""class":"reference""#));
+    Ok(())
+}
+
 #[test]
 fn a_fault_is_an_error() {
     let fault: Box<dyn std::error::Error + Send + Sync> = Fault::Limit.into();

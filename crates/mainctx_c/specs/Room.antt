@@ -1,10 +1,13 @@
 -- What a caller finds in its room.
-use Rattle.std.specs.Prelude.{◌≡◌, ◌<◌, ◌≤◌, ℕ, List, length, take, drop}
+use Rattle.std.specs.Prelude.{◌≡◌, ◌<◌, ◌≤◌, ℕ, List, Some, length, take, drop}
 use Rattle.loop_script.specs.declared.plan.Plan.{Plan}
 use Rattle.loop_script.specs.declared.fault.ScriptFault.{ScriptFault}
 use Rattle.loop_script.specs.declared.fault.ScriptFault.TheVariants.{NotJson, Shape, Limit, Reference, Rule, OutOfMemory}
 use Rattle.mainctx.specs.Run.{IsFaultOf, IsScriptOf}
 use Rattle.mainctx.specs.Text.{text_of}
+use Rattle.mainctx_c.specs.Form.{IsRefusedBy, numbers_of}
+use Rattle.script_report.specs.Verdict.{IsOfForm}
+use Rattle.script_report.specs.declared.forms.Either.{Either}
 
 -- the number of a class of fault
 abbrev pub class_of : ScriptFault → ℕ
@@ -20,6 +23,12 @@ pub record HasFaultOf (bytes : List ℕ) (number : ℕ) : Type 0 where
   pub fault : ScriptFault
   pub class : class_of fault ≡ number
   pub refused : IsFaultOf bytes fault
+
+-- the bytes are a script of neither form, by a fault of the class of this number
+pub record HasEithersFaultOf (bytes : List ℕ) (number : ℕ) : Type 0 where
+  pub fault : ScriptFault
+  pub class : class_of fault ≡ number
+  pub refused : IsRefusedBy bytes fault
 
 -- a text stands first in a room, and what is behind it is as before
 pub record HasAll (text before room : List ℕ) : Type 0 where
@@ -46,10 +55,19 @@ pub record HoldsFront (bytes room : List ℕ) (needed : ℕ) : Type 0 where
   pub long : needed ≡ length (text_of script)
   pub front : HasFront (text_of script) room
 
--- the bytes are those of a script
-pub record IsAScripts (bytes : List ℕ) : Type 0 where
-  pub script : Plan
-  pub read : IsScriptOf bytes script
+-- the script of numbers that the bytes of a script of either form are, or stand for, which is so long, stands first in the room
+pub record HoldsNumbers (bytes before room : List ℕ) (needed : ℕ) : Type 0 where
+  pub form : Either
+  pub read : IsOfForm bytes (Some form)
+  pub long : needed ≡ length (numbers_of bytes form)
+  pub all : HasAll (numbers_of bytes form) before room
+
+-- the room is the beginning of that script, which is longer
+pub record HoldsNumbersFront (bytes room : List ℕ) (needed : ℕ) : Type 0 where
+  pub form : Either
+  pub read : IsOfForm bytes (Some form)
+  pub long : needed ≡ length (numbers_of bytes form)
+  pub front : HasFront (numbers_of bytes form) room
 
 -- so much stands first in a room, and what is behind it is as before
 pub record LeavesRest (needed : ℕ) (before room : List ℕ) : Type 0 where

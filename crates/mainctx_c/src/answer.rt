@@ -24,7 +24,7 @@ pub(crate) const SHORT_ROOM: u32 = 7;
 pub(crate) const FAULTS: u32 = 8;
 
 /// The version of the calls.
-pub(crate) const VERSION: u32 = 1;
+pub(crate) const VERSION: u32 = 2;
 
 /// The number of a class of fault.
 pub(crate) fn class_of(fault: ScriptFault) -> u32

@@ -2,18 +2,18 @@
 #![tactic(auto)]
 
 ghost use Rattle.std.specs.Prelude.{◌≡◌, ◌≤◌, ◌<◌, ◌⊎◌, true, false, length};
-ghost use Rattle.mainctx_c.specs.Room.{HasAll, HasFront, HasFaultOf, HoldsText, HoldsFront, IsAScripts, LeavesRest};
-ghost use Rattle.script_report.specs.Verdict.{Judges};
+ghost use Rattle.mainctx_c.specs.Room.{HasAll, HasFront, HasFaultOf, HasEithersFaultOf, HoldsText, HoldsFront, HoldsNumbers, HoldsNumbersFront, LeavesRest};
+ghost use Rattle.script_report.specs.Verdict.{JudgesEither};
 
 mod answer;
+mod reading;
 
 use crate::answer::{FAULTS, MEMORY, SHORT_ROOM, TEXT, VERSION, class_of};
+use crate::reading::{names_of, read_script};
 use inspect_text::{Asked, push_asked};
 use inspect_words::{SourceName, Window};
-use loop_script::{Script, ScriptFault};
 use mainctx::{MainFault, OverWrite, run_alone};
-use run_names::RunNames;
-use script_report::{Form, check_script};
+use script_report::{Form, check_either};
 use std::alloc::Global;
 
 /// Puts a text into a room, as much of it as fits, and answers whether that is the whole.
@@ -32,7 +32,7 @@ fn fill(text: &[u8], room: &mut [u8]) -> u32
     }
 }
 
-/// Runs a script to its end in the caller's thread.
+/// Runs a script of numbers to its end in the caller's thread.
 ///
 /// It answers 0 where the whole text is in the room, and 7 where the room is too short, and has as much of the text as fits; in both
 /// cases `needed` is the text's length. Else it answers 1 to 5 where the bytes are no script, by the class of their fault, and 6
@@ -67,9 +67,41 @@ pub extern "C" fn mainctx_run(
     }
 }
 
-/// Tells what is wrong with a script: each fault as a JSON object on a line, as `mainctx_check --json` tells it.
+/// Puts the script of numbers that a script with names stands for into a room, and of a script of numbers its own bytes.
 ///
-/// It answers 0 where nothing is wrong: then `mainctx_run` runs the script, `needed` is 0, and the room is as it was. It answers 8 where
+/// It answers 0 where the whole of it is in the room, and 7 where the room is too short, and has as much of it as fits; in both cases
+/// `needed` is its length. Else it answers 1 to 5 where the bytes are a script of neither form, by the class of fault of the script of
+/// numbers that they stand for, where they stand for one, else by their own as a script of numbers, and 6 where a request for memory was
+/// refused: then `needed` is 0, and the room is as it was. What is behind the script in the room stays too.
+#[unsafe(no_mangle)]
+pub extern "C" fn mainctx_translate(
+    alloc: Global,
+    script: &[u8],
+    room: &mut [u8],
+    needed: &mut usize,
+) -> u32
+    ensures numbers { result ≡ TEXT → HoldsNumbers script.now room.old room.new needed.new }
+    ensures front { result ≡ SHORT_ROOM → HoldsNumbersFront script.now room.new needed.new }
+    ensures fault { 1 ≤ result → result < MEMORY → HasEithersFaultOf script.now result }
+    ensures stays { 1 ≤ result → result ≤ MEMORY → room.new ≡ room.old }
+    ensures none { 1 ≤ result → result ≤ MEMORY → needed.new ≡ 0 }
+    ensures answers { result ≤ SHORT_ROOM }
+{
+    *needed = 0;
+    match read_script(alloc, script) {
+        Ok(reading) => {
+            let numbers = reading.numbers(script);
+            *needed = numbers.len();
+            fill(numbers, room)
+        }
+        Err(fault) => class_of(fault),
+    }
+}
+
+/// Tells what is wrong with a script of either form: each fault as a JSON object on a line, as `mainctx_check --json` tells it.
+///
+/// It answers 0 where nothing is wrong: then `mainctx_run` runs the script of numbers that `mainctx_translate` gives, `needed` is 0, and the
+/// room is as it was. It answers 8 where
 /// all that is wrong is told in the room, and 7 where the room is too short, and has as much of that as fits; in both cases `needed` is
 /// its length. It answers 6 where a request for memory was refused: then `needed` is 0, and the room is as it was. What is behind
 /// the text in the room stays too.
@@ -80,8 +112,8 @@ pub extern "C" fn mainctx_check(
     room: &mut [u8],
     needed: &mut usize,
 ) -> u32
-    ensures fine { result ≡ TEXT → Judges script.now true }
-    ensures faulty { (result ≡ FAULTS) ⊎ (result ≡ SHORT_ROOM) → Judges script.now false }
+    ensures fine { result ≡ TEXT → JudgesEither script.now true }
+    ensures faulty { (result ≡ FAULTS) ⊎ (result ≡ SHORT_ROOM) → JudgesEither script.now false }
     ensures stays { result ≤ MEMORY → room.new ≡ room.old }
     ensures none { result ≤ MEMORY → needed.new ≡ 0 }
     ensures answers { (result ≡ TEXT) ⊎ (MEMORY ≤ result × result ≤ FAULTS) }
@@ -92,7 +124,7 @@ pub extern "C" fn mainctx_check(
         json: true,
         name: "",
     };
-    match check_script(alloc, &form, script, &mut told) {
+    match check_either(alloc, &form, script, &mut told) {
         Err(_) => MEMORY,
         Ok(true) => TEXT,
         Ok(false) => {
@@ -105,24 +137,26 @@ pub extern "C" fn mainctx_check(
     }
 }
 
-/// Puts what is asked of the run of a script into a room.
+/// Puts what is asked of the run of a script of either form into a room, with its names where it has some.
 fn tell(alloc: Global, script: &[u8], asked: Asked, room: &mut [u8], needed: &mut usize) -> u32
-    ensures script { (result ≡ TEXT) ⊎ (result ≡ SHORT_ROOM) → IsAScripts script.now }
+    ensures script { (result ≡ TEXT) ⊎ (result ≡ SHORT_ROOM) → JudgesEither script.now true }
     ensures whole { result ≡ TEXT → LeavesRest needed.new room.old room.new }
     ensures short { result ≡ SHORT_ROOM → length room.new < needed.new }
-    ensures fault { 1 ≤ result → result < MEMORY → HasFaultOf script.now result }
+    ensures fault { 1 ≤ result → result < MEMORY → HasEithersFaultOf script.now result }
     ensures stays { 1 ≤ result → result ≤ MEMORY → room.new ≡ room.old }
     ensures none { 1 ≤ result → result ≤ MEMORY → needed.new ≡ 0 }
     ensures answers { result ≤ SHORT_ROOM }
 {
     *needed = 0;
-    let script = match Script::read(alloc, script) {
-        Ok(script) => script,
-        Err(ScriptFault::OutOfMemory) => return MEMORY,
+    let reading = match read_script(alloc, script) {
+        Ok(reading) => reading,
         Err(fault) => return class_of(fault),
     };
+    let Ok(names) = names_of(alloc, script, &reading.form) else {
+        return MEMORY;
+    };
     let mut told = String::new(alloc);
-    match push_asked(alloc, script, RunNames::numbers(alloc), asked, &mut told) {
+    match push_asked(alloc, reading.script, names, asked, &mut told) {
         Err(_) => MEMORY,
         Ok(()) => {
             *needed = told.len();
@@ -131,13 +165,13 @@ fn tell(alloc: Global, script: &[u8], asked: Asked, room: &mut [u8], needed: &mu
     }
 }
 
-/// Tells what a run of a script does, a move at a time: the account of the run (docs/ACCOUNT.md), from the move `first` on, counted from
-/// 0, and of `most` moves at most. The account's first line goes before them, and its last line comes where the run is over behind
-/// them.
+/// Tells what a run of a script of either form does, a move at a time: the account of the run (docs/ACCOUNT.md), from the move `first` on,
+/// counted from 0, and of `most` moves at most. The account's first line goes before them, and its last line comes where the run is over
+/// behind them. It has the names of the script where there are some, and none where the script is what `mainctx_translate` gives.
 ///
 /// It answers 0 where all of that is in the room, and 7 where the room is too short, and has as much of it as fits; in both cases
-/// `needed` is its length. Else it answers 1 to 5 where the bytes are no script, by the class of their fault, and 6 where a request
-/// for memory was refused: then `needed` is 0, and the room is as it was. What is behind the text in the room stays too.
+/// `needed` is its length. Else it answers 1 to 5 where the bytes are a script of neither form, as `mainctx_translate` does, and 6 where
+/// a request for memory was refused: then `needed` is 0, and the room is as it was. What is behind the text in the room stays too.
 #[unsafe(no_mangle)]
 pub extern "C" fn mainctx_account(
     alloc: Global,
@@ -147,10 +181,10 @@ pub extern "C" fn mainctx_account(
     room: &mut [u8],
     needed: &mut usize,
 ) -> u32
-    ensures script { (result ≡ TEXT) ⊎ (result ≡ SHORT_ROOM) → IsAScripts script.now }
+    ensures script { (result ≡ TEXT) ⊎ (result ≡ SHORT_ROOM) → JudgesEither script.now true }
     ensures whole { result ≡ TEXT → LeavesRest needed.new room.old room.new }
     ensures short { result ≡ SHORT_ROOM → length room.new < needed.new }
-    ensures fault { 1 ≤ result → result < MEMORY → HasFaultOf script.now result }
+    ensures fault { 1 ≤ result → result < MEMORY → HasEithersFaultOf script.now result }
     ensures stays { 1 ≤ result → result ≤ MEMORY → room.new ≡ room.old }
     ensures none { 1 ≤ result → result ≤ MEMORY → needed.new ≡ 0 }
     ensures answers { result ≤ SHORT_ROOM }
@@ -161,7 +195,7 @@ pub extern "C" fn mainctx_account(
 /// Tells why sources were dispatched or not, in words: each iteration that is begun in the ticks from `first` to `last`, with a table of its context's
 /// sources, as `mainctx_inspect why` tells it.
 ///
-/// What it answers, and what it leaves, is as of `mainctx_account`.
+/// Of which scripts it tells, with which names, what it answers, and what it leaves, is as of `mainctx_account`.
 #[unsafe(no_mangle)]
 pub extern "C" fn mainctx_why(
     alloc: Global,
@@ -171,10 +205,10 @@ pub extern "C" fn mainctx_why(
     room: &mut [u8],
     needed: &mut usize,
 ) -> u32
-    ensures script { (result ≡ TEXT) ⊎ (result ≡ SHORT_ROOM) → IsAScripts script.now }
+    ensures script { (result ≡ TEXT) ⊎ (result ≡ SHORT_ROOM) → JudgesEither script.now true }
     ensures whole { result ≡ TEXT → LeavesRest needed.new room.old room.new }
     ensures short { result ≡ SHORT_ROOM → length room.new < needed.new }
-    ensures fault { 1 ≤ result → result < MEMORY → HasFaultOf script.now result }
+    ensures fault { 1 ≤ result → result < MEMORY → HasEithersFaultOf script.now result }
     ensures stays { 1 ≤ result → result ≤ MEMORY → room.new ≡ room.old }
     ensures none { 1 ≤ result → result ≤ MEMORY → needed.new ≡ 0 }
     ensures answers { result ≤ SHORT_ROOM }
@@ -193,7 +227,7 @@ pub extern "C" fn mainctx_why(
 /// why, destroyed by whom, as `mainctx_inspect why --source CONTEXT.ID` tells it. Where the script has no such context, or never such
 /// a source, it says that it was not attached.
 ///
-/// What it answers, and what it leaves, is as of `mainctx_account`.
+/// Of which scripts it tells, with which names, what it answers, and what it leaves, is as of `mainctx_account`.
 #[unsafe(no_mangle)]
 pub extern "C" fn mainctx_life(
     alloc: Global,
@@ -205,10 +239,10 @@ pub extern "C" fn mainctx_life(
     room: &mut [u8],
     needed: &mut usize,
 ) -> u32
-    ensures script { (result ≡ TEXT) ⊎ (result ≡ SHORT_ROOM) → IsAScripts script.now }
+    ensures script { (result ≡ TEXT) ⊎ (result ≡ SHORT_ROOM) → JudgesEither script.now true }
     ensures whole { result ≡ TEXT → LeavesRest needed.new room.old room.new }
     ensures short { result ≡ SHORT_ROOM → length room.new < needed.new }
-    ensures fault { 1 ≤ result → result < MEMORY → HasFaultOf script.now result }
+    ensures fault { 1 ≤ result → result < MEMORY → HasEithersFaultOf script.now result }
     ensures stays { 1 ≤ result → result ≤ MEMORY → room.new ≡ room.old }
     ensures none { 1 ≤ result → result ≤ MEMORY → needed.new ≡ 0 }
     ensures answers { result ≤ SHORT_ROOM }
