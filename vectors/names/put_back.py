@@ -53,7 +53,6 @@ class Run:
     def connected(self, account: list[dict[str, Any]]) -> dict[tuple[int, str], int]:
         """The ids of handlers, by the thread and by what they are called."""
         ids: Counter[int] = Counter()
-        late: set[int] = set()
         of_slot: Counter[str] = Counter()
         found = {}
         for one in account:
@@ -62,8 +61,6 @@ class Run:
             actions = self.numbers["procs"][one["procedure"]]["do"] if one["list"] == "procedure" else self.numbers["lanes"][one["lane"]]["start"]
             slot = told(self.names.lists["slot"][actions[one["place"]][2]])
             if any(line.partition(" ")[2] == "handler 0" for line in one.get("lines", ())):  # it is connected too late, and has no id
-                of_slot[slot] += one["lane"] not in late
-                late.add(one["lane"])
                 continue
             ids[one["lane"]] += 1
             of_slot[slot] += 1

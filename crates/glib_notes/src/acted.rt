@@ -8,17 +8,16 @@ use crate::sources::{attached, changed, child_added, priority_set, ready_set, re
 use crate::stack::{default_used, popped, pushed, task_started};
 use lane_turn::Word;
 use loop_script::Action;
-use std::alloc::{AllocError, Global};
+use std::alloc::AllocError;
 
 /// An action is taken.
 pub(crate) fn acted(
     kept: &mut Kept,
-    alloc: Global,
     scene: &Scene<'_>,
     action: &Action,
     found: &mut Vec<Note>,
 ) -> Result<(), AllocError> {
-    look(kept, alloc, scene, action, found)?;
+    look(kept, scene, action, found)?;
     match action {
         Action::Attach { slot, .. } | Action::Child { slot, .. } | Action::Connect { slot, .. } => {
             renamed(kept, scene, *slot)
@@ -30,7 +29,6 @@ pub(crate) fn acted(
 /// Looks at what an action does.
 fn look(
     kept: &mut Kept,
-    alloc: Global,
     scene: &Scene<'_>,
     action: &Action,
     found: &mut Vec<Note>,
@@ -45,7 +43,7 @@ fn look(
         Action::SetReady(slot, _) => ready_set(kept, scene, *slot, found),
         Action::SetPriority(slot, _) => priority_set(kept, scene, *slot, found),
         Action::Iterate(context) => looked_at(kept, scene, *context, found),
-        Action::Pending(context) => asked(kept, alloc, scene, *context, found),
+        Action::Pending(context) => asked(kept, scene, *context, found),
         Action::Run(_) if scene.has_missed(Word::Run) => add_note(
             scene,
             Difference::AnyThreadAcquires,

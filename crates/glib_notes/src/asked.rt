@@ -5,7 +5,7 @@ use crate::selected::{Look, look_over};
 use crate::shared::{holder_of, is_free};
 use context_core::Standing;
 use lane_turn::Activity;
-use std::alloc::{AllocError, Global};
+use std::alloc::AllocError;
 
 /// Whether anything is ready, or just posted, in a context of another thread that no thread owns.
 fn is_there_for_all(kept: &Kept, scene: &Scene<'_>, context: u32) -> Result<bool, AllocError> {
@@ -42,7 +42,6 @@ pub(crate) fn looked_at(
 /// It is asked whether anything is ready.
 pub(crate) fn asked(
     kept: &mut Kept,
-    alloc: Global,
     scene: &Scene<'_>,
     context: u32,
     found: &mut Vec<Note>,
@@ -63,7 +62,7 @@ pub(crate) fn asked(
         look_over(scene, context, look, of, &kept.shared, found)?;
     }
     match inner {
-        Some(iteration) if refills(alloc, scene, context, iteration.taken)? => {
+        Some(iteration) if refills(scene, context, iteration.taken)? => {
             add_note(scene, Difference::PendingRefills, Some(context), found)
         }
         _ => Ok(()),
@@ -71,16 +70,11 @@ pub(crate) fn asked(
 }
 
 /// Whether what is ready now, from the place on at which the iteration in progress is, is other than what that has left.
-fn refills(
-    alloc: Global,
-    scene: &Scene<'_>,
-    context: u32,
-    taken: usize,
-) -> Result<bool, AllocError> {
+fn refills(scene: &Scene<'_>, context: u32, taken: usize) -> Result<bool, AllocError> {
     let Some(rows) = scene.lane.sources(context) else {
         return Ok(false);
     };
-    let mut left = Vec::new(alloc);
+    let mut left = Vec::new(scene.alloc);
     for one in scene.lane.frames() {
         if let Activity::Iteration {
             context: of,

@@ -14,15 +14,23 @@ pub(crate) struct SourceKept {
     pub dispatched: bool,
     /// The cancellable of the task whose reply it is.
     pub cancel: Option<u32>,
+    /// How many sources were ever attached below it.
+    pub below: u32,
 }
 
 impl SourceKept {
+    /// Whether GLib may have it ready where the rules have not.
+    pub(crate) fn may_be_ready(&self) -> bool {
+        self.flagged || self.due.is_some()
+    }
+
     fn new() -> SourceKept {
         SourceKept {
             flagged: false,
             due: None,
             dispatched: false,
             cancel: None,
+            below: 0,
         }
     }
 }

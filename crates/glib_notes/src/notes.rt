@@ -7,6 +7,7 @@ use crate::kept::{Called, ContextKept, IterationKept, ThreadKept, contexts_of, t
 use crate::selected::{Look, look_over};
 use crate::shared::Shared;
 use account::{Account, Deed, Moment};
+use context_core::Standing;
 use lane_turn::{Activity, Event, LaneState, Line, Origin, Word};
 use loop_script::{Action, Script};
 use std::alloc::{AllocError, Global};
@@ -27,10 +28,13 @@ pub struct Note {
 /// What a move is looked at with.
 #[derive(Clone, Copy)]
 pub(crate) struct Scene<'a> {
+    pub alloc: Global,
     pub account: &'a Account,
     pub script: &'a Script,
     pub lane: &'a LaneState,
     pub moment: &'a Moment,
+    /// What the iteration that the move began does with each source, where that is known already.
+    pub begun: Option<&'a [Standing]>,
 }
 
 impl<'a> Scene<'a> {
@@ -115,20 +119,27 @@ impl Notes {
     }
 
     /// Looks at the latest moment of a run, and answers where GLib parts from the rules in it. Each moment has to be looked at, in
-    /// order.
-    pub fn look(&mut self, account: &Account, moment: &Moment) -> Result<&[Note], AllocError> {
+    /// order. Who has the standings of the iteration that the moment began gives them, so that they are not made again.
+    pub fn look(
+        &mut self,
+        account: &Account,
+        moment: &Moment,
+        begun: Option<&[Standing]>,
+    ) -> Result<&[Note], AllocError> {
         self.found.clear();
         self.kept.shared.go_to(moment.tick);
         if let Some(lane) = account.lane(moment.lane) {
             let script = account.script();
             let scene = Scene {
+                alloc: self.alloc,
                 account,
                 script,
                 lane,
                 moment,
+                begun,
             };
             if !scene.halts() {
-                self.kept.look(self.alloc, &scene, &mut self.found)?;
+                self.kept.look(&scene, &mut self.found)?;
             }
             self.kept.settle(&scene, &mut self.found)?;
         }
@@ -137,12 +148,7 @@ impl Notes {
 }
 
 impl Kept {
-    fn look(
-        &mut self,
-        alloc: Global,
-        scene: &Scene<'_>,
-        found: &mut Vec<Note>,
-    ) -> Result<(), AllocError> {
+    fn look(&mut self, scene: &Scene<'_>, found: &mut Vec<Note>) -> Result<(), AllocError> {
         match scene.moment.deed {
             Deed::Polled => polled(self, scene, found),
             Deed::Acted { body, place } => {
@@ -154,7 +160,7 @@ impl Kept {
                         return self.begin(scene, *context, found);
                     }
                 }
-                acted(self, alloc, scene, action, found)
+                acted(self, scene, action, found)
             }
             Deed::Returned { .. } => returned(self, scene, found),
             Deed::Dispatched { context, source } => {

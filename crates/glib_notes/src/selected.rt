@@ -6,7 +6,7 @@ use crate::shared::Shared;
 use cancel_view::View;
 use context_core::Standing;
 use loop_script::Kind;
-use source_rows::Row;
+use source_rows::{Row, Rows};
 use std::alloc::AllocError;
 
 /// Why it is looked at what is ready.
@@ -51,7 +51,27 @@ struct Urgent {
     itself: Option<i32>,
 }
 
+/// A source that is ready or of which GLib may do otherwise, and what an iteration does with it.
+#[derive(Clone, Copy)]
+struct Heeded<'a> {
+    row: &'a Row,
+    standing: Standing,
+}
+
 impl Urgent {
+    /// Those of some sources.
+    fn of(scene: &Scene<'_>, heeded: &[Heeded<'_>]) -> Urgent {
+        let now = scene.script.now(scene.moment.tick);
+        let mut most = Urgent {
+            all: None,
+            itself: None,
+        };
+        for one in heeded {
+            most.add(one.row, one.standing, now, scene.lane.view());
+        }
+        most
+    }
+
     fn add(&mut self, row: &Row, standing: Standing, now: u64, view: &View) {
         if is_ready(standing) {
             self.all = more_urgent(self.all, row.priority);
@@ -86,23 +106,23 @@ pub(crate) fn look_over(
     let Some(rows) = scene.lane.sources(context) else {
         return Ok(());
     };
-    let list = scene
-        .lane
-        .standings(scene.script, scene.moment.tick, context)?;
-    let now = scene.script.now(scene.moment.tick);
-    let mut most = Urgent {
-        all: None,
-        itself: None,
+    let heeded = match scene.begun {
+        Some(list) => heeded_of(scene, rows, list, kept)?,
+        None => {
+            let list = scene
+                .lane
+                .standings(scene.script, scene.moment.tick, context)?;
+            heeded_of(scene, rows, list.as_slice(), kept)?
+        }
     };
-    for (row, standing) in rows.in_order().zip(list.as_slice().iter()) {
-        most.add(row, *standing, now, scene.lane.view());
-    }
-    for (row, standing) in rows.in_order().zip(list.as_slice().iter()) {
+    let most = Urgent::of(scene, heeded.as_slice());
+    for one in heeded.as_slice() {
+        let Heeded { row, standing } = *one;
         let lets = most.lets(row.priority, look);
-        if let Some(difference) = parts(scene, row, *standing, kept.source(row.id), lets, shared) {
+        if let Some(difference) = parts(scene, row, standing, kept.source(row.id), lets, shared) {
             found.push(scene.note(difference, Some(context), Some(row.id)))?;
         }
-        if is_ready(*standing)
+        if is_ready(standing)
             && (most.all == Some(row.priority) || most.itself == Some(row.priority))
         {
             let mut source = kept.source(row.id);
@@ -111,6 +131,26 @@ pub(crate) fn look_over(
         }
     }
     Ok(())
+}
+
+/// Those of some rows, each with its standing, that are ready or of which GLib may do otherwise.
+fn heeded_of<'a>(
+    scene: &Scene<'_>,
+    rows: &'a Rows,
+    standings: &[Standing],
+    kept: &ContextKept,
+) -> Result<Vec<Heeded<'a>>, AllocError> {
+    let mut heeded = Vec::new(scene.alloc);
+    for (row, standing) in rows.in_order().zip(standings.iter()) {
+        let is_of_cancellable = matches!(row.kind, Kind::Cancel(_));
+        if is_ready(*standing) || is_of_cancellable || kept.source(row.id).may_be_ready() {
+            heeded.push(Heeded {
+                row,
+                standing: *standing,
+            })?;
+        }
+    }
+    Ok(heeded)
 }
 
 /// How GLib parts from the rules in what it does with a source.

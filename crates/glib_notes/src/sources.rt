@@ -93,7 +93,7 @@ pub(crate) fn changed(
 }
 
 pub(crate) fn child_added(
-    kept: &Kept,
+    kept: &mut Kept,
     scene: &Scene<'_>,
     parent: u8,
     spec: &SourceSpec,
@@ -102,10 +102,36 @@ pub(crate) fn child_added(
     changed(kept, scene, parent, found)?;
     match named(kept, scene, parent) {
         Some(place) if !scene.has_missed(Word::Child) => {
+            count_below(kept, scene, place)?;
             made(kept, scene, place.context, spec, found)
         }
         _ => Ok(()),
     }
+}
+
+/// Counts one more below a source and below those above it.
+fn count_below(kept: &mut Kept, scene: &Scene<'_>, parent: Place) -> Result<(), AllocError> {
+    let Some(of) = kept.contexts.get_mut(parent.context as usize) else {
+        return Ok(());
+    };
+    let Some(row) = scene
+        .lane
+        .sources(parent.context)
+        .and_then(|rows| rows.found(parent.id))
+    else {
+        return Ok(());
+    };
+    // (the lineage is filled up with the id itself)
+    let mut before = None;
+    for id in row.lineage.iter() {
+        if before != Some(*id) {
+            let mut source = of.source(*id);
+            source.below = source.below.saturating_add(1);
+            of.keep(*id, source)?;
+        }
+        before = Some(*id);
+    }
+    Ok(())
 }
 
 pub(crate) fn ready_set(
@@ -152,7 +178,7 @@ pub(crate) fn priority_set(
     let Some(place) = named(kept, scene, slot) else {
         return Ok(());
     };
-    if scene.has_missed(Word::SetPriority) || !has_two_below(scene.lane, place) {
+    if scene.has_missed(Word::SetPriority) || !has_two_below(kept, scene.lane, place) {
         return Ok(());
     }
     found.push(scene.note(
@@ -163,8 +189,12 @@ pub(crate) fn priority_set(
     Ok(())
 }
 
-/// Whether two sources or more stand below one.
-fn has_two_below(lane: &LaneState, place: Place) -> bool {
+/// Whether two sources or more stand below one. All sources are looked through only where two or more were ever attached there.
+fn has_two_below(kept: &Kept, lane: &LaneState, place: Place) -> bool {
+    match kept.contexts.get(place.context as usize) {
+        Some(of) if of.source(place.id).below > 1 => {}
+        _ => return false,
+    }
     let Some(rows) = lane.sources(place.context) else {
         return false;
     };

@@ -1,13 +1,14 @@
 //! Iterations that are told once, since they follow one another and are alike.
 use crate::block::Block;
 use inspect_words::{Begun, Words, push_ticks};
-use std::alloc::AllocError;
+use std::alloc::{AllocError, Global};
 
 /// Iterations of a thread one after another, with the same asker and the same reasons.
 #[derive(Drop)]
 pub(crate) struct Alike {
     begun: Begun,
-    block: Block,
+    lines: String,
+    dispatches: bool,
     first: u32,
     last: u32,
     count: u32,
@@ -15,19 +16,25 @@ pub(crate) struct Alike {
 
 impl Alike {
     /// One iteration in a tick.
-    pub(crate) fn new(begun: Begun, block: Block, tick: u32) -> Alike {
-        Alike {
+    pub(crate) fn new(
+        alloc: Global,
+        begun: Begun,
+        block: &Block,
+        tick: u32,
+    ) -> Result<Alike, AllocError> {
+        Ok(Alike {
             begun,
-            block,
+            lines: String::from_str(alloc, block.lines.as_str())?,
+            dispatches: block.dispatches,
             first: tick,
             last: tick,
             count: 1,
-        }
+        })
     }
 
     /// Whether an iteration is alike.
     pub(crate) fn has(&self, begun: &Begun, block: &Block) -> bool {
-        self.begun == *begun && self.block.lines.as_str() == block.lines.as_str()
+        self.begun == *begun && self.lines.as_str() == block.lines.as_str()
     }
 
     /// Counts one more that is alike.
@@ -41,12 +48,12 @@ impl Alike {
         push_ticks(out, words.script, self.first, self.last)?;
         self.begun.push(out, words.names)?;
         push_count(out, self.first, self.last, self.count)?;
-        out.push_str(if self.block.dispatches {
+        out.push_str(if self.dispatches {
             "\n"
         } else {
             ", and nothing is ready\n"
         })?;
-        out.push_str(self.block.lines.as_str())
+        out.push_str(self.lines.as_str())
     }
 }
 

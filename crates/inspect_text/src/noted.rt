@@ -1,5 +1,6 @@
 //! Where GLib does otherwise, told at the move at which it does.
 use account::{Account, Moment};
+use context_core::Standing;
 use glib_notes::{Difference, Note, Notes};
 use inspect_words::{Run, Words, push_tick};
 use loop_script::Script;
@@ -31,14 +32,15 @@ impl Noted {
         })
     }
 
-    /// What is new in the latest moment of a run.
+    /// What is new in the latest moment of a run; `begun` are the standings of the iteration that it began, where they are known.
     pub(crate) fn look(
         &mut self,
         account: &Account,
         moment: &Moment,
+        begun: Option<&[Standing]>,
     ) -> Result<Vec<Note>, AllocError> {
         let mut new = Vec::new(self.alloc);
-        for note in self.notes.look(account, moment)? {
+        for note in self.notes.look(account, moment, begun)? {
             let told = Told {
                 difference: note.difference,
                 lane: note.lane,
@@ -100,7 +102,7 @@ impl NoteList {
         moment: &Moment,
         out: &mut String,
     ) -> Result<(), AllocError> {
-        for note in self.noted.look(run.account, moment)?.as_slice() {
+        for note in self.noted.look(run.account, moment, None)?.as_slice() {
             self.any = true;
             push_note(out, run.words(), note)?;
         }

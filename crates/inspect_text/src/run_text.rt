@@ -44,7 +44,7 @@ impl RunText {
         let Some(noted) = &mut self.noted else {
             return Ok(());
         };
-        for note in noted.look(run.account, moment)?.as_slice() {
+        for note in noted.look(run.account, moment, None)?.as_slice() {
             push_note(out, run.words(), note)?;
         }
         Ok(())

@@ -32,7 +32,7 @@ impl Summary {
 
     /// Counts the latest moment of a run.
     pub fn tell(&mut self, account: &Account, moment: &Moment) -> Result<(), AllocError> {
-        for note in self.noted.look(account, moment)?.as_slice() {
+        for note in self.noted.look(account, moment, None)?.as_slice() {
             self.notes.push(*note)?;
         }
         self.counts.add(account, moment)

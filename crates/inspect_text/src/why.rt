@@ -1,9 +1,10 @@
 //! Why sources are dispatched or not, iteration by iteration.
 use crate::alike::Alike;
-use crate::block::block_of;
+use crate::block::Block;
 use crate::noted::{Noted, push_note};
 use crate::rests::Rests;
 use account::{Deed, Moment};
+use context_core::Standing;
 use inspect_words::{Begun, Run, Window, Words, begun_by, halt_reason, push_tick};
 use lane_turn::LaneState;
 use loop_script::Script;
@@ -18,7 +19,30 @@ pub struct Why {
     rests: Rests,
     /// Of each thread, the iterations that are not told yet.
     alike: Vec<Option<Alike>>,
+    /// Of each context, what its latest iteration did.
+    blocks: Vec<Option<Block>>,
     noted: Noted,
+}
+
+/// An iteration that a moment began, with what it does with each source of its context.
+#[derive(Drop)]
+struct Iteration {
+    begun: Begun,
+    standings: Vec<Standing>,
+}
+
+impl Iteration {
+    /// The iteration that a moment began, if it did.
+    fn of(run: Run<'_>, moment: &Moment) -> Result<Option<Iteration>, AllocError> {
+        let (Some(begun), Some(lane)) = (
+            begun_by(run.account, moment),
+            run.account.lane(moment.lane),
+        ) else {
+            return Ok(None);
+        };
+        let standings = lane.standings(run.account.script(), moment.tick, begun.context)?;
+        Ok(Some(Iteration { begun, standings }))
+    }
 }
 
 impl Why {
@@ -28,11 +52,16 @@ impl Why {
         for _ in 0..script.lanes() {
             alike.push(None)?;
         }
+        let mut blocks = Vec::new(alloc);
+        for _ in 0..script.contexts() {
+            blocks.push(None)?;
+        }
         Ok(Why {
             alloc,
             window,
             rests: Rests::new(alloc, script)?,
             alike,
+            blocks,
             noted: Noted::new(alloc, script)?,
         })
     }
@@ -45,8 +74,10 @@ impl Why {
         moment: &Moment,
         out: &mut String,
     ) -> Result<(), AllocError> {
-        self.tell_move(run, moment, out)?;
-        for note in self.noted.look(run.account, moment)?.as_slice() {
+        let iteration = Iteration::of(run, moment)?;
+        self.tell_move(run, moment, iteration.as_ref(), out)?;
+        let begun = iteration.as_ref().map(|one| one.standings.as_slice());
+        for note in self.noted.look(run.account, moment, begun)?.as_slice() {
             if self.window.has(moment.lane, moment.tick) {
                 self.flush(run.words(), moment.lane, out)?;
                 push_note(out, run.words(), note)?;
@@ -59,17 +90,18 @@ impl Why {
         &mut self,
         run: Run<'_>,
         moment: &Moment,
+        iteration: Option<&Iteration>,
         out: &mut String,
     ) -> Result<(), AllocError> {
         let Some(lane) = run.account.lane(moment.lane) else {
             return Ok(());
         };
         let words = run.words();
-        if let Some(iteration) = begun_by(run.account, moment) {
-            let lost = self.rests.begin(lane, iteration.context)?;
+        if let Some(iteration) = iteration {
+            let lost = self.rests.begin(lane, iteration.begun.context)?;
             if self.window.has(moment.lane, moment.tick) {
                 let tick = moment.tick;
-                self.tell_iteration(words, tick, lane, &iteration, lost.as_slice(), out)?;
+                self.tell_iteration(words, tick, lane, iteration, lost.as_slice(), out)?;
             }
             return Ok(());
         }
@@ -95,22 +127,32 @@ impl Why {
         words: Words<'_>,
         tick: u32,
         lane: &LaneState,
-        iteration: &Begun,
+        iteration: &Iteration,
         lost: &[u64],
         out: &mut String,
     ) -> Result<(), AllocError> {
-        let block = block_of(self.alloc, words, tick, lane, iteration.context, lost)?;
-        let Some(place) = self.alike.get_mut(iteration.lane as usize) else {
+        let begun = iteration.begun;
+        let context = begun.context;
+        let (Some(alike), Some(latest)) = (
+            self.alike.get_mut(begun.lane as usize),
+            self.blocks.get_mut(context as usize),
+        ) else {
             return Ok(());
         };
-        if let Some(alike) = place {
-            if alike.has(iteration, &block) {
-                alike.add(tick);
-                return Ok(());
+        let standings = iteration.standings.as_slice();
+        let rows = lane.sources(context);
+        let mut block = Block::of(self.alloc, words, context, rows, standings, latest.as_ref())?;
+        block.push_lost(words.names, context, lost)?;
+        match alike {
+            Some(before) if before.has(&begun, &block) => before.add(tick),
+            _ => {
+                if let Some(before) = alike.take() {
+                    before.push(out, words)?;
+                }
+                *alike = Some(Alike::new(self.alloc, begun, &block, tick)?);
             }
-            alike.push(out, words)?;
         }
-        *place = Some(Alike::new(*iteration, block, tick));
+        *latest = Some(block);
         Ok(())
     }
 

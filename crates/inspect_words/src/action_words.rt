@@ -85,7 +85,12 @@ pub fn push_cause(out: &mut String, names: &RunNames, moment: &Moment) -> Result
 /// Adds an action: its word, and what stands next to it in the script.
 pub fn push_action(out: &mut String, names: &RunNames, action: &Action) -> Result<(), AllocError> {
     out.push_str(action_word(action))?;
-    match thing_of(action) {
+    let thing = if names.are_there() {
+        named_thing_of(action)
+    } else {
+        thing_of(action)
+    };
+    match thing {
         Some(thing) => {
             out.push_str(" ")?;
             names.push_bare(out, thing)
@@ -94,7 +99,18 @@ pub fn push_action(out: &mut String, names: &RunNames, action: &Action) -> Resul
     }
 }
 
-/// What an action names first.
+/// What an action of a script with names names first.
+fn named_thing_of(action: &Action) -> Option<Thing> {
+    match action {
+        Action::Attach { slot, .. } => Some(Thing::Slot(u32::from(*slot))),
+        Action::Child { slot, .. } => Some(Thing::Slot(u32::from(*slot))),
+        Action::Connect { slot, .. } => Some(Thing::Slot(u32::from(*slot))),
+        Action::Invoke { proc, .. } => Some(Thing::Procedure(*proc)),
+        _ => thing_of(action),
+    }
+}
+
+/// What an action of a script of numbers names first.
 fn thing_of(action: &Action) -> Option<Thing> {
     match action {
         Action::Attach { context, .. } => Some(Thing::Context(*context)),

@@ -5,6 +5,9 @@ use loop_script::{Action, Body};
 use run_names::{Origin, RunNames};
 use std::alloc::AllocError;
 
+/// The id of a handler that is connected too late: it is called at once, and is none that has a name.
+pub(crate) const TOO_LATE: u64 = 0;
+
 /// Gives names to what the latest moment of a run attached or connected.
 pub fn follow_names(
     names: &mut RunNames,
@@ -22,8 +25,11 @@ pub fn follow_names(
         _ => None,
     };
     if let Some(Action::Connect { slot, .. }) = action {
-        if let Some(Some(Named::Handler(id))) = lane.slots().get(usize::from(*slot)) {
-            names.add_handler(moment.lane, *id, Origin::Slot(u32::from(*slot)))?;
+        match lane.slots().get(usize::from(*slot)) {
+            Some(Some(Named::Handler(id))) if *id != TOO_LATE => {
+                names.add_handler(moment.lane, *id, Origin::Slot(u32::from(*slot)))?;
+            }
+            _ => {}
         }
     }
     if let Some(place) = moment.attached(account.script(), lane) {

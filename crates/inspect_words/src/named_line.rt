@@ -1,6 +1,6 @@
 //! The lines of a run with names.
 use crate::action_words::miss_word;
-use crate::follow::callee_of;
+use crate::follow::{TOO_LATE, callee_of};
 use crate::run::Run;
 use crate::time::push_milliseconds;
 use crate::written::text_of;
@@ -227,7 +227,7 @@ fn push_handler(
     id: u64,
 ) -> Result<(), AllocError> {
     match action_of(run, moment) {
-        Some(Action::Connect { slot, .. }) if id == 0 => {
+        Some(Action::Connect { slot, .. }) if id == TOO_LATE => {
             push_with(out, run.names, "handler", Thing::Slot(u32::from(*slot)))
         }
         _ => {
