@@ -18,3 +18,8 @@ HaveNumbers ns = (kind : Kind) (n : ℕ) → IfSome (slice_get (of_kind kind ns)
 abbrev pub AreOf : List ℕ → Option Names → Type 0
 AreOf bytes None = IsUtf8 bytes → (j : Json) → document bytes ≡ Some j → is_named j ≡ false
 AreOf bytes (Some ns) = (j : Json) × (document bytes ≡ Some j) × (is_named j ≡ true) × (ns ≡ names_in j)
+
+-- the name of a number: that which stands there among those of its kind, where there are names
+abbrev pub name_in : Kind → ℕ → Option Names → Option (List ℕ)
+name_in kind n None = None
+name_in kind n (Some ns) = slice_get (of_kind kind ns) n

@@ -1,7 +1,7 @@
 //! What the things of a run are called.
-ghost use Rattle.std.specs.Prelude.{◌≡◌, Some, None, IfOk, IfSome};
+ghost use Rattle.std.specs.Prelude.{◌≡◌, Some, None, IfOk, IfSome, option_map};
 ghost use Rattle.named.specs.Names.{number_of, of_kind};
-ghost use Rattle.run_names.specs.Called.{AreOf};
+ghost use Rattle.run_names.specs.Called.{AreOf, name_in};
 
 use crate::label::{Label, Origin};
 use crate::labels::{Labels, Seat};
@@ -176,9 +176,10 @@ impl RunNames {
         write!(out, " #{place}")
     }
 
-    /// The name of a number, where there is one. It is that of no other: each name put back to its number gives the number.
+    /// The name of a number: that which stands there among those of its kind, where there are names. It is that of no other: each name put back to its number gives the number.
     pub fn name(&self, kind: Kind, number: u32) -> Option<&str>
-        ensures { IfSome result (λ name. IfSome self.now.table (λ names. number_of name.now (of_kind kind names) ≡ Some number)) }
+        ensures name { option_map (λ name. name.now) result ≡ name_in kind number self.now.table }
+        ensures number { IfSome result (λ name. IfSome self.now.table (λ names. number_of name.now (of_kind kind names) ≡ Some number)) }
     {
         match &self.table {
             Some(table) => table.name(kind, number),

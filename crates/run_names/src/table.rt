@@ -1,5 +1,5 @@
 //! The names that a script gives.
-ghost use Rattle.std.specs.Prelude.{◌≡◌, Some, IfOk, IfSome, string_bytes};
+ghost use Rattle.std.specs.Prelude.{◌≡◌, Some, IfOk, IfSome, option_map, slice_get, string_bytes};
 ghost use Rattle.json.specs.Value.{value_view};
 ghost use Rattle.named.specs.Names.{names_in, number_of, of_kind};
 ghost use Rattle.named.specs.Views as views;
@@ -87,9 +87,10 @@ impl Table {
         }
     }
 
-    /// The name of a number, whose number is that one: no two things of a kind share a name.
+    /// The name of a number: that which stands there among those of its kind. Its number is that one: no two things of a kind share a name.
     pub(crate) fn name(&self, kind: Kind, number: u32) -> Option<&str>
-        ensures { IfSome result (λ name. number_of name.now (of_kind kind self.now) ≡ Some number) }
+        ensures name { option_map (λ name. name.now) result ≡ slice_get (of_kind kind self.now) number }
+        ensures number { IfSome result (λ name. number_of name.now (of_kind kind self.now) ≡ Some number) }
     {
         let name = self.of_kind(kind).get(number as usize)?;
         Some(name.as_str())
