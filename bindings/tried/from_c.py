@@ -14,7 +14,7 @@ SANITIZERS = ("-fsanitize=address,undefined", "-fno-sanitize-recover=all")
 WARNINGS = ("-std=c11", "-O1", "-g", "-Wall", "-Wextra", "-Werror")
 WRAPPED = "-Wl,--wrap=malloc,--wrap=realloc,--wrap=free"
 
-# of these every request for memory is refused in turn, of each call: each example in both forms, and some vectors that are short, refused ones too
+# of these every request for memory is refused in turn, of each call: each example, a script with names, and some vectors that are short, refused ones too
 SHORT = 4_000  # bytes
 REFUSED_IN = [path for path in SCRIPTS if path.parent.name == "examples" or path.stem.endswith("-002") and path.stat().st_size < SHORT]
 FAULTY = TOP / "vectors" / "01-idle-sources" / "broken-01-000.json"  # of which mainctx_check tells
@@ -130,6 +130,6 @@ def tests(built: Built) -> Iterator[Test | Missing]:
     if not sanitizers:
         yield Missing("AddressSanitizer for cc", "memory under it: the same tests run without it")
     yield Test("rooms of each length", lambda: compiled(built, "rooms", sanitizers, SCRIPT, SCRIPT.with_suffix(".out"), FAULTY, NAMED_SCRIPT))
-    yield Test("each request refused", lambda: compiled(built, "refuse", sanitizers, *REFUSED_IN, *NAMED))
+    yield Test("each request refused", lambda: compiled(built, "refuse", sanitizers, *REFUSED_IN, NAMED_SCRIPT))
     yield Test("eight threads at once", lambda: compiled(built, "threads", sanitizers, *(TOP / path for path in AT_ONCE)))
     yield Test("a library that is loaded twice", lambda: twice(built, sanitizers))
