@@ -57,9 +57,15 @@ export class Mainctx {
         return this.#has("mainctx_account");
     }
 
-    /** Runs a script to its end, and answers its text; throws a MainctxError with the class of fault where it is refused. */
+    /** Runs a script of numbers to its end, and answers its text; throws a MainctxError with the class of fault where it is refused. */
     async run(script) {
         return { text: decoded(await this.#asked("mainctx_run", script, [])) };
+    }
+
+    /** The script of numbers that a script with names stands for (docs/NAMES.md), as a text; of a script of numbers its own. The calls below take either
+     * form, and tell the names of the one that has some. */
+    async translate(script) {
+        return { text: decoded(await this.#asked("mainctx_translate", script, [])) };
     }
 
     /** What is wrong with a script: each fault in the order of their places, with its class, pointer, line, column, byte, wanted and found. */

@@ -29,6 +29,10 @@ class Remote {
         return this.#called("run", script);
     }
 
+    translate(script) {
+        return this.#called("translate", script);
+    }
+
     check(script) {
         return this.#called("check", script);
     }

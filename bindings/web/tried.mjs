@@ -1,4 +1,5 @@
-// What the test tries of the module, in Node and in a browser alike: answers {passed, failed, told}. A case is {name, script, wanted}, both bytes in base64.
+// What the test tries of the module, in Node and in a browser alike: answers {passed, failed, told}. A case is {name, script, wanted}, both bytes in base64; one with
+// names {name, script, numbers}, a text and what it stands for.
 import { load, MainctxError } from "./mainctx.mjs";
 import { open } from "./remote.mjs";
 
@@ -7,6 +8,7 @@ const LONG_RUN = '{"version":1,"ticks":4096,"tick_us":1,"loops":[0],"procs":[{"d
     '["attach",0,0,{"kind":["idle"],"call":0}],'.repeat(250) + '["run",0]]}]}';
 const SHORT_RUN = '{"version":1,"ticks":1,"tick_us":1,"lanes":[{"contexts":1,"start":[["log",7]]}]}';
 const PAUSE = 50; // milliseconds
+const VERSION = 2; // of the calls, as bindings/c/mainctx.h has it
 /** A module whose run stops. */
 const STOPS = "AGFzbQEAAAABEwNgAX4BfmABfgBgBX5+fn5+AX8DBAMAAQIFAwEAAQc3BAZtZW1vcnkCAA1tYWluY3R4X2FsbG9jAAAMbWFpbmN0eF9mcmVlAAELbWFpbmN0eF9ydW4AAgoPAwUAQsAACwMAAQsDAAAL";
 
@@ -59,6 +61,36 @@ function textOf(lines) {
     return told.flat().map((line) => `${line}\n`).join("");
 }
 
+/** What a script with names stands for, which runs; nothing is wrong with it, and the account has its names. */
+async function translation(engine, { script, numbers }) {
+    const { text } = await engine.translate(script), account = (await engine.account(script)).map((line) => JSON.parse(line));
+    if (!isSame(JSON.parse(text), numbers)) return `${text.slice(0, 200)} in place of ${JSON.stringify(numbers).slice(0, 200)}`;
+    if ((await engine.translate(text)).text !== text) return "a script of numbers stands for another";
+    if ((await engine.check(script)).length) return "something is wrong with it";
+    const threads = Object.keys(JSON.parse(script).threads), sources = account.filter((it) => it.attached).map((it) => it.attached.name);
+    if (!isSame(account[0].names?.threads, threads) || sources.includes(undefined)) return "the account has other names";
+    return (await engine.run(text)).text === textOf(await engine.account(script)) ? null : "another text by its account";
+}
+
+/** Whether two values of JSON are the same, whatever the order of keys. */
+function isSame(one, other) {
+    if (typeof one !== "object" || one === null || typeof other !== "object" || other === null) return one === other;
+    const keys = Object.keys(one);
+    return Array.isArray(one) === Array.isArray(other) && keys.length === Object.keys(other).length && keys.every((key) => isSame(one[key], other[key]));
+}
+
+/** Scripts with names that are refused, by the class of the script of numbers for which one stands, or of its own form. */
+async function unnamed(engine) {
+    const scripts = { limit: '{"form":"names","ticks":0,"threads":{"t":{"start":[]}}}', shape: '{"form":"names","ticks":1,"threads":{"t":{"start":[{"run":"none"}]}}}' };
+    for (const [fault, script] of Object.entries(scripts)) {
+        for (const call of ["translate", "account", "why"]) {
+            const thrown = await engine[call](script).then(() => "an answer", (refused) => refused.fault);
+            if (thrown !== fault) return `${call}: ${thrown} in place of ${fault}`;
+        }
+    }
+    return null;
+}
+
 /** A call that is stopped says so, and the next one has its answer by a new worker. */
 async function stopped(remote) {
     const run = remote.run(LONG_RUN).then(() => "it was not stopped", (thrown) => (thrown.fault === "aborted" ? null : String(thrown)));
@@ -96,14 +128,16 @@ const ends = (words) => (text) => (text.split("\n").at(-2)?.startsWith(words) ? 
 /** An example of which is told why, and its source that is told of. */
 const TOLD = "examples/nested_drop.json", CONTEXT = 0, SOURCE = 4n;
 
-export async function all(source, cases) {
+export async function all(source, cases, named) {
     const count = new Count(), engine = await load(source), remote = await open(source);
     for (const it of cases) await count.take(it.name, () => vector(engine, it));
     for (const it of cases.filter(({ name }) => name.startsWith("examples/"))) await count.take(`${it.name} by a worker`, () => vector(remote, it));
+    for (const it of named) for (const by of [engine, remote]) await count.take(it.name, () => translation(by, it));
+    await count.take("names that nothing has", () => unnamed(engine));
     const example = cases.find(({ name }) => name === TOLD), script = example && bytesOf(example.script), both = [engine, remote];
     if (example) await count.take("why", () => told(both, "why", [script, 0, 0], has("to be dispatched")));
     if (example) await count.take("a source's life", () => told(both, "life", [script, CONTEXT, SOURCE], ends("end of the run")));
-    await count.take("its version", () => told(both, "version", [], (version) => (version === 1 ? null : `it is ${version}`)));
+    await count.take("its version", () => told(both, "version", [], (version) => (version === VERSION ? null : `it is ${version}`)));
     await count.take("a run that is stopped", () => stopped(remote));
     await count.take("a script that is too large for any memory", () => short(engine));
     await count.take("a module that stops", trapped);
@@ -112,6 +146,6 @@ export async function all(source, cases) {
 
 if (typeof process !== "undefined") {
     const { readFileSync } = await import("node:fs");
-    const { source, cases } = JSON.parse(readFileSync(0, "utf8"));
-    console.log(JSON.stringify(await all(new URL(source), cases)));
+    const { source, cases, named } = JSON.parse(readFileSync(0, "utf8"));
+    console.log(JSON.stringify(await all(new URL(source), cases, named)));
 }

@@ -27,7 +27,8 @@ export class Frames {
 
     #moved(place, lane, told) {
         const { moments } = this, did = moments.did.at(place), of = moments.of.at(place), at = moments.at.at(place), top = this.#top[lane];
-        if (top?.kind === CALL && (did === DID.acted || did === DID.returned)) this.#calls(top, of);
+        // a call is known by its list of actions once it does something
+        if (top?.kind === CALL && (did === DID.acted || did === DID.returned)) top.of = of;
         if (did === DID.dispatched || did === DID.passed_over) top?.items?.push(place);
         switch (did) {
             case DID.acted:
@@ -36,11 +37,7 @@ export class Frames {
                 // where the thread is halted in its place, no line tells of a dispatch
                 for (const words of told) {
                     if (words[0] === "dispatch") this.#push(place, lane, { kind: CALL, of: undefined, context: of, source: at, depth: Number(words[8]) });
-                    if (words[0] === "task") this.rows.replied(of, at, ...words[1].split(".").map(Number));
                 }
-                return;
-            case DID.received:
-                if (moments.attached[place]) this.rows.arrived(moments.attached[place], moments.at.at(place) === lane);
                 return;
             case DID.iterated:
                 if (top?.kind === LOOP) top.of = at;
@@ -50,12 +47,6 @@ export class Frames {
             case DID.loop_ended:
                 return this.#drop(place, lane);
         }
-    }
-
-    /** A call is known by its list of actions once it does something. */
-    #calls(frame, list) {
-        if (frame.source !== undefined && frame.of === undefined) this.rows.calls(frame.context, frame.source, list);
-        frame.of = list;
     }
 
     /** Three actions leave a frame where nothing was missed, answered at once or halted; one starts a task. */
@@ -68,7 +59,7 @@ export class Frames {
         else if (action === "iterate" && !says("iterate")) this.#iterate(place, lane, first ?? -1, -1);
         else if (action === "invoke" && told.some((words) => words[3] === "direct")) this.#push(place, lane, { kind: CALL, of: second ?? -1 });
         else if (action === "task") this.rows.started(place, lane, this.writtenAt(place)?.task);
-        else if (moments.attached[place]) this.rows.attached(place, lane, moments.attached[place], action === "invoke" ? second : undefined);
+        else if (moments.attached[place]) this.rows.attached(place, lane, moments.attached[place]);
     }
 
     /** An iteration begins: what older ones of its context have left is dropped. */

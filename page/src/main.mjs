@@ -2,7 +2,7 @@
 import { MainctxError } from "../../bindings/web/mainctx.mjs";
 import { Detail } from "./detail.mjs";
 import { Editor } from "./editor.mjs";
-import { MOST_MOMENTS, asked, begun, pieces, scriptOf } from "./engine.mjs";
+import { MOST_MOMENTS, begun, pieces, scriptOf } from "./engine.mjs";
 import { bytesOf, inflated, packed, unpacked } from "./link.mjs";
 import { Model } from "./model.mjs";
 import { button, element } from "./parts.mjs";
@@ -123,7 +123,7 @@ async function ask(call, model, ...words) {
     if (model !== shown.model) throw new MainctxError("aborted");
     if (call === "why" && shown.asks) engine.abort();
     shown.asks++;
-    const { text: answer } = await asked(engine, call, model.script, ...words).finally(() => shown.asks--);
+    const { text: answer } = await engine[call](model.script.written, ...words).finally(() => shown.asks--);
     return answer;
 }
 
@@ -224,8 +224,8 @@ async function linked() {
     }
 }
 
-/** An example with names, where the engine takes those. */
-const exampleOf = ({ named, script }) => (named && typeof engine.translate === "function" ? named : script);
+/** An example, with names where it has that form. */
+const exampleOf = ({ named, script }) => named ?? script;
 
 for (const example of examples) {
     const item = element("li", "");

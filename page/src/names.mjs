@@ -7,9 +7,7 @@ export class Names {
     isNamed = false;
     #lists = {};
     #sources = new Map();
-    #described = new Map();
     #tasks = new Map();
-    #given = new Map();
 
     /** Takes the names of the first line of an account. */
     take(lists) {
@@ -18,49 +16,35 @@ export class Names {
 
     /** The name of a thread, a context, a loop and so on, of a number in the list of that key; or the number. */
     of(list, number) {
-        return short(this.whole(list, number) ?? String(number));
+        return short(this.whole(list, number));
     }
 
-    /** The name as the script has it, or undefined. */
+    /** The same, and as long as it is. */
     whole(list, number) {
-        return this.#lists[list]?.[number];
+        return this.#lists[list]?.[number] ?? String(number);
     }
 
-    /** Takes the name of a source that is attached. */
+    /** Takes what a source is called that is attached. */
     attached({ context, source, name }) {
-        if (typeof name === "string") this.#sources.set(`${context}.${source}`, this.#once(`source ${context}`, name, `${context}.${source}`));
+        if (name !== undefined) this.#sources.set(`${context}.${source}`, short(name));
     }
 
-    /** Takes what a source is that has no name. */
-    describe(context, source, what) {
-        if (this.isNamed) this.#described.set(`${context}.${source}`, `${what} (${context}.${source})`);
+    /** Takes the text of a task that is started, which is for readers alone: what is told of it calls it by its thread. */
+    started(lane, number, text) {
+        if (typeof text === "string") this.#tasks.set(`${lane}.${number}`, `${short(text)} (${this.#byThread(lane, number)})`);
     }
 
-    /** Takes the name of a task that is started. */
-    started(lane, number, name) {
-        if (typeof name === "string") this.#tasks.set(`${lane}.${number}`, this.#once("task", name, `${this.of("threads", lane)}.${number}`));
-    }
-
-    /** A name as it is for the first that has it; each later one has its number behind it. */
-    #once(kind, name, number) {
-        const key = `${kind} ${name}`, isNew = !this.#given.has(key);
-        this.#given.set(key, true);
-        return isNew ? short(name) : `${short(name)} (${number})`;
-    }
-
-    /** The name of a source, or what it is; undefined where neither is known. */
+    /** What a source is called, or undefined. */
     nameOf(context, source) {
-        const numbers = `${context}.${source}`;
-        return this.#sources.get(numbers) ?? this.#described.get(numbers);
+        return this.#sources.get(`${context}.${source}`);
     }
 
     /** A source as a sentence has it. */
-    phrase(context, source, numbers = `${context}.${source}`) {
-        const key = `${context}.${source}`;
-        return this.#sources.has(key) ? `source ${this.#sources.get(key)}` : this.#described.get(key) ?? `source ${numbers}`;
+    phrase(context, source) {
+        return this.nameOf(context, source) ?? `source ${context}.${source}`;
     }
 
-    /** A source: its name, what it is, or its numbers. */
+    /** A source: its name, or its numbers. */
     source(context, source) {
         return this.nameOf(context, source) ?? `${context}.${source}`;
     }
@@ -72,21 +56,16 @@ export class Names {
 
     /** A source with its numbers, by which the text tells it. */
     sourceAndNumbers(context, source) {
-        const name = this.source(context, source), numbers = `${context}.${source}`;
-        return name.includes(numbers) ? name : `${name} (${numbers})`;
+        const name = this.nameOf(context, source), numbers = `${context}.${source}`;
+        return name === undefined ? numbers : `${name} (${numbers})`;
     }
 
     task(lane, number) {
-        return this.#tasks.get(`${lane}.${number}`) ?? `${this.of("threads", lane)}.${number}`;
+        return this.#tasks.get(`${lane}.${number}`) ?? this.#byThread(lane, number);
     }
 
-    /** Words of the engine with names in them, where it told numbers; `context` is the one of which an iteration is told. */
-    put(line, context) {
-        if (!this.isNamed) return line;
-        return line.replace(/\bsource (\d+)\.(\d+)/g, (_, of, source) => this.phrase(of, source))
-            .replace(/\bsource (\d+)(?= of context (\d+))/g, (_, source, of) => this.phrase(of, source, source))
-            .replace(/\bsource (\d+)(?![.\d]| of context)/g, (all, source) => (context === null ? all : this.phrase(context, source, source)))
-            .replace(/\b(thread|context|loop|procedure|cancellable|descriptor) (\d+)/g, (_, kind, number) => `${kind} ${this.of(`${kind}s`, number)}`);
+    #byThread(lane, number) {
+        return `${this.of("threads", lane)}.${number}`;
     }
 }
 

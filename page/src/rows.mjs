@@ -25,8 +25,6 @@ export class Rows {
     #byKey = new Map();
     #isSorted = true;
     #tasks = [];
-    #unknown = new Set();
-    #ofSource = new Map();
 
     /** `names` has those of the script. */
     constructor(names) {
@@ -44,16 +42,9 @@ export class Rows {
             this.list.push(row);
             this.#isSorted = false;
             if (kind !== ROW.thread) this.row(lane, ROW.thread);
-            if (kind === ROW.source) this.#known(row);
+            if (kind === ROW.source) this.row(lane, ROW.context, of);
         }
         return row;
-    }
-
-    /** Keeps the row of a source, and makes that of its context. */
-    #known(row) {
-        const key = `${row.of}.${row.source}`;
-        if (this.names.isNamed) this.#ofSource.set(key, [...(this.#ofSource.get(key) ?? []), row]);
-        this.row(row.lane, ROW.context, row.of);
     }
 
     /** Takes a frame that begins. */
@@ -64,42 +55,18 @@ export class Rows {
         else this.#begun(frame, this.row(lane, kind === ITERATION ? ROW.context : ROW.loop, of));
     }
 
-    /** Takes the start of a task, which is the next one of its thread, with its name, if it has one. */
-    started(place, lane, name) {
+    /** Takes the start of a task, which is the next one of its thread, with its text, if it has one. */
+    started(place, lane, text) {
         this.#tasks[lane] = (this.#tasks[lane] ?? -1) + 1;
-        this.names.started(lane, this.#tasks[lane], name);
+        this.names.started(lane, this.#tasks[lane], text);
         const row = this.row(lane, ROW.task, this.#tasks[lane]);
         this.#begun({ from: place, to: Infinity }, row);
         row.marks.push({ from: place, glyph: "s" });
     }
 
-    /** Takes a source that the thread itself attached, by an invoke of a procedure where that is given. */
-    attached(place, lane, { context, source }, invoked) {
-        if (invoked !== undefined) this.#describe(context, source, `invoke of ${this.names.of("procedures", invoked)}`);
+    /** Takes a source that the thread itself attached. */
+    attached(place, lane, { context, source }) {
         this.row(lane, ROW.source, context, source).marks.push({ from: place, glyph: "+" });
-    }
-
-    /** Takes a source that a letter brings: a reply where it comes from the thread itself, else that or an invoke, which its dispatch tells. */
-    arrived({ context, source, name }, isOwn) {
-        if (name !== undefined) return;
-        this.#unknown.add(`${context}.${source}`);
-        this.#describe(context, source, isOwn ? "reply" : "reply or invoke");
-    }
-
-    /** Takes the task of which a source is the reply. */
-    replied(context, source, lane, number) {
-        this.#unknown.delete(`${context}.${source}`);
-        this.#describe(context, source, `reply of task ${this.names.task(lane, number)}`);
-    }
-
-    /** Takes the list that the call of a source has: no reply is left that is unknown then. */
-    calls(context, source, list) {
-        if (this.#unknown.delete(`${context}.${source}`)) this.#describe(context, source, `invoke of ${this.names.of("procedures", list)}`);
-    }
-
-    #describe(context, source, what) {
-        this.names.describe(context, source, what);
-        for (const row of this.#ofSource.get(`${context}.${source}`) ?? []) row.label = LABELS_OF[ROW.source](this.names, row.lane, context, source);
     }
 
     #begun(span, row) {

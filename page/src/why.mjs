@@ -4,24 +4,19 @@ import { element } from "./parts.mjs";
 const STILL = 150; // milliseconds for which a moment is the current one before the engine is asked
 const KEPT = 64; // ticks
 const MOST_TOLD = 400;
-const HEADING = /^(?:note: )?ticks? .*?, thread ([^:,]+)/, ITERATES = / iterates context ([^:,]+)/, NOTE = "note: ";
+const NOTE = "note: ";
+/** A name or a number in the engine's words: in quotes, as JSON has it, where it has other characters than letters, digits and some signs. */
+const CALLED = '("(?:[^"\\\\]|\\\\.)*"|[^\\s,]+?)(?=[:,]?(?: |$))';
+const HEADING = new RegExp(`^(?:note: )?ticks? .*?, thread ${CALLED}`), ITERATES = new RegExp(` iterates context ${CALLED}`);
 
 /** The lines that tell of a thread, and of iterations of one context where it is given: lines that are set in belong to the one above them that is not. */
 function linesOf(text, names, lane, context) {
-    const is = (list, told, number) => told === undefined || number === null || told === String(number) || told === names.of(list, number);
+    const bare = (told) => (told.startsWith('"') ? JSON.parse(told) : told);
+    const is = (list, told, number) => told === undefined || number === null || bare(told) === names.whole(list, number);
     let isKept = true;
     return text.split("\n").slice(0, -1).filter((line) => {
         if (line.startsWith(" ")) return isKept;
         return (isKept = is("threads", HEADING.exec(line)?.[1], lane) && is("contexts", ITERATES.exec(line)?.[1], context));
-    });
-}
-
-/** Lines of the engine with the names of the script: those that are set in speak of sources of the context above them. */
-function named(lines, names) {
-    let context = null;
-    return lines.map((line) => {
-        if (!line.startsWith(" ")) context = ITERATES.exec(line)?.[1] ?? null;
-        return names.put(line, context);
     });
 }
 
@@ -36,7 +31,7 @@ export class Why {
     /** Fills a part with what is said of the tick of a moment. */
     tick(shown, model, place, context) {
         const { moments } = model, { names } = moments, tick = moments.tick.at(place), known = model.why.get(tick);
-        const tell = (text) => told(shown, named(linesOf(text, names, moments.lane.at(place), context), names), "no iteration begins");
+        const tell = (text) => told(shown, linesOf(text, names, moments.lane.at(place), context), "no iteration begins");
         clearTimeout(this.#timer);
         if (known !== undefined) return void tell(known);
         this.#timer = setTimeout(() => this.#asked(shown, "why", [model, tick, tick], (text) => {
@@ -47,7 +42,7 @@ export class Why {
     }
 
     life(shown, model, context, source) {
-        return this.#asked(shown, "life", [model, context, source], (text) => told(shown, named(text.split("\n").slice(0, -1), model.moments.names), "nothing"));
+        return this.#asked(shown, "life", [model, context, source], (text) => told(shown, text.split("\n").slice(0, -1), "nothing"));
     }
 
     #asked(shown, call, words, tell) {
