@@ -131,14 +131,14 @@ impl Why {
         lost: &[u64],
         out: &mut String,
     ) -> Result<(), AllocError> {
-        let begun = iteration.begun;
-        let context = begun.context;
+        let (thread, context) = (iteration.begun.lane, iteration.begun.context);
         let (Some(alike), Some(latest)) = (
-            self.alike.get_mut(begun.lane as usize),
+            self.alike.get_mut(thread as usize),
             self.blocks.get_mut(context as usize),
         ) else {
             return Ok(());
         };
+        let begun = iteration.begun;
         let standings = iteration.standings.as_slice();
         let rows = lane.sources(context);
         let mut block = Block::of(self.alloc, words, context, rows, standings, latest.as_ref())?;
