@@ -1,6 +1,5 @@
 //! Actions, and what did something, in words.
 use account::{Deed, Moment};
-use lane_turn::Word;
 use loop_script::{Action, Body};
 use run_names::{RunNames, Thing};
 use std::alloc::AllocError;
@@ -29,24 +28,6 @@ pub fn action_word(action: &Action) -> &'static str {
         Action::Invoke { .. } => "invoke",
         Action::Give { .. } => "give",
         Action::Log(_) => "log",
-    }
-}
-
-/// The word of an action that missed, as scripts write it.
-pub(crate) fn miss_word(word: Word) -> &'static str {
-    match word {
-        Word::Attach => "attach",
-        Word::Child => "child",
-        Word::Destroy => "destroy",
-        Word::SetReady => "set_ready",
-        Word::SetPriority => "set_priority",
-        Word::Run => "run",
-        Word::Quit => "quit",
-        Word::Disconnect => "disconnect",
-        Word::Push => "push",
-        Word::Pop => "pop",
-        Word::Release => "release",
-        Word::Give => "give",
     }
 }
 

@@ -1,28 +1,7 @@
 //! Ticks and times in words.
 use loop_script::Script;
+use named_lines::push_milliseconds;
 use std::alloc::AllocError;
-
-/// How many microseconds a millisecond has.
-const MILLISECOND: u64 = 1000;
-
-/// Adds a time in microseconds as a number of milliseconds.
-pub fn push_milliseconds(out: &mut String, us: u64) -> Result<(), AllocError> {
-    let whole = us / MILLISECOND;
-    let part = us % MILLISECOND;
-    write!(out, "{whole}")?;
-    if part == 0 {
-        return Ok(());
-    }
-    let tenths = part / 100;
-    let hundredths = part / 10;
-    if part % 100 == 0 {
-        write!(out, ".{tenths}")
-    } else if part % 10 == 0 {
-        write!(out, ".{hundredths:02}")
-    } else {
-        write!(out, ".{part:03}")
-    }
-}
 
 /// Adds a tick with its time.
 pub fn push_tick(out: &mut String, script: &Script, tick: u32) -> Result<(), AllocError> {

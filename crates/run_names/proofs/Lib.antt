@@ -1,1 +1,5 @@
 pub mod Apart
+pub mod Kept
+pub mod Pushed
+pub mod Peel
+pub mod Calls

@@ -1,1 +1,4 @@
 pub mod Called
+pub mod Labelled
+pub mod Text
+pub mod Fit

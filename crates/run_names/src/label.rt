@@ -1,5 +1,12 @@
 //! What sources and handlers are called.
 
+/// Where a source or a handler stands: the context or the thread that has it, and its id there.
+#[derive(Clone, Copy, Debug, PartialEq, Eq, PartialOrd, Ord)]
+pub struct Seat {
+    pub home: u32,
+    pub id: u64,
+}
+
 /// Where a source or a handler comes from.
 #[derive(Clone, Copy, Debug, PartialEq, Eq, PartialOrd, Ord)]
 pub enum Origin {

@@ -1,26 +1,39 @@
 //! The labels of the sources or the handlers of a run.
-use crate::label::{Label, Origin};
+ghost use Rattle.std.specs.Prelude.{◌≡◌, [], OnOk, OnErr};
+ghost use Rattle.run_names.specs.Labelled.{label_of, AreApart};
+
+use crate::label::{Label, Origin, Seat};
 use std::alloc::{AllocError, Global};
 use std::collections::BTreeMap;
+use std::marker::Model;
 
-/// Where something stands: the context or the thread that has it, and its id there.
-#[derive(Clone, Copy, Debug, PartialEq, Eq, PartialOrd, Ord)]
-pub(crate) struct Seat {
-    pub home: u32,
-    pub id: u64,
-}
-
-/// The labels that were given so far.
+/// The labels that were given so far. Contracts see them as a list.
 #[derive(Drop)]
 pub(crate) struct Labels {
-    /// How many have each origin.
+    /// The place of the last of each origin.
     counts: BTreeMap<Origin, u64>,
     given: BTreeMap<Seat, Label>,
 }
 
+impl Model for Labels {
+    ghost use Rattle.std.specs.Prelude.{List};
+    ghost use Rattle.run_names.specs.declared.label.Seat.{Seat};
+    ghost use Rattle.run_names.specs.declared.label.Label.{Label};
+
+    ghost Value = { List (Seat × Label) };
+
+    ghost use Rattle.run_names.specs.Labelled.{AreKept};
+
+    ghost view = { λ l. l.given.entries };
+
+    ghost invariant = { λ l. AreKept ⟦<Seat as Ord>⟧.cmp ⟦<Origin as Ord>⟧.cmp l.counts l.given };
+}
+
 impl Labels {
     /// None was given yet.
-    pub(crate) fn new(alloc: Global) -> Labels {
+    pub(crate) fn new(alloc: Global) -> Labels
+        ensures { result ≡ [] }
+    {
         Labels {
             counts: BTreeMap::new(alloc),
             given: BTreeMap::new(alloc),
@@ -33,14 +46,19 @@ impl Labels {
             return Ok(());
         }
         let before = self.counts.get(&origin).copied().unwrap_or(0);
-        let place = before.saturating_add(1);
+        let Some(place) = before.checked_add(1) else {
+            return Ok(());
+        };
         self.counts.insert(origin, place)?;
         self.given.insert(seat, Label { origin, place })?;
         Ok(())
     }
 
-    /// The label of what stands there.
-    pub(crate) fn get(&self, seat: Seat) -> Option<Label> {
+    /// The label of what stands there. No two are called the same.
+    pub(crate) fn get(&self, seat: Seat) -> Option<Label>
+        ensures label { result ≡ label_of seat self.now }
+        ensures apart { AreApart self.now }
+    {
         self.given.get(&seat).copied()
     }
 }
