@@ -1,4 +1,8 @@
 //! What words ask for.
+ghost use Rattle.std.specs.Prelude.{IfOk};
+ghost use Rattle.inspect_arguments.specs.Answers.{AnswersTo};
+ghost use Rattle.clap.specs.Words.{kind_of};
+
 use clap::Error;
 use clap::error::ErrorKind;
 use std::alloc::{AllocError, Global};
@@ -16,7 +20,9 @@ pub enum Asked<T> {
 
 impl<T> Asked<T> {
     /// What is asked for where `clap` has no matches.
-    pub(crate) fn of_error(alloc: Global, error: &Error) -> Result<Asked<T>, AllocError> {
+    pub(crate) fn of_error(alloc: Global, error: &Error) -> Result<Asked<T>, AllocError>
+        ensures { IfOk result (AnswersTo (kind_of error.now)) }
+    {
         match error.kind() {
             ErrorKind::OutOfMemory => Err(AllocError),
             ErrorKind::DisplayHelp => Ok(Asked::Help(format!(in alloc; "{error}")?)),

@@ -1,10 +1,11 @@
 //! The commands of `mainctx_inspect`, as `clap` has them.
-use crate::flags::{
-    columns, file, lane, most_lines, notes, numbers, source, step, tick, ticks,
-};
+use crate::flags::{columns, file, lane, most_lines, notes, numbers, source, step, tick, ticks};
 use crate::texts;
 use clap::Command;
 use std::alloc::{AllocError, Global};
+
+/// The name of the program, also where usage tells that of a command.
+const PROGRAM: &str = "mainctx_inspect";
 
 const THREAD_ALONE: &str = "thread L alone";
 
@@ -12,7 +13,8 @@ const THREAD: &str = "thread L";
 
 /// The program with its commands.
 pub(crate) fn inspect<'a>(alloc: Global) -> Result<Command<'a>, AllocError> {
-    let program = Command::new(alloc, "mainctx_inspect")
+    let program = Command::new(alloc, PROGRAM)
+        .bin_name(PROGRAM)?
         .no_binary_name(true)
         .subcommand_required(true)
         .about(texts::INSPECT)

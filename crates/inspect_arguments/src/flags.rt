@@ -3,15 +3,25 @@ use clap::{Arg, ArgAction, value_parser};
 use std::alloc::Global;
 
 pub(crate) const LANE: &str = "lane";
+
 pub(crate) const TICKS: &str = "ticks";
+
 pub(crate) const SOURCE: &str = "source";
+
 pub(crate) const TICK: &str = "tick";
+
 pub(crate) const STEP: &str = "step";
+
 pub(crate) const COLUMNS: &str = "columns";
+
 pub(crate) const MOST_LINES: &str = "most-lines";
+
 pub(crate) const NOTES: &str = "notes";
+
 pub(crate) const NUMBERS: &str = "numbers";
+
 pub(crate) const JSON: &str = "json";
+
 pub(crate) const FILE: &str = "FILE";
 
 /// The most that a number of a flag is.
@@ -43,13 +53,10 @@ pub(crate) fn ticks<'a>(alloc: Global) -> Arg<'a> {
 }
 
 pub(crate) fn source<'a>(alloc: Global) -> Arg<'a> {
-    Arg::new(alloc, SOURCE)
-        .long(SOURCE)
-        .value_name("C.S")
-        .help(
-            "source S of context C alone: when it was attached, dispatched, left out and
+    Arg::new(alloc, SOURCE).long(SOURCE).value_name("C.S").help(
+        "source S of context C alone: when it was attached, dispatched, left out and
 why, and destroyed",
-        )
+    )
 }
 
 pub(crate) fn tick<'a>(alloc: Global) -> Arg<'a> {
@@ -88,8 +95,9 @@ pub(crate) fn numbers<'a>(alloc: Global) -> Arg<'a> {
 }
 
 pub(crate) fn json<'a>(alloc: Global) -> Arg<'a> {
-    switch(alloc, JSON)
-        .help("one object a line, with class, pointer, line, column, byte, wanted and found")
+    switch(alloc, JSON).help(
+        "one object a line, with class, pointer, line, column, byte, wanted and found",
+    )
 }
 
 /// A flag with a number behind it.

@@ -1,4 +1,7 @@
 //! The arguments of `mainctx_inspect`.
+ghost use Rattle.std.specs.Prelude.{◌≤◌, IfOk, IfSome};
+ghost use Rattle.inspect_arguments.specs.Bounds.{AsksWithin, IsWithin};
+
 use crate::answers::Asked;
 use crate::commands::inspect;
 use crate::flags::{
@@ -17,7 +20,9 @@ const NO_COMMAND: &str = "error: unrecognized subcommand\n";
 pub fn read_inspect_words<'a>(
     alloc: Global,
     words: &'a [String],
-) -> Result<Asked<Order<'a>>, AllocError> {
+) -> Result<Asked<Order<'a>>, AllocError>
+    ensures { IfOk result AsksWithin }
+{
     let matches = match inspect(alloc)?.try_get_matches_from(words) {
         Ok(matches) => matches,
         Err(error) => return Asked::of_error(alloc, &error),
@@ -35,7 +40,9 @@ pub fn read_inspect_words<'a>(
 }
 
 /// What a command is asked to tell.
-fn order_of<'a>(command: Command, found: &ArgMatches<'a>) -> Result<Order<'a>, WrongValue<'a>> {
+fn order_of<'a>(command: Command, found: &ArgMatches<'a>) -> Result<Order<'a>, WrongValue<'a>>
+    ensures { IfOk result IsWithin }
+{
     Ok(Order {
         command,
         lane: number_of(found, LANE),
@@ -72,7 +79,9 @@ fn source_of<'a>(found: &ArgMatches<'a>) -> Result<Option<Source>, WrongValue<'a
 }
 
 /// The number behind a flag; `clap` lets no greater one through.
-fn number_of(found: &ArgMatches<'_>, flag: &str) -> Option<u32> {
+fn number_of(found: &ArgMatches<'_>, flag: &str) -> Option<u32>
+    ensures { IfSome result (λ number. number ≤ MOST_NUMBER) }
+{
     match found.get_one::<u32>(flag) {
         Some(number) if number <= MOST_NUMBER => Some(number),
         _ => None,
@@ -80,7 +89,10 @@ fn number_of(found: &ArgMatches<'_>, flag: &str) -> Option<u32> {
 }
 
 /// How many characters a line is to have; `clap` lets none through that is out of the bounds.
-fn columns_of(found: &ArgMatches<'_>) -> u32 {
+fn columns_of(found: &ArgMatches<'_>) -> u32
+    ensures least { LEAST_COLUMNS ≤ result }
+    ensures most { result ≤ MOST_COLUMNS }
+{
     match found.get_one::<u32>(COLUMNS) {
         Some(columns) if LEAST_COLUMNS <= columns && columns <= MOST_COLUMNS => columns,
         _ => USUAL_COLUMNS,

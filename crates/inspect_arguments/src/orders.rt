@@ -1,4 +1,8 @@
 //! What is to be told of a run.
+ghost use Rattle.std.specs.Prelude.{◌≡◌, IfSome, Some};
+ghost use Rattle.inspect_arguments.specs.Words.{word_of};
+ghost use Rattle.inspect_arguments.specs.declared.orders.Command.{Command};
+
 use crate::values::{Source, Ticks};
 
 /// What of a run is asked for.
@@ -18,7 +22,10 @@ pub enum Command {
 
 impl Command {
     /// That of a word.
-    pub(crate) fn of_word(word: &str) -> Option<Command> {
+    pub(crate) fn of_word(word: &str) -> Option<Command>
+        ensures word { IfSome result (λ command. word_of command ≡ word.now) }
+        ensures exact { (command : Command) → word_of command ≡ word.now → result ≡ Some command }
+    {
         match word {
             "text" => Some(Command::Text),
             "why" => Some(Command::Why),
