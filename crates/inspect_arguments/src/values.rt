@@ -1,8 +1,10 @@
 //! Values of flags that `clap` has no parser for.
-ghost use Rattle.std.specs.Prelude.{◌≡◌, ℕ, IfSome, Some, codes};
+ghost use Rattle.std.specs.Prelude.{◌≡◌, ◌⊎◌, ℕ, IfSome, Some, codes};
 ghost use Rattle.std.specs.List.{list_all};
 ghost use Rattle.std.specs.Char.{is_ascii_digit};
 ghost use Rattle.inspect_arguments.specs.Forms.{AreNumbers, IsNumber};
+ghost use Rattle.inspect_arguments.specs.declared.values.Source.{Source};
+ghost use Rattle.inspect_arguments.specs.declared.values.Ticks.{Ticks};
 
 use thiserror::Error;
 
@@ -35,7 +37,9 @@ pub(crate) enum WrongValue<'a> {
 impl Ticks {
     /// Those of a text `A..B`.
     pub(crate) fn of_text(text: &str) -> Option<Ticks>
-        ensures { IfSome result (λ ticks. AreNumbers (codes "..") text.now ticks.first ticks.last) }
+        ensures ticks { IfSome result (λ ticks. AreNumbers (codes "..") text.now ticks.first ticks.last) }
+        ensures exact { (ticks : Ticks) → AreNumbers (codes "..") text.now ticks.first ticks.last
+            → result ≡ Some ticks }
     {
         let (first, last) = numbers_of(text, "..")?;
         Some(Ticks { first, last })
@@ -45,7 +49,9 @@ impl Ticks {
 impl Source {
     /// That of a text `C.S`.
     pub(crate) fn of_text(text: &str) -> Option<Source>
-        ensures { IfSome result (λ source. AreNumbers (codes ".") text.now source.context source.id) }
+        ensures source { IfSome result (λ source. AreNumbers (codes ".") text.now source.context source.id) }
+        ensures exact { (source : Source) → AreNumbers (codes ".") text.now source.context source.id
+            → result ≡ Some source }
     {
         let (context, id) = numbers_of(text, ".")?;
         Some(Source { context, id })
@@ -54,7 +60,10 @@ impl Source {
 
 /// Two numbers, with a text between them.
 fn numbers_of(text: &str, between: &str) -> Option<(u32, u32)>
-    ensures { IfSome result (λ numbers. AreNumbers between.now text.now numbers.0 numbers.1) }
+    requires { (between.now ≡ codes ".") ⊎ (between.now ≡ codes "..") }
+    ensures numbers { IfSome result (λ numbers. AreNumbers between.now text.now numbers.0 numbers.1) }
+    ensures exact { (first second : ℕ) → AreNumbers between.now text.now first second
+        → result ≡ Some (first, second) }
 {
     let (left, right) = text.split_once(between)?;
     let left = number_of(left)?;
