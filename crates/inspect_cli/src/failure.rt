@@ -25,7 +25,7 @@ impl Numbered {
 /// Why there is no answer, or no whole one.
 #[derive(Clone, Copy, Debug, Drop, PartialEq, Eq)]
 pub(crate) enum Failure {
-    /// Other arguments.
+    /// Other arguments, which have a text of their own.
     Usage,
     /// The arguments name a thread or a context that the script does not have.
     NotThere,
@@ -101,9 +101,7 @@ impl Failure {
     /// The line on standard error, where it has no number.
     fn line(self) -> &'static str {
         match self {
-            Failure::Usage => {
-                "usage: mainctx_inspect text|why|summary|account|steps|stack|timeline|notes|translate [FLAGS] [FILE]; COMMAND --help tells its flags\n"
-            }
+            Failure::Usage => "error: the arguments are not in UTF-8\n",
             Failure::NotThere => "usage: the script has no such thread or context\n",
             Failure::Memory => "memory\n",
             Failure::Read => "read\n",

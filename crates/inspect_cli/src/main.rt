@@ -4,12 +4,9 @@
 mod arguments;
 mod failure;
 mod first_lines;
-mod flag;
-mod help;
 mod program;
 mod progress;
 mod teller;
-mod wrong;
 
 use std::process::ExitCode;
 

@@ -1,11 +1,11 @@
 //! What the program does, and its exit status.
-use crate::arguments::{Asked, Command, Order, read_words};
+use crate::arguments::point_of;
 use crate::failure::{Failure, Numbered};
 use crate::first_lines::FirstLines;
-use crate::help::help_text;
 use crate::progress::Progress;
 use crate::teller::Teller;
 use account::Account;
+use inspect_arguments::{Asked, Command, Order, read_inspect_words};
 use inspect_picture::{Point, Reach, Stack};
 use inspect_words::{Run, Words, follow_names};
 use loop_script::{Script, ScriptFault};
@@ -46,15 +46,13 @@ pub(crate) fn run(rt: &HostRuntime) -> u8 {
 
 fn attempt(rt: &HostRuntime) -> Result<u8, Failure> {
     let words = words(rt)?;
-    match read_words(words.as_slice()) {
-        Asked::Wrong(wrong) => {
-            let line = wrong.line(rt.alloc())?;
-            Failure::Usage.write(&mut rt.stderr());
-            let _ = rt.stderr().write_all(line.as_bytes());
+    match read_inspect_words(rt.alloc(), words.as_slice())? {
+        Asked::Wrong(text) => {
+            let _ = rt.stderr().write_all(text.as_bytes());
             Ok(Failure::Usage.status())
         }
-        Asked::Help(command) => {
-            write_out(rt, help_text(command))?;
+        Asked::Help(text) => {
+            write_out(rt, text.as_str())?;
             Ok(0)
         }
         Asked::Run(order) => {
@@ -164,7 +162,7 @@ fn tell(rt: &HostRuntime, order: &Order<'_>, given: &Given<'_>) -> Result<u8, Fa
     } else {
         RunNames::numbers(rt.alloc())
     };
-    match order.point() {
+    match point_of(order) {
         Some(point) => tell_point(rt, point, script, names)?,
         None => tell_run(rt, order, script, names)?,
     }
@@ -298,7 +296,7 @@ fn within(what: Numbered, asked: u32, count: u32) -> Result<(), Failure> {
 
 /// Whether the script has the thread and the context of which is asked.
 fn are_there(order: &Order<'_>, script: &Script) -> bool {
-    let lane = match order.window.lane {
+    let lane = match order.lane {
         Some(number) => number < script.lanes(),
         None => true,
     };

@@ -1,6 +1,7 @@
 //! What is told of a run, moment by moment.
-use crate::arguments::{Command, Order};
+use crate::arguments::{source_of, window_of};
 use account::Moment;
+use inspect_arguments::{Command, Order};
 use inspect_picture::{Steps, Timeline};
 use inspect_text::{Life, Moments, NoteList, RunText, Summary, Why};
 use inspect_words::{Run, Words};
@@ -27,9 +28,9 @@ impl Teller {
         words: Words<'_>,
         out: &mut String,
     ) -> Result<Teller, AllocError> {
-        let window = order.window;
+        let window = window_of(order);
         let script = words.script;
-        match (order.command, order.source) {
+        match (order.command, source_of(order)) {
             (Command::Account, _) => Ok(Teller::Moments(Moments::begin(
                 alloc, words, window, out,
             )?)),

@@ -1,7 +1,6 @@
 //! The program `mainctx_check`: what is wrong with a script, and where.
 #![tactic(auto)]
 
-mod arguments;
 mod program;
 
 use std::process::ExitCode;

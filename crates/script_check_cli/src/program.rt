@@ -1,17 +1,10 @@
 //! What the program does, and its exit status.
-use crate::arguments::{Asked, read_words};
+use inspect_arguments::{Asked, CheckOrder, read_check_words};
 use script_report::{Form, InputFault, check_either, read_input};
 use std::alloc::AllocError;
 use std::fs::File;
 use std::io::Write;
 use std::{env, io};
-
-const USAGE: &str = "usage: mainctx_check [--json] [FILE]\n";
-
-const HELP: &str = "usage: mainctx_check [--json] [FILE]\n
-Says what is wrong with a script, each fault with its place; without FILE, of standard input.\n
-  --json   one object a line, with class, pointer, line, column, byte, wanted and found\n
-Status: 0 no fault, 1 other arguments, 2 faults, 3 no memory, 4 the input could not be read or the answer not written.\n";
 
 /// The status where the script has faults.
 const FAULTS: u8 = 2;
@@ -53,7 +46,7 @@ impl Failure {
 
     fn line(self) -> &'static str {
         match self {
-            Failure::Usage => USAGE,
+            Failure::Usage => "error: the arguments are not in UTF-8\n",
             Failure::Memory => "memory\n",
             Failure::Read => "read\n",
             Failure::TooLong => "read: a script has 4194304 bytes at most\n",
@@ -75,13 +68,16 @@ pub(crate) fn run(rt: &HostRuntime) -> u8 {
 
 fn attempt(rt: &HostRuntime) -> Result<u8, Failure> {
     let words = words(rt)?;
-    match read_words(words.as_slice()) {
-        Asked::Wrong => Err(Failure::Usage),
-        Asked::Help => {
-            write_out(rt, HELP)?;
+    match read_check_words(rt.alloc(), words.as_slice())? {
+        Asked::Wrong(text) => {
+            let _ = rt.stderr().write_all(text.as_bytes());
+            Ok(Failure::Usage.status())
+        }
+        Asked::Help(text) => {
+            write_out(rt, text.as_str())?;
             Ok(0)
         }
-        Asked::Check { json, file } => {
+        Asked::Run(CheckOrder { json, file }) => {
             let bytes = bytes_of(rt, file)?;
             let form = Form {
                 json,
