@@ -12,8 +12,8 @@ from typing import Any
 
 from translate import PRIORITIES, Names, Value, read, translated
 
-WORD = r'(?:"(?:[^"\\]|\\.)*"|[A-Za-z0-9_.:-]+)'  # a name: as it is, or in quotes
-TASK = rf"{WORD}(?:\.\d+)?"  # (the point and the digits behind it may be told as letters of a name)
+WORD = r'(?:"(?:[^"\\]|\\.)*"|[A-Za-z0-9_-]+)'  # a name: as it is, or in quotes
+TASK = rf"{WORD}\.\d+"
 LABEL = rf"(?:reply of task {TASK}|invoke of {WORD}|{WORD})(?: #\d+)?"  # what a source or a handler is called
 EVENTS = {
     "dispatch": re.compile(rf"dispatch (?P<source>{LABEL})(?: -> {WORD})? \((?P<priority>-?\w+)(?:, depth (?P<depth>\d+))?\)"),
@@ -26,6 +26,7 @@ EVENTS = {
     "give": re.compile(rf"give (?P<context>{WORD}) to (?P<thread>{WORD})"),
     "cancel": re.compile(rf"cancel (?P<cancellable>{WORD})"),
     "handler": re.compile(rf"handler (?P<handler>{LABEL})"),
+    "late": re.compile(rf"too late: {WORD}"),  # a handler that is connected too late has no id
     "task": re.compile(rf"task (?P<task>{TASK}) (?P<rest>.*)"),
     "same": re.compile(r"(?P<same>miss \w+|halt \w+|end)"),
 }
@@ -37,7 +38,7 @@ def bare(word: str) -> str:
 
 def told(name: str) -> str:
     """A name as it stands in a text: in quotes where it has other characters than these."""
-    return name if re.fullmatch(r"[A-Za-z0-9_.:-]+", name) else json.dumps(name, ensure_ascii=False)
+    return name if re.fullmatch(r"[A-Za-z0-9_-]+", name) else json.dumps(name, ensure_ascii=False)
 
 
 class Run:
@@ -70,7 +71,7 @@ class Run:
     def number(self, kind: str, word: str) -> int:
         return self.names.lists[kind].index(bare(word))
 
-    def event(self, lane: int, event: str, connecting: bool) -> str:
+    def event(self, lane: int, event: str) -> str:
         """What a line tells, in numbers."""
         kind, parts = next((kind, found) for kind, pattern in EVENTS.items() if (found := pattern.fullmatch(event)))
         if kind in ("dispatch", "arrive"):
@@ -93,35 +94,31 @@ class Run:
         if kind == "cancel":
             return f"cancel {self.number('cancellable', parts['cancellable'])}"
         if kind == "handler":
-            return f"handler {0 if connecting else self.handlers[lane, parts['handler']]}"
+            return f"handler {self.handlers[lane, parts['handler']]}"
+        if kind == "late":
+            return "handler 0"
         if kind == "task":
             thread, _, number = parts["task"].rpartition(".")
             return f"task {self.number('thread', thread)}.{number} {parts['rest']}"
         return parts["same"]
 
-    def line(self, lane: int, line: str, connecting: bool) -> str:
+    def line(self, lane: int, line: str) -> str:
         time, event = line.split(" ms  ", 1)
         whole, _, part = time.partition(".")
         tick, rest = divmod(int(whole) * 1000 + int(part.ljust(3, "0")), self.numbers["tick_us"])
         if rest:
             raise ValueError(f"{time} ms is no tick")
-        return f"{tick} {self.event(lane, event, connecting)}"
+        return f"{tick} {self.event(lane, event)}"
 
 
 def put_back(text: str, run_text: str, account: list[dict[str, Any]]) -> str:
     """The text in numbers of what is told of the run of a script, which has this account."""
     run = Run(text, account)
-    # of each line, whether it is that of a handler which an action connects too late
-    late: dict[int, list[bool]] = {}
-    for one in account:
-        if "lines" in one:
-            late.setdefault(one["lane"], []).extend(one.get("action") == "connect" and line.endswith(" handler 0") for line in one["lines"])
-    lines, lane, place = [], -1, 0
+    lines, lane = [], -1
     for line in run_text.splitlines():
         if line.startswith("thread "):
-            lane, place = lane + 1, 0
+            lane += 1
             lines.append(f"thread {run.number('thread', line.removeprefix('thread '))}")
             continue
-        lines.append(run.line(lane, line, late[lane][place]))
-        place += 1
+        lines.append(run.line(lane, line))
     return "".join(f"{line}\n" for line in lines)

@@ -1,29 +1,52 @@
 //! The lines of a run with names.
+ghost use Rattle.std.specs.Prelude.{◌≡◌, false, IfOk, OnOk, slice_get, string_bytes};
+ghost use Rattle.tick_stepper.specs.Account.{lanes_in};
+ghost use Rattle.inspect_words.specs.Named.{Adds, AreWritten, WritesOf};
+
 use crate::follow::{TOO_LATE, callee_of};
 use crate::run::Run;
 use crate::written::text_of;
-use account::{Deed, Moment};
-use lane_turn::{Event, LaneState, Line, Place};
+use account::{Account, Deed, Moment};
+use lane_turn::{Event, Line, Place};
 use loop_script::Action;
 use named_lines::{Told, push_line};
 use run_names::RunNames;
 use std::alloc::{AllocError, Global};
 
-/// The lines that a moment wrote, with names: the time, and what the line tells.
-pub fn named_text_of(alloc: Global, run: Run<'_>, moment: &Moment) -> Result<String, AllocError> {
+/// The lines that a moment wrote, with names: the time, and what the line tells. Of a spent account nothing is promised.
+pub fn named_text_of(alloc: Global, run: Run<'_>, moment: &Moment) -> Result<String, AllocError>
+    ensures { run.entry.account.now.spent ≡ false → IfOk result (λ text. WritesOf (slice_get (lanes_in run.entry.account.now.place) moment.now.lane) moment.now run.entry.account.now.script.tick_us run.entry.names.now (string_bytes text)) }
+{
     let mut text = String::new(alloc);
-    let Some(lane) = run.account.lane(moment.lane) else {
-        return Ok(text);
-    };
-    let Some(lines) = lane.trace().get(moment.from..moment.to) else {
-        return Ok(text);
-    };
+    push_lines(&mut text, run, moment, lines_of(run.account, moment))?;
+    Ok(text)
+}
+
+/// The lines that a moment wrote.
+fn lines_of<'a>(account: &'a Account, moment: &Moment) -> &'a [Line]
+    ensures { account.now.spent ≡ false → AreWritten (slice_get (lanes_in account.now.place) moment.now.lane) moment.now result.now }
+{
+    match account.lane(moment.lane) {
+        Some(lane) => lane.trace().get(moment.from..moment.to).unwrap_or(&[]),
+        None => &[],
+    }
+}
+
+/// Adds lines that a moment wrote, with names.
+fn push_lines(
+    out: &mut String,
+    run: Run<'_>,
+    moment: &Moment,
+    lines: &[Line],
+) -> Result<(), AllocError>
+    ensures { OnOk result (Adds run.entry.account.now.script.tick_us run.entry.names.now moment.now.lane lines.now (string_bytes out.old) (string_bytes out.new)) }
+{
     let tick_us = run.account.script().tick_us();
     for line in lines {
-        let told = told_of(run, moment, lane, line);
-        push_line(&mut text, run.names, tick_us, &told)?;
+        let told = told_of(run, moment, line);
+        push_line(out, run.names, tick_us, &told)?;
     }
-    Ok(text)
+    Ok(())
 }
 
 /// The lines that a moment wrote, with names where there are some, else as the text of the run has them.
@@ -46,8 +69,11 @@ pub fn push_priority(out: &mut String, names: &RunNames, priority: i32) -> Resul
     }
 }
 
-/// A line that a moment of a thread wrote, with what the line does not say itself.
-fn told_of(run: Run<'_>, moment: &Moment, lane: &LaneState, line: &Line) -> Told {
+/// A line that a moment wrote, with what the line does not say itself.
+fn told_of(run: Run<'_>, moment: &Moment, line: &Line) -> Told
+    ensures line { result.line ≡ line.now }
+    ensures lane { result.lane ≡ moment.now.lane }
+{
     let action = action_of(run, moment);
     let callee = match (line.event, action) {
         (
@@ -57,7 +83,10 @@ fn told_of(run: Run<'_>, moment: &Moment, lane: &LaneState, line: &Line) -> Told
                 ..
             },
             _,
-        ) => callee_of(lane, Place { context, id }),
+        ) => match run.account.lane(moment.lane) {
+            Some(lane) => callee_of(lane, Place { context, id }),
+            None => None,
+        },
         (Event::Invoke(_, _), Some(Action::Invoke { proc, .. })) => Some(*proc),
         _ => None,
     };

@@ -156,7 +156,7 @@ module _ (ns : Names) (sources handlers : List (Seat × Label)) where
   dispatch_same : IsOfNames calling ns → (o u : Option ℕ) (h k m n : ℕ) (p q : ℤ) (d g : ℕ) (r s : List ℕ) → NumberFits o → NumberFits u
       → EventFits (Dispatch h m p d) → EventFits (Dispatch k n q g)
       → (source_text calling h m ++ (callee_text calling o ++ (codes " (" ++ (priority_text p ++ (depth_text d ++ codes ")"))))) ++ 10 ∷ r
-        ≡ (source_text calling k n ++ (callee_text calling u ++ (codes " (" ++ (priority_text q ++ (depth_text g ++ codes ")"))))) ++ 10 ∷ s
+      ≡ (source_text calling k n ++ (callee_text calling u ++ (codes " (" ++ (priority_text q ++ (depth_text g ++ codes ")"))))) ++ 10 ∷ s
       → (Dispatch h m p d ≡ Dispatch k n q g) × (r ≡ s)
   dispatch_same is o u h k m n p q d g r s of uf x y e =
       let x1 = priority_text p ++ (depth_text d ++ 41 ∷ 10 ∷ r) in

@@ -57,6 +57,7 @@ told_as (pos n) = by (n == 0) (n == 100) (n == 200) (n == 300) refl refl refl re
   where
     is : (k : ℕ) → (n == k) ≡ true → k ≡ n
     is k h = grind (arith, nat_tests)
+
     by : (a b c d : Bool) → (n == 0) ≡ a → (n == 100) ≡ b → (n == 200) ≡ c → (n == 300) ≡ d → IsWord (pos n) ⊎ (priority_text (pos n) ≡ signed_decimal (pos n))
     by true b c d x y z w = inl (subst (λ k. IsWord (pos k)) (is 0 x) (record { again = refl; letter = omega arith; plain = refl }))
     by false true c d x y z w = inl (subst (λ k. IsWord (pos k)) (is 100 y) (record { again = refl; letter = omega arith; plain = refl }))
@@ -67,6 +68,7 @@ told_as (negsuc n) = by (n == 99) refl
   where
     is : (k : ℕ) → (n == k) ≡ true → k ≡ n
     is k h = grind (arith, nat_tests)
+
     by : (a : Bool) → (n == 99) ≡ a → IsWord (negsuc n) ⊎ (priority_text (negsuc n) ≡ signed_decimal (negsuc n))
     by true x = inl (subst (λ k. IsWord (negsuc k)) (is 99 x) (record { again = refl; letter = omega arith; plain = refl }))
     by false x = inr (λ i. if x i then codes "HIGH" else signed_decimal (negsuc n))
@@ -129,14 +131,19 @@ shape_of p h = by (p == 0) (p % 100 == 0) (p % 10 == 0) refl refl refl
   where
     is : (m : ℕ) → (m == 0) ≡ true → m ≡ 0
     is m x = grind (arith, nat_tests)
+
     digit : (d : ℕ) → d < 10 → decimal d ≡ (48 + d) ∷ []
     digit d x = decimal_digit d x
+
     first : decimal (p / 100) ≡ (48 + p / 100) ∷ []
     first = digit (p / 100) (omega (arith, h))
+
     second : decimal (p / 10 % 10) ≡ (48 + p / 10 % 10) ∷ []
     second = digit (p / 10 % 10) (omega arith)
+
     third : decimal (p % 10) ≡ (48 + p % 10) ∷ []
     third = digit (p % 10) (omega arith)
+
     by : (a b c : Bool) → (p == 0) ≡ a → (p % 100 == 0) ≡ b → (p % 10 == 0) ≡ c → Shape p (part_text p)
     by true b c x y z = subst (Shape p) (sym (ap (λ k. if k then [] else (if p % 100 == 0 then codes "." ++ decimal (p / 100) else (if p % 10 == 0 then codes "." ++ (decimal (p / 100) ++ decimal (p / 10 % 10)) else codes "." ++ (decimal (p / 100) ++ (decimal (p / 10 % 10) ++ decimal (p % 10)))))) x)) (none (is p x))
     by false true c x y z =

@@ -113,11 +113,7 @@ fn push_with(
 }
 
 /// Adds the procedure that something calls, where it calls one.
-fn push_callee(
-    out: &mut String,
-    names: &RunNames,
-    callee: Option<u32>,
-) -> Result<(), AllocError>
+fn push_callee(out: &mut String, names: &RunNames, callee: Option<u32>) -> Result<(), AllocError>
     ensures { OnOk result (string_bytes out.new ≡ string_bytes out.old ++ lines.callee_text names.now callee) }
 {
     match callee {
@@ -166,12 +162,7 @@ fn push_invoke(
 }
 
 /// Adds a handler that is called; of one that is connected too late, the slot of the action that connects it.
-fn push_handler(
-    out: &mut String,
-    names: &RunNames,
-    told: &Told,
-    id: u64,
-) -> Result<(), AllocError>
+fn push_handler(out: &mut String, names: &RunNames, told: &Told, id: u64) -> Result<(), AllocError>
     ensures { OnOk result (string_bytes out.new ≡ string_bytes out.old ++ lines.handler_or_late names.now told.now id) }
 {
     if id == TOO_LATE {

@@ -1,5 +1,5 @@
 -- What the things of a run with names are called is told apart, whatever stands behind it.
-use Rattle.std.proofs.Common.{◌≡◌, ◌≢◌, ◌∙◌, sym, refl, ap, subst, ℕ, ◌+◌, ◌<◌, ◌≤◌, ◌^◌, List, [], ◌∷◌, ◌++◌, codes, Bool, true, false, ◌&&◌, ◌||◌, ◌==◌, cond, Option, Some, None, IfSome, arith, append_assoc, get_or, length, unwrap_or, slice_get}
+use Rattle.std.proofs.Common.{◌≡◌, ◌∙◌, sym, refl, ap, subst, ℕ, ◌<◌, ◌^◌, List, [], ◌∷◌, ◌++◌, codes, Bool, true, false, ◌&&◌, ◌==◌, Option, Some, None, IfSome, arith, append_assoc, get_or, length, unwrap_or}
 use Rattle.std.proofs.lemmas.Bool.{true≢false}
 use Rattle.std.proofs.lemmas.Bool.Decides.{nat_tests}
 use Rattle.std.proofs.lemmas.Fmt.{decimal_nonempty}
@@ -7,7 +7,7 @@ use Rattle.std.proofs.lemmas.List.{append_cancel_left}
 use Rattle.std.specs.Prelude.{if◌then◌else◌}
 use Rattle.std.specs.Fmt.{decimal}
 use Rattle.std.specs.List.{list_all}
-use Rattle.json.specs.Print.{quoted, escape}
+use Rattle.json.specs.Print.{quoted}
 use Rattle.named.specs.Names.{Names, of_kind, number_of}
 use Rattle.named.specs.declared.sort.Kind.{Kind}
 use Rattle.named.specs.declared.sort.Kind.TheVariants as kinds
@@ -16,7 +16,7 @@ use Rattle.run_names.specs.declared.label.Origin.{Origin}
 use Rattle.run_names.specs.declared.label.Origin.TheVariants.{Slot, Reply, Invoke}
 use Rattle.run_names.specs.declared.label.Seat.{Seat}
 use Rattle.run_names.specs.Called.{HaveNumbers, name_in}
-use Rattle.run_names.specs.Labelled.{label_of, AreApart}
+use Rattle.run_names.specs.Labelled.{label_of}
 use Rattle.run_names.specs.Text.{Calling, is_plain, is_bare, name_text, name_or, number_text, called, within, origin_text, place_text, label_text, label_or, id_text, seat_text, source_text, handler_text, quoted_or}
 use Rattle.run_names.specs.Fit.{OriginFits, LabelFits, AreLabels, IsOfNames}
 use Rattle.run_names.proofs.Peel.{Ends, peel_name, peel_decimal, peel_quoted, plain_decimal, tail_of}

@@ -1,5 +1,5 @@
 -- A label that is given is none of the others.
-use Rattle.std.proofs.Common.{◌≡◌, ◌∙◌, sym, refl, ap, subst, ℕ, ◌+◌, ◌<◌, ◌≤◌, List, Bool, true, false, cond, Option, Some, None, arith, unwrap_or}
+use Rattle.std.proofs.Common.{◌≡◌, ◌∙◌, sym, refl, ap, subst, ℕ, ◌<◌, ◌≤◌, Bool, true, false, cond, Some, arith, unwrap_or}
 use Rattle.std.specs.declared.cmp.Ordering.{Ordering}
 use Rattle.std.specs.Map.{lookup}
 use Rattle.std.specs.BTreeMap.{BTreeMap, get, is_at}
@@ -53,18 +53,23 @@ placed {seats} {origins} tell counts counts' given given' seat label low updates
   where
     before : AreKept seats origins counts' given
     before = raised tell counts counts' given label.origin label.place (omega (arith, low)) updates kept
+
     old : (s : Seat) (l : Label) → get seats given' s ≡ Some l → is_at (seats seat) s ≡ false → get seats given s ≡ Some l
     old s l e h = sym (more s ∙ ap (λ b. cond b (Some label) (get seats given s)) h) ∙ e
+
     new : (s : Seat) (l : Label) → get seats given' s ≡ Some l → is_at (seats seat) s ≡ true → label ≡ l
     new s l e h = some_same label l (sym (more s ∙ ap (λ b. cond b (Some label) (get seats given s)) h) ∙ e)
+
     counted_by : (s : Seat) (l : Label) → get seats given' s ≡ Some l → (b : Bool) → is_at (seats seat) s ≡ b → l.place ≤ last_place (get origins counts' l.origin)
     counted_by s l e true h = subst (λ x. x.place ≤ last_place (get origins counts' x.origin)) (new s l e h) (subst (λ x. label.place ≤ last_place x) (sym own) (omega arith))
     counted_by s l e false h = before.counted s l (old s l e h)
+
     apart_from : (s : Seat) (l : Label) → get seats given s ≡ Some l → label ≡ l → ⊥
     apart_from s l e h =
         let low' : l.place ≤ last_place (get origins counts l.origin) = kept.counted s l e in
         let bad : label.place ≤ last_place (get origins counts label.origin) = subst (λ x. x.place ≤ last_place (get origins counts x.origin)) (sym h) low' in
         omega (arith, low, bad)
+
     apart_by : (s t : Seat) (l : Label) → get seats given' s ≡ Some l → get seats given' t ≡ Some l → (a b : Bool) → is_at (seats seat) s ≡ a → is_at (seats seat) t ≡ b → s ≡ t
     apart_by s t l e f true true g h = sym (tell.seat seat s g) ∙ tell.seat seat t h
     apart_by s t l e f true false g h = absurd (apart_from t l (old t l f h) (new s l e g))

@@ -1,5 +1,5 @@
 -- What is told of the things of a run is told apart, whatever stands behind it.
-use Rattle.std.proofs.Common.{◌≡◌, ◌≢◌, ◌∙◌, sym, refl, ap, subst, ℕ, ◌+◌, ◌<◌, ◌≤◌, ◌^◌, List, [], ◌∷◌, ◌++◌, codes, Bool, true, false, ◌&&◌, ◌||◌, ◌==◌, cond, ◌%◌, Option, Some, None, IfSome, arith, append_assoc, get_or, drop, unwrap_or, slice_get}
+use Rattle.std.proofs.Common.{◌≡◌, ◌∙◌, sym, refl, ap, ℕ, ◌+◌, ◌<◌, ◌^◌, List, [], ◌∷◌, ◌++◌, Bool, true, false, ◌&&◌, ◌%◌, arith, append_assoc, get_or, unwrap_or}
 use Rattle.std.proofs.lemmas.Bool.{true≢false}
 use Rattle.std.proofs.lemmas.Bool.Decides.{nat_tests}
 use Rattle.std.proofs.lemmas.Fmt.{decimal_injective, decimal_by_steps}
@@ -11,11 +11,7 @@ use Rattle.std.specs.List.{list_all}
 use Rattle.json.specs.Print.{quoted, escape}
 use Rattle.json.specs.Text.{content, plain}
 use Rattle.json.proofs.Printed.Strings.{content-escape}
-use Rattle.named.specs.Names.{Names, of_kind, number_of}
-use Rattle.named.specs.declared.sort.Kind.{Kind}
-use Rattle.named.specs.declared.sort.Kind.TheVariants as kinds
-use Rattle.run_names.specs.Called.{HaveNumbers, name_in}
-use Rattle.run_names.specs.Text.{is_plain, is_bare, name_text, name_or, number_text, called, within}
+use Rattle.run_names.specs.Text.{is_plain, is_bare, name_text}
 
 -- what may stand behind a name: nothing that could be of it
 abbrev pub Ends : List ℕ → Type 0

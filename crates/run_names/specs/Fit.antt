@@ -1,5 +1,5 @@
 -- What things are called by, in a run of a script with names.
-use Rattle.std.specs.Prelude.{◌≡◌, ◌<◌, ◌^◌, ℕ, List, Some}
+use Rattle.std.specs.Prelude.{◌≡◌, ◌<◌, ◌^◌, List, Some}
 use Rattle.named.specs.Names.{Names}
 use Rattle.run_names.specs.declared.label.Label.{Label}
 use Rattle.run_names.specs.declared.label.Origin.{Origin}

@@ -1,4 +1,4 @@
-use Rattle.std.proofs.Common.{rules, ◌≡◌, ◌∙◌, sym, ap, ◌++◌, OnOk, string_bytes, [], ◌∷◌, List, ℕ, append-nil, Result, Ok, Err, Bor, subst, is_ok}
+use Rattle.std.proofs.Common.{◌≡◌, ◌∙◌, sym, ap, ◌++◌, OnOk, string_bytes, [], ◌∷◌, List, ℕ, append-nil, Result, Ok, Err, Bor, subst, is_ok}
 use Rattle.std.specs.Prelude.{MatchResult, if◌then◌else◌}
 use Rattle.std.specs.Result.{result_unwrap_or}
 use Rattle.std.specs.Str.{IsUtf8}

@@ -1,4 +1,4 @@
-use Rattle.std.proofs.Common.{rules, ◌≡◌, ◌∙◌, sym, refl, ap, true, false, ℕ, ◌+◌, arith}
+use Rattle.std.proofs.Common.{rules, ◌≡◌, ap, true, ◌+◌, arith}
 use Rattle.std.proofs.lemmas.Bool.Decides.{nat_tests}
 use Rattle.std.specs.BTreeMap.{is_at, get}
 use Rattle.std.specs.declared.cmp.Ord as ord
