@@ -1,4 +1,5 @@
-use Rattle.std.proofs.Common.{◌≡◌, ℕ, List, Bool, true, false, Result, Ok, Err, AllocError, IfOk, inr, subst, sym, rules}
+use Rattle.std.proofs.Common.{◌≡◌, ℕ, List, Bool, true, false, Result, Ok, Err, IfOk, inr, subst, sym, rules}
+use Rattle.std.specs.declared.alloc.AllocError.{AllocError}
 use Rattle.toml_names.specs.Answer.{StandsFor}
 use Rattle.script_report.specs.Verdict.{JudgesEither}
 use Rattle.script_report.specs.TomlVerdict.{JudgesToml, JudgesFile}
