@@ -12,7 +12,7 @@ use loop_script::{Script, ScriptFault};
 use mainctx::{MainFault, OverWrite, run_alone};
 use named::translate_bytes;
 use run_names::RunNames;
-use script_report::{Form, check_either, read_input};
+use script_report::{Form, Language, check_either, read_input, read_toml};
 use std::fs::File;
 use std::io::Write;
 use std::str::from_utf8;
@@ -56,7 +56,9 @@ fn attempt(rt: &HostRuntime) -> Result<u8, Failure> {
             Ok(0)
         }
         Asked::Run(order) => {
-            let bytes = bytes_of(rt, order.file)?;
+            let Some(bytes) = script_of(rt, &order)? else {
+                return Ok(REFUSED);
+            };
             let numbered = translate_bytes(rt.alloc(), bytes.as_slice())?;
             let given = Given {
                 bytes: bytes.as_slice(),
@@ -88,6 +90,31 @@ fn bytes_of(rt: &HostRuntime, file: Option<&str>) -> Result<Vec<u8>, Failure> {
             Err(_) => Err(Failure::Read),
         },
         _ => Ok(read_input(rt.alloc(), &mut rt.stdin())?),
+    }
+}
+
+/// The bytes of a script, in JSON. With None they are TOML that stands for none, and what is wrong was written.
+fn script_of(rt: &HostRuntime, order: &Order<'_>) -> Result<Option<Vec<u8>>, Failure> {
+    let bytes = bytes_of(rt, order.file)?;
+    let form = form_of(order);
+    match form.language {
+        Language::Json => Ok(Some(bytes)),
+        Language::Toml => {
+            let mut out = String::new(rt.alloc());
+            let text = read_toml(rt.alloc(), &form, bytes.as_slice(), &mut out)?;
+            write_out(rt, out.as_str())?;
+            Ok(text)
+        }
+    }
+}
+
+/// How what is wrong is written.
+fn form_of<'a>(order: &Order<'a>) -> Form<'a> {
+    let name = order.file.unwrap_or("<stdin>");
+    Form {
+        json: order.command == Command::Account,
+        name,
+        language: Language::of_file(name),
     }
 }
 
@@ -140,12 +167,8 @@ fn write_text(rt: &HostRuntime, order: &Order<'_>, given: &Given<'_>) -> Result<
 
 /// Writes what is wrong with a script, as `mainctx_check` does.
 fn refuse(rt: &HostRuntime, order: &Order<'_>, given: &Given<'_>) -> Result<u8, Failure> {
-    let form = Form {
-        json: order.command == Command::Account,
-        name: order.file.unwrap_or("<stdin>"),
-    };
     let mut out = String::new(rt.alloc());
-    let _ = check_either(rt.alloc(), &form, given.bytes, &mut out)?;
+    let _ = check_either(rt.alloc(), &form_of(order), given.bytes, &mut out)?;
     write_out(rt, out.as_str())?;
     Ok(REFUSED)
 }

@@ -13,7 +13,7 @@ use crate::reading::{names_of, read_script};
 use inspect_text::{Asked, push_asked};
 use inspect_words::{SourceName, Window};
 use mainctx::{MainFault, OverWrite, run_alone};
-use script_report::{Form, check_either};
+use script_report::{Form, Language, check_either};
 use std::alloc::Global;
 
 /// Puts a text into a room, as much of it as fits, and answers whether that is the whole.
@@ -123,6 +123,7 @@ pub extern "C" fn mainctx_check(
     let form = Form {
         json: true,
         name: "",
+        language: Language::Json,
     };
     match check_either(alloc, &form, script, &mut told) {
         Err(_) => MEMORY,

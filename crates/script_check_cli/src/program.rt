@@ -1,6 +1,6 @@
 //! What the program does, and its exit status.
 use inspect_arguments::{Asked, CheckOrder, read_check_words};
-use script_report::{Form, InputFault, check_either, read_input};
+use script_report::{Form, InputFault, Language, check_file, read_input};
 use std::alloc::AllocError;
 use std::fs::File;
 use std::io::Write;
@@ -79,12 +79,14 @@ fn attempt(rt: &HostRuntime) -> Result<u8, Failure> {
         }
         Asked::Run(CheckOrder { json, file }) => {
             let bytes = bytes_of(rt, file)?;
+            let name = file.unwrap_or("<stdin>");
             let form = Form {
                 json,
-                name: file.unwrap_or("<stdin>"),
+                name,
+                language: Language::of_file(name),
             };
             let mut out = String::new(rt.alloc());
-            let is_right = check_either(rt.alloc(), &form, bytes.as_slice(), &mut out)?;
+            let is_right = check_file(rt.alloc(), &form, bytes.as_slice(), &mut out)?;
             write_out(rt, out.as_str())?;
             Ok(if is_right { 0 } else { FAULTS })
         }

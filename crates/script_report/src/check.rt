@@ -3,9 +3,8 @@ ghost use Rattle.std.specs.Prelude.{IfOk};
 ghost use Rattle.script_report.specs.Verdict.{Judges};
 
 use crate::cursor::Cursor;
-use crate::excerpt::push_excerpt;
 use crate::layout::layout_of;
-use crate::report::{Form, push_faults, push_object};
+use crate::report::{Form, Said, push_faults, push_unreadable};
 use crate::summary::{Threads, summary};
 use loop_script::Script;
 use script_check::script_faults;
@@ -29,7 +28,13 @@ pub fn check_script(
         Err(error) => {
             let why = format!(in alloc; "{error}")?;
             let at = Cursor::of_line(bytes, error.line(), error.column());
-            push_unreadable(alloc, form, bytes, at, why.as_str(), out)?;
+            let said = Said {
+                class: "not json",
+                wanted: "one JSON value",
+                found: why.as_str(),
+            };
+            let place = form.told_at(Some(at));
+            push_unreadable(alloc, form, bytes, place, &said, out)?;
             return Ok(false);
         }
     };
@@ -59,24 +64,4 @@ pub(crate) fn push_summary(
         Ok(script) => out.push_str(summary(alloc, threads, &script)?.as_str()),
         Err(_) => Err(AllocError),
     }
-}
-
-/// Where reading stopped, and why.
-fn push_unreadable(
-    alloc: Global,
-    form: &Form<'_>,
-    bytes: &[u8],
-    at: Cursor,
-    why: &str,
-    out: &mut String,
-) -> Result<(), AllocError> {
-    if form.json {
-        return push_object(alloc, out, "not json", "", Some(at), "one JSON value", why);
-    }
-    let name = form.name;
-    let line = at.line;
-    let column = at.column;
-    writeln!(out, "{name}:{line}:{column}: not json: {why}")?;
-    push_excerpt(out, bytes, at, at.byte)?;
-    out.push_str("1 fault; mainctx answers 'script: not json'\n")
 }

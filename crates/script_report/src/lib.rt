@@ -17,10 +17,12 @@ mod order;
 mod report;
 mod summary;
 mod told;
+mod toml_script;
 mod twice;
 mod words;
 
 pub use check::check_script;
 pub use forms::{Either, check_either, read_either};
 pub use input::{InputFault, read_input};
-pub use report::Form;
+pub use report::{Form, Language};
+pub use toml_script::{check_file, read_toml};

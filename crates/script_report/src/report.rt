@@ -18,6 +18,25 @@ use std::alloc::{AllocError, Global};
 /// How many faults are told at most.
 pub(crate) const MOST_TOLD: usize = 100;
 
+/// What the bytes of a script are written in.
+#[derive(Clone, Copy, Debug, PartialEq, Eq)]
+pub enum Language {
+    Json,
+    /// The JSON text of a script stands nowhere, so no line of it is told.
+    Toml,
+}
+
+impl Language {
+    /// That of a file: TOML where its name ends in `.toml`.
+    pub fn of_file(name: &str) -> Language {
+        if name.ends_with(".toml") {
+            Language::Toml
+        } else {
+            Language::Json
+        }
+    }
+}
+
 /// How a report is written.
 #[derive(Clone, Copy)]
 pub struct Form<'a> {
@@ -25,6 +44,17 @@ pub struct Form<'a> {
     pub json: bool,
     /// The name of the file.
     pub name: &'a str,
+    pub language: Language,
+}
+
+impl Form<'_> {
+    /// A place in a script's JSON text, where there is one that somebody wrote.
+    pub(crate) fn told_at(&self, at: Option<Cursor>) -> Option<Cursor> {
+        match self.language {
+            Language::Json => at,
+            Language::Toml => None,
+        }
+    }
 }
 
 /// The class as the program `mainctx` says it.
@@ -73,11 +103,11 @@ pub(crate) fn push_faults(
     if form.json {
         return Ok(());
     }
-    push_sum(out, faults)
+    push_sum(out, form.language, faults)
 }
 
-/// The last line: how many there are, and what `mainctx` answers.
-fn push_sum(out: &mut String, faults: &[Fault]) -> Result<(), AllocError> {
+/// The last line: how many there are, and what `mainctx` answers of the bytes, where it reads such.
+fn push_sum(out: &mut String, language: Language, faults: &[Fault]) -> Result<(), AllocError> {
     let count = faults.len();
     let class = first_class(faults).map_or("", class_text);
     if count == 1 {
@@ -89,7 +119,10 @@ fn push_sum(out: &mut String, faults: &[Fault]) -> Result<(), AllocError> {
         let others = count.saturating_sub(MOST_TOLD);
         write!(out, ", of which {others} are not told here")?;
     }
-    writeln!(out, "; mainctx answers 'script: {class}'")
+    match language {
+        Language::Json => writeln!(out, "; mainctx answers 'script: {class}'"),
+        Language::Toml => out.push_str("\n"),
+    }
 }
 
 /// A place as it is written.
@@ -145,27 +178,60 @@ pub(crate) fn push_told(
         found,
     } = *said;
     let pointer = place.pointer;
+    let at = form.told_at(place.at);
     if form.json {
-        return push_object(alloc, out, class, pointer, place.at, wanted, found);
+        return push_object(alloc, out, class, pointer, at, wanted, found);
     }
-    let name = form.name;
-    match place.at {
-        None => write!(out, "{name}: ")?,
-        Some(at) => {
-            let line = at.line;
-            let column = at.column;
-            write!(out, "{name}:{line}:{column}: ")?;
-        }
-    }
+    push_lead(out, form.name, at)?;
     writeln!(out, "{class}: {wanted}, {found}")?;
     if pointer.is_empty() {
         out.push_str("  at the top\n")?;
     } else {
         writeln!(out, "  at {pointer}")?;
     }
-    match place.at {
+    match at {
         None => Ok(()),
         Some(at) => push_excerpt(out, bytes, at, place.marked),
+    }
+}
+
+/// Adds the name of the file, and the line and the column where they are known.
+fn push_lead(out: &mut String, name: &str, at: Option<Cursor>) -> Result<(), AllocError> {
+    match at {
+        None => write!(out, "{name}: "),
+        Some(at) => {
+            let line = at.line;
+            let column = at.column;
+            write!(out, "{name}:{line}:{column}: ")
+        }
+    }
+}
+
+/// Adds where reading of bytes stopped, and why: they are not in their language.
+pub(crate) fn push_unreadable(
+    alloc: Global,
+    form: &Form<'_>,
+    bytes: &[u8],
+    at: Option<Cursor>,
+    said: &Said<'_>,
+    out: &mut String,
+) -> Result<(), AllocError> {
+    let Said {
+        class,
+        wanted,
+        found,
+    } = *said;
+    if form.json {
+        return push_object(alloc, out, class, "", at, wanted, found);
+    }
+    push_lead(out, form.name, at)?;
+    writeln!(out, "{class}: {found}")?;
+    if let Some(at) = at {
+        push_excerpt(out, bytes, at, at.byte)?;
+    }
+    match form.language {
+        Language::Json => out.push_str("1 fault; mainctx answers 'script: not json'\n"),
+        Language::Toml => out.push_str("1 fault\n"),
     }
 }
 

@@ -1,0 +1,11 @@
+//! A script in TOML as the JSON text of the same value.
+#![tactic(auto)]
+
+mod fault;
+mod nesting;
+mod place;
+mod translation;
+mod value;
+
+pub use fault::{TomlFault, Unfit};
+pub use translation::json_of_toml;
