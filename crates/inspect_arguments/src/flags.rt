@@ -37,7 +37,9 @@ pub(crate) const MOST_COLUMNS: u32 = 9999;
 
 /// The script.
 pub(crate) fn file<'a>(alloc: Global) -> Arg<'a> {
-    Arg::new(alloc, FILE).help("the script; without it, or with -, standard input")
+    Arg::new(alloc, FILE).help(
+        "the script, in TOML where its name ends in .toml; without it, or with -, standard input",
+    )
 }
 
 /// A thread, of which this says more.

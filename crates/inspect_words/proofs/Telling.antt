@@ -1,5 +1,5 @@
 -- A line that is added behind the others is told with them.
-use Rattle.std.proofs.Common.{◌≡◌, ◌∙◌, sym, refl, ap, subst, ℕ, suc, ◌+◌, ◌<◌, List, [], ◌∷◌, ◌++◌, length, take, get_or, map, append_assoc, append-nil, arith, Option, Some, None}
+use Rattle.std.proofs.Common.{◌≡◌, ◌∙◌, sym, ap, ℕ, suc, ◌+◌, ◌<◌, List, [], ◌∷◌, ◌++◌, length, take, get_or, map, append_assoc, append-nil, arith, Option, Some, None}
 use Rattle.std.proofs.lemmas.List.{map-append}
 use Rattle.std.proofs.Math.Seq.{take-suc}
 use Rattle.std.proofs.lemmas.Grind.{flat_map-append}
@@ -10,7 +10,7 @@ use Rattle.named_lines.specs.Lines.{line_text}
 use Rattle.named_lines.specs.declared.told.Told.{Told}
 use Rattle.lane_turn.specs.Lane.{Lane}
 use Rattle.account.specs.declared.moment.Moment.{Moment}
-use Rattle.inspect_words.specs.Named.{Adds, AreWritten, WritesOf, Tells}
+use Rattle.inspect_words.specs.Named.{Adds, AreWritten, WritesOf}
 
 all_and : {A : Type 0} (P : A → Type 0) (xs : List A) (x : A) → AllByRecursion P xs → P x → AllByRecursion P (xs ++ x ∷ [])
 all_and P [] x h p = (p, tt)
@@ -21,10 +21,9 @@ pub one_more : (tick_us : ℕ) (c : Calling) (thread : ℕ) (lines : List Line) 
 one_more tick_us c thread lines i t d old middle new adds low line lane e =
     let tells = adds.1 in
     let lines_now : map (λ x. x.line) (tells.told ++ t ∷ []) ≡ take (i + 1) lines =
-      map-append (λ x. x.line) tells.told (t ∷ []) ∙ ap (λ xs. xs ++ t.line ∷ []) tells.each ∙ ap (λ x. take i lines ++ x ∷ []) line ∙ sym (take-suc lines i d low) ∙ ap (λ k. take k lines) suc_is in
+    map-append (λ x. x.line) tells.told (t ∷ []) ∙ ap (λ xs. xs ++ t.line ∷ []) tells.each ∙ ap (λ x. take i lines ++ x ∷ []) line ∙ sym (take-suc lines i d low) ∙ ap (λ k. take k lines) suc_is in
     let text : flat_map (line_text tick_us c) (tells.told ++ t ∷ []) ≡ adds.0 ++ line_text tick_us c t =
-      flat_map-append (line_text tick_us c) tells.told (t ∷ []) ∙ (λ k. sym tells.bytes k ++ append-nil (line_text tick_us c t) k) in
-    (
+    flat_map-append (line_text tick_us c) tells.told (t ∷ []) ∙ (λ k. sym tells.bytes k ++ append-nil (line_text tick_us c t) k) in (
       adds.0 ++ line_text tick_us c t,
       record { told = tells.told ++ t ∷ []; each = lines_now; of_thread = all_and (λ x. x.lane ≡ thread) tells.told t tells.of_thread lane; bytes = sym text },
       e ∙ ap (λ m. m ++ line_text tick_us c t) adds.2 ∙ append_assoc old adds.0 (line_text tick_us c t),

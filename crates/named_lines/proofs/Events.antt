@@ -1,5 +1,5 @@
 -- Lines with names are told apart, whatever stands behind them.
-use Rattle.std.proofs.Common.{◌≡◌, ◌≢◌, ◌∙◌, sym, refl, ap, subst, ℕ, suc, ◌+◌, ◌*◌, ◌/◌, ◌%◌, ◌<◌, ◌≤◌, ◌^◌, ℤ, pos, negsuc, List, [], ◌∷◌, ◌++◌, codes, Bool, true, false, ◌==◌, Option, Some, None, IfSome, arith, append_assoc, get_or, length, length-append, map, drop}
+use Rattle.std.proofs.Common.{◌≡◌, ◌∙◌, sym, refl, ap, subst, ℕ, ◌+◌, ◌*◌, ◌/◌, ◌%◌, ◌<◌, ◌^◌, ℤ, List, [], ◌∷◌, ◌++◌, codes, Bool, true, false, ◌==◌, Option, Some, None, arith, append_assoc, get_or, length, length-append, drop}
 use Rattle.std.proofs.lemmas.Bool.Decides.{nat_tests}
 use Rattle.std.proofs.lemmas.List.{append_cancel_left}
 use Rattle.std.specs.Prelude.{if◌then◌else◌}
@@ -11,7 +11,6 @@ use Rattle.loop_script.specs.declared.outcome.Outcome.TheVariants as outcomes
 use Rattle.named.specs.Names.{Names}
 use Rattle.named.specs.declared.sort.Kind.{Kind}
 use Rattle.named.specs.declared.sort.Kind.TheVariants as kinds
-use Rattle.lane_turn.specs.declared.line.Line.{Line}
 use Rattle.lane_turn.specs.declared.line.Event.{Event}
 use Rattle.lane_turn.specs.declared.line.Event.TheVariants.{Dispatch, Log, Iterate, Pending, LoopEnd, Acquire, Default, Invoke, Arrive, Cancel, Handler, Task, TaskLate, Give, Hold, Miss, HaltDepth, HaltSteps, End}
 use Rattle.lane_turn.specs.declared.line.Invoked.{Invoked}
@@ -23,10 +22,10 @@ use Rattle.run_names.specs.declared.label.Label.{Label}
 use Rattle.run_names.specs.declared.label.Seat.{Seat}
 use Rattle.run_names.specs.Called.{HaveNumbers, name_in}
 use Rattle.run_names.specs.Text.{Calling, is_plain, called, within, source_text, handler_text, number_text, quoted_or}
-use Rattle.named_lines.specs.Lines.{line_text, milliseconds_text, part_text, callee_text, priority_text, depth_text, answer_text, invoked_text, outcome_text, word_text, late_text, handler_or_late, event_text}
-use Rattle.run_names.proofs.Peel.{Ends, peel_plain, peel_decimal, tail_of}
+use Rattle.named_lines.specs.Lines.{line_text, milliseconds_text, part_text, callee_text, priority_text, depth_text, answer_text, invoked_text, outcome_text, word_text, late_text, event_text}
+use Rattle.run_names.proofs.Peel.{Ends, peel_plain, tail_of}
 use Rattle.run_names.specs.Fit.{IsOfNames}
-use Rattle.named_lines.specs.Alike.{SignedFits, OutcomeFits, EventFits, NumberFits, ToldFits, LinesAreApart, TextsAreApart}
+use Rattle.named_lines.specs.Alike.{OutcomeFits, EventFits, NumberFits, ToldFits, LinesAreApart, TextsAreApart}
 use Rattle.run_names.proofs.Calls.{EndsLabel, peel_called, peel_text, peel_within, peel_source, peel_handler}
 use Rattle.named_lines.proofs.Parts.{peel_milliseconds, peel_signed, peel_priority, peel_depth}
 

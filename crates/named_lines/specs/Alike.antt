@@ -4,7 +4,6 @@ use Rattle.std.specs.List.{flat_map, AllByRecursion}
 use Rattle.loop_script.specs.declared.outcome.Outcome.{Outcome}
 use Rattle.loop_script.specs.declared.outcome.Outcome.TheVariants as outcomes
 use Rattle.named.specs.Names.{Names}
-use Rattle.lane_turn.specs.declared.line.Line.{Line}
 use Rattle.lane_turn.specs.declared.line.Event.{Event}
 use Rattle.lane_turn.specs.declared.line.Event.TheVariants.{Dispatch, Log, Iterate, Pending, LoopEnd, Acquire, Default, Invoke, Arrive, Cancel, Handler, Task, TaskLate, Give, Hold, Miss, HaltDepth, HaltSteps, End}
 use Rattle.named_lines.specs.declared.told.Told.{Told}

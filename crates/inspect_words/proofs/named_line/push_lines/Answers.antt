@@ -1,4 +1,4 @@
-use Rattle.std.proofs.Common.{◌≡◌, ◌∙◌, ◌++◌, ap, subst, string_bytes}
+use Rattle.std.proofs.Common.{◌≡◌, ◌∙◌, ◌++◌, ap, string_bytes}
 use Rattle.named_lines.specs.Lines.{line_text}
 use Rattle.inspect_words.proofs.Telling.{one_more}
 use Rattle.inspect_words.proofs.named_line.push_lines.Goals as goal
