@@ -62,7 +62,7 @@ pub(crate) fn read_script(alloc: Global, bytes: &[u8]) -> Result<Reading, Script
 
 /// The names of a script of a form, before anything has happened; of one of numbers none.
 pub(crate) fn names_of(alloc: Global, bytes: &[u8], form: &Either) -> Result<RunNames, AllocError>
-    ensures { IfOk result (λ names. AreTold bytes.now form.now names.table) }
+    ensures { IfOk result (λ told. AreTold bytes.now form.now told.names) }
 {
     match form {
         Either::Numbers => Ok(RunNames::numbers(alloc)),
