@@ -33,6 +33,26 @@ struct Given<'a> {
     has_names: bool,
 }
 
+/// What is told and not yet written, and where to.
+#[derive(Drop)]
+struct Output<W: Write> {
+    lines: FirstLines<W>,
+    text: String,
+}
+
+impl<W: Write> Output<W> {
+    /// Writes what is told so far, where there is something.
+    fn write(&mut self, progress: &mut Progress<'_>) -> Result<(), Failure> {
+        if self.text.is_empty() {
+            return Ok(());
+        }
+        progress.clear();
+        write_to(&mut self.lines, self.text.as_str())?;
+        self.text.clear();
+        Ok(())
+    }
+}
+
 /// Does what the arguments say, and answers the exit status.
 pub(crate) fn run(rt: &HostRuntime) -> u8 {
     match attempt(rt) {
@@ -216,42 +236,47 @@ fn tell_each(
     mut names: RunNames,
     progress: &mut Progress<'_>,
 ) -> Result<(), Failure> {
-    let mut lines = FirstLines::new(rt.stdout(), order.most_lines);
-    let mut out = String::new(rt.alloc());
+    let mut output = Output {
+        lines: FirstLines::new(rt.stdout(), order.most_lines),
+        text: String::new(rt.alloc()),
+    };
     let words = Words {
         script: &script,
         names: &names,
     };
-    let mut teller = Teller::begin(rt.alloc(), order, words, &mut out)?;
+    let mut teller = Teller::begin(rt.alloc(), order, words, &mut output.text)?;
     let mut account = Account::new(rt.alloc(), script)?;
+    tell_moments(&mut account, &mut names, &mut teller, &mut output, progress)?;
+    let run = Run {
+        account: &account,
+        names: &names,
+    };
+    teller.end(run, &mut output.text)?;
+    output.write(progress)
+}
+
+/// Tells of each moment of a run, and writes that tick by tick.
+fn tell_moments<W: Write>(
+    account: &mut Account,
+    names: &mut RunNames,
+    teller: &mut Teller,
+    output: &mut Output<W>,
+    progress: &mut Progress<'_>,
+) -> Result<(), Failure> {
     let mut shown = 0;
     for _ in 0..u64::MAX {
         let Some(moment) = account.next()? else {
             break;
         };
-        if moment.tick != shown || out.len() >= FULL {
+        if moment.tick != shown || output.text.len() >= FULL {
             shown = moment.tick;
-            if !out.is_empty() {
-                progress.clear();
-                write_to(&mut lines, out.as_str())?;
-                out.clear();
-            }
+            output.write(progress)?;
         }
         progress.show(moment.tick);
-        follow_names(&mut names, &account, &moment)?;
-        let run = Run {
-            account: &account,
-            names: &names,
-        };
-        teller.tell(run, &moment, &mut out)?;
+        follow_names(names, account, &moment)?;
+        teller.tell(Run { account, names }, &moment, &mut output.text)?;
     }
-    let run = Run {
-        account: &account,
-        names: &names,
-    };
-    teller.end(run, &mut out)?;
-    progress.clear();
-    write_to(&mut lines, out.as_str())
+    Ok(())
 }
 
 /// Runs a script up to one moment, and writes what a thread is in the middle of there.
