@@ -1,5 +1,8 @@
 pub mod Begins
 pub mod Ends
+pub mod Checks
+pub mod Looks
+pub mod Courses
 pub mod Sleeping
 pub mod Parts
 pub mod Runs

@@ -25,35 +25,35 @@ may_before last tick false (Some a) None c h k m = (λ t below. m.0 t (omega ari
 may_before last tick false None (Some b) c h k m = (tt, m.1)
 may_before last tick false (Some a) (Some b) c h k m = (λ t below. m.0 t (omega arith), m.1)
 
-known-first : (tick : ℕ) (flag : Bool) → IsKnownAt tick (clear_to tick flag None) (seen_from tick flag None)
-known-first tick true = (omega arith, tt)
-known-first tick false = refl
+pub known_first : (tick : ℕ) (flag : Bool) → IsKnownAt tick (clear_to tick flag None) (seen_from tick flag None)
+known_first tick true = (omega arith, tt)
+known_first tick false = refl
 
 clear-eq : (last tick : ℕ) (clear : Option ℕ) → clear ≡ Some last → last < tick → IsClearBefore tick clear
 clear-eq last tick clear h k = rw h k
 
-known-next : (last tick : ℕ) (flag : Bool) (clear cancelled : Option ℕ) → last < tick → IsKnownAt last clear cancelled → StaysSet cancelled flag → IsKnownAt tick (clear_to tick flag clear) (seen_from tick flag cancelled)
-known-next last tick true clear None h k s = (omega arith, clear-eq last tick clear k h)
-known-next last tick false clear None h k s = refl
-known-next last tick true clear (Some from) h k s = (omega arith, k.1)
-known-next last tick false clear (Some from) h k s = absurd (cc)
+pub known_next : (last tick : ℕ) (flag : Bool) (clear cancelled : Option ℕ) → last < tick → IsKnownAt last clear cancelled → StaysSet cancelled flag → IsKnownAt tick (clear_to tick flag clear) (seen_from tick flag cancelled)
+known_next last tick true clear None h k s = (omega arith, clear-eq last tick clear k h)
+known_next last tick false clear None h k s = refl
+known_next last tick true clear (Some from) h k s = (omega arith, k.1)
+known_next last tick false clear (Some from) h k s = absurd (cc)
 
 by-before : (last from : ℕ) (clear : Option ℕ) → from ≤ last → IsClearBefore from clear → IsBy last clear
 by-before last from None h k = tt
 by-before last from (Some a) h k = omega arith
 
-known-by : (last : ℕ) (clear cancelled : Option ℕ) → IsKnownAt last clear cancelled → IsBy last clear
-known-by last clear None h = rw h (omega arith)
-known-by last clear (Some from) h = by-before last from clear h.0 h.1
+pub known_by : (last : ℕ) (clear cancelled : Option ℕ) → IsKnownAt last clear cancelled → IsBy last clear
+known_by last clear None h = rw h (omega arith)
+known_by last clear (Some from) h = by-before last from clear h.0 h.1
 
 -- ---- sleeping to a sooner tick, and when more is known of what may come
-sooner-sleep : (us : ℕ) (t : Tree) (b : ℕ) (clear cancelled : Option ℕ) (w v : ℕ) → v ≤ w → SleepsTo us t b clear cancelled w → SleepsTo us t b clear cancelled v
-sooner-sleep us t b clear cancelled w v le h = record {
+pub sooner_sleep : (us : ℕ) (t : Tree) (b : ℕ) (clear cancelled : Option ℕ) (w v : ℕ) → v ≤ w → SleepsTo us t b clear cancelled w → SleepsTo us t b clear cancelled v
+sooner_sleep us t b clear cancelled w v le h = record {
   ends = λ c m. let late : w ≤ (end_of us t b c).tick = h.ends c m in omega arith;
   same = λ c d m n g. h.same c d m n (λ k from. g k (omega arith));
 }
 
-narrow : (us : ℕ) (t : Tree) (b : ℕ) (clear cancelled clear2 cancelled2 : Option ℕ) (w : ℕ) → ((c : Option ℕ) → MayCome clear2 cancelled2 c → MayCome clear cancelled c) → SleepsTo us t b clear cancelled w → SleepsTo us t b clear2 cancelled2 w
+pub narrow : (us : ℕ) (t : Tree) (b : ℕ) (clear cancelled clear2 cancelled2 : Option ℕ) (w : ℕ) → ((c : Option ℕ) → MayCome clear2 cancelled2 c → MayCome clear cancelled c) → SleepsTo us t b clear cancelled w → SleepsTo us t b clear2 cancelled2 w
 narrow us t b clear cancelled clear2 cancelled2 w may h = record {
   ends = λ c m. h.ends c (may c m);
   same = λ c d m n g. h.same c d (may c m) (may d n) g;
@@ -63,9 +63,9 @@ narrow-any : (us : ℕ) (t : Tree) (b : ℕ) (clear cancelled clear2 cancelled2 
 narrow-any us t b clear cancelled clear2 cancelled2 None may h = tt
 narrow-any us t b clear cancelled clear2 cancelled2 (Some w) may h = narrow us t b clear cancelled clear2 cancelled2 w may h
 
-sleeps-up-to : (us : ℕ) (t : Tree) (b : ℕ) (clear cancelled wake : Option ℕ) (at tick : ℕ) → IsLater at wake → IsUpTo tick wake → SleepsToAny us t b clear cancelled wake → SleepsTo us t b clear cancelled tick
-sleeps-up-to us t b clear cancelled None at tick l u h = absurd l
-sleeps-up-to us t b clear cancelled (Some w) at tick l u h = sooner-sleep us t b clear cancelled w tick u h
+sleeps_up_to : (us : ℕ) (t : Tree) (b : ℕ) (clear cancelled wake : Option ℕ) (at tick : ℕ) → IsLater at wake → IsUpTo tick wake → SleepsToAny us t b clear cancelled wake → SleepsTo us t b clear cancelled tick
+sleeps_up_to us t b clear cancelled None at tick l u h = absurd l
+sleeps_up_to us t b clear cancelled (Some w) at tick l u h = sooner_sleep us t b clear cancelled w tick u h
 
 -- ---- the least wait stays the least
 unseen-before : (from : ℕ) (clear : Option ℕ) → IsClearBefore from clear → MayCome clear (Some from) (Some from)
@@ -101,17 +101,17 @@ least-on us t begun at tick flag clear cancelled (Some w) b lt k l n = λ before
 standing-on : (tick us : ℕ) (flag : Bool) (t : Tree) (clear cancelled : Option ℕ) (stage : Stage) (wake : Option ℕ) → IsStanding us t clear cancelled stage wake → MaySet tick stage (wake_in stage wake) → StaysSet cancelled flag
     → IsStanding us t (clear_to tick flag clear) (seen_from tick flag cancelled) (set_to tick stage) wake
 standing-on tick us flag t clear cancelled Fresh wake h k stays = (
-  rw (h.0, h.1) (known-first tick flag),
+  rw (h.0, h.1) (known_first tick flag),
   omega arith,
   record { ends = λ c m. not_sooner us t tick c; same = λ c d m n g. from_on us t tick c d g },
   rw h.2 (record { sleeps = tt; least = tt }),
 )
 standing-on tick us flag t clear cancelled (Set begun at) wake h k stays = absurd k
 standing-on tick us flag t clear cancelled (Polled begun at) wake h k stays =
-    let may = λ (c : Option ℕ) (m : MayCome (clear_to tick flag clear) (seen_from tick flag cancelled) c). may_before at tick flag clear cancelled c k.0 (known-by at clear cancelled h.0) m in (
-      known-next at tick flag clear cancelled k.0 h.0 stays,
+    let may = λ (c : Option ℕ) (m : MayCome (clear_to tick flag clear) (seen_from tick flag cancelled) c). may_before at tick flag clear cancelled c k.0 (known_by at clear cancelled h.0) m in (
+      known_next at tick flag clear cancelled k.0 h.0 stays,
       (let later : at < tick = k.0 in omega (arith, h.1)),
-      narrow us t begun clear cancelled (clear_to tick flag clear) (seen_from tick flag cancelled) tick may (sleeps-up-to us t begun clear cancelled wake at tick h.2 k.1 h.3.sleeps),
+      narrow us t begun clear cancelled (clear_to tick flag clear) (seen_from tick flag cancelled) tick may (sleeps_up_to us t begun clear cancelled wake at tick h.2 k.1 h.3.sleeps),
       record {
         sleeps = narrow-any us t begun clear cancelled (clear_to tick flag clear) (seen_from tick flag cancelled) wake may h.3.sleeps;
         least = least-on us t begun at tick flag clear cancelled wake h.1 k.0 h.0 h.2 h.3;
@@ -124,38 +124,11 @@ pub held_on : (tick us : ℕ) (flag : Bool) (t : Tree) (clear cancelled : Option
 held_on tick us flag t clear cancelled stage wake h k stays = record { some = h.some; short = h.short; standing = standing-on tick us flag t clear cancelled stage wake h.standing k stays }
 
 -- ---- a tick that passes in place of a poll
-clear-on : (at tick : ℕ) (clear c : Option ℕ) → clear ≡ Some at → at ≤ tick → MayCome (Some tick) None c → MayCome clear None c
-clear-on at tick clear c e le m = rw e ((λ t below. m.0 t (omega arith)), tt)
-
-later-back : (at tick : ℕ) (wake : Option ℕ) → at ≤ tick → IsLater tick wake → IsLater at wake
-later-back at tick None le l = absurd l
-later-back at tick (Some w) le l = omega arith
-
-passed-least : (us : ℕ) (t : Tree) (begun at tick : ℕ) (clear wake : Option ℕ) → begun ≤ at → at ≤ tick → IsKnownAt at clear None → IsLater at wake → IsNoted us t begun clear None at wake → IsLeastAfter us t begun None tick wake
-passed-least us t begun at tick clear None b le k l n = tt
-passed-least us t begun at tick clear (Some w) b le k l n = λ before.
-    let least : w ≡ wait_of us t begun None at = n.least l in
-    let by : w ≤ (end_of us t begun None).tick = n.sleeps.ends None (may-stay at clear None k) in
-    least ∙ sym (wait_on us t begun at tick None b le (omega arith) (omega arith))
-
-pub held_passed : (us : ℕ) (t : Tree) (clear cancelled : Option ℕ) (begun at tick : ℕ) (wake : Option ℕ) → IsHeld us t clear cancelled (Polled begun at) wake → at ≤ tick → IsLater tick wake → cancelled ≡ None → IsHeld us t (Some tick) cancelled (Polled begun tick) wake
-held_passed us t clear None begun at tick wake h le l n = record {
-  some = h.some;
-  short = h.short;
-  standing = (
-    refl,
-    (let begins : begun ≤ at = h.standing.1 in omega arith),
-    l,
-    record {
-      sleeps = narrow-any us t begun clear None (Some tick) None wake (λ c m. clear-on at tick clear c h.standing.0 le m) h.standing.3.sleeps;
-      least = passed-least us t begun at tick clear wake h.standing.1 le h.standing.0 (later-back at tick wake le l) h.standing.3;
-    },
-  );
-}
-held_passed us t clear (Some from) begun at tick wake h le l n = absurd (cc)
+pub clear_on : (at tick : ℕ) (clear c : Option ℕ) → clear ≡ Some at → at ≤ tick → MayCome (Some tick) None c → MayCome clear None c
+clear_on at tick clear c e le m = rw e ((λ t below. m.0 t (omega arith)), tt)
 
 -- ---- what a poll may answer
-none_due : (tick : ℕ) (e : End) → tick < e.tick → None ≡ due tick e
+pub none_due : (tick : ℕ) (e : End) → tick < e.tick → None ≡ due tick e
 none_due tick e h = rw (by_lt e.tick tick h) refl
 
 some_due : (tick at : ℕ) (o : Outcome) (e : End) → e ≡ ending at o → at ≤ tick → Some o ≡ due tick e
@@ -177,58 +150,61 @@ pub record Leaves (us : ℕ) (t : Tree) (clear cancelled : Option ℕ) (begun ti
   pub answers : AnswersNow us t begun tick clear cancelled None
 
 -- ---- a poll that looks at the tree
-unseen-to : (tick : ℕ) (clear c : Option ℕ) → clear ≡ Some tick → MayCome clear None c → AgreeTo tick None c
-unseen-to tick clear c e m = λ t le. sym ((rw e at m).0 t le)
+pub unseen_to : (tick : ℕ) (clear c : Option ℕ) → clear ≡ Some tick → MayCome clear None c → AgreeTo tick None c
+unseen_to tick clear c e m = λ t le. sym ((rw e at m).0 t le)
 
 from-known : (from tick : ℕ) (clear c : Option ℕ) → from ≤ tick → MayCome clear (Some from) c → AgreeFrom tick c (Some from)
 from-known from tick clear c le m = λ t late. m.1 t (omega arith) ∙ sym (by_le from t (omega arith))
 
 -- a cancellation that was seen fixes the end
-one-end : (us : ℕ) (t : Tree) (begun tick from : ℕ) (clear c : Option ℕ) → IsKnownAt tick clear (Some from) → SleepsTo us t begun clear (Some from) tick → MayCome clear (Some from) c → end_of us t begun c ≡ end_of us t begun (Some from)
-one-end us t begun tick from clear c k h m = h.same c (Some from) m (unseen-before from clear k.1) (from-known from tick clear c k.0 m)
+pub one_end : (us : ℕ) (t : Tree) (begun tick from : ℕ) (clear c : Option ℕ) → IsKnownAt tick clear (Some from) → SleepsTo us t begun clear (Some from) tick → MayCome clear (Some from) c → end_of us t begun c ≡ end_of us t begun (Some from)
+one_end us t begun tick from clear c k h m = h.same c (Some from) m (unseen-before from clear k.1) (from-known from tick clear c k.0 m)
 
 ends-now : (us : ℕ) (t : Tree) (begun tick : ℕ) (clear cancelled c : Option ℕ) → IsKnownAt tick clear cancelled → SleepsTo us t begun clear cancelled tick → MayCome clear cancelled c → (end_of us t begun cancelled).tick ≤ tick → end_of us t begun c ≡ end_of us t begun cancelled
-ends-now us t begun tick clear None c k h m le = sym (causal us t begun tick None c (unseen-to tick clear c k m) le)
-ends-now us t begun tick clear (Some from) c k h m le = one-end us t begun tick from clear c k h m
+ends-now us t begun tick clear None c k h m le = sym (causal us t begun tick None c (unseen_to tick clear c k m) le)
+ends-now us t begun tick clear (Some from) c k h m le = one_end us t begun tick from clear c k h m
 
-over : (us : ℕ) (t : Tree) (clear cancelled : Option ℕ) (begun tick at : ℕ) (o : Outcome) (wake : Option ℕ) → IsHeld us t clear cancelled (Set begun tick) wake → IsProgress us t begun cancelled tick (Ended at o) → AnswersNow us t begun tick clear cancelled (Some o)
-over us t clear cancelled begun tick at o wake h p = λ c m.
-    let come : (end_of us t begun cancelled).tick ≤ tick = rw p.0 p.1 in (
-      some_due tick at o (end_of us t begun c) (ends-now us t begun tick clear cancelled c h.standing.0 h.standing.2 m come ∙ p.0) p.1,
-      h.standing.2.ends c m,
+pub over : (us : ℕ) (t : Tree) (clear cancelled : Option ℕ) (begun tick at : ℕ) (o : Outcome) → IsKnownAt tick clear cancelled → SleepsTo us t begun clear cancelled tick → end_of us t begun cancelled ≡ ending at o → at ≤ tick → AnswersNow us t begun tick clear cancelled (Some o)
+over us t clear cancelled begun tick at o k s e le = λ c m.
+    let come : (end_of us t begun cancelled).tick ≤ tick = rw e le in (
+      some_due tick at o (end_of us t begun c) (ends-now us t begun tick clear cancelled c k s m come ∙ e) le,
+      s.ends c m,
     )
 
+is-over : (us : ℕ) (t : Tree) (clear cancelled : Option ℕ) (begun tick at : ℕ) (o : Outcome) (wake : Option ℕ) → IsHeld us t clear cancelled (Set begun tick) wake → IsProgress us t begun cancelled tick (Ended at o) → AnswersNow us t begun tick clear cancelled (Some o)
+is-over us t clear cancelled begun tick at o wake h p = over us t clear cancelled begun tick at o h.standing.0 h.standing.2 p.0 p.1
+
 pub is_over : (us : ℕ) (t : Tree) (clear cancelled : Option ℕ) (stage : Stage) (begun tick at : ℕ) (o : Outcome) (wake : Option ℕ) → stage ≡ Set begun tick → IsHeld us t clear cancelled stage wake → IsProgress us t begun cancelled tick (Ended at o) → AnswersNow us t begun tick clear cancelled (Some o)
-is_over us t clear cancelled stage begun tick at o wake e h p = over us t clear cancelled begun tick at o wake (subst (λ (x : Stage). IsHeld us t clear cancelled x wake) e h) p
+is_over us t clear cancelled stage begun tick at o wake e h p = is-over us t clear cancelled begun tick at o wake (subst (λ (x : Stage). IsHeld us t clear cancelled x wake) e h) p
 
 goes : (us : ℕ) (t : Tree) (clear cancelled : Option ℕ) (begun tick w : ℕ) → begun ≤ tick → IsKnownAt tick clear cancelled → SleepsTo us t begun clear cancelled tick → tick < (end_of us t begun cancelled).tick → w ≡ wait_of us t begun cancelled tick
     → SleepsTo us t begun clear cancelled w × ((c : Option ℕ) → MayCome clear cancelled c → tick < (end_of us t begun c).tick)
 goes us t clear None begun tick w b k h late e = (
   record {
     ends = λ c m.
-        let agree = unseen-to tick clear c k m in
+        let agree = unseen_to tick clear c k m in
         let wait = waits us t begun tick c b (pending_too us t begun tick None c agree late) in
         let same : wait_of us t begun None tick ≡ wait_of us t begun c tick = same_wait us t begun tick None c b agree late in
         let by : wait_of us t begun c tick ≤ (end_of us t begun c).tick = wait.1 in
         omega arith;
     same = λ c d m n g.
-        let agree = unseen-to tick clear c k m in
-        let other = unseen-to tick clear d k n in
+        let agree = unseen_to tick clear c k m in
+        let other = unseen_to tick clear d k n in
         let same : wait_of us t begun None tick ≡ wait_of us t begun c tick = same_wait us t begun tick None c b agree late in
         still us t begun tick w c d b (λ x le. sym (agree x le) ∙ other x le) g (pending_too us t begun tick None c agree late) (omega arith);
   },
-  λ c m. pending_too us t begun tick None c (unseen-to tick clear c k m) late,
+  λ c m. pending_too us t begun tick None c (unseen_to tick clear c k m) late,
 )
 goes us t clear (Some from) begun tick w b k h late e = (
   record {
     ends = λ c m.
         let wait = waits us t begun tick (Some from) b late in
         let by : wait_of us t begun (Some from) tick ≤ (end_of us t begun (Some from)).tick = wait.1 in
-        let same : (end_of us t begun c).tick ≡ (end_of us t begun (Some from)).tick = same-tick (end_of us t begun c) (end_of us t begun (Some from)) (one-end us t begun tick from clear c k h m) in
+        let same : (end_of us t begun c).tick ≡ (end_of us t begun (Some from)).tick = same-tick (end_of us t begun c) (end_of us t begun (Some from)) (one_end us t begun tick from clear c k h m) in
         omega arith;
-    same = λ c d m n g. one-end us t begun tick from clear c k h m ∙ sym (one-end us t begun tick from clear d k h n);
+    same = λ c d m n g. one_end us t begun tick from clear c k h m ∙ sym (one_end us t begun tick from clear d k h n);
   },
-  λ c m. rw (one-end us t begun tick from clear c k h m) late,
+  λ c m. rw (one_end us t begun tick from clear c k h m) late,
 )
 
 waiting-on : (us : ℕ) (t : Tree) (clear cancelled : Option ℕ) (begun tick w : ℕ) (wake : Option ℕ) → IsHeld us t clear cancelled (Set begun tick) wake → IsProgress us t begun cancelled tick (Waits w) → Leaves us t clear cancelled begun tick (Some w)

@@ -1,8 +1,10 @@
 pub mod End
 pub mod Wake
+pub mod Check
 pub mod Progress
 pub mod Run
 pub mod RunInside
+pub mod CourseInside
 pub mod Task
 pub mod Book
 pub mod BookInside

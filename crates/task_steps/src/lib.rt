@@ -2,6 +2,7 @@
 #![tactic(auto)]
 
 mod book;
+mod course;
 mod entries;
 mod entry;
 mod heeded;

@@ -1,7 +1,7 @@
 //! The run of one task.
-ghost use Rattle.std.specs.Prelude.{◌≡◌, ℕ, ◌+◌, ◌<◌, ◌≤◌, None, is_some, IfOk, IsTrue, ◌↔◌};
+ghost use Rattle.std.specs.Prelude.{◌≡◌, ℕ, ◌+◌, ◌<◌, ◌≤◌, None, IfOk, IsTrue, ◌↔◌};
 
-use crate::progress::{Moment, Progress, progress_of};
+use crate::progress::{Progress, Question, progress_of};
 use crate::stage::{Stage, clear_to, is_asleep, seen_from, set_to};
 use loop_script::{Outcome, TaskTree};
 use std::alloc::{AllocError, Global};
@@ -42,7 +42,7 @@ impl Model for TaskRun {
 
 impl TaskRun {
     ghost use Rattle.loop_script.specs.Bounds.{longest_tick};
-    ghost use Rattle.task_steps.specs.Run.{MaySet, StaysSet, IsSet, Answered, WakesLater, NoneBefore, IsLeastWait, MayPass, stage_to, clear_passed, set_to, seen_from, clear_to, stage_after};
+    ghost use Rattle.task_steps.specs.Run.{MaySet, StaysSet, IsSet, Answered, WakesLater, NoneBefore, IsLeastWait, set_to, seen_from, clear_to, stage_after};
     ghost use Rattle.task_steps.specs.declared.stage.Stage.TheVariants.{Fresh, Done};
 
     /// A task that no poll has begun; a tick is so many microseconds long. It takes no memory of the allocator, and is refused
@@ -73,32 +73,6 @@ impl TaskRun {
         self.cancelled = seen_from(tick, cancelled, self.cancelled);
     }
 
-    /// Notes a tick before its wake as one in which a poll would have seen it as not cancelled and found it pending, in place
-    /// of that poll. One that no poll has begun stays as it is.
-    pub(crate) fn pass_to(&mut self, tick: u32)
-        requires { MayPass tick self.old.cancelled self.old.wake self.old.stage }
-        ensures { self.new ≡ record self.old { stage = stage_to tick self.old.stage; clear = clear_passed tick self.old.stage self.old.clear } }
-    {
-        if let Stage::Polled { begun, .. } = self.stage {
-            self.stage = Stage::Polled { begun, tick };
-            self.clear = Some(tick);
-        }
-    }
-
-    /// Whether a tick was set as cancelled.
-    pub(crate) fn was_cancelled(&self) -> bool
-        ensures { result ≡ is_some self.now.cancelled }
-    {
-        self.cancelled.is_some()
-    }
-
-    /// Whether no tick was set.
-    pub(crate) fn is_fresh(&self) -> bool
-        ensures { IsTrue result ↔ (self.now.stage ≡ Fresh) }
-    {
-        matches!(self.stage, Stage::Fresh)
-    }
-
     /// Whether the task has ended.
     pub fn is_done(&self) -> bool
         ensures { IsTrue result ↔ (self.now.stage ≡ Done) }
@@ -121,12 +95,12 @@ impl TaskRun {
                     self.stage = Stage::Polled { begun, tick };
                     return None;
                 }
-                let moment = Moment {
-                    tick,
+                let question = Question {
+                    after: tick,
                     tick_us: self.tick_us,
                     cancelled: self.cancelled,
                 };
-                match progress_of(&self.tree, begun, moment) {
+                match progress_of(&self.tree, begun, &question) {
                     Progress::Ended { outcome, .. } => {
                         self.stage = Stage::Done;
                         Some(outcome)
