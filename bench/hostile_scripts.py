@@ -201,11 +201,11 @@ def trees(n):
 
 
 def waking_trees(n):
-    """Trees whose parts end in different ticks."""
+    """Trees whose checks begin in different ticks."""
     times = iter(range(1, 1 << 20))
-    task = ["task", {"tree": full(9 + n, lambda: ["sleep", 1000 * next(times)]), "call": 3}]
+    task = ["task", {"tree": full(8 + n, lambda: ["seq", ["sleep", 1000 * next(times)], ["check"]]), "call": 3}]
     it = phases((1, 20, [task]), procs=[{"do": []}])
-    return longer(it, 1, 4 + (256 << n)), 20 << 9 + n
+    return longer(it, 1, 4 + (128 << n)), 20 << 9 + n
 
 
 def frames(n):
@@ -314,7 +314,7 @@ GROWTHS = {
     "tasks that sleep, started in each tick": (tasks_started, 8, 32),
     "tasks that sleep beside one that ends": (tasks_beside_one, 1, 4),
     "tasks of a large tree": (trees, 4, 16),
-    "parts of a tree that end one by one": (waking_trees, 1, 3),
+    "checks of a tree that begin one by one": (waking_trees, 1, 3),
     "frames": (frames, 512, 2048),
     "runs of a loop": (runs_of_loops, 1024, 4096),
     "lines": (lines, 64, 256),
@@ -341,7 +341,7 @@ KNOWN = {
     "ticks beside sources that wait for others": "each tick with a turn, the idle sources of a context that has had a descriptor's",
     "letters beside lanes that rest": "each tick with a letter, the sources of descriptors and cancellables of all lanes",
     "letters of more lanes": "each letter, the lanes: 64 at most",
-    "parts of a tree that end one by one": "each tick in which a task wakes, all its parts",
+    "checks of a tree that begin one by one": "each tick in which a check of a task begins, all its parts",
 }
 
 

@@ -1,11 +1,11 @@
 -- Which checks an end goes by, and two cancellations that these do not tell apart.
-use Rattle.std.proofs.Common.{◌≡◌, ℕ, ◌+◌, ◌≤◌, ◌<◌, Bool, true, false, cond, min, max, Option, nat_le, arith, refl, ap, sym, subst, ◌∙◌}
+use Rattle.std.proofs.Common.{◌≡◌, ℕ, ◌+◌, ◌≤◌, ◌<◌, Bool, true, false, cond, min, Option, nat_le, arith, refl, ap, sym, subst, ◌∙◌}
 use Rattle.loop_script.specs.Tree.{Tree, value, fail, sleep, check, seq, both, first, within}
 use Rattle.loop_script.specs.declared.outcome.Outcome.TheVariants.{TimedOut}
 use Rattle.task_steps.specs.End.{End, ending, seen, checked, is_ok, followed, joined, earlier, limited, end_of, ticks_of}
 use Rattle.task_steps.specs.Check.{EachCheck}
 use Rattle.task_steps.proofs.Begins.{not_sooner}
-use Rattle.task_steps.proofs.Ends.{le_by, lt_by, by_le, by_lt, same-tick, cond-tick, followed-same}
+use Rattle.task_steps.proofs.Ends.{le_by, lt_by, same-tick, cond-tick, followed-same}
 
 -- ---- checks of another kind, or before a sooner tick
 pub each_as : (P Q : ℕ → Type 0) (us : ℕ) (t : Tree) (f : ℕ) (c : Option ℕ) (m n : ℕ) → n ≤ m → ((s : ℕ) → s < n → P s → Q s) → EachCheck P us t f c m → EachCheck Q us t f c n

@@ -1,5 +1,5 @@
 -- A course between two calls, and what a poll of it may answer.
-use Rattle.std.proofs.Common.{◌≡◌, ℕ, ◌+◌, ◌≤◌, ◌<◌, ◌&&◌, Bool, true, false, not, is_some, cond, min, Option, Some, None, nat_le, arith, refl, sym, subst, ◌∙◌}
+use Rattle.std.proofs.Common.{◌≡◌, ℕ, ◌+◌, ◌≤◌, ◌<◌, ◌&&◌, Bool, true, false, not, is_some, cond, Option, Some, None, nat_le, arith, refl, sym, subst, ◌∙◌}
 use Rattle.loop_script.specs.Tree.{Tree}
 use Rattle.loop_script.specs.declared.outcome.Outcome.{Outcome}
 use Rattle.task_steps.specs.declared.stage.Stage.{Stage}
@@ -7,11 +7,11 @@ use Rattle.task_steps.specs.declared.stage.Stage.TheVariants.{Fresh, Set, Polled
 use Rattle.task_steps.specs.declared.progress.Progress.{Progress}
 use Rattle.task_steps.specs.declared.progress.Progress.TheVariants.{Ended, Waits}
 use Rattle.task_steps.specs.declared.progress.Look.{Look}
-use Rattle.task_steps.specs.End.{End, end_of, seen}
+use Rattle.task_steps.specs.End.{End, end_of}
 use Rattle.task_steps.specs.Check.{EachCheck}
 use Rattle.task_steps.specs.Progress.{IsProgress, IsLook, NotSooner, ended_by}
 use Rattle.task_steps.specs.Run.{MayCome, IsUpTo, IsLater, MaySet, StaysSet, set_to, seen_from, clear_to}
-use Rattle.task_steps.specs.RunInside.{IsKnownAt, AgreeFrom, SleepsTo, wake_in}
+use Rattle.task_steps.specs.RunInside.{IsKnownAt, SleepsTo, wake_in}
 use Rattle.task_steps.specs.CourseInside.{last_tick, end_at, rest_of, rest_of_any, Foresees, ForeseesAny, kept_look, IsUnderWay, IsCourse, ServesAt}
 use Rattle.task_steps.proofs.Begins.{not_sooner}
 use Rattle.task_steps.proofs.Ends.{AgreeTo, le_by, lt_by, same-tick, from_on}

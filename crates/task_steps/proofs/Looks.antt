@@ -1,7 +1,6 @@
 -- What a look finds of a tree, by what is found of its parts.
-use Rattle.std.proofs.Common.{◌≡◌, ℕ, ◌+◌, ◌-◌, ◌≤◌, ◌<◌, Bool, true, false, cond, max, min, Option, Some, None, nat_le, refl, ap, sym, subst, ◌∙◌, arith}
+use Rattle.std.proofs.Common.{◌≡◌, ℕ, ◌+◌, ◌-◌, ◌≤◌, ◌<◌, Bool, true, false, cond, min, Option, Some, None, nat_le, refl, ap, sym, subst, ◌∙◌, arith}
 use Rattle.loop_script.specs.Tree.{Tree, seq, both, first, within}
-use Rattle.loop_script.specs.declared.outcome.Outcome.{Outcome}
 use Rattle.loop_script.specs.declared.outcome.Outcome.TheVariants.{TimedOut}
 use Rattle.task_steps.specs.declared.progress.Progress.{Progress}
 use Rattle.task_steps.specs.declared.progress.Progress.TheVariants.{Ended, Waits}

@@ -1,5 +1,5 @@
-use Rattle.std.proofs.Common.{ap, sym, subst, ◌≡◌, ◌∙◌, ◌+◌, rules}
-use Rattle.loop_script.specs.Tree.{Tree, seq, both, first, within}
+use Rattle.std.proofs.Common.{ap, sym, subst, ◌≡◌, ◌∙◌}
+use Rattle.loop_script.specs.Tree.{Tree, seq, both, first}
 use Rattle.loop_script.specs.TreeView.{tree_of}
 use Rattle.task_steps.specs.declared.progress.Look.{Look}
 use Rattle.task_steps.specs.Progress.{IsLook}
