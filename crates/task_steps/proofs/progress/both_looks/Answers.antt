@@ -1,4 +1,3 @@
-use Rattle.std.proofs.Common.{refl}
 use Rattle.task_steps.proofs.Looks.{look_both}
 use Rattle.task_steps.proofs.progress.both_looks.Goals as goal
 
