@@ -1,5 +1,5 @@
 //! The lines of a run with names.
-ghost use Rattle.std.specs.Prelude.{◌≡◌, false, IfOk, OnOk, slice_get, string_bytes};
+ghost use Rattle.std.specs.Prelude.{◌≡◌, true, false, IfOk, OnOk, is_some, slice_get, string_bytes};
 ghost use Rattle.tick_stepper.specs.Account.{lanes_in};
 ghost use Rattle.inspect_words.specs.Named.{Adds, AreWritten, WritesOf};
 
@@ -49,8 +49,11 @@ fn push_lines(
     Ok(())
 }
 
-/// The lines that a moment wrote, with names where there are some, else as the text of the run has them.
-pub fn line_text_of(alloc: Global, run: Run<'_>, moment: &Moment) -> Result<String, AllocError> {
+/// The lines that a moment wrote, with names where there are some, else as the text of the run has them. Of a spent account nothing is
+/// promised.
+pub fn line_text_of(alloc: Global, run: Run<'_>, moment: &Moment) -> Result<String, AllocError>
+    ensures { is_some run.entry.names.now.names ≡ true → run.entry.account.now.spent ≡ false → IfOk result (λ text. WritesOf (slice_get (lanes_in run.entry.account.now.place) moment.now.lane) moment.now run.entry.account.now.script.tick_us run.entry.names.now (string_bytes text)) }
+{
     if run.names.are_there() {
         return named_text_of(alloc, run, moment);
     }

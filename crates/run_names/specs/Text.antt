@@ -1,5 +1,5 @@
 -- What the things of a run are called, as its texts have it.
-use Rattle.std.specs.Prelude.{ℕ, List, [], ◌∷◌, ◌++◌, codes, Bool, false, ◌||◌, ◌==◌, if◌then◌else◌, Option, Some, None}
+use Rattle.std.specs.Prelude.{ℕ, List, [], ◌∷◌, ◌++◌, codes, Bool, false, ◌||◌, ◌==◌, if◌then◌else◌, Option, Some, None, is_some}
 use Rattle.std.specs.Char.{is_ascii_alphanumeric}
 use Rattle.std.specs.Fmt.{decimal}
 use Rattle.std.specs.List.{list_all}
@@ -107,3 +107,30 @@ thing_text c (things.Text n) = quoted_or (name_in kinds.Text n c.names) (number_
 thing_text c (things.Source context id) = source_text c context id
 thing_text c (things.Task lane number) = within kinds.Thread lane number c.names
 thing_text c (things.Handler lane id) = handler_text c lane id
+
+-- the word of a kind
+abbrev pub kind_word : Thing → List ℕ
+kind_word (things.Thread n) = codes "thread"
+kind_word (things.Context n) = codes "context"
+kind_word (things.Loop n) = codes "loop"
+kind_word (things.Procedure n) = codes "procedure"
+kind_word (things.Cancellable n) = codes "cancellable"
+kind_word (things.Descriptor n) = codes "descriptor"
+kind_word (things.Slot n) = codes "slot"
+kind_word (things.Text n) = codes "text"
+kind_word (things.Source context id) = codes "source"
+kind_word (things.Task lane number) = codes "task"
+kind_word (things.Handler lane id) = codes "handler"
+
+-- whether it is a source that is called by where it comes from
+abbrev pub has_label : Calling → Thing → Bool
+has_label c (things.Source context id) = is_some (label_of (record { home = context; id = id }) c.sources)
+has_label c thing = false
+
+-- what something is called, with the word of its kind; where a source comes from needs none
+abbrev pub full_text : Calling → Thing → List ℕ
+full_text c thing = if has_label c thing then thing_text c thing else kind_word thing ++ (codes " " ++ thing_text c thing)
+
+-- what a source is called where its context was said
+abbrev pub source_here : Calling → ℕ → ℕ → List ℕ
+source_here c context id = label_or c.names (label_of (record { home = context; id = id }) c.sources) (codes "source " ++ decimal id)

@@ -5,7 +5,7 @@ ghost use Rattle.named.specs.Names.{number_of, of_kind};
 ghost use Rattle.run_names.specs.Called.{AreOf, HaveNumbers, name_in};
 ghost use Rattle.run_names.specs.Labelled.{AreApart};
 ghost use Rattle.run_names.specs.declared.thing.Thing.TheVariants as things;
-ghost use Rattle.run_names.specs.Text.{called, id_text, label_text, number_text, origin_text, seat_text, thing_text, within};
+ghost use Rattle.run_names.specs.Text.{called, full_text, has_label, id_text, kind_word, label_text, number_text, origin_text, seat_text, source_here, thing_text, within};
 
 use crate::label::{Label, Origin, Seat};
 use crate::labels::Labels;
@@ -105,7 +105,9 @@ impl RunNames {
     }
 
     /// Adds what something is called, with the word of its kind: `thread main` or `thread 0`, of a source `my_idle` or `source 0.1`.
-    pub fn push(&self, out: &mut String, thing: Thing) -> Result<(), AllocError> {
+    pub fn push(&self, out: &mut String, thing: Thing) -> Result<(), AllocError>
+        ensures { OnOk result (string_bytes out.new ≡ string_bytes out.old ++ full_text self.now thing) }
+    {
         if !self.is_labelled(thing) {
             out.push_str(word_of(thing))?;
             out.push_str(" ")?;
@@ -114,7 +116,9 @@ impl RunNames {
     }
 
     /// Adds what a source is called where its context was said: `my_idle` or `source 1`.
-    pub fn push_source(&self, out: &mut String, context: u32, id: u64) -> Result<(), AllocError> {
+    pub fn push_source(&self, out: &mut String, context: u32, id: u64) -> Result<(), AllocError>
+        ensures { OnOk result (string_bytes out.new ≡ string_bytes out.old ++ source_here self.now context id) }
+    {
         let thing = Thing::Source { context, id };
         if self.is_labelled(thing) {
             self.push_bare(out, thing)
@@ -151,7 +155,9 @@ impl RunNames {
     }
 
     /// Whether it is called by where it comes from.
-    fn is_labelled(&self, thing: Thing) -> bool {
+    fn is_labelled(&self, thing: Thing) -> bool
+        ensures { result ≡ has_label self.now thing }
+    {
         match thing {
             Thing::Source { context, id } => {
                 self.sources.get(Seat { home: context, id }).is_some()
@@ -271,7 +277,9 @@ impl RunNames {
 }
 
 /// The word of a kind.
-fn word_of(thing: Thing) -> &'static str {
+fn word_of(thing: Thing) -> &'static str
+    ensures { result.now ≡ kind_word thing }
+{
     match thing {
         Thing::Thread(_) => "thread",
         Thing::Context(_) => "context",
