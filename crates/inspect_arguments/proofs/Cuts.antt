@@ -3,7 +3,7 @@ use Rattle.std.proofs.Common.{◌≡◌, ℕ, List, [], ◌∷◌, ◌++◌, ◌
 use Rattle.std.specs.List.{list_all}
 use Rattle.std.specs.Char.{is_ascii_digit}
 use Rattle.std.specs.Str.Parse.{AllDigits}
-use Rattle.inspect_arguments.proofs.Numbers.{digits_all}
+use Rattle.short_numbers.proofs.Digits.{digits_all}
 
 no_dot : (b xs rest : List ℕ) → list_all is_ascii_digit b ≡ true → b ≡ xs ++ (46 ∷ rest) → ⊥
 no_dot [] [] rest d e = absurd cc

@@ -1,3 +1,2 @@
 pub mod Cuts
 pub mod Made
-pub mod Numbers

@@ -1,15 +1,11 @@
 //! Values of flags that `clap` has no parser for.
 ghost use Rattle.std.specs.Prelude.{◌≡◌, ◌⊎◌, ℕ, IfSome, Some, codes};
-ghost use Rattle.std.specs.List.{list_all};
-ghost use Rattle.std.specs.Char.{is_ascii_digit};
-ghost use Rattle.inspect_arguments.specs.Forms.{AreNumbers, IsNumber};
+ghost use Rattle.inspect_arguments.specs.Forms.{AreNumbers};
 ghost use Rattle.inspect_arguments.specs.declared.values.Source.{Source};
 ghost use Rattle.inspect_arguments.specs.declared.values.Ticks.{Ticks};
 
+use short_numbers::number_of;
 use thiserror::Error;
-
-/// How many digits a number has at most.
-const MOST_DIGITS: usize = 9;
 
 /// Some ticks, both included.
 #[derive(Clone, Copy, Debug, PartialEq, Eq)]
@@ -69,23 +65,4 @@ fn numbers_of(text: &str, between: &str) -> Option<(u32, u32)>
     let left = number_of(left)?;
     let right = number_of(right)?;
     Some((left, right))
-}
-
-/// A number in 1 to 9 decimal digits.
-fn number_of(text: &str) -> Option<u32>
-    ensures number { IfSome result (λ n. IsNumber text.now n) }
-    ensures exact { (n : ℕ) → IsNumber text.now n → result ≡ Some n }
-{
-    let digits = text.as_bytes();
-    if digits.len() > MOST_DIGITS || !are_digits(digits) {
-        return None;
-    }
-    text.parse::<u32>().ok()
-}
-
-/// Whether all bytes are decimal digits.
-fn are_digits(bytes: &[u8]) -> bool
-    ensures { result ≡ list_all is_ascii_digit bytes.now }
-{
-    bytes.iter().all(|b| b.is_ascii_digit())
 }

@@ -1,9 +1,8 @@
 //! The text of a run.
 ghost use Rattle.std.specs.Prelude.{◌≡◌, ◌++◌, [], codes, true, false, replicate, length, IfOk, OnOk, is_some, map, string_bytes};
-ghost use Rattle.tick_stepper.specs.Account.{lanes_in};
 ghost use Rattle.run_names.specs.declared.thing.Thing.TheVariants as things;
 ghost use Rattle.run_names.specs.Text.{full_text};
-ghost use Rattle.inspect_text.specs.Gathered.{added, from_thread, TellsMoment};
+ghost use Rattle.inspect_text.specs.Gathered.{added, from_thread, Gathers};
 
 use crate::noted::{Noted, push_note};
 use account::Moment;
@@ -54,7 +53,7 @@ impl RunText {
     /// Gathers what the latest moment of a run says. Of a run without names the lines are those of the program `mainctx`, which no
     /// clause says; of a spent account nothing is promised.
     pub fn tell(&mut self, run: Run<'_>, moment: &Moment) -> Result<(), AllocError>
-        ensures { is_some run.entry.names.now.names ≡ true → run.entry.account.now.spent ≡ false → OnOk result (TellsMoment (lanes_in run.entry.account.now.place) moment.now run.entry.account.now.script.tick_us run.entry.names.now self.old self.new) }
+        ensures { is_some run.entry.names.now.names ≡ true → run.entry.account.now.spent ≡ false → OnOk result (Gathers run.entry.account.now run.entry.names.now moment.now self.old self.new) }
     {
         let lines = line_text_of(self.alloc, run, moment)?;
         let notes = notes_of(self.alloc, run, moment, &mut self.noted)?;
@@ -88,7 +87,8 @@ fn no_texts(alloc: Global, count: u32) -> Result<Vec<String>, AllocError>
 
 /// Adds to the text of a thread.
 fn add(threads: &mut Vec<String>, thread: u32, text: &str) -> Result<(), AllocError>
-    ensures { OnOk result (map string_bytes threads.new.items ≡ added thread text.now (map string_bytes threads.old.items)) }
+    ensures text { OnOk result (map string_bytes threads.new.items ≡ added thread text.now (map string_bytes threads.old.items)) }
+    ensures count { length threads.new.items ≡ length threads.old.items }
 {
     match threads.get_mut(thread as usize) {
         Some(out) => out.push_str(text),

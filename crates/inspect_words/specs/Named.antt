@@ -1,8 +1,10 @@
 -- What a moment wrote, with names.
-use Rattle.std.specs.Prelude.{◌≡◌, ◌≤◌, ℕ, List, ◌++◌, map, length, slice_range, Option, IfSome}
+use Rattle.std.specs.Prelude.{◌≡◌, ◌≤◌, ℕ, List, ◌++◌, map, length, slice_get, slice_range, Option, IfSome}
 use Rattle.std.specs.List.{flat_map, AllByRecursion}
 use Rattle.lane_turn.specs.Lane.{Lane}
 use Rattle.lane_turn.specs.declared.line.Line.{Line}
+use Rattle.tick_stepper.specs.Account.{lanes_in}
+use Rattle.account.specs.Course.{Course}
 use Rattle.account.specs.declared.moment.Moment.{Moment}
 use Rattle.run_names.specs.Text.{Calling}
 use Rattle.named_lines.specs.Lines.{line_text}
@@ -26,3 +28,7 @@ AreWritten o m lines = IfSome o (λ lane. m.from ≤ m.to → m.to ≤ length la
 -- a text tells the lines that a moment wrote
 abbrev pub WritesOf : Option Lane → Moment → ℕ → Calling → List ℕ → Type 0
 WritesOf o m tick_us c text = IfSome o (λ lane. m.from ≤ m.to → m.to ≤ length lane.trace → Tells tick_us c m.lane (slice_range lane.trace m.from m.to) text)
+
+-- a text tells the lines that a moment of a run wrote, with names
+abbrev pub TellsOf : Course → Calling → Moment → List ℕ → Type 0
+TellsOf run c m text = WritesOf (slice_get (lanes_in run.place) m.lane) m run.script.tick_us c text

@@ -1,7 +1,7 @@
 //! The lines of a run with names.
 ghost use Rattle.std.specs.Prelude.{◌≡◌, true, false, IfOk, OnOk, is_some, slice_get, string_bytes};
 ghost use Rattle.tick_stepper.specs.Account.{lanes_in};
-ghost use Rattle.inspect_words.specs.Named.{Adds, AreWritten, WritesOf};
+ghost use Rattle.inspect_words.specs.Named.{Adds, AreWritten, TellsOf};
 
 use crate::follow::{TOO_LATE, callee_of};
 use crate::run::Run;
@@ -15,7 +15,7 @@ use std::alloc::{AllocError, Global};
 
 /// The lines that a moment wrote, with names: the time, and what the line tells. Of a spent account nothing is promised.
 pub fn named_text_of(alloc: Global, run: Run<'_>, moment: &Moment) -> Result<String, AllocError>
-    ensures { run.entry.account.now.spent ≡ false → IfOk result (λ text. WritesOf (slice_get (lanes_in run.entry.account.now.place) moment.now.lane) moment.now run.entry.account.now.script.tick_us run.entry.names.now (string_bytes text)) }
+    ensures { run.entry.account.now.spent ≡ false → IfOk result (λ text. TellsOf run.entry.account.now run.entry.names.now moment.now (string_bytes text)) }
 {
     let mut text = String::new(alloc);
     push_lines(&mut text, run, moment, lines_of(run.account, moment))?;
@@ -52,7 +52,7 @@ fn push_lines(
 /// The lines that a moment wrote, with names where there are some, else as the text of the run has them. Of a spent account nothing is
 /// promised.
 pub fn line_text_of(alloc: Global, run: Run<'_>, moment: &Moment) -> Result<String, AllocError>
-    ensures { is_some run.entry.names.now.names ≡ true → run.entry.account.now.spent ≡ false → IfOk result (λ text. WritesOf (slice_get (lanes_in run.entry.account.now.place) moment.now.lane) moment.now run.entry.account.now.script.tick_us run.entry.names.now (string_bytes text)) }
+    ensures { is_some run.entry.names.now.names ≡ true → run.entry.account.now.spent ≡ false → IfOk result (λ text. TellsOf run.entry.account.now run.entry.names.now moment.now (string_bytes text)) }
 {
     if run.names.are_there() {
         return named_text_of(alloc, run, moment);

@@ -1,16 +1,10 @@
 -- What the arguments of the program ask for.
-use Rattle.std.specs.Prelude.{◌≡◌, ◌≤◌, ℕ, List, [], ◌∷◌, codes, length, String, string_bytes}
-use Rattle.std.specs.Str.Parse.{IsNumeral, digits_value}
+use Rattle.std.specs.Prelude.{◌≡◌, ℕ, List, [], ◌∷◌, codes, String, string_bytes}
 use Rattle.std.specs.declared.alloc.Global.{Global}
+use Rattle.short_numbers.specs.Number.{IsNumber}
 use Rattle.tick_stepper.specs.declared.crew.Sharing.{Sharing}
 use Rattle.tick_stepper.specs.declared.crew.Sharing.TheVariants.{Round, Fixed, Queue}
 use Rattle.mainctx.specs.declared.arguments.Asked.{Asked}
-
--- a number in 1 to 9 decimal digits
-pub record IsNumber (word : List ℕ) (n : ℕ) : Type 0 where
-  pub digits : IsNumeral 10 word
-  pub few : length word ≤ 9
-  pub value : digits_value 10 word ≡ n
 
 -- `fixed` asks for lanes that go round the workers, and `queue` for a queue; no word asks for a table
 abbrev pub IsWordOf : List ℕ → Sharing → Type 0

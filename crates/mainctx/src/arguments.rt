@@ -1,11 +1,10 @@
 //! What the arguments of the program ask for.
-ghost use Rattle.std.specs.Prelude.{◌≡◌, ℕ, IfSome, Some};
-ghost use Rattle.std.specs.List.{list_all};
-ghost use Rattle.std.specs.Char.{is_ascii_digit};
+ghost use Rattle.std.specs.Prelude.{◌≡◌, IfSome, Some};
 ghost use Rattle.tick_stepper.specs.declared.crew.Sharing.{Sharing};
 ghost use Rattle.mainctx.specs.declared.arguments.Asked.{Asked};
-ghost use Rattle.mainctx.specs.Arguments.{IsNumber, IsWordOf, AskFor};
+ghost use Rattle.mainctx.specs.Arguments.{IsWordOf, AskFor};
 
+use short_numbers::number_of;
 use tick_stepper::Sharing;
 
 /// How many workers the arguments ask for, and how these share the lanes.
@@ -24,29 +23,10 @@ impl Asked {
         let [number, word] = args else {
             return None;
         };
-        let workers = workers_of(number.as_str())?;
+        let workers = number_of(number.as_str())?;
         let sharing = sharing_of(word.as_str())?;
         Some(Asked { workers, sharing })
     }
-}
-
-/// A number in 1 to 9 decimal digits.
-fn workers_of(word: &str) -> Option<u32>
-    ensures number { IfSome result (λ n. IsNumber word.now n) }
-    ensures exact { (n : ℕ) → IsNumber word.now n → result ≡ Some n }
-{
-    let digits = word.as_bytes();
-    if digits.len() > 9 || !are_digits(digits) {
-        return None;
-    }
-    word.parse::<u32>().ok()
-}
-
-/// Whether all bytes are decimal digits.
-fn are_digits(bytes: &[u8]) -> bool
-    ensures { result ≡ list_all is_ascii_digit bytes.now }
-{
-    bytes.iter().all(|b| b.is_ascii_digit())
 }
 
 /// How a word asks that lanes are shared out.

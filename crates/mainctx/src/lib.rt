@@ -19,4 +19,5 @@ pub use input::INPUT_LIMIT;
 pub use run::{MainFault, run_alone, run_bytes};
 pub use status::{Refusal, refuse, serve};
 pub use text::{OutOfMemory, add_text};
+pub use words::action_word;
 pub use writer::{Out, OutFault, OverWrite};

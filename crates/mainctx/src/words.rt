@@ -17,7 +17,7 @@ pub(crate) fn invoked_word(how: Invoked) -> &'static str
 }
 
 /// The word of an action, as scripts write it.
-pub(crate) fn action_word(word: Word) -> &'static str
+pub fn action_word(word: Word) -> &'static str
     ensures word { result.now ≡ word_text word }
     ensures short { length result.now ≤ 20 }
 {

@@ -22,7 +22,8 @@ use Rattle.run_names.specs.declared.label.Label.{Label}
 use Rattle.run_names.specs.declared.label.Seat.{Seat}
 use Rattle.run_names.specs.Called.{HaveNumbers, name_in}
 use Rattle.run_names.specs.Text.{Calling, is_plain, called, within, source_text, handler_text, number_text, quoted_or}
-use Rattle.named_lines.specs.Lines.{line_text, milliseconds_text, part_text, callee_text, priority_text, depth_text, answer_text, invoked_text, outcome_text, word_text, late_text, event_text}
+use Rattle.mainctx.specs.Text.{word_text}
+use Rattle.named_lines.specs.Lines.{line_text, milliseconds_text, part_text, callee_text, priority_text, depth_text, answer_text, invoked_text, outcome_text, late_text, event_text}
 use Rattle.run_names.proofs.Peel.{Ends, peel_plain, tail_of}
 use Rattle.run_names.specs.Fit.{IsOfNames}
 use Rattle.named_lines.specs.Alike.{OutcomeFits, EventFits, NumberFits, ToldFits, LinesAreApart, TextsAreApart}

@@ -8,8 +8,7 @@ use Rattle.lane_turn.specs.declared.line.Event.{Event}
 use Rattle.lane_turn.specs.declared.line.Event.TheVariants.{Dispatch, Log, Iterate, Pending, LoopEnd, Acquire, Default, Invoke, Arrive, Cancel, Handler, Task, TaskLate, Give, Hold, Miss, HaltDepth, HaltSteps, End}
 use Rattle.lane_turn.specs.declared.line.Invoked.{Invoked}
 use Rattle.lane_turn.specs.declared.line.Invoked.TheVariants.{Direct, Attached, Posted}
-use Rattle.lane_turn.specs.declared.line.Word.{Word}
-use Rattle.lane_turn.specs.declared.line.Word.TheVariants as words
+use Rattle.mainctx.specs.Text.{word_text}
 use Rattle.named_lines.specs.declared.told.Told.{Told}
 use Rattle.run_names.specs.declared.thing.Thing.TheVariants as things
 use Rattle.run_names.specs.Text.{Calling, called, within, source_text, handler_text, thing_text}
@@ -44,21 +43,6 @@ outcome_text (outcomes.Ok v) = codes " ok " ++ signed_decimal v
 outcome_text outcomes.Failed = codes " failed"
 outcome_text outcomes.Cancelled = codes " cancelled"
 outcome_text outcomes.TimedOut = codes " timed-out"
-
--- an action, as scripts write it
-abbrev pub word_text : Word → List ℕ
-word_text words.Attach = codes "attach"
-word_text words.Child = codes "child"
-word_text words.Destroy = codes "destroy"
-word_text words.SetReady = codes "set_ready"
-word_text words.SetPriority = codes "set_priority"
-word_text words.Run = codes "run"
-word_text words.Quit = codes "quit"
-word_text words.Disconnect = codes "disconnect"
-word_text words.Push = codes "push"
-word_text words.Pop = codes "pop"
-word_text words.Release = codes "release"
-word_text words.Give = codes "give"
 
 -- a handler that is connected too late, by the slot that would name it
 abbrev pub late_text : Calling → Option ℕ → List ℕ

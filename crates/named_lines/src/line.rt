@@ -5,11 +5,10 @@ ghost use Rattle.named.specs.declared.sort.Kind.TheVariants as kinds;
 ghost use Rattle.run_names.specs.Text.{called, source_text, thing_text};
 ghost use Rattle.named_lines.specs.Lines as lines;
 
-use crate::part::{
-    answer, invoked, push_depth, push_milliseconds, push_outcome, push_priority, word,
-};
+use crate::part::{answer, invoked, push_depth, push_milliseconds, push_outcome, push_priority};
 use crate::told::Told;
 use lane_turn::{Event, Invoked};
+use mainctx::action_word;
 use run_names::{RunNames, Thing};
 use std::alloc::AllocError;
 
@@ -91,7 +90,7 @@ fn push_event(out: &mut String, names: &RunNames, told: &Told) -> Result<(), All
         Event::Hold(context) => push_with(out, names, "hold ", Thing::Context(context)),
         Event::Miss(missed) => {
             out.push_str("miss ")?;
-            out.push_str(word(missed))
+            out.push_str(action_word(missed))
         }
         Event::HaltDepth => out.push_str("halt depth"),
         Event::HaltSteps => out.push_str("halt steps"),

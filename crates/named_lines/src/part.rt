@@ -2,7 +2,7 @@
 ghost use Rattle.std.specs.Prelude.{◌≡◌, ◌++◌, OnOk, string_bytes};
 ghost use Rattle.named_lines.specs.Lines as lines;
 
-use lane_turn::{Invoked, Word};
+use lane_turn::Invoked;
 use loop_script::Outcome;
 use std::alloc::AllocError;
 
@@ -99,25 +99,5 @@ pub(crate) fn invoked(how: Invoked) -> &'static str
         Invoked::Direct => ": direct",
         Invoked::Attached => ": attached",
         Invoked::Posted => ": posted",
-    }
-}
-
-/// An action, as scripts write it.
-pub(crate) fn word(word: Word) -> &'static str
-    ensures { result.now ≡ lines.word_text word }
-{
-    match word {
-        Word::Attach => "attach",
-        Word::Child => "child",
-        Word::Destroy => "destroy",
-        Word::SetReady => "set_ready",
-        Word::SetPriority => "set_priority",
-        Word::Run => "run",
-        Word::Quit => "quit",
-        Word::Disconnect => "disconnect",
-        Word::Push => "push",
-        Word::Pop => "pop",
-        Word::Release => "release",
-        Word::Give => "give",
     }
 }

@@ -1,6 +1,6 @@
 use Rattle.std.proofs.Common.{ℕ, None, Some, List, sym, subst}
 use Rattle.std.proofs.lemmas.Str.Pattern.{split_text_parts}
-use Rattle.inspect_arguments.specs.Forms.{IsNumber}
+use Rattle.short_numbers.specs.Number.{IsNumber}
 use Rattle.inspect_arguments.proofs.Cuts.{same_parts}
 use Rattle.inspect_arguments.proofs.values.numbers_of.Goals as goal
 

@@ -1,5 +1,6 @@
 use Rattle.std.proofs.Common.{ℕ, List, subst}
-use Rattle.mainctx.specs.Arguments.{IsNumber, IsWordOf}
+use Rattle.short_numbers.specs.Number.{IsNumber}
+use Rattle.mainctx.specs.Arguments.{IsWordOf}
 use Rattle.mainctx.proofs.Asking.{two_of}
 use Rattle.mainctx.proofs.arguments.Asked.read.Goals as goal
 

@@ -1,9 +1,9 @@
--- What digits are read as, and where a text with two numbers is cut.
+-- What digits are read as.
 use Rattle.std.proofs.Common.{Bool, Option, Some, IfSome, ◌≡◌, ◌≤◌, ℕ, List, [], ◌∷◌, ◌&&◌, length, Result, Ok, Err, true, refl, sym, ap, ◌∙◌, subst, arith}
 use Rattle.std.proofs.lemmas.Str.Parse.{IsNumeralModel, numerals_by_value, tells_all_ascii_digits, parse_gives, parse_digits, digits_value_short}
 use Rattle.std.specs.Result.{result_ok}
 use Rattle.std.specs.List.{list_all}
-use Rattle.inspect_arguments.specs.Forms.{IsNumber}
+use Rattle.short_numbers.specs.Number.{IsNumber}
 use Rattle.std.specs.Char.{is_ascii_digit}
 use Rattle.std.specs.Str.{all_ascii_digits}
 use Rattle.std.specs.Str.Parse.{AllDigits, digits_value, ParsesUnsigned}
