@@ -7,13 +7,14 @@ ghost use Rattle.tick_stepper.specs.Account.{started, lanes_in, end_of};
 ghost use Rattle.account.specs.Told.{HasGone, HasPassed};
 ghost use Rattle.account.specs.Standing.{lanes_of, place_of, AreUnspent};
 
-use crate::fault::{AccountFault, OutOfMemory};
+use crate::fault::AccountFault;
 use crate::going::{Going, Phase};
 use crate::moment::Moment;
 use lane_turn::LaneState;
 use loop_script::Script;
 use std::alloc::Global;
 use std::marker::Model;
+use tick_stepper::OutOfMemory;
 
 /// A run of a script on one thread, one moment after another. Contracts see the script, the tick in progress, where in it the
 /// run is, and whether the account is spent.

@@ -1,7 +1,6 @@
 //! Why an account was refused.
-use lane_turn::{HandFault, LaneFault};
-use std::alloc::AllocError;
 use thiserror::Error;
+use tick_stepper::OutOfMemory;
 
 /// Why a call of an account was refused.
 #[derive(Clone, Copy, Debug, PartialEq, Eq, Error)]
@@ -14,10 +13,6 @@ pub enum AccountFault {
     OutOfMemory,
 }
 
-/// A request for memory was refused.
-#[derive(Clone, Copy)]
-pub(crate) struct OutOfMemory;
-
 impl From<OutOfMemory> for AccountFault {
     ghost use Rattle.std.specs.Prelude.{◌≡◌};
     ghost use Rattle.account.specs.declared.fault.AccountFault.TheVariants as faults;
@@ -26,25 +21,5 @@ impl From<OutOfMemory> for AccountFault {
 
     fn from(_: OutOfMemory) -> Self {
         AccountFault::OutOfMemory
-    }
-}
-
-impl From<AllocError> for OutOfMemory {
-    fn from(_: AllocError) -> Self {
-        OutOfMemory
-    }
-}
-
-/// A lane that was not spent is refused a turn or a delivery only where memory runs out.
-impl From<LaneFault> for OutOfMemory {
-    fn from(_: LaneFault) -> Self {
-        OutOfMemory
-    }
-}
-
-/// And so is a handing over of it.
-impl From<HandFault> for OutOfMemory {
-    fn from(_: HandFault) -> Self {
-        OutOfMemory
     }
 }

@@ -7,7 +7,6 @@ ghost use Rattle.tick_stepper.specs.Account.{started, moved};
 ghost use Rattle.account.specs.Told.{trace_at, told, IsMoment, TellsNext, TellsNothing};
 ghost use Rattle.account.specs.Standing.{lanes_of, AreUnspent, AreLined, place_of, Stands};
 
-use crate::fault::OutOfMemory;
 use crate::foreseen::{done, foreseen};
 use crate::hand::{gift_of, hand};
 use crate::letters::receive;
@@ -17,6 +16,7 @@ use lane_turn::LaneState;
 use loop_script::Script;
 use post_office::Letter;
 use std::alloc::Global;
+use tick_stepper::OutOfMemory;
 
 /// How far a tick has come.
 #[derive(Clone, Copy)]

@@ -7,9 +7,9 @@ ghost use Rattle.tick_stepper.specs.Share.{at_number};
 ghost use Rattle.account.specs.Standing.{unspent, lanes_of, AreLined};
 ghost use Rattle.account.specs.Gifts.{gift_of};
 
-use crate::fault::OutOfMemory;
 use lane_turn::{HandFault, Held, LaneState};
 use post_office::{Body, Letter};
+use tick_stepper::OutOfMemory;
 
 /// A context that a lane gives to another.
 #[derive(Clone, Copy)]

@@ -6,10 +6,10 @@ ghost use Rattle.account.specs.Within.{AllMayTake};
 ghost use Rattle.account.specs.Told.{GrowsAt};
 ghost use Rattle.account.specs.Standing.{lanes_of, AreUnspent, bringing};
 
-use crate::fault::OutOfMemory;
 use lane_turn::LaneState;
 use loop_script::Script;
 use post_office::Letter;
+use tick_stepper::OutOfMemory;
 
 /// Brings a letter to a lane.
 pub(crate) fn receive(

@@ -13,11 +13,11 @@ ghost use Rattle.account.specs.Within.{polled};
 ghost use Rattle.account.specs.Told.{trace_at, GrowsAt};
 ghost use Rattle.account.specs.Standing.{lanes_of, AreUnspent, OwnsTurn, turn_in, IsInTurn, turning, turning_after};
 
-use crate::fault::OutOfMemory;
 use lane_turn::{LaneState, Turn};
 use loop_script::Script;
 use post_office::{Letter, Tray};
 use std::alloc::Global;
+use tick_stepper::OutOfMemory;
 
 /// A turn that was begun, and what it has posted so far.
 #[derive(Drop)]

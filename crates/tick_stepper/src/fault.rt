@@ -20,9 +20,9 @@ pub enum StepFault {
     Spent,
 }
 
-/// A request for memory was refused.
+/// A request for memory was refused, in whichever call.
 #[derive(Clone, Copy)]
-pub(crate) struct OutOfMemory;
+pub struct OutOfMemory;
 
 impl From<OutOfMemory> for StepFault {
     ghost use Rattle.std.specs.Prelude.{◌≡◌};

@@ -19,6 +19,6 @@ mod stepper;
 mod work;
 
 pub use crew::Sharing;
-pub use fault::StepFault;
+pub use fault::{OutOfMemory, StepFault};
 pub use gate::{Gate, OpenGate};
 pub use stepper::Stepper;
