@@ -7,7 +7,7 @@ use Rattle.std.specs.List.{flat_map, AllByRecursion}
 use Rattle.lane_turn.specs.declared.line.Line.{Line}
 use Rattle.run_names.specs.Text.{Calling}
 use Rattle.named_lines.specs.Lines.{line_text}
-use Rattle.named_lines.specs.declared.told.Told.{Told}
+use Rattle.named_lines.specs.declared.told_line.Told.{Told}
 use Rattle.lane_turn.specs.Lane.{Lane}
 use Rattle.account.specs.declared.moment.Moment.{Moment}
 use Rattle.inspect_words.specs.Named.{Adds, AreWritten, WritesOf}

@@ -8,7 +8,7 @@ use Rattle.account.specs.Course.{Course}
 use Rattle.account.specs.declared.moment.Moment.{Moment}
 use Rattle.run_names.specs.Text.{Calling}
 use Rattle.named_lines.specs.Lines.{line_text}
-use Rattle.named_lines.specs.declared.told.Told.{Told}
+use Rattle.named_lines.specs.declared.told_line.Told.{Told}
 
 -- a text tells lines of a thread, each with what it does not say itself, in their order
 pub record Tells (tick_us : ℕ) (c : Calling) (thread : ℕ) (lines : List Line) (text : List ℕ) : Type 0 where

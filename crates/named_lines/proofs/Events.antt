@@ -17,7 +17,7 @@ use Rattle.lane_turn.specs.declared.line.Invoked.{Invoked}
 use Rattle.lane_turn.specs.declared.line.Invoked.TheVariants.{Direct, Attached, Posted}
 use Rattle.lane_turn.specs.declared.line.Word.{Word}
 use Rattle.lane_turn.specs.declared.line.Word.TheVariants as words
-use Rattle.named_lines.specs.declared.told.Told.{Told}
+use Rattle.named_lines.specs.declared.told_line.Told.{Told}
 use Rattle.run_names.specs.declared.label.Label.{Label}
 use Rattle.run_names.specs.declared.label.Seat.{Seat}
 use Rattle.run_names.specs.Called.{HaveNumbers, name_in}

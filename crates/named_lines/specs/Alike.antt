@@ -6,7 +6,7 @@ use Rattle.loop_script.specs.declared.outcome.Outcome.TheVariants as outcomes
 use Rattle.named.specs.Names.{Names}
 use Rattle.lane_turn.specs.declared.line.Event.{Event}
 use Rattle.lane_turn.specs.declared.line.Event.TheVariants.{Dispatch, Log, Iterate, Pending, LoopEnd, Acquire, Default, Invoke, Arrive, Cancel, Handler, Task, TaskLate, Give, Hold, Miss, HaltDepth, HaltSteps, End}
-use Rattle.named_lines.specs.declared.told.Told.{Told}
+use Rattle.named_lines.specs.declared.told_line.Told.{Told}
 use Rattle.run_names.specs.Text.{Calling}
 use Rattle.run_names.specs.Fit.{IsOfNames}
 use Rattle.named_lines.specs.Lines.{line_text}

@@ -9,7 +9,7 @@ use Rattle.lane_turn.specs.declared.line.Event.TheVariants.{Dispatch, Log, Itera
 use Rattle.lane_turn.specs.declared.line.Invoked.{Invoked}
 use Rattle.lane_turn.specs.declared.line.Invoked.TheVariants.{Direct, Attached, Posted}
 use Rattle.mainctx.specs.Text.{word_text}
-use Rattle.named_lines.specs.declared.told.Told.{Told}
+use Rattle.named_lines.specs.declared.told_line.Told.{Told}
 use Rattle.run_names.specs.declared.thing.Thing.TheVariants as things
 use Rattle.run_names.specs.Text.{Calling, called, within, source_text, handler_text, thing_text}
 

@@ -4,8 +4,8 @@
 pub mod laws;
 mod line;
 mod part;
-mod told;
+mod told_line;
 
 pub use line::push_line;
 pub use part::{push_milliseconds, push_priority};
-pub use told::Told;
+pub use told_line::Told;

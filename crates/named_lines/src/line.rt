@@ -6,7 +6,7 @@ ghost use Rattle.run_names.specs.Text.{called, source_text, thing_text};
 ghost use Rattle.named_lines.specs.Lines as lines;
 
 use crate::part::{answer, invoked, push_depth, push_milliseconds, push_outcome, push_priority};
-use crate::told::Told;
+use crate::told_line::Told;
 use lane_turn::{Event, Invoked};
 use mainctx::action_word;
 use run_names::{RunNames, Thing};
