@@ -1,45 +1,17 @@
--- What the flat list of frames says of the boxes.
-use Rattle.std.proofs.Common.{◌≡◌, ◌≢◌, ℕ, zero, suc, ◌+◌, ◌-◌, ◌<◌, ◌≤◌, Bool, true, false, cond, Option, Some, None, List, [], ◌∷◌, ◌++◌, length, drop, reverse, slice_set, refl, sym, ap, ◌∙◌, subst, arith, ◌==◌, inl, inr, count_by, append-nil, ltb-false, OnOk, IfOk, Vec, Global, Result, Ok, Err}
-use Rattle.std.specs.Prelude.{slice_get, filter_map, nat_lt}
+-- What the flat list of frames says of the layers.
+use Rattle.std.proofs.Common.{◌≡◌, ◌≢◌, ℕ, zero, suc, ◌+◌, ◌<◌, ◌≤◌, Bool, true, false, cond, Option, Some, None, List, [], ◌∷◌, ◌++◌, length, drop, reverse, slice_set, slice_index_or, refl, sym, ap, ◌∙◌, subst, arith, ◌==◌, inl, inr, count_by, append-nil, ltb-false, OnOk, Result, Ok, Err}
+use Rattle.std.specs.Prelude.{nat_lt}
 use Rattle.std.proofs.lemmas.Bool.{lt-ltb}
 use Rattle.std.proofs.lemmas.Bool.Decides.{eqb_tells}
-use Rattle.std.proofs.lemmas.List.{reverse-append, drop-drop}
+use Rattle.std.proofs.lemmas.List.{append_assoc, length-reverse, reverse-append, drop-drop}
 use Rattle.std.proofs.lemmas.List.{drop_all}
-use Rattle.std.specs.List.{cons_option}
 use Rattle.std.proofs.lemmas.List.Sums.{sum_by-cons}
-use Rattle.std.proofs.lemmas.List.Elements.{filter_map-append}
 use Rattle.lane_turn.specs.declared.layer.Iteration.{Iteration}
 use Rattle.lane_turn.specs.declared.layer.Top.{Top}
-use Rattle.lane_turn.specs.declared.layer.Top.TheVariants as tops
 use Rattle.lane_turn.specs.declared.layer.Layer.{Layer}
 use Rattle.lane_turn.specs.declared.layer.Layer.TheVariants as layers
-use Rattle.lane_turn.specs.Frames.{Frame, CallOf, IterOf, LoopOf, emptied, emptied_one, is_dispatch, depth, is_call, calls_in_progress, blocked_in, busy, advanced, advanced_one, top_of, IsTaken}
-use Rattle.lane_turn.specs.Nest.{height_at, is_height, is_live, ids_left, frame_of, frames_of, is_dispatch_layer, is_call_layer, blocked_by_layer, busy_layers, advanced_layer, advanced_layers, taken_layers, top_of_layers, HasRoomLayers}
-
-pub first_within : (xs : List Layer) (x : Layer) → xs ≢ [] → slice_get (xs ++ x ∷ []) 0 ≡ slice_get xs 0
-first_within [] x h = absurd (h refl)
-first_within (y ∷ xs) x h = refl
-
-pub rest_of_within : (xs : List Layer) (x : Layer) → xs ≢ [] → drop 1 (xs ++ x ∷ []) ≡ drop 1 xs ++ x ∷ []
-rest_of_within [] x h = absurd (h refl)
-rest_of_within (y ∷ xs) x h = refl
-
-abbrev list_of : Option ℕ → List ℕ
-list_of None = []
-list_of (Some n) = n ∷ []
-
-within_by : (xs : List ℕ) (o : Option ℕ) → reverse (xs ++ cons_option o []) ≡ list_of o ++ reverse xs
-within_by xs None = ap reverse (append-nil xs)
-within_by xs (Some n) = reverse-append xs (n ∷ [])
-
-busy_by : (context : ℕ) (xs : List Layer) (x : Layer) → reverse (busy_layers context (xs ++ x ∷ [])) ≡ list_of (blocked_by_layer context x) ++ reverse (busy_layers context xs)
-busy_by context xs x = ap reverse (filter_map-append (blocked_by_layer context) xs (x ∷ [])) ∙ within_by (busy_layers context xs) (blocked_by_layer context x)
-
-pub busy_none : (context : ℕ) (xs : List Layer) (x : Layer) → blocked_by_layer context x ≡ None → reverse (busy_layers context (xs ++ x ∷ [])) ≡ reverse (busy_layers context xs)
-busy_none context xs x e = busy_by context xs x ∙ ap (λ o. list_of o ++ reverse (busy_layers context xs)) e
-
-pub busy_some : (context n : ℕ) (xs : List Layer) (x : Layer) → blocked_by_layer context x ≡ Some n → reverse (busy_layers context (xs ++ x ∷ [])) ≡ n ∷ reverse (busy_layers context xs)
-busy_some context n xs x e = busy_by context xs x ∙ ap (λ o. list_of o ++ reverse (busy_layers context xs)) e
+use Rattle.lane_turn.specs.Frames.{Frame, CallOf, IterOf, LoopOf, emptied, emptied_one, is_dispatch, depth, is_call, calls_in_progress, advanced, top_of, HasRoom, IsTaken}
+use Rattle.lane_turn.specs.Nest.{height_at, is_height, is_live, ids_left, frame_of, frames_of, frames_from, is_dispatch_layer, is_call_layer, taken_layer}
 
 -- a growing table of levels says the same
 pub level_grown : (live : List (Option ℕ)) (c : ℕ) → height_at (live ++ None ∷ []) c ≡ height_at live c
@@ -77,11 +49,6 @@ dispatch_same live height (layers.Call call) = refl
 dispatch_same live height (layers.Iteration i) = refl
 dispatch_same live height (layers.Loop number context) = refl
 
-blocked_same : (live : List (Option ℕ)) (height c : ℕ) (l : Layer) → blocked_in c (frame_of live height l) ≡ blocked_by_layer c l
-blocked_same live height c (layers.Call call) = refl
-blocked_same live height c (layers.Iteration i) = refl
-blocked_same live height c (layers.Loop number context) = refl
-
 abbrev one_if : Bool → ℕ
 one_if b = cond b 1 0
 
@@ -100,30 +67,10 @@ calls_layers live [] = refl
 calls_layers live (l ∷ ls) =
     omega (arith, sum_by-cons (λ f. one_if (is_call f)) (frame_of live (length ls) l) (frames_of live ls), sum_by-cons (λ a. one_if (is_call_layer a)) l ls, calls_layers live ls, ap one_if (call_same live (length ls) l))
 
-busy_same : (live : List (Option ℕ)) (c : ℕ) (ls : List Layer) → filter_map (blocked_in c) (frames_of live ls) ≡ busy_layers c ls
-busy_same live c [] = refl
-busy_same live c (l ∷ ls) = rw (blocked_same live (length ls) c l, busy_same live c ls) refl
-
-pub busy_frames : (live : List (Option ℕ)) (c : ℕ) (ls : List Layer) → busy c (frames_of live ls) ≡ reverse (busy_layers c ls)
-busy_frames live c ls = ap reverse (busy_same live c ls)
-
-pub drop_frames : (live : List (Option ℕ)) (ls : List Layer) → frames_of live (drop 1 ls) ≡ drop 1 (frames_of live ls)
-drop_frames live [] = refl
-drop_frames live (l ∷ ls) = refl
-
 advanced_by : (ids : List ℕ) (place : ℕ) (live within : Bool) → nat_lt place (length ids) ≡ within → cond live (drop (cond within (place + 1) place) ids) [] ≡ drop 1 (cond live (drop place ids) [])
 advanced_by ids place false within e = refl
 advanced_by ids place true true e = sym (drop-drop 1 place ids)
 advanced_by ids place true false e = rw (drop_all place ids (ltb-false _ _ e)) refl
-
-advance_one : (live : List (Option ℕ)) (height : ℕ) (l : Layer) → frame_of live height (advanced_layer l) ≡ advanced_one (frame_of live height l)
-advance_one live height (layers.Call call) = refl
-advance_one live height (layers.Iteration i) = ap (λ ids. IterOf i.context ids i.asker) (advanced_by i.ids.items i.place (is_live live height i.context) _ refl)
-advance_one live height (layers.Loop number context) = refl
-
-pub advance_frames : (live : List (Option ℕ)) (ls : List Layer) → frames_of live (advanced_layers ls) ≡ advanced (frames_of live ls)
-advance_frames live [] = refl
-advance_frames live (l ∷ ls) = ap (λ f. f ∷ frames_of live ls) (advance_one live (length ls) l)
 
 -- when an inner iteration takes the context over, an outer one of it has no id left
 taken_by : (o n : Option ℕ) (b : Bool) (k height : ℕ) (ids : List ℕ) → k < height → n ≡ cond b (Some height) o → cond (is_height n k) ids [] ≡ cond b [] (cond (is_height o k) ids [])
@@ -146,25 +93,6 @@ pub frames_taken : (live new : List (Option ℕ)) (context height : ℕ) (ls : L
 frames_taken live new context height [] h b = refl
 frames_taken live new context height (l ∷ ls) h b = rw (frame_taken live new context height (length ls) l h (omega arith), frames_taken live new context height ls h (omega arith)) refl
 
--- what stands below the innermost frame does not matter to what it takes next
-top_below : (f : Frame) (below : List Frame) → top_of (f ∷ []) ≡ top_of (f ∷ below)
-top_below (CallOf call) below = refl
-top_below (IterOf context ids asker) below = refl
-top_below (LoopOf number context) below = refl
-
-pub top_none : (live : List (Option ℕ)) (ls : List Layer) → None ≡ slice_get ls 0 → tops.Nothing ≡ top_of (frames_of live ls)
-top_none live [] e = refl
-top_none live (l ∷ ls) e = cc
-
-some_layer : (a b : Layer) → Some a ≡ Some b → a ≡ b
-some_layer a b e = cc
-
-pub top_some : (at live : List (Option ℕ)) (ls : List Layer) (l : Layer) (n : ℕ) → at ≡ live → Some l ≡ slice_get ls 0 → n ≡ length ls → top_of (frame_of at (n - 1) l ∷ []) ≡ top_of (frames_of live ls)
-top_some at live [] l n a e k = cc
-top_some at live (x ∷ ls) l n a e k =
-    let height : n - 1 ≡ length ls = omega arith in
-    rw (a, height, some_layer l x e) (top_below (frame_of live (length ls) x) (frames_of live ls))
-
 live_now : (height : ℕ) (ids : List ℕ) (o : Option ℕ) → o ≡ Some height → cond (is_height o height) ids [] ≡ ids
 live_now height ids o e = elim (eqb_tells height height) [ inl t ↦ rw (e, t.0) refl | inr f ↦ absurd (f.1 refl) ]
 
@@ -184,32 +112,60 @@ pub on_ok : {T E P Q : Type 0} (r : Result T E) → (P → Q) → OnOk r P → O
 on_ok (Ok x) f p = f p
 on_ok (Err e) f p = tt
 
-pub if_ok_same : {E : Type 0} (r : Result (Vec ℕ Global) E) (xs ys : List ℕ) → xs ≡ ys → IfOk r (λ v. v.items ≡ xs) → IfOk r (λ v. v.items ≡ ys)
-if_ok_same (Ok v) xs ys e h = h ∙ e
-if_ok_same (Err x) xs ys e h = tt
+-- ---- layers from the outermost inwards
 
--- what the innermost takes next is that of its frame
-pub top_layers : (live : List (Option ℕ)) (ls : List Layer) → top_of_layers live (length ls - 1) ls ≡ top_of (frames_of live ls)
-top_layers live [] = refl
-top_layers live (l ∷ ls) =
-    let height : suc (length ls) - 1 ≡ length ls = omega arith in
-    rw height (top_below (frame_of live (length ls) l) (frames_of live ls))
+-- the last is the innermost
+pub innermost : (xs : List Layer) (l : Layer) → reverse (xs ++ l ∷ []) ≡ l ∷ reverse xs
+innermost xs l = reverse-append xs (l ∷ [])
 
--- what is counted as taken where there is room is the same as what is advanced
-taken_room : (ls : List Layer) → HasRoomLayers ls → taken_layers ls ≡ advanced_layers ls
-taken_room [] h = refl
-taken_room (layers.Call call ∷ ls) h = rw (lt-ltb _ _ h) refl
-taken_room (layers.Iteration i ∷ ls) h = refl
-taken_room (layers.Loop number context ∷ ls) h = refl
+pub frames_end : (live : List (Option ℕ)) (xs : List Layer) (l : Layer) → frames_of live (reverse (xs ++ l ∷ [])) ≡ frame_of live (length xs) l ∷ frames_of live (reverse xs)
+frames_end live xs l = ap (frames_of live) (innermost xs l) ∙ ap (λ (n : ℕ). frame_of live n l ∷ frames_of live (reverse xs)) (length-reverse xs)
 
-taken_frames : (live : List (Option ℕ)) (ls : List Layer) → HasRoomLayers ls → frames_of live (taken_layers ls) ≡ advanced (frames_of live ls)
-taken_frames live ls h = ap (frames_of live) (taken_room ls h) ∙ advance_frames live ls
+-- the same frames, the outermost first
+pub inwards_from : (live : List (Option ℕ)) (xs outer : List Layer) → reverse (frames_of live (reverse xs ++ outer)) ≡ reverse (frames_of live outer) ++ frames_from (length outer) live xs
+inwards_from live [] outer = sym (append-nil (reverse (frames_of live outer)))
+inwards_from live (x ∷ xs) outer =
+    let height : suc (length outer) ≡ length outer + 1 = omega arith in
+    ap (λ (ls : List Layer). reverse (frames_of live ls)) (ap (λ (ls : List Layer). ls ++ outer) (reverse-append (x ∷ []) xs) ∙ append_assoc (reverse xs) (x ∷ []) outer)
+    ∙ (inwards_from live xs (x ∷ outer)
+    ∙ (ap (λ (fs : List Frame). fs ++ frames_from (suc (length outer)) live xs) (reverse-append (frame_of live (length outer) x ∷ []) (frames_of live outer))
+    ∙ (append_assoc (reverse (frames_of live outer)) (frame_of live (length outer) x ∷ []) (frames_from (suc (length outer)) live xs)
+    ∙ ap (λ (n : ℕ). reverse (frames_of live outer) ++ frame_of live (length outer) x ∷ frames_from n live xs) height)))
 
-is_taken_frames : (live : List (Option ℕ)) (ls : List Layer) → IsTaken (top_of (frames_of live ls)) (frames_of live ls) (frames_of live (taken_layers ls))
-is_taken_frames live [] = refl
-is_taken_frames live (layers.Call call ∷ ls) = (λ h. taken_frames live (layers.Call call ∷ ls) h, refl)
-is_taken_frames live (layers.Iteration i ∷ ls) = (taken_frames live (layers.Iteration i ∷ ls) tt, refl)
-is_taken_frames live (layers.Loop number context ∷ ls) = refl
+pub all_inwards : (live : List (Option ℕ)) (xs : List Layer) → frames_from 0 live xs ≡ reverse (frames_of live (reverse xs))
+all_inwards live xs = sym (ap (λ (ls : List Layer). reverse (frames_of live ls)) (sym (append-nil (reverse xs))) ∙ inwards_from live xs [])
 
-pub is_taken : (live : List (Option ℕ)) (ls new : List Layer) (top : Top) (old : List Frame) → top ≡ top_of old → frames_of live ls ≡ old → new ≡ taken_layers ls → IsTaken top old (frames_of live new)
-is_taken live ls new top old t v n = rw (t, sym v, n) (is_taken_frames live ls)
+-- ---- what is taken
+
+taken_one : (live : List (Option ℕ)) (l : Layer) (outer : List Layer) → IsTaken (top_of (frame_of live (length outer) l ∷ [])) (frames_of live (l ∷ outer)) (frames_of live (taken_layer l ∷ outer))
+taken_one live (layers.Call call) outer = (λ h. rw (lt-ltb _ _ h) refl, refl)
+taken_one live (layers.Iteration i) outer =
+    (ap (λ ids. IterOf i.context ids i.asker ∷ frames_of live outer) (advanced_by i.ids.items i.place (is_live live (length outer) i.context) _ refl), refl)
+taken_one live (layers.Loop number context) outer = refl
+
+-- what has a last is what comes before it, and that
+pub ending : (xs : List Layer) (k : ℕ) (l : Layer) → k + 1 ≡ length xs → l ≡ slice_index_or xs k l
+    → (before : List Layer) × (k ≡ length before) × (xs ≡ before ++ l ∷ []) × ((v : Layer) → slice_set xs k v ≡ before ++ v ∷ [])
+ending [] k l n e = absurd (omega (arith, n))
+ending (x ∷ []) zero l n e = ([], refl, ap (λ (y : Layer). y ∷ []) (sym e), λ v. refl)
+ending (x ∷ y ∷ xs) zero l n e = absurd (omega (arith, n))
+ending (x ∷ xs) (suc k) l n e =
+    let rest = ending xs k l (omega (arith, n)) e in
+    (x ∷ rest.0, ap suc rest.1, ap (λ (ys : List Layer). x ∷ ys) rest.2, λ v. ap (λ (ys : List Layer). x ∷ ys) (rest.3 v))
+
+pub taken_last : (live : List (Option ℕ)) (height : ℕ) (l : Layer) (before xs : List Layer) (top : Top) (old new : List Frame)
+    → height ≡ length before → xs ≡ before ++ l ∷ [] → frames_of live (reverse xs) ≡ old → top ≡ top_of (frame_of live height l ∷ [])
+    → new ≡ frames_of live (reverse (before ++ taken_layer l ∷ [])) → IsTaken top old new
+taken_last live height l before xs top old new h e v t n =
+    let here : top ≡ top_of (frame_of live (length (reverse before)) l ∷ []) = t ∙ ap (λ (k : ℕ). top_of (frame_of live k l ∷ [])) (h ∙ sym (length-reverse before)) in
+    rw (here, sym v, e, n, innermost before l, innermost before (taken_layer l)) (taken_one live l (reverse before))
+
+-- where there is room, to take is to advance
+taken_room : (old new : List Frame) → IsTaken (top_of old) old new → HasRoom old → new ≡ advanced old
+taken_room [] new t h = t
+taken_room (CallOf call ∷ below) new t h = t.0 h
+taken_room (IterOf context ids asker ∷ below) new t h = t.0
+taken_room (LoopOf number context ∷ below) new t h = t
+
+pub taken_advances : (top : Top) (old new : List Frame) → top ≡ top_of old → IsTaken top old new → HasRoom old → new ≡ advanced old
+taken_advances top old new e t h = taken_room old new (subst (λ x. IsTaken x old new) e t) h

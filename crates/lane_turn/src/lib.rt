@@ -5,7 +5,6 @@
 #![tactic(auto)]
 
 mod act;
-mod chain;
 mod deliver;
 mod frames;
 mod handlers;
@@ -18,7 +17,6 @@ mod letters;
 mod limits;
 mod line;
 mod look;
-mod nest;
 mod owned;
 mod replies;
 mod select;
