@@ -19,8 +19,7 @@ pub(crate) struct Entry {
     pub(crate) slot: usize,
 }
 
-/// The slots of ids, by rising id. An id that goes leaves its entry; once more than half of the entries are such, they are
-/// left out.
+/// The slots of ids, by rising id. An id that goes leaves its entry, which goes too once more than half of them are such.
 #[derive(Drop)]
 pub(crate) struct Index {
     entries: Vec<Entry>,
@@ -118,11 +117,7 @@ impl Index {
     {
         let at = place(&self.entries, id)?;
         let entry = self.entries.get(at)?;
-        if entry.lives() {
-            Some(entry.slot)
-        } else {
-            None
-        }
+        if entry.lives() { Some(entry.slot) } else { None }
     }
 
     /// Puts an id behind the others.
