@@ -9,7 +9,6 @@ mod candidates;
 mod fault;
 mod guesses;
 mod in_order;
-mod index;
 pub mod laws;
 mod levels;
 mod moves;
