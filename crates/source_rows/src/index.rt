@@ -19,7 +19,8 @@ pub(crate) struct Entry {
     pub(crate) slot: usize,
 }
 
-/// The slots of ids, by rising id. An id that goes leaves its entry, which goes too once more than half of them are such.
+/// The slots of ids, by rising id. An id that goes leaves its entry; once more than half of the entries are such, they are
+/// left out.
 #[derive(Drop)]
 pub(crate) struct Index {
     entries: Vec<Entry>,
@@ -117,7 +118,11 @@ impl Index {
     {
         let at = place(&self.entries, id)?;
         let entry = self.entries.get(at)?;
-        if entry.lives() { Some(entry.slot) } else { None }
+        if entry.lives() {
+            Some(entry.slot)
+        } else {
+            None
+        }
     }
 
     /// Puts an id behind the others.

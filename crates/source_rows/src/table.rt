@@ -50,12 +50,7 @@ impl Model for Table {
 }
 
 /// The slot of an id, from a guess where that is right.
-fn slot_of(
-    slots: &Slab<Row>,
-    keys: &Index,
-    guesses: &Guesses,
-    id: u64,
-) -> Option<usize>
+fn slot_of(slots: &Slab<Row>, keys: &Index, guesses: &Guesses, id: u64) -> Option<usize>
     requires { AllNamed slots.now keys.now }
     ensures { result ≡ lookup (is_at (nat_cmp id)) keys.now }
 {

@@ -14,17 +14,17 @@ record Ready (id : ℕ) (shown : List (ℕ × ℕ)) (es : List Entry) : Type 0 w
 
 ready : (c : After-push) → Ready c.args.id c.args.self.now c.if-not-are_below.self-inside.entries.items
 ready c = elim c.if-not-are_below.branch [
-      then-not-are_below w ↦
-        let es = c.self.inside.entries.items in
-        let above = subst (AllByRecursion (λ e. e.0 < c.args.id)) (sym c.self.view_is) c.requires in
-        let left : c.if-not-are_below.self-inside.entries.items ≡ filter lives es = search rules in
-        subst (Ready c.args.id c.args.self.now) (sym left) (record { same = same_left es ∙ c.self.view_is; rises = rises_left es c.self.invariant; below = below_left c.args.id es above })
-    | else-not-are_below w ↦
-        let es = c.self.inside.entries.items in
-        let left : c.if-not-are_below.self-inside.entries.items ≡ es = search rules in
-        let are : c.are_below.result ≡ true = search rules in
-        subst (Ready c.args.id c.args.self.now) (sym left) (record { same = c.self.view_is; rises = c.self.invariant; below = subst (AllByRecursion (λ e. e.id < c.args.id)) c.deref.ensures.value (c.are_below.ensures are) })
-  ]
+  | then-not-are_below w ↦
+      let es = c.self.inside.entries.items in
+      let above = subst (AllByRecursion (λ e. e.0 < c.args.id)) (sym c.self.view_is) c.requires in
+      let left : c.if-not-are_below.self-inside.entries.items ≡ filter lives es = search rules in
+      subst (Ready c.args.id c.args.self.now) (sym left) (record { same = same_left es ∙ c.self.view_is; rises = rises_left es c.self.invariant; below = below_left c.args.id es above })
+  | else-not-are_below w ↦
+      let es = c.self.inside.entries.items in
+      let left : c.if-not-are_below.self-inside.entries.items ≡ es = search rules in
+      let are : c.are_below.result ≡ true = search rules in
+      subst (Ready c.args.id c.args.self.now) (sym left) (record { same = c.self.view_is; rises = c.self.invariant; below = subst (AllByRecursion (λ e. e.id < c.args.id)) c.deref.ensures.value (c.are_below.ensures are) })
+]
 
 pub invariant_of-self : goal.invariant_of-self
 invariant_of-self c =
