@@ -103,6 +103,7 @@ fn leave_out_gone(entries: &mut Vec<Entry>)
 }
 
 impl Index {
+    /// No id has a slot.
     pub fn new(alloc: Global) -> Self
         ensures { result ≡ [] }
     {
@@ -112,7 +113,8 @@ impl Index {
         }
     }
 
-    /// The slot of an id.
+    /// The slot of an id. It is kept apart, so that who guesses it right stays small.
+    #[inline(never)]
     pub fn get(&self, id: u64) -> Option<usize>
         ensures { result ≡ lookup (is_at (nat_cmp id)) self.now }
     {
