@@ -1,20 +1,18 @@
 -- What the flat list of frames says of the boxes.
-use Rattle.std.proofs.Common.{◌≡◌, ◌≢◌, ℕ, zero, suc, ◌+◌, ◌-◌, ◌<◌, ◌≤◌, Bool, true, false, cond, Option, Some, None, List, [], ◌∷◌, ◌++◌, length, drop, reverse, slice_set, refl, sym, ap, ◌∙◌, subst, arith, ◌==◌, inl, inr, count_by, append-nil, ltb-false, OnOk, IfOk, Vec, Global, Result, Ok, Err}
-use Rattle.std.specs.Prelude.{slice_get, filter_map, nat_lt}
+use Rattle.std.proofs.Common.{◌≡◌, ◌≢◌, ℕ, zero, suc, ◌+◌, ◌-◌, ◌<◌, ◌≤◌, Bool, true, false, cond, Option, Some, None, List, [], ◌∷◌, ◌++◌, length, drop, slice_set, refl, sym, ap, ◌∙◌, subst, arith, ◌==◌, inl, inr, count_by, ltb-false, OnOk, Result, Ok, Err}
+use Rattle.std.specs.Prelude.{slice_get, nat_lt}
 use Rattle.std.proofs.lemmas.Bool.{lt-ltb}
 use Rattle.std.proofs.lemmas.Bool.Decides.{eqb_tells}
-use Rattle.std.proofs.lemmas.List.{reverse-append, drop-drop}
+use Rattle.std.proofs.lemmas.List.{drop-drop}
 use Rattle.std.proofs.lemmas.List.{drop_all}
-use Rattle.std.specs.List.{cons_option}
 use Rattle.std.proofs.lemmas.List.Sums.{sum_by-cons}
-use Rattle.std.proofs.lemmas.List.Elements.{filter_map-append}
 use Rattle.lane_turn.specs.declared.layer.Iteration.{Iteration}
 use Rattle.lane_turn.specs.declared.layer.Top.{Top}
 use Rattle.lane_turn.specs.declared.layer.Top.TheVariants as tops
 use Rattle.lane_turn.specs.declared.layer.Layer.{Layer}
 use Rattle.lane_turn.specs.declared.layer.Layer.TheVariants as layers
-use Rattle.lane_turn.specs.Frames.{Frame, CallOf, IterOf, LoopOf, emptied, emptied_one, is_dispatch, depth, is_call, calls_in_progress, blocked_in, busy, advanced, advanced_one, top_of, IsTaken}
-use Rattle.lane_turn.specs.Nest.{height_at, is_height, is_live, ids_left, frame_of, frames_of, is_dispatch_layer, is_call_layer, blocked_by_layer, busy_layers, advanced_layer, advanced_layers, taken_layers, top_of_layers, HasRoomLayers}
+use Rattle.lane_turn.specs.Frames.{Frame, CallOf, IterOf, LoopOf, emptied, emptied_one, is_dispatch, depth, is_call, calls_in_progress, advanced, advanced_one, top_of, IsTaken}
+use Rattle.lane_turn.specs.Nest.{height_at, is_height, is_live, ids_left, frame_of, frames_of, is_dispatch_layer, is_call_layer, advanced_layer, advanced_layers, taken_layers, top_of_layers, HasRoomLayers}
 
 pub first_within : (xs : List Layer) (x : Layer) → xs ≢ [] → slice_get (xs ++ x ∷ []) 0 ≡ slice_get xs 0
 first_within [] x h = absurd (h refl)
@@ -23,23 +21,6 @@ first_within (y ∷ xs) x h = refl
 pub rest_of_within : (xs : List Layer) (x : Layer) → xs ≢ [] → drop 1 (xs ++ x ∷ []) ≡ drop 1 xs ++ x ∷ []
 rest_of_within [] x h = absurd (h refl)
 rest_of_within (y ∷ xs) x h = refl
-
-abbrev list_of : Option ℕ → List ℕ
-list_of None = []
-list_of (Some n) = n ∷ []
-
-within_by : (xs : List ℕ) (o : Option ℕ) → reverse (xs ++ cons_option o []) ≡ list_of o ++ reverse xs
-within_by xs None = ap reverse (append-nil xs)
-within_by xs (Some n) = reverse-append xs (n ∷ [])
-
-busy_by : (context : ℕ) (xs : List Layer) (x : Layer) → reverse (busy_layers context (xs ++ x ∷ [])) ≡ list_of (blocked_by_layer context x) ++ reverse (busy_layers context xs)
-busy_by context xs x = ap reverse (filter_map-append (blocked_by_layer context) xs (x ∷ [])) ∙ within_by (busy_layers context xs) (blocked_by_layer context x)
-
-pub busy_none : (context : ℕ) (xs : List Layer) (x : Layer) → blocked_by_layer context x ≡ None → reverse (busy_layers context (xs ++ x ∷ [])) ≡ reverse (busy_layers context xs)
-busy_none context xs x e = busy_by context xs x ∙ ap (λ o. list_of o ++ reverse (busy_layers context xs)) e
-
-pub busy_some : (context n : ℕ) (xs : List Layer) (x : Layer) → blocked_by_layer context x ≡ Some n → reverse (busy_layers context (xs ++ x ∷ [])) ≡ n ∷ reverse (busy_layers context xs)
-busy_some context n xs x e = busy_by context xs x ∙ ap (λ o. list_of o ++ reverse (busy_layers context xs)) e
 
 -- a growing table of levels says the same
 pub level_grown : (live : List (Option ℕ)) (c : ℕ) → height_at (live ++ None ∷ []) c ≡ height_at live c
@@ -77,11 +58,6 @@ dispatch_same live height (layers.Call call) = refl
 dispatch_same live height (layers.Iteration i) = refl
 dispatch_same live height (layers.Loop number context) = refl
 
-blocked_same : (live : List (Option ℕ)) (height c : ℕ) (l : Layer) → blocked_in c (frame_of live height l) ≡ blocked_by_layer c l
-blocked_same live height c (layers.Call call) = refl
-blocked_same live height c (layers.Iteration i) = refl
-blocked_same live height c (layers.Loop number context) = refl
-
 abbrev one_if : Bool → ℕ
 one_if b = cond b 1 0
 
@@ -99,13 +75,6 @@ pub calls_layers : (live : List (Option ℕ)) (ls : List Layer) → calls_in_pro
 calls_layers live [] = refl
 calls_layers live (l ∷ ls) =
     omega (arith, sum_by-cons (λ f. one_if (is_call f)) (frame_of live (length ls) l) (frames_of live ls), sum_by-cons (λ a. one_if (is_call_layer a)) l ls, calls_layers live ls, ap one_if (call_same live (length ls) l))
-
-busy_same : (live : List (Option ℕ)) (c : ℕ) (ls : List Layer) → filter_map (blocked_in c) (frames_of live ls) ≡ busy_layers c ls
-busy_same live c [] = refl
-busy_same live c (l ∷ ls) = rw (blocked_same live (length ls) c l, busy_same live c ls) refl
-
-pub busy_frames : (live : List (Option ℕ)) (c : ℕ) (ls : List Layer) → busy c (frames_of live ls) ≡ reverse (busy_layers c ls)
-busy_frames live c ls = ap reverse (busy_same live c ls)
 
 pub drop_frames : (live : List (Option ℕ)) (ls : List Layer) → frames_of live (drop 1 ls) ≡ drop 1 (frames_of live ls)
 drop_frames live [] = refl
@@ -183,10 +152,6 @@ frames_begun live new height i ls now p at e h =
 pub on_ok : {T E P Q : Type 0} (r : Result T E) → (P → Q) → OnOk r P → OnOk r Q
 on_ok (Ok x) f p = f p
 on_ok (Err e) f p = tt
-
-pub if_ok_same : {E : Type 0} (r : Result (Vec ℕ Global) E) (xs ys : List ℕ) → xs ≡ ys → IfOk r (λ v. v.items ≡ xs) → IfOk r (λ v. v.items ≡ ys)
-if_ok_same (Ok v) xs ys e h = h ∙ e
-if_ok_same (Err x) xs ys e h = tt
 
 -- what the innermost takes next is that of its frame
 pub top_layers : (live : List (Option ℕ)) (ls : List Layer) → top_of_layers live (length ls - 1) ls ≡ top_of (frames_of live ls)

@@ -1,5 +1,4 @@
 pub mod Layers
-pub mod Owners
 pub mod Resting
 pub mod Tallies
 pub mod Freely

@@ -1,14 +1,14 @@
 -- What is counted of layers.
-use Rattle.std.proofs.Common.{◌≡◌, ℕ, ◌+◌, ◌≤◌, Bool, true, false, cond, Option, Some, None, List, [], ◌∷◌, length, refl, sym, ap, ◌∙◌, arith, count_by, drop}
-use Rattle.std.specs.Prelude.{slice_get}
+use Rattle.std.proofs.Common.{◌≡◌, ℕ, ◌+◌, ◌≤◌, Bool, true, false, cond, Option, Some, None, List, [], ◌∷◌, length, refl, sym, ap, ◌∙◌, arith, count_by, drop, reverse}
+use Rattle.std.specs.Prelude.{slice_get, filter_map}
 use Rattle.std.proofs.lemmas.List.Sums.{sum_by-cons}
 use Rattle.lane_turn.specs.declared.layer.Layer.{Layer}
 use Rattle.lane_turn.specs.declared.layer.Layer.TheVariants as layers
 use Rattle.lane_turn.specs.declared.layer.Origin.{Origin}
 use Rattle.lane_turn.specs.declared.layer.Origin.TheVariants as origins
 use Rattle.lane_turn.specs.declared.tally.Tally.{Tally}
-use Rattle.lane_turn.specs.Frames.{blocked_by}
-use Rattle.lane_turn.specs.Nest.{is_dispatch_layer, is_call_layer, is_blocking, is_blocking_layer, blocked_by_layer, busy_layers, advanced_layer, advanced_layers, taken_layer, taken_layers}
+use Rattle.lane_turn.specs.Frames.{blocked_by, blocked_in, busy}
+use Rattle.lane_turn.specs.Nest.{is_dispatch_layer, is_call_layer, is_blocking, is_blocking_layer, frame_of, frames_of, advanced_layer, advanced_layers, taken_layer, taken_layers}
 use Rattle.lane_turn.specs.Tally.{one_if, more, tally_of, IsSmall, Counts}
 
 count_more : (f : Layer → Bool) (l : Layer) (ls : List Layer) → count_by f (l ∷ ls) ≡ count_by f ls + one_if (f l)
@@ -91,17 +91,20 @@ blocked_none context origins.Start e = refl
 blocked_none context (origins.Source caller) e = by_recurse caller.recurse _ e
 blocked_none context (origins.Invoke acquired) e = refl
 
-layer_none : (context : ℕ) (l : Layer) → is_blocking_layer l ≡ false → blocked_by_layer context l ≡ None
-layer_none context (layers.Call call) e = blocked_none context call.origin e
-layer_none context (layers.Iteration i) e = refl
-layer_none context (layers.Loop number c) e = refl
+frame_none : (context : ℕ) (live : List (Option ℕ)) (height : ℕ) (l : Layer) → is_blocking_layer l ≡ false → blocked_in context (frame_of live height l) ≡ None
+frame_none context live height (layers.Call call) e = blocked_none context call.origin e
+frame_none context live height (layers.Iteration i) e = refl
+frame_none context live height (layers.Loop number c) e = refl
 
 none_here : (b : Bool) → one_if b ≡ 0 → b ≡ false
 none_here true e = absurd (omega (arith, e))
 none_here false e = refl
 
-pub none_busy : (context : ℕ) (ls : List Layer) → count_by is_blocking_layer ls ≡ 0 → busy_layers context ls ≡ []
-none_busy context [] e = refl
-none_busy context (l ∷ ls) e =
+none_blocked : (context : ℕ) (live : List (Option ℕ)) (ls : List Layer) → count_by is_blocking_layer ls ≡ 0 → filter_map (blocked_in context) (frames_of live ls) ≡ []
+none_blocked context live [] e = refl
+none_blocked context live (l ∷ ls) e =
     let more = count_more is_blocking_layer l ls in
-    rw (layer_none context l (none_here _ (omega (arith, e, more)))) (none_busy context ls (omega (arith, e, more)))
+    rw (frame_none context live (length ls) l (none_here _ (omega (arith, e, more)))) (none_blocked context live ls (omega (arith, e, more)))
+
+pub none_busy : (context : ℕ) (live : List (Option ℕ)) (ls : List Layer) → count_by is_blocking_layer ls ≡ 0 → busy context (frames_of live ls) ≡ []
+none_busy context live ls none = ap reverse (none_blocked context live ls none)

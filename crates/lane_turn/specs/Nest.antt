@@ -1,5 +1,5 @@
 -- Frames in boxes: the same frames as they are met on the way inwards.
-use Rattle.std.specs.Prelude.{ℕ, length, nat_lt, filter_map, ◌<◌, ◌+◌, Bool, true, false, Option, Some, None, List, [], ◌∷◌, ◌++◌, drop, slice_get, ◌==◌, if◌then◌else◌}
+use Rattle.std.specs.Prelude.{ℕ, length, nat_lt, ◌<◌, ◌+◌, Bool, true, false, Option, Some, None, List, [], ◌∷◌, ◌++◌, drop, slice_get, ◌==◌, if◌then◌else◌}
 use Rattle.lane_turn.specs.declared.layer.Iteration.{Iteration}
 use Rattle.lane_turn.specs.declared.layer.Layer.{Layer}
 use Rattle.lane_turn.specs.declared.layer.Layer.TheVariants as layers
@@ -8,7 +8,7 @@ use Rattle.lane_turn.specs.declared.layer.Origin.{Origin}
 use Rattle.lane_turn.specs.declared.layer.Origin.TheVariants.{Start, Source, Invoke}
 use Rattle.lane_turn.specs.declared.layer.Top.{Top}
 use Rattle.lane_turn.specs.declared.layer.Top.TheVariants as tops
-use Rattle.lane_turn.specs.Frames.{Frame, CallOf, IterOf, LoopOf, blocked_by, is_acquired_by, is_source, is_dispatch_or_invoke, top_of}
+use Rattle.lane_turn.specs.Frames.{Frame, CallOf, IterOf, LoopOf, is_source, is_dispatch_or_invoke, top_of}
 use Rattle.loop_script.specs.Bounds.{count_end}
 use Rattle.loop_script.specs.Units.{ContextNumber, SourceId}
 
@@ -87,22 +87,6 @@ abbrev pub is_blocking_layer : Layer → Bool
 is_blocking_layer (layers.Call call) = is_blocking call.origin
 is_blocking_layer (layers.Iteration i) = false
 is_blocking_layer (layers.Loop number context) = false
-
--- the source of a context that a layer blocks
-abbrev pub blocked_by_layer : ContextNumber → Layer → Option SourceId
-blocked_by_layer context (layers.Call call) = blocked_by context call.origin
-blocked_by_layer context (layers.Iteration i) = None
-blocked_by_layer context (layers.Loop number c) = None
-
--- the sources of a context that calls in progress block
-abbrev pub busy_layers : ContextNumber → List Layer → List SourceId
-busy_layers context layers = filter_map (blocked_by_layer context) layers
-
--- whether a layer owns a context
-abbrev pub owns_layer : ContextNumber → Layer → Bool
-owns_layer context (layers.Call call) = is_acquired_by context call.origin
-owns_layer context (layers.Iteration i) = i.context == context
-owns_layer context (layers.Loop number c) = c == context
 
 -- a layer that has taken its next action or id
 abbrev pub advanced_layer : Layer → Layer

@@ -1,9 +1,6 @@
 //! What is in progress, counted, and the boxes of what has ended. Contracts see the layers, the innermost first.
-ghost use Rattle.std.specs.Prelude.{◌≡◌, ◌∷◌, ◌≤◌, ◌<◌, ◌^◌, ◌==◌, ◌-◌, [], drop, length, count_by, OnOk, IfOk, slice_get, option_map, reverse};
-ghost use Rattle.std.specs.List.{list_any};
-ghost use Rattle.lane_turn.specs.Quiet.{has_rest};
-ghost use Rattle.lane_turn.specs.Nest.{layers_of, frames_of, is_dispatch_layer, is_call_layer, busy_layers, owns_layer, advanced_layers, taken_layers, top_of_layers, HasRoomLayers};
-ghost use Rattle.loop_script.specs.Bounds.{count_end};
+ghost use Rattle.std.specs.Prelude.{◌≡◌, ◌∷◌, ◌≤◌, ◌-◌, [], drop, length, count_by, OnOk, IfOk, slice_get, option_map, reverse};
+ghost use Rattle.lane_turn.specs.Nest.{layers_of, frames_of, is_dispatch_layer, is_call_layer, is_blocking_layer, advanced_layers, taken_layers, top_of_layers, HasRoomLayers};
 
 use crate::in_progress::InProgress;
 use crate::layer::{Layer, Top};
@@ -83,36 +80,11 @@ impl Chain {
         self.tally.calls
     }
 
-    /// The sources of a context that calls in progress block.
-    pub(crate) fn busy(&self, context: u32) -> Result<Vec<u64>, AllocError>
-        ensures { IfOk result (λ ids. ids.items ≡ reverse (busy_layers context self.now)) }
+    /// How many calls in progress block their source.
+    pub(crate) fn blocking(&self) -> u64
+        ensures { result ≡ count_by is_blocking_layer self.now }
     {
-        let mut ids = Vec::new(self.alloc);
-        if self.tally.blocking == 0 {
-            return Ok(ids);
-        }
-        ids.reserve(self.tally.blocking as usize)?;
-        self.nest.add_busy(context, &mut ids)?;
-        Ok(ids)
-    }
-
-    /// Whether a call in progress blocks a source of a context.
-    pub(crate) fn blocks(&self, context: u32, id: u64) -> bool
-        ensures { result ≡ list_any (λ b. b == id) (busy_layers context self.now) }
-    {
-        if self.tally.blocking == 0 {
-            return false;
-        }
-        self.nest.blocks(context, id)
-    }
-
-    /// Whether an iteration of a context has ids left.
-    #[tactic(auto, using(crate::proofs::Resting::from_outermost))]
-    pub(crate) fn has_rest(&self, live: &[Option<usize>], context: u32) -> bool
-        requires { length self.now < count_end }
-        ensures { result ≡ list_any (has_rest context) (frames_of live.now self.now) }
-    {
-        self.nest.has_rest(live, 0, context)
+        self.tally.blocking
     }
 
     /// What is in progress, from the outermost inwards.
@@ -120,13 +92,6 @@ impl Chain {
         ensures { result ≡ reverse (frames_of live.now self.now) }
     {
         InProgress::new(&self.nest, live, self.tally.layers)
-    }
-
-    /// Whether something in progress owns a context.
-    pub(crate) fn owns(&self, context: u32) -> bool
-        ensures { result ≡ list_any (owns_layer context) self.now }
-    {
-        self.nest.owns(context)
     }
 
     /// A layer with nothing begun in it, in the box of something that has ended, if there is one.

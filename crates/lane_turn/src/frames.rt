@@ -10,6 +10,7 @@ use crate::chain::Chain;
 use crate::in_progress::InProgress;
 use crate::layer::{Asker, Call, Iteration, Layer, Top};
 use std::alloc::{AllocError, Global};
+use std::iter::Iterator;
 use std::marker::Model;
 
 /// Names the height of a context's live iteration.
@@ -26,6 +27,7 @@ fn mark(live: &mut Vec<Option<usize>>, context: u32, height: usize) -> Result<()
 /// What a lane is in the middle of. Callers see a flat list, the innermost first.
 #[derive(Drop)]
 pub struct Frames {
+    alloc: Global,
     chain: Chain,
     live: Vec<Option<usize>>,
 }
@@ -46,6 +48,7 @@ impl Frames {
         ensures { result ≡ [] }
     {
         Frames {
+            alloc,
             chain: Chain::new(alloc),
             live: Vec::new(alloc),
         }
@@ -85,31 +88,38 @@ impl Frames {
     pub fn busy(&self, context: u32) -> Result<Vec<u64>, AllocError>
         ensures { IfOk result (λ ids. ids.items ≡ busy context self.now) }
     {
-        self.chain.busy(context)
+        if self.chain.blocking() == 0 {
+            return Ok(Vec::new(self.alloc));
+        }
+        self.inwards()
+            .filter_map(|one| one.blocks(context))
+            .collect(self.alloc)
     }
 
     /// Whether a call in progress blocks a source of a context.
-    #[tactic(auto, using(crate::proofs::Resting::blocks_frames))]
     pub fn blocks(&self, context: u32, id: u64) -> bool
         ensures { result ≡ list_any (λ b. b == id) (busy context self.now) }
     {
-        self.chain.blocks(context, id)
+        self.chain.blocking() > 0
+            && self
+                .inwards()
+                .filter_map(|one| one.blocks(context))
+                .any(|blocked| blocked == id)
     }
 
     /// Whether an iteration of a context has ids left.
-    #[tactic(auto, using(crate::proofs::Layers::length_frames))]
     pub fn has_rest(&self, context: u32) -> bool
         requires { length self.now < count_end }
         ensures { result ≡ list_any (has_rest context) self.now }
     {
-        self.chain.has_rest(&self.live, context)
+        self.inwards().any(|one| one.has_rest(context))
     }
 
     /// Whether something in progress owns a context.
     pub fn owns(&self, context: u32) -> bool
         ensures { result ≡ list_any (owns context) self.now }
     {
-        self.chain.owns(context)
+        self.inwards().any(|one| one.owns(context))
     }
 
     /// What is in progress, from the outermost inwards.

@@ -3,9 +3,11 @@ ghost use Rattle.std.specs.Prelude.{◌≡◌, length, reverse};
 ghost use Rattle.std.specs.Iterator.{at_most};
 ghost use Rattle.std.specs.Map.Iter.{TakesFirst};
 ghost use Rattle.lane_turn.specs.Nest.{layers_of, frames_from, ids_left, frame_of};
+ghost use Rattle.lane_turn.specs.Frames.{blocked_in, owns};
+ghost use Rattle.lane_turn.specs.Quiet.{has_rest};
 ghost use Rattle.lane_turn.specs.InProgress.{frame_shown};
 
-use crate::layer::{Asker, Call, Iteration, Layer, is_live};
+use crate::layer::{Asker, Call, Iteration, Layer, Origin, is_live};
 use crate::nest::Nest;
 use std::iter::Iterator;
 use std::marker::Model;
@@ -26,6 +28,61 @@ pub enum Activity<'a> {
         number: u32,
         context: u32,
     },
+}
+
+impl Activity<'_> {
+    /// The source of a context that it blocks.
+    pub(crate) fn blocks(&self, context: u32) -> Option<u64>
+        ensures { result ≡ blocked_in context (frame_shown self.now) }
+    {
+        match self {
+            Activity::Call(call) => match call.origin {
+                Origin::Source(caller) => {
+                    if caller.recurse {
+                        None
+                    } else if caller.context == context {
+                        Some(caller.id)
+                    } else {
+                        None
+                    }
+                }
+                _ => None,
+            },
+            _ => None,
+        }
+    }
+
+    /// Whether it owns a context.
+    pub(crate) fn owns(&self, context: u32) -> bool
+        ensures { result ≡ owns context (frame_shown self.now) }
+    {
+        match self {
+            Activity::Call(call) => match call.origin {
+                Origin::Invoke(Some(acquired)) => acquired == context,
+                _ => false,
+            },
+            Activity::Iteration {
+                context: iterated, ..
+            } => *iterated == context,
+            Activity::Loop {
+                context: iterated, ..
+            } => *iterated == context,
+        }
+    }
+
+    /// Whether it is an iteration of a context that has ids left.
+    pub(crate) fn has_rest(&self, context: u32) -> bool
+        ensures { result ≡ has_rest context (frame_shown self.now) }
+    {
+        match self {
+            Activity::Iteration {
+                context: iterated,
+                left,
+                ..
+            } => *iterated == context && !left.is_empty(),
+            _ => false,
+        }
+    }
 }
 
 /// The ids that an iteration has left.

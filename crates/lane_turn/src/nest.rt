@@ -1,12 +1,8 @@
 //! What is in progress in boxes: each call, iteration and loop holds what was begun in it.
-ghost use Rattle.std.specs.Prelude.{◌≡◌, ◌+◌, ◌<◌, ◌^◌, ◌==◌, ◌++◌, ◌∷◌, [], length, IsTrue, ◌↔◌, drop, OnOk, slice_get, option_map, reverse};
-ghost use Rattle.std.specs.List.{list_any};
-ghost use Rattle.lane_turn.specs.Quiet.{has_rest};
-ghost use Rattle.lane_turn.specs.Nest.{layers_of, frames_from, busy_layers, owns_layer, advanced_layers, taken_layers, top_of_layers, HasRoomLayers};
-ghost use Rattle.loop_script.specs.Bounds.{count_end};
+ghost use Rattle.std.specs.Prelude.{◌≡◌, ◌++◌, ◌∷◌, [], IsTrue, ◌↔◌, drop, slice_get, option_map};
+ghost use Rattle.lane_turn.specs.Nest.{layers_of, advanced_layers, taken_layers, top_of_layers, HasRoomLayers};
 
 use crate::layer::{Layer, Top};
-use std::alloc::AllocError;
 use std::mem;
 
 /// What is in progress, from the outermost inwards.
@@ -50,73 +46,6 @@ impl Nest {
                 } else {
                     shell.inner.innermost()
                 }
-            }
-        }
-    }
-
-    /// Adds the sources of a context that calls in progress block.
-    #[tactic(auto, using(crate::proofs::Layers::busy_none, crate::proofs::Layers::busy_some, std::proofs::lemmas::Grind::common_steps))]
-    pub(crate) fn add_busy(&self, context: u32, ids: &mut Vec<u64>) -> Result<(), AllocError>
-        ensures { OnOk result (ids.new.items ≡ ids.old.items ++ reverse (busy_layers context (layers_of self.now))) }
-    {
-        match self {
-            Nest::Nothing => Ok(()),
-            Nest::Begun(shell) => {
-                let shell = &**shell;
-                match shell.layer.blocks(context) {
-                    Some(id) => {
-                        ids.push(id)?;
-                        shell.inner.add_busy(context, ids)
-                    }
-                    None => shell.inner.add_busy(context, ids),
-                }
-            }
-        }
-    }
-
-    /// Whether something in progress owns a context.
-    #[tactic(auto, using(crate::proofs::Owners::own_within))]
-    pub(crate) fn owns(&self, context: u32) -> bool
-        ensures { result ≡ list_any (owns_layer context) (layers_of self.now) }
-    {
-        match self {
-            Nest::Nothing => false,
-            Nest::Begun(shell) => {
-                let shell = &**shell;
-                shell.layer.owns(context) || shell.inner.owns(context)
-            }
-        }
-    }
-
-    /// Whether a call in progress blocks a source of a context.
-    #[tactic(auto, using(crate::proofs::Resting::blocks_none, crate::proofs::Resting::blocks_some))]
-    pub(crate) fn blocks(&self, context: u32, id: u64) -> bool
-        ensures { result ≡ list_any (λ b. b == id) (busy_layers context (layers_of self.now)) }
-    {
-        match self {
-            Nest::Nothing => false,
-            Nest::Begun(shell) => {
-                let shell = &**shell;
-                match shell.layer.blocks(context) {
-                    Some(blocked) => blocked == id || shell.inner.blocks(context, id),
-                    None => shell.inner.blocks(context, id),
-                }
-            }
-        }
-    }
-
-    /// Whether an iteration of a context has ids left, where the outermost is at a height.
-    #[tactic(auto, using(crate::proofs::Resting::rest_within))]
-    pub(crate) fn has_rest(&self, live: &[Option<usize>], height: usize, context: u32) -> bool
-        requires { height + length (layers_of self.now) < count_end }
-        ensures { result ≡ list_any (has_rest context) (frames_from height live.now (layers_of self.now)) }
-    {
-        match self {
-            Nest::Nothing => false,
-            Nest::Begun(shell) => {
-                let shell = &**shell;
-                shell.layer.has_rest(live, height, context)
-                    || shell.inner.has_rest(live, height + 1, context)
             }
         }
     }

@@ -10,6 +10,7 @@ pub mod Taken
 pub mod Gone
 pub mod Kept
 pub mod Slots
+pub mod Entries
 pub mod Tree
 pub mod Placing
 pub mod Named

@@ -3,9 +3,8 @@ use Rattle.std.proofs.lemmas.Bool.Decides.{nat_tests}
 use Rattle.std.specs.Prelude.{slice_index_or, slice_set}
 use Rattle.std.specs.List.{AllByRecursion, cons_option}
 use Rattle.std.specs.Option.{option_map}
-use Rattle.std.specs.declared.cmp.Ordering.TheVariants.{Greater}
 use Rattle.std.specs.Ordering.{nat_cmp}
-use Rattle.std.specs.BTreeMap.{insert_entry, is_at}
+use Rattle.std.specs.BTreeMap.{is_at}
 use Rattle.std.specs.Map.{remove_entry, lookup}
 use Rattle.slab.specs.Slab.{Slab, get, Updates, with_value}
 use Rattle.source_rows.specs.declared.row.Row.{Row}
@@ -20,7 +19,7 @@ id_of r = r.id
 abbrev pub at_id : ℕ → ℕ → Bool
 at_id id = is_at (nat_cmp id)
 
-tests : (id n : ℕ) → at_id id n ≡ (n == id)
+pub tests : (id n : ℕ) → at_id id n ≡ (n == id)
 tests id n = by_test (at_id id n) refl
   where
     by_test : (b : Bool) → at_id id n ≡ b → b ≡ (n == id)
@@ -72,19 +71,12 @@ unmoved s t key v (e ∷ es) free u h =
 
 -- ---- a row at the end
 
-all_ids : (s : Slab Row) (id : ℕ) (es : List (ℕ × ℕ)) → AllByRecursion (Names s) es → AllByRecursion (λ r. r.id < id) (rows_at s es) → AllByRecursion (λ e. e.0 < id) es
+pub all_ids : (s : Slab Row) (id : ℕ) (es : List (ℕ × ℕ)) → AllByRecursion (Names s) es → AllByRecursion (λ r. r.id < id) (rows_at s es) → AllByRecursion (λ e. e.0 < id) es
 all_ids s id [] h k = tt
 all_ids s id (e ∷ es) h k =
     let w = named_by (get s e.1) e.0 h.0 in
     let t = subst (λ (o : Option Row). AllByRecursion (λ r. r.id < id) (cons_option o (rows_at s es))) w.1 k in
     (subst (λ (n : ℕ). n < id) w.2 t.0, all_ids s id es h.1 t.1)
-
-after : (id n : ℕ) → n < id → nat_cmp id n ≡ Greater
-after id n h = grind (arith, nat_tests)
-
-pub insert-end : (id key : ℕ) (es : List (ℕ × ℕ)) → AllByRecursion (λ e. e.0 < id) es → insert_entry nat_cmp es id key ≡ es ++ (id, key) ∷ []
-insert-end id key [] h = refl
-insert-end id key (e ∷ es) h = rw (after id e.0 h.0) (ap (λ (xs : List (ℕ × ℕ)). e ∷ xs) (insert-end id key es h.1))
 
 rows_at-end : (t : Slab Row) (id key : ℕ) (r : Row) (es : List (ℕ × ℕ)) → get t key ≡ Some r → rows_at t (es ++ (id, key) ∷ []) ≡ rows_at t es ++ r ∷ []
 rows_at-end t id key r [] g = ap (λ (o : Option Row). cons_option o []) g
@@ -94,13 +86,12 @@ pub record Pushed (t : Slab Row) (es fs : List (ℕ × ℕ)) (rows : List Row) :
   pub table : IsTable t fs
   pub rows_are : rows_at t fs ≡ rows
 
-pub pushed : (s t : Slab Row) (key : ℕ) (r : Row) (es fs : List (ℕ × ℕ)) → IsTable s es → get s key ≡ None → Updates s t key (Some r) → AllByRecursion (λ q. q.id < r.id) (rows_at s es) → fs ≡ insert_entry nat_cmp es r.id key
+pub pushed : (s t : Slab Row) (key : ℕ) (r : Row) (es fs : List (ℕ × ℕ)) → IsTable s es → get s key ≡ None → Updates s t key (Some r) → AllByRecursion (λ q. q.id < r.id) (rows_at s es) → fs ≡ es ++ (r.id, key) ∷ []
     → Pushed t es fs (rows_at s es ++ r ∷ [])
 pushed s t key r es fs h free u above e =
     let ids = all_ids s r.id es h.named above in
-    let is : fs ≡ es ++ (r.id, key) ∷ [] = e ∙ insert-end r.id key es ids in
     let same = unmoved s t key (Some r) es free u h.named in
-    rw is (record {
+    rw e (record {
       table = record {
         named = all_push (Names t) es (r.id, key) same.1 (ap (option_map id_of) u.changed);
         rising = pairs_push (λ e q. e.0 < q.0) es (r.id, key) h.rising ids;
@@ -108,8 +99,8 @@ pushed s t key r es fs h free u above e =
       rows_are = rows_at-end t r.id key r es u.changed ∙ ap (λ (xs : List Row). xs ++ r ∷ []) same.0;
     })
 
-pub longer : (s : Slab Row) (id key : ℕ) (es fs : List (ℕ × ℕ)) → AllByRecursion (Names s) es → AllByRecursion (λ q. q.id < id) (rows_at s es) → fs ≡ insert_entry nat_cmp es id key → length fs ≡ length es + 1
-longer s id key es fs h above e = rw (e ∙ insert-end id key es (all_ids s id es h above)) (length-append es ((id, key) ∷ []))
+pub longer : (s : Slab Row) (id key : ℕ) (es fs : List (ℕ × ℕ)) → AllByRecursion (Names s) es → AllByRecursion (λ q. q.id < id) (rows_at s es) → fs ≡ es ++ (id, key) ∷ [] → length fs ≡ length es + 1
+longer s id key es fs h above e = rw e (length-append es ((id, key) ∷ []))
 
 pub both : (s t u : Slab Row) (key : ℕ) (v w : Option Row) → Updates s t key v → Updates t u key w → Updates s u key w
 both s t u key v w a b = record { changed = b.changed; others = λ o n. b.others o n ∙ a.others o n }
@@ -269,6 +260,41 @@ pub left : (s t : Slab Row) (id key : ℕ) (es : List (ℕ × ℕ)) → option_m
 left s t id key [] k u n r = record { rows_are = refl; named = tt; rising = tt; lower = λ m h. tt }
 left s t id key (e ∷ es) k u n r = left_by s t id key e es k u n r (left s t id key es k u n.1 r.1) (at_id id e.0) refl
 
+-- ---- what is found once an id is gone
+
+none_found : (id : ℕ) (es : List (ℕ × ℕ)) → AllByRecursion (λ q. q.0 ≢ id) es → lookup (at_id id) es ≡ None
+none_found id [] h = refl
+none_found id (e ∷ es) h = rw (tests id e.0 ∙ not_same e.0 id h.0) (none_found id es h.1)
+
+gone_step : (id q : ℕ) (e : ℕ × ℕ) (es : List (ℕ × ℕ)) → AllByRecursion (λ x. e.0 < x.0) es → q ≡ id → lookup (at_id q) (remove_entry (at_id id) es) ≡ None → (b : Bool) → at_id id e.0 ≡ b
+    → lookup (at_id q) (cond b es (e ∷ remove_entry (at_id id) es)) ≡ None
+gone_step id q e es less same ih true f = let is : e.0 ≡ id = are_same e.0 id (sym (tests id e.0) ∙ f) in rw same (none_found id es (none_of id e.0 es is less))
+gone_step id q e es less same ih false f =
+    let apart : e.0 ≢ q = λ is. are_not e.0 id (sym (tests id e.0) ∙ f) (is ∙ same) in
+    rw (tests q e.0 ∙ not_same e.0 q apart) ih
+
+gone_by : (id q : ℕ) (es : List (ℕ × ℕ)) → Rising es → q ≡ id → lookup (at_id q) (remove_entry (at_id id) es) ≡ None
+gone_by id q [] r same = refl
+gone_by id q (e ∷ es) r same = gone_step id q e es r.0 same (gone_by id q es r.1 same) (at_id id e.0) refl
+
+others_step : (id q : ℕ) (e : ℕ × ℕ) (es : List (ℕ × ℕ)) → q ≢ id → lookup (at_id q) (remove_entry (at_id id) es) ≡ lookup (at_id q) es → (b : Bool) → at_id id e.0 ≡ b
+    → lookup (at_id q) (cond b es (e ∷ remove_entry (at_id id) es)) ≡ lookup (at_id q) (e ∷ es)
+others_step id q e es apart ih true f =
+    let is : e.0 ≡ id = are_same e.0 id (sym (tests id e.0) ∙ f) in
+    rw (tests q e.0 ∙ not_same e.0 q (λ k. apart (sym k ∙ is))) refl
+others_step id q e es apart ih false f = ap (λ (o : Option ℕ). cond (at_id q e.0) (Some e.1) o) ih
+
+others_by : (id q : ℕ) (es : List (ℕ × ℕ)) → q ≢ id → lookup (at_id q) (remove_entry (at_id id) es) ≡ lookup (at_id q) es
+others_by id q [] apart = refl
+others_by id q (e ∷ es) apart = others_step id q e es apart (others_by id q es apart) (at_id id e.0) refl
+
+pub lookup_left : (id q : ℕ) (es : List (ℕ × ℕ)) → Rising es → lookup (at_id q) (remove_entry (at_id id) es) ≡ cond (at_id id q) None (lookup (at_id q) es)
+lookup_left id q es r = by_test (at_id id q) refl
+  where
+    by_test : (b : Bool) → at_id id q ≡ b → lookup (at_id q) (remove_entry (at_id id) es) ≡ cond b None (lookup (at_id q) es)
+    by_test true f = gone_by id q es r (are_same q id (sym (tests id q) ∙ f))
+    by_test false f = others_by id q es (are_not q id (sym (tests id q) ∙ f))
+
 -- ---- the id of the row in a slot
 
 same_row : (a b : Row) → Some a ≡ Some b → a ≡ b
@@ -290,14 +316,11 @@ last_in id key (x ∷ es) h = rw (tests id x.0 ∙ apart_above x.0 id h.0) (last
 pub back-same : (s t : Slab Row) (es fs : List (ℕ × ℕ)) → AllNamed s es → ((k : ℕ) → get t k ≡ get s k) → fs ≡ es → AllNamed t fs
 back-same s t es fs b same e k r g = rw e (b k r (sym (same k) ∙ g))
 
-pub back-pushed : (s t : Slab Row) (key : ℕ) (row : Row) (es fs : List (ℕ × ℕ)) → IsTable s es → AllNamed s es → Updates s t key (Some row) → AllByRecursion (λ q. q.id < row.id) (rows_at s es) → fs ≡ insert_entry nat_cmp es row.id key → AllNamed t fs
-back-pushed s t key row es fs h b u above e k r g = rw is (by_test (k == key) refl)
+pub back-pushed : (s t : Slab Row) (key : ℕ) (row : Row) (es fs : List (ℕ × ℕ)) → IsTable s es → AllNamed s es → Updates s t key (Some row) → AllByRecursion (λ q. q.id < row.id) (rows_at s es) → fs ≡ es ++ (row.id, key) ∷ [] → AllNamed t fs
+back-pushed s t key row es fs h b u above e k r g = rw e (by_test (k == key) refl)
   where
     ids : AllByRecursion (λ e. e.0 < row.id) es
     ids = all_ids s row.id es h.named above
-
-    is : fs ≡ es ++ (row.id, key) ∷ []
-    is = e ∙ insert-end row.id key es ids
 
     by_test : (v : Bool) → (k == key) ≡ v → lookup (at_id r.id) (es ++ (row.id, key) ∷ []) ≡ Some k
     by_test true f =

@@ -6,6 +6,7 @@ pub mod Laws
 pub mod Kept
 pub mod New
 pub mod Slots
+pub mod Index
 pub mod InOrder
 pub mod Removal
 pub mod Worked

@@ -9,6 +9,7 @@ mod candidates;
 mod fault;
 mod guesses;
 mod in_order;
+mod index;
 pub mod laws;
 mod levels;
 mod moves;

@@ -15,20 +15,20 @@ ghost use Rattle.source_rows.specs.Slots.{AllNamed, MayAsk, asks};
 ghost use Rattle.source_rows.specs.Walk.{rows_behind};
 
 use crate::guesses::Guesses;
+use crate::index::Index;
 use crate::room::Room;
 use crate::row::{Key, Row};
 use crate::seats::{NEVER, Seats};
 use crate::walk::Walk;
 use slab::Slab;
 use std::alloc::{AllocError, Global};
-use std::collections::BTreeMap;
 use std::marker::Model;
 
 /// Rows by rising id, each found by its id, with their seats in order.
 #[derive(Drop)]
 pub(crate) struct Table {
     slots: Slab<Row>,
-    keys: BTreeMap<u64, usize>,
+    keys: Index,
     guesses: Guesses,
     seats: Seats,
     /// Whether a row may be one of a descriptor.
@@ -44,20 +44,15 @@ impl Model for Table {
 
     ghost use Rattle.source_rows.specs.Slots.{rows_at, IsHeld};
 
-    ghost view = { λ t. rows_at t.slots t.keys.entries };
+    ghost view = { λ t. rows_at t.slots t.keys };
 
-    ghost invariant = { λ t. IsHeld t.slots t.keys.entries t.seats t.may_ask };
+    ghost invariant = { λ t. IsHeld t.slots t.keys t.seats t.may_ask };
 }
 
 /// The slot of an id, from a guess where that is right.
-fn slot_of(
-    slots: &Slab<Row>,
-    keys: &BTreeMap<u64, usize>,
-    guesses: &Guesses,
-    id: u64,
-) -> Option<usize>
-    requires { AllNamed slots.now keys.now.entries }
-    ensures { result ≡ lookup (is_at (nat_cmp id)) keys.now.entries }
+fn slot_of(slots: &Slab<Row>, keys: &Index, guesses: &Guesses, id: u64) -> Option<usize>
+    requires { AllNamed slots.now keys.now }
+    ensures { result ≡ lookup (is_at (nat_cmp id)) keys.now }
 {
     if let Some(slot) = guesses.slot(id) {
         if let Some(row) = slots.get(slot) {
@@ -66,7 +61,7 @@ fn slot_of(
             }
         }
     }
-    keys.get(&id).copied()
+    keys.get(id)
 }
 
 /// Whether a row may be one of a descriptor, once there is this row too.
@@ -82,7 +77,7 @@ impl Table {
     {
         Table {
             slots: Slab::new(alloc),
-            keys: BTreeMap::new(alloc),
+            keys: Index::new(alloc),
             guesses: Guesses::new(alloc),
             seats: Seats::new(),
             may_ask: false,
@@ -174,8 +169,8 @@ impl Table {
         self.slots.reserve(1)?;
         self.guesses.make_room(self.alloc, &self.slots)?;
         let key = self.slots.insert_reserved(row);
-        match self.keys.insert(row.id, key) {
-            Ok(_) => {
+        match self.keys.push(row.id, key) {
+            Ok(()) => {
                 self.guesses.note(&self.slots, row.id, key);
                 let may_ask = may_ask_with(self.may_ask, &row);
                 self.may_ask = may_ask;
@@ -243,7 +238,7 @@ impl Table {
         requires { IsSome (row_of id self.old) }
         ensures { self.new ≡ filter (λ r. not (has_id id r)) self.old }
     {
-        if let Some(key) = self.keys.remove(&id) {
+        if let Some(key) = self.keys.remove(id) {
             if let Some(row) = self.slots.try_remove(key) {
                 self.seats.remove(&row.seat());
             }

@@ -20,7 +20,7 @@ stays = record { key = λ r. refl; id = λ r. refl; level = λ r. refl; order = 
 pub invariant_of-self : goal.invariant_of-self
 invariant_of-self c =
     let slots = c.self.inside.slots in
-    let entries = c.self.inside.keys.entries in
+    let entries = c.self.inside.keys in
     let old = c.in-Some-get_mut.slot.now in
     let row : Row = record old { count = old.count + 1 } in
     let rows = rows_at slots entries in
@@ -45,13 +45,13 @@ invariant_of-self c =
 pub returns-in-Some-get_mut-clause-count : goal.returns-in-Some-get_mut-clause-count
 returns-in-Some-get_mut-clause-count c =
     let at : get c.self.inside.slots c.in-Some.key ≡ Some c.in-Some-get_mut.slot.now = search rules in
-    let there = in_slot c.self.inside.slots c.args.id c.in-Some.key c.in-Some-get_mut.slot.now c.self.inside.keys.entries c.self.invariant.filled.table (sym c.slot_of.ensures ∙ c.in-Some.is) at in
+    let there = in_slot c.self.inside.slots c.args.id c.in-Some.key c.in-Some-get_mut.slot.now c.self.inside.keys c.self.invariant.filled.table (sym c.slot_of.ensures ∙ c.in-Some.is) at in
     sym (ap (λ (rows : List Row). option_map (λ (r : Row). r.count + 1) (row_of c.args.id rows)) (sym c.self.view_is) ∙ ap (option_map (λ (r : Row). r.count + 1)) there.0)
 
 pub returns-in-Some-get_mut-clause-rows : goal.returns-in-Some-get_mut-clause-rows
 returns-in-Some-get_mut-clause-rows c =
     let slots = c.self.inside.slots in
-    let entries = c.self.inside.keys.entries in
+    let entries = c.self.inside.keys in
     let old = c.in-Some-get_mut.slot.now in
     let row : Row = record old { count = old.count + 1 } in
     let rows = rows_at slots entries in
@@ -65,14 +65,14 @@ returns-in-Some-get_mut-clause-rows c =
 
 pub returns-in_default-get_mut-clause-count : goal.returns-in_default-get_mut-clause-count
 returns-in_default-get_mut-clause-count c =
-    let k = looked c.self.inside.slots c.args.id c.in-Some.key c.self.inside.keys.entries c.self.invariant.filled.table.named (sym c.slot_of.ensures ∙ c.in-Some.is) in
+    let k = looked c.self.inside.slots c.args.id c.in-Some.key c.self.inside.keys c.self.invariant.filled.table.named (sym c.slot_of.ensures ∙ c.in-Some.is) in
     let nothing : get c.self.inside.slots c.in-Some.key ≡ None = search rules in
     let never : None ≡ Some c.args.id = ap (option_map id_of) (sym nothing) ∙ k in
     cc
 
 pub returns-in_default-get_mut-clause-rows : goal.returns-in_default-get_mut-clause-rows
 returns-in_default-get_mut-clause-rows c =
-    let k = looked c.self.inside.slots c.args.id c.in-Some.key c.self.inside.keys.entries c.self.invariant.filled.table.named (sym c.slot_of.ensures ∙ c.in-Some.is) in
+    let k = looked c.self.inside.slots c.args.id c.in-Some.key c.self.inside.keys c.self.invariant.filled.table.named (sym c.slot_of.ensures ∙ c.in-Some.is) in
     let nothing : get c.self.inside.slots c.in-Some.key ≡ None = search rules in
     let never : None ≡ Some c.args.id = ap (option_map id_of) (sym nothing) ∙ k in
     cc
@@ -80,19 +80,19 @@ returns-in_default-get_mut-clause-rows c =
 pub returns-in_default-clause-count : goal.returns-in_default-clause-count
 returns-in_default-clause-count c =
     let nothing : c.slot_of.result ≡ None = search rules in
-    let gone = ap (row_of c.args.id) (sym c.self.view_is) ∙ none_there c.self.inside.slots c.args.id c.self.inside.keys.entries c.self.invariant.filled.table (sym c.slot_of.ensures ∙ nothing) in
+    let gone = ap (row_of c.args.id) (sym c.self.view_is) ∙ none_there c.self.inside.slots c.args.id c.self.inside.keys c.self.invariant.filled.table (sym c.slot_of.ensures ∙ nothing) in
     sym (ap (option_map (λ (r : Row). r.count + 1)) gone)
 
 pub returns-in_default-clause-rows : goal.returns-in_default-clause-rows
 returns-in_default-clause-rows c =
     let nothing : c.slot_of.result ≡ None = search rules in
-    let gone = ap (row_of c.args.id) (sym c.self.view_is) ∙ none_there c.self.inside.slots c.args.id c.self.inside.keys.entries c.self.invariant.filled.table (sym c.slot_of.ensures ∙ nothing) in
+    let gone = ap (row_of c.args.id) (sym c.self.view_is) ∙ none_there c.self.inside.slots c.args.id c.self.inside.keys c.self.invariant.filled.table (sym c.slot_of.ensures ∙ nothing) in
     sym (none_changed c.args.id (λ r. record r { count = r.count + 1 }) c.args.self.now gone)
 
 pub overflow_add-count : goal.overflow_add-count
 overflow_add-count c =
     let at : get c.self.inside.slots c.in-Some.key ≡ Some c.in-Some-get_mut.slot.now = search rules in
-    let there = in_slot c.self.inside.slots c.args.id c.in-Some.key c.in-Some-get_mut.slot.now c.self.inside.keys.entries c.self.invariant.filled.table (sym c.slot_of.ensures ∙ c.in-Some.is) at in
+    let there = in_slot c.self.inside.slots c.args.id c.in-Some.key c.in-Some-get_mut.slot.now c.self.inside.keys c.self.invariant.filled.table (sym c.slot_of.ensures ∙ c.in-Some.is) at in
     let is = ap (row_of c.args.id) (sym c.self.view_is) ∙ there.0 in
     let few : c.in-Some-get_mut.slot.now.count < 2 ^ 63 = subst (λ (o : Option Row). IfSome o (λ r. r.count < 2 ^ 63)) is c.requires in
     search (rules, few)

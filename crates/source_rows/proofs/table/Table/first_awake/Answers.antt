@@ -5,7 +5,7 @@ use Rattle.source_rows.proofs.Seated.{rises_seats}
 use Rattle.source_rows.proofs.table.Table.first_awake.Goals as goal
 
 pub first_awake-requires : goal.first_awake-requires
-first_awake-requires c = rises_seats c.self.inside.slots c.self.inside.keys.entries c.self.inside.seats c.self.invariant.filled.table c.self.invariant.seated
+first_awake-requires c = rises_seats c.self.inside.slots c.self.inside.keys c.self.inside.seats c.self.invariant.filled.table c.self.invariant.seated
 
 pub returns : goal.returns
 returns c =

@@ -9,7 +9,7 @@ use Rattle.source_rows.proofs.Seated.{rises_seats}
 use Rattle.source_rows.proofs.table.Table.ids_between.Goals as goal
 
 pub add_between-requires : goal.add_between-requires
-add_between-requires c = rises_seats c.self.inside.slots c.self.inside.keys.entries c.self.inside.seats c.self.invariant.filled.table c.self.invariant.seated
+add_between-requires c = rises_seats c.self.inside.slots c.self.inside.keys c.self.inside.seats c.self.invariant.filled.table c.self.invariant.seated
 
 pub returns : goal.returns
 returns c =

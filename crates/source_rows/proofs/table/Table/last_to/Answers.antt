@@ -17,7 +17,7 @@ use Rattle.source_rows.proofs.Seated.{rises_seats}
 use Rattle.source_rows.proofs.table.Table.last_to.Goals as goal
 
 pub last_to-requires : goal.last_to-requires
-last_to-requires c = rises_seats c.self.inside.slots c.self.inside.keys.entries c.self.inside.seats c.self.invariant.filled.table c.self.invariant.seated
+last_to-requires c = rises_seats c.self.inside.slots c.self.inside.keys c.self.inside.seats c.self.invariant.filled.table c.self.invariant.seated
 
 pub returns-in_err-seat-clause-none : goal.returns-in_err-seat-clause-none
 returns-in_err-seat-clause-none c =
@@ -33,7 +33,7 @@ none_by key rows s h last None e = absurd (has_last key rows s h last (sym e))
 none_by key rows s h last (Some r) e = tt
 
 rising : (c : goal.After-found) → IdsRise c.args.self.now
-rising c = subst IdsRise c.self.view_is (rises_rows_at c.self.inside.slots c.self.inside.keys.entries c.self.invariant.filled.table)
+rising c = subst IdsRise c.self.view_is (rises_rows_at c.self.inside.slots c.self.inside.keys c.self.invariant.filled.table)
 
 last : (c : goal.After-found) → IsLastTo c.args.key (in_seats c.args.self.now) c.in_ok-seat.seat.now
 last c =

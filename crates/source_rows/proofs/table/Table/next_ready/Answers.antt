@@ -12,7 +12,7 @@ use Rattle.source_rows.proofs.table.Table.next_ready.Goals.{After-next_due-due}
 
 answered : (c : After-next_due-due) → next_ready c.args.now c.args.self.now ≡ time c.next_due-due.result
 answered c =
-    let rows = rows_at c.self.inside.slots c.self.inside.keys.entries in
+    let rows = rows_at c.self.inside.slots c.self.inside.keys in
     let e : c.next_due-due.result ≡ next_due c.args.now (in_seats rows) = c.next_due-due.ensures ∙ ap (next_due c.args.now) c.self.invariant.seated.are in
     ap (next_ready c.args.now) (sym c.self.view_is) ∙ (next_is c.args.now rows c.self.invariant.times ∙ ap time (sym e))
 

@@ -20,12 +20,12 @@ stays : (t : ℤ) → Stays (λ r. record r { ready = t })
 stays t = record { key = λ r. refl; id = λ r. refl; level = λ r. refl; order = λ r. refl; parent = λ r. refl; lineage = λ r. refl }
 
 pub set-requires : goal.set-requires
-set-requires c = rises_seats c.self.inside.slots c.self.inside.keys.entries c.self.inside.seats c.self.invariant.filled.table c.self.invariant.seated
+set-requires c = rises_seats c.self.inside.slots c.self.inside.keys c.self.inside.seats c.self.invariant.filled.table c.self.invariant.seated
 
 pub invariant_of-self : goal.invariant_of-self
 invariant_of-self c =
     let slots = c.self.inside.slots in
-    let entries = c.self.inside.keys.entries in
+    let entries = c.self.inside.keys in
     let old = c.in-Some-get_mut.slot.now in
     let row : Row = record old { ready = c.args.ready } in
     let rows = rows_at slots entries in
@@ -49,13 +49,13 @@ invariant_of-self c =
 pub returns-in-Some-get_mut-clause-there : goal.returns-in-Some-get_mut-clause-there
 returns-in-Some-get_mut-clause-there c =
     let at : get c.self.inside.slots c.in-Some.key ≡ Some c.in-Some-get_mut.slot.now = search rules in
-    let there = in_slot c.self.inside.slots c.args.id c.in-Some.key c.in-Some-get_mut.slot.now c.self.inside.keys.entries c.self.invariant.filled.table (sym c.slot_of.ensures ∙ c.in-Some.is) at in
+    let there = in_slot c.self.inside.slots c.args.id c.in-Some.key c.in-Some-get_mut.slot.now c.self.inside.keys c.self.invariant.filled.table (sym c.slot_of.ensures ∙ c.in-Some.is) at in
     sym (ap (λ (rows : List Row). is_some (row_of c.args.id rows)) (sym c.self.view_is) ∙ ap is_some there.0)
 
 pub returns-in-Some-get_mut-clause-set : goal.returns-in-Some-get_mut-clause-set
 returns-in-Some-get_mut-clause-set c =
     let slots = c.self.inside.slots in
-    let entries = c.self.inside.keys.entries in
+    let entries = c.self.inside.keys in
     let old = c.in-Some-get_mut.slot.now in
     let row : Row = record old { ready = c.args.ready } in
     let rows = rows_at slots entries in
@@ -70,14 +70,14 @@ returns-in-Some-get_mut-clause-set c =
 
 pub returns-in_default-get_mut-clause-there : goal.returns-in_default-get_mut-clause-there
 returns-in_default-get_mut-clause-there c =
-    let k = looked c.self.inside.slots c.args.id c.in-Some.key c.self.inside.keys.entries c.self.invariant.filled.table.named (sym c.slot_of.ensures ∙ c.in-Some.is) in
+    let k = looked c.self.inside.slots c.args.id c.in-Some.key c.self.inside.keys c.self.invariant.filled.table.named (sym c.slot_of.ensures ∙ c.in-Some.is) in
     let nothing : get c.self.inside.slots c.in-Some.key ≡ None = search rules in
     let never : None ≡ Some c.args.id = ap (option_map id_of) (sym nothing) ∙ k in
     cc
 
 pub returns-in_default-get_mut-clause-set : goal.returns-in_default-get_mut-clause-set
 returns-in_default-get_mut-clause-set c =
-    let k = looked c.self.inside.slots c.args.id c.in-Some.key c.self.inside.keys.entries c.self.invariant.filled.table.named (sym c.slot_of.ensures ∙ c.in-Some.is) in
+    let k = looked c.self.inside.slots c.args.id c.in-Some.key c.self.inside.keys c.self.invariant.filled.table.named (sym c.slot_of.ensures ∙ c.in-Some.is) in
     let nothing : get c.self.inside.slots c.in-Some.key ≡ None = search rules in
     let never : None ≡ Some c.args.id = ap (option_map id_of) (sym nothing) ∙ k in
     cc
@@ -85,11 +85,11 @@ returns-in_default-get_mut-clause-set c =
 pub returns-in_default-clause-there : goal.returns-in_default-clause-there
 returns-in_default-clause-there c =
     let nothing : c.slot_of.result ≡ None = search rules in
-    let gone = ap (row_of c.args.id) (sym c.self.view_is) ∙ none_there c.self.inside.slots c.args.id c.self.inside.keys.entries c.self.invariant.filled.table (sym c.slot_of.ensures ∙ nothing) in
+    let gone = ap (row_of c.args.id) (sym c.self.view_is) ∙ none_there c.self.inside.slots c.args.id c.self.inside.keys c.self.invariant.filled.table (sym c.slot_of.ensures ∙ nothing) in
     sym (ap is_some gone)
 
 pub returns-in_default-clause-set : goal.returns-in_default-clause-set
 returns-in_default-clause-set c =
     let nothing : c.slot_of.result ≡ None = search rules in
-    let gone = ap (row_of c.args.id) (sym c.self.view_is) ∙ none_there c.self.inside.slots c.args.id c.self.inside.keys.entries c.self.invariant.filled.table (sym c.slot_of.ensures ∙ nothing) in
+    let gone = ap (row_of c.args.id) (sym c.self.view_is) ∙ none_there c.self.inside.slots c.args.id c.self.inside.keys c.self.invariant.filled.table (sym c.slot_of.ensures ∙ nothing) in
     sym (none_changed c.args.id (λ r. record r { ready = c.args.ready }) c.args.self.now gone)

@@ -9,11 +9,11 @@ use Rattle.source_rows.proofs.Seated.{rises_seats}
 use Rattle.source_rows.proofs.table.Table.walk.Goals as goal
 
 pub new-requires-clause-rises : goal.new-requires-clause-rises
-new-requires-clause-rises c = rises_seats c.self.inside.slots c.self.inside.keys.entries c.self.inside.seats c.self.invariant.filled.table c.self.invariant.seated
+new-requires-clause-rises c = rises_seats c.self.inside.slots c.self.inside.keys c.self.inside.seats c.self.invariant.filled.table c.self.invariant.seated
 
 pub new-requires-clause-keys : goal.new-requires-clause-keys
 new-requires-clause-keys c =
-    let rows = rows_at c.self.inside.slots c.self.inside.keys.entries in
+    let rows = rows_at c.self.inside.slots c.self.inside.keys in
     subst KeysRise (sym c.self.invariant.seated.are) (keys_rise rows (subst AllApart (sym c.self.view_is) c.requires))
 
 pub returns : goal.returns
