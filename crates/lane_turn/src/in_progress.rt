@@ -62,10 +62,12 @@ impl Activity<'_> {
                 _ => false,
             },
             Activity::Iteration {
-                context: iterated, ..
+                context: iterated,
+                ..
             } => *iterated == context,
             Activity::Loop {
-                context: iterated, ..
+                context: iterated,
+                ..
             } => *iterated == context,
         }
     }
