@@ -5,6 +5,7 @@ pub mod Freely
 pub mod Lists
 pub mod Polled
 pub mod Measure
+pub mod Moves
 pub mod Mild
 pub mod Acts
 pub mod Bounds
