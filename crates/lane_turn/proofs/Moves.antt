@@ -30,7 +30,7 @@ use Rattle.lane_turn.specs.Frames.{LoopOf, calls_in_progress}
 use Rattle.lane_turn.specs.Lane.{Lane, present, context_at, is_given, is_own, with_rows, with_context, edited, next_id, next_place, row_at, place_at, handler_at, written, pushed, stopped, set_running, set_slot, viewing, noting, chosen, is_any, iterating}
 use Rattle.lane_turn.specs.Owned.{default_context, is_owned, may_release, invoke_spec, calling, called_at_once, attaching, invoke_own}
 use Rattle.lane_turn.specs.Handover.{may_give, with_given}
-use Rattle.lane_turn.specs.Acted.{born, can_bear_in, can_bear, child_of, on_source, set_priority_of, plain_acted, all_acted, handled, all_handled, cancel, connect, disconnect_of, start_task, acted, sends}
+use Rattle.lane_turn.specs.Acted.{missed, born, can_bear_in, can_bear, child_of, on_source, set_priority_of, plain_acted, all_acted, handled, all_handled, cancel, connect, disconnect_of, start_task, acted, sends}
 
 -- ---- plain moves: what handlers do, and what may come behind another move
 
@@ -131,6 +131,10 @@ pub data Move : Type 0 where
 abbrev pub noticed : (tick c : ℕ) → Lane → Lane
 noticed tick c lane = noting tick c (viewing (cancelled c lane.view) lane)
 
+-- the same told, and its handlers called
+abbrev all_noticed : Plan → (tick c : ℕ) → Lane → Lane
+all_noticed script tick c lane = all_handled script tick (fired c lane.view) (written tick (events.Cancel c) (noticed tick c lane))
+
 -- the lane after a move
 abbrev pub moved : Plan → ℕ → Move → Lane → Lane
 moved script tick (Alter context change) lane = with_context context (changed_by change) lane
@@ -187,42 +191,51 @@ one_of : (P : Lane → Type 0) (x y : Lane) (b : Bool) → (b ≡ true → P x) 
 one_of P x y true f g = f refl
 one_of P x y false f g = g refl
 
-source_by : {acts : Bool} {tick : ℕ} {Q : Lane → Lane → Type 0} → PlainLaw acts tick Q → (word : Word) (edit : ℕ → RowSet → RowSet) → ((place : Place) (lane : Lane) → is_some (row_at place lane) ≡ true → Q lane (edited place.context (edit place.id) lane))
-    → (o : Option Place) (lane : Lane) → Q lane (on_source tick word edit o lane)
-source_by law word edit f None lane = law.each (Write (events.Miss word)) lane tt
-source_by {Q = Q} law word edit f (Some place) lane = one_of (Q lane) _ _ (is_some (row_at place lane)) (f place lane) (λ e. law.each (Write (events.Miss word)) lane tt)
+module _ {acts : Bool} {tick : ℕ} {Q : Lane → Lane → Type 0} (law : PlainLaw acts tick Q) (script : Plan) where
+  or_misses : (lane after : Lane) (word : Word) (b : Bool) → (b ≡ true → Q lane after) → Q lane (cond b after (missed tick word lane))
+  or_misses lane after word b f = one_of (Q lane) after (missed tick word lane) b f (λ e. law.each (Write (events.Miss word)) lane tt)
 
--- what an action does that a handler takes
-pub plain_by : {acts : Bool} {tick : ℕ} {Q : Lane → Lane → Type 0} → PlainLaw acts tick Q → (script : Plan) (action : Action) (lane : Lane) → Q lane (plain_acted script tick action lane)
-plain_by law script (actions.Destroy slot) lane = source_by law words.Destroy destroyed (λ place. law.each (Destroy place)) (place_at slot lane) lane
-plain_by law script (actions.SetReady slot us) lane = source_by law words.SetReady (λ id. ready_set id us) (λ place. law.each (SetReady us place)) (place_at slot lane) lane
-plain_by {Q = Q} law script (actions.Quit number) lane = one_of (Q lane) _ _ (is_own (context_of script number) lane) (λ e. law.each (Stop number) lane tt) (λ e. law.each (Write (events.Miss words.Quit)) lane tt)
-plain_by law script (actions.Log n) lane = law.each (Write (events.Log n)) lane tt
-plain_by law script _ lane = law.none lane
+  -- an edit of a source that is there
+  source_by : (word : Word) (edit : ℕ → RowSet → RowSet) → ((place : Place) (lane : Lane) → is_some (row_at place lane) ≡ true → Q lane (edited place.context (edit place.id) lane))
+      → (o : Option Place) (lane : Lane) → Q lane (on_source tick word edit o lane)
+  source_by word edit f None lane = law.each (Write (events.Miss word)) lane tt
+  source_by word edit f (Some place) lane = or_misses lane (edited place.context (edit place.id) lane) word (is_some (row_at place lane)) (f place lane)
 
-all_by : {acts : Bool} {tick : ℕ} {Q : Lane → Lane → Type 0} → PlainLaw acts tick Q → (script : Plan) (list : List Action) (lane : Lane) → Q lane (all_acted script tick list lane)
-all_by law script [] lane = law.none lane
-all_by {tick = tick} law script (a ∷ list) lane = law.next lane (plain_acted script tick a lane) _ (plain_by law script a lane) (all_by law script list (plain_acted script tick a lane))
+  -- by which moves an action goes that a handler takes
+  plain_by : (action : Action) (lane : Lane) → Q lane (plain_acted script tick action lane)
+  plain_by (actions.Destroy slot) lane = source_by words.Destroy destroyed (λ place. law.each (Destroy place)) (place_at slot lane) lane
+  plain_by (actions.SetReady slot us) lane = source_by words.SetReady (λ id. ready_set id us) (λ place. law.each (SetReady us place)) (place_at slot lane) lane
+  plain_by (actions.Quit number) lane = or_misses lane (set_running number false lane) words.Quit (is_own (context_of script number) lane) (λ e. law.each (Stop number) lane tt)
+  plain_by (actions.Log n) lane = law.each (Write (events.Log n)) lane tt
+  plain_by _ lane = law.none lane
 
-pub handled_by : {acts : Bool} {tick : ℕ} {Q : Lane → Lane → Type 0} → PlainLaw acts tick Q → (script : Plan) (f : Fired) (lane : Lane) → Q lane (handled script tick f lane)
-handled_by {tick = tick} law script f lane =
-    let told : Lane = written tick (events.Handler f.id) lane in
-    law.next lane told _ (law.each (Write (events.Handler f.id)) lane tt) (all_by law script (actions_of script (Procedure f.proc)) told)
+  all_by : (list : List Action) (lane : Lane) → Q lane (all_acted script tick list lane)
+  all_by [] lane = law.none lane
+  all_by (a ∷ list) lane =
+      let after : Lane = plain_acted script tick a lane in
+      law.next lane after (all_acted script tick list after) (plain_by a lane) (all_by list after)
 
-all_handled_by : {acts : Bool} {tick : ℕ} {Q : Lane → Lane → Type 0} → PlainLaw acts tick Q → (script : Plan) (fs : List Fired) (lane : Lane) → Q lane (all_handled script tick fs lane)
-all_handled_by law script [] lane = law.none lane
-all_handled_by {tick = tick} law script (f ∷ fs) lane = law.next lane (handled script tick f lane) _ (handled_by law script f lane) (all_handled_by law script fs (handled script tick f lane))
+  handled_by : (f : Fired) (lane : Lane) → Q lane (handled script tick f lane)
+  handled_by f lane =
+      let told : Lane = written tick (events.Handler f.id) lane in
+      law.next lane told (handled script tick f lane) (law.each (Write (events.Handler f.id)) lane tt) (all_by (actions_of script (Procedure f.proc)) told)
 
--- a cancellation that is noted is told, and its handlers are called
-noticed_by : {acts : Bool} {tick : ℕ} {Q : Lane → Lane → Type 0} → PlainLaw acts tick Q → (script : Plan) (c : ℕ) (lane : Lane) → Q (noticed tick c lane) (all_handled script tick (fired c lane.view) (written tick (events.Cancel c) (noticed tick c lane)))
-noticed_by {tick = tick} law script c lane =
-    let told : Lane = written tick (events.Cancel c) (noticed tick c lane) in
-    law.next (noticed tick c lane) told _ (law.each (Write (events.Cancel c)) (noticed tick c lane) tt) (all_handled_by law script (fired c lane.view) told)
+  all_handled_by : (fs : List Fired) (lane : Lane) → Q lane (all_handled script tick fs lane)
+  all_handled_by [] lane = law.none lane
+  all_handled_by (f ∷ fs) lane =
+      let after : Lane = handled script tick f lane in
+      law.next lane after (all_handled script tick fs after) (handled_by f lane) (all_handled_by fs after)
 
--- a cancellation leaves a lane that has seen it; else it is noted, and plain moves follow
-pub cancel_by : {acts : Bool} {tick : ℕ} {Q : Lane → Lane → Type 0} → PlainLaw acts tick Q → (script : Plan) (P : Lane → Type 0) (c : ℕ) (lane : Lane) → (has c lane.view ≡ true → P lane)
-    → ((after : Lane) → has c lane.view ≡ false → Q (noticed tick c lane) after → P after) → P (cancel script tick c lane)
-cancel_by law script P c lane f g = one_of P lane _ (has c lane.view) f (λ e. g _ e (noticed_by law script c lane))
+  -- a cancellation that is noticed is told, and its handlers are called
+  noticed_by : (c : ℕ) (lane : Lane) → Q (noticed tick c lane) (all_noticed script tick c lane)
+  noticed_by c lane =
+      let seen : Lane = noticed tick c lane in
+      let told : Lane = written tick (events.Cancel c) seen in
+      law.next seen told (all_noticed script tick c lane) (law.each (Write (events.Cancel c)) seen tt) (all_handled_by (fired c lane.view) told)
+
+  -- one leaves a lane that has seen it; else plain moves follow once it is noticed
+  pub cancel_by : (P : Lane → Type 0) (c : ℕ) (lane : Lane) → (has c lane.view ≡ true → P lane) → ((after : Lane) → has c lane.view ≡ false → Q (noticed tick c lane) after → P after) → P (cancel script tick c lane)
+  cancel_by P c lane f g = one_of P lane (all_noticed script tick c lane) (has c lane.view) f (λ e. g (all_noticed script tick c lane) e (noticed_by c lane))
 
 -- ---- what moves leave
 
@@ -238,7 +251,9 @@ connected_leaves view c proc = by (has c view)
 without_leaves : (view : Seen) (id : ℕ) → ((without id view).members ≡ view.members) × ((without id view).next_id ≤ view.next_id + 1)
 without_leaves view id = by (id == 0)
   where
-    by : (b : Bool) → let after : Seen = cond b view (record view { handlers = filter (has_other_id id) view.handlers }) in (after.members ≡ view.members) × (after.next_id ≤ view.next_id + 1)
+    by : (b : Bool) →
+        let after : Seen = cond b view (record view { handlers = filter (has_other_id id) view.handlers }) in
+        (after.members ≡ view.members) × (after.next_id ≤ view.next_id + 1)
     by true = (refl, omega arith)
     by false = (refl, omega arith)
 
@@ -275,88 +290,95 @@ born_more spec now id (o ∷ contexts) (suc i) h = born_more spec now id context
 
 -- ---- actions
 
--- a plain move behind another move
-behind : {script : Plan} {tick : ℕ} {Q : Lane → Lane → Type 0} {R : Option Mail → Lane → Lane → Type 0} → Law script tick Q R → (mail : Option Mail) (a b : Lane) (move : PlainMove) → R mail a b → IsPlain true move b → R mail a (plainly tick move b)
-behind law mail a b move h p = law.next mail a b _ h (law.plain.each move b p)
+module _ {script : Plan} {tick : ℕ} {Q : Lane → Lane → Type 0} {R : Option Mail → Lane → Lane → Type 0} (law : Law script tick Q R) where
+  -- a plain move behind another one
+  behind : (mail : Option Mail) (a b : Lane) (move : PlainMove) → R mail a b → IsPlain true move b → R mail a (plainly tick move b)
+  behind mail a b move h p = law.next mail a b (plainly tick move b) h (law.plain.each move b p)
 
--- a line alone
-says : {script : Plan} {tick : ℕ} {Q : Lane → Lane → Type 0} {R : Option Mail → Lane → Lane → Type 0} → Law script tick Q R → (event : Event) (lane : Lane) → IsSaid true event → R None lane (written tick event lane)
-says law event lane p = law.of lane _ (law.plain.each (Write event) lane p)
+  -- a line alone
+  says : (event : Event) (lane : Lane) → IsSaid true event → R None lane (written tick event lane)
+  says event lane p = law.of lane (written tick event lane) (law.plain.each (Write event) lane p)
 
-attach_by : {script : Plan} {tick : ℕ} {Q : Lane → Lane → Type 0} {R : Option Mail → Lane → Lane → Type 0} → Law script tick Q R → (context now slot : ℕ) (spec : SourceSpec) (lane : Lane) → is_own context lane ≡ true
-    → R None lane (set_slot slot (Source (next_place context lane)) (edited context (attached spec now) lane))
-attach_by law context now slot spec lane e =
-    behind law None lane (edited context (attached spec now) lane) (Name slot (Source (next_place context lane))) (law.each (Alter context (Attach spec now)) lane e)
-    (tt, omega (arith, next_more (with_rows (attached spec now)) (λ c. refl) lane.contexts context (has_own context lane e)))
+  -- what is done where a test holds, and else a line
+  or_says : (event : Event) (lane after : Lane) (b : Bool) → IsSaid true event → (b ≡ true → R None lane after) → R None lane (cond b after (written tick event lane))
+  or_says event lane after b p f = one_of (R None lane) after (written tick event lane) b f (λ e. says event lane p)
 
-child_by : {script : Plan} {tick : ℕ} {Q : Lane → Lane → Type 0} {R : Option Mail → Lane → Lane → Type 0} → Law script tick Q R → (now slot : ℕ) (spec : SourceSpec) (o : Option Place) (lane : Lane) → R None lane (child_of tick now slot spec o lane)
-child_by law now slot spec None lane = says law (events.Miss words.Child) lane tt
-child_by {R = R} law now slot spec (Some place) lane =
-    one_of (R None lane) _ _ (can_bear place lane)
-    (λ e. behind law None lane (edited place.context (born spec now place.id) lane) (Name slot (Source (next_place place.context lane))) (law.each (Alter place.context (Bear spec now place.id)) lane e)
-    (tt, omega (arith, born_more spec now place.id lane.contexts place.context (both_right (is_own place.context lane) (can_bear_in place.id (context_at place.context lane)) e))))
-    (λ e. says law (events.Miss words.Child) lane tt)
+  plain_action : (action : Action) (lane : Lane) → R None lane (plain_acted script tick action lane)
+  plain_action action lane = law.of lane (plain_acted script tick action lane) (plain_by law.plain script action lane)
 
-priority_by : {script : Plan} {tick : ℕ} {Q : Lane → Lane → Type 0} {R : Option Mail → Lane → Lane → Type 0} → Law script tick Q R → (priority : ℤ) (o : Option Place) (lane : Lane) → R None lane (set_priority_of tick priority o lane)
-priority_by law priority None lane = says law (events.Miss words.SetPriority) lane tt
-priority_by {R = R} law priority (Some place) lane =
-    one_of (R None lane) _ _ (is_none (priority_fault (row_at place lane))) (λ e. law.each (Alter place.context (Reprioritise place.id priority)) lane e) (λ e. says law (events.Miss words.SetPriority) lane tt)
+  attach_by : (context now slot : ℕ) (spec : SourceSpec) (lane : Lane) → is_own context lane ≡ true → R None lane (set_slot slot (Source (next_place context lane)) (edited context (attached spec now) lane))
+  attach_by context now slot spec lane e =
+      behind None lane (edited context (attached spec now) lane) (Name slot (Source (next_place context lane))) (law.each (Alter context (Attach spec now)) lane e)
+      (tt, omega (arith, next_more (with_rows (attached spec now)) (λ c. refl) lane.contexts context (has_own context lane e)))
 
-cancelled_by : {script : Plan} {tick : ℕ} {Q : Lane → Lane → Type 0} {R : Option Mail → Lane → Lane → Type 0} → Law script tick Q R → (c : ℕ) (lane : Lane) (b : Bool) → has c lane.view ≡ b
-    → R (cond b None (Some (mails.Cancelled c))) lane (cond b lane (all_handled script tick (fired c lane.view) (written tick (events.Cancel c) (noticed tick c lane))))
-cancelled_by law c lane true e = law.of lane lane (law.plain.none lane)
-cancelled_by {script} {tick} law c lane false e = law.next (Some (mails.Cancelled c)) lane (noticed tick c lane) _ (law.each (Note c) lane e) (noticed_by law.plain script c lane)
+  child_by : (now slot : ℕ) (spec : SourceSpec) (o : Option Place) (lane : Lane) → R None lane (child_of tick now slot spec o lane)
+  child_by now slot spec None lane = says (events.Miss words.Child) lane tt
+  child_by now slot spec (Some place) lane =
+      or_says (events.Miss words.Child) lane _ (can_bear place lane) tt
+      (λ e. behind None lane (edited place.context (born spec now place.id) lane) (Name slot (Source (next_place place.context lane))) (law.each (Alter place.context (Bear spec now place.id)) lane e)
+      (tt, omega (arith, born_more spec now place.id lane.contexts place.context (both_right (is_own place.context lane) (can_bear_in place.id (context_at place.context lane)) e))))
 
-connect_by : {script : Plan} {tick : ℕ} {Q : Lane → Lane → Type 0} {R : Option Mail → Lane → Lane → Type 0} → Law script tick Q R → (c slot proc : ℕ) (lane : Lane) → R None lane (connect script tick c slot proc lane)
-connect_by {script} {tick} {R = R} law c slot proc lane =
-    let f : Fired = record { id = 0; proc = proc } in
-    let called : Lane = handled script tick f lane in
-    one_of (R None lane) _ _ (has c lane.view) (λ e. law.of lane _ (law.plain.next lane called _ (handled_by law.plain script f lane) (law.plain.each (Name slot (Handler 0)) called (tt, tt))))
-    (λ e. behind law None lane (viewing (connected c proc lane.view) lane) (Name slot (Handler lane.view.next_id)) (law.each (View (connected c proc lane.view)) lane (connected_leaves lane.view c proc)) (tt, tt))
+  priority_by : (priority : ℤ) (o : Option Place) (lane : Lane) → R None lane (set_priority_of tick priority o lane)
+  priority_by priority None lane = says (events.Miss words.SetPriority) lane tt
+  priority_by priority (Some place) lane = or_says (events.Miss words.SetPriority) lane _ (is_none (priority_fault (row_at place lane))) tt (λ e. law.each (Alter place.context (Reprioritise place.id priority)) lane e)
 
-disconnect_by : {script : Plan} {tick : ℕ} {Q : Lane → Lane → Type 0} {R : Option Mail → Lane → Lane → Type 0} → Law script tick Q R → (o : Option ℕ) (lane : Lane) → R None lane (disconnect_of tick o lane)
-disconnect_by law None lane = says law (events.Miss words.Disconnect) lane tt
-disconnect_by {R = R} law (Some id) lane = one_of (R None lane) _ _ (may_disconnect id lane.view) (λ e. law.each (View (without id lane.view)) lane (without_leaves lane.view id)) (λ e. says law (events.Miss words.Disconnect) lane tt)
+  cancelled_by : (c : ℕ) (lane : Lane) (b : Bool) → has c lane.view ≡ b → R (cond b None (Some (mails.Cancelled c))) lane (cond b lane (all_noticed script tick c lane))
+  cancelled_by c lane true e = law.of lane lane (law.plain.none lane)
+  cancelled_by c lane false e = law.next (Some (mails.Cancelled c)) lane (noticed tick c lane) (all_noticed script tick c lane) (law.each (Note c) lane e) (noticed_by law.plain script c lane)
 
-call_by : {script : Plan} {tick : ℕ} {Q : Lane → Lane → Type 0} {R : Option Mail → Lane → Lane → Type 0} → Law script tick Q R → (context proc : ℕ) (acquires : Option ℕ) (lane : Lane) → is_own context lane ≡ true → IsOrNone acquires context
-    → R None lane (called_at_once tick context proc acquires lane)
-call_by {R = R} law context proc acquires lane e a = one_of (R None lane) _ _ (nat_lt (calls_in_progress lane.frames) 32) (λ k. law.each (Call context proc acquires) lane (e, k, a)) (λ k. law.each Halt lane k)
+  connect_by : (c slot proc : ℕ) (lane : Lane) → R None lane (connect script tick c slot proc lane)
+  connect_by c slot proc lane =
+      let called : Lane = handled script tick (record { id = 0; proc = proc }) lane in
+      let view : Seen = connected c proc lane.view in
+      one_of (R None lane) (set_slot slot (Handler 0) called) (set_slot slot (Handler lane.view.next_id) (viewing view lane)) (has c lane.view)
+      (λ e. behind None lane called (Name slot (Handler 0)) (law.of lane called (handled_by law.plain script (record { id = 0; proc = proc }) lane)) (tt, tt))
+      (λ e. behind None lane (viewing view lane) (Name slot (Handler lane.view.next_id)) (law.each (View view) lane (connected_leaves lane.view c proc)) (tt, tt))
 
-invoke_by : {script : Plan} {tick : ℕ} {Q : Lane → Lane → Type 0} {R : Option Mail → Lane → Lane → Type 0} → Law script tick Q R → (now context proc : ℕ) (lane : Lane) (b : Bool) → is_own context lane ≡ b
-    → R (cond b None (Some (mails.Attach context (invoke_spec proc)))) lane (cond b (invoke_own tick now context proc lane) (written tick (events.Invoke context Posted) lane))
-invoke_by {R = R} law now context proc lane true e =
-    one_of (R None lane) _ _ (is_owned context lane) (λ k. call_by law context proc None lane e tt)
-    (λ k. one_of (R None lane) _ _ (default_context lane == context) (λ d. call_by law context proc (Some context) lane e refl)
-    (λ d. behind law None lane (edited context (attached (invoke_spec proc) now) lane) (Write (events.Invoke context Attached)) (law.each (Alter context (Attach (invoke_spec proc) now)) lane e) tt))
-invoke_by law now context proc lane false e = behind law (Some (mails.Attach context (invoke_spec proc))) lane lane (Write (events.Invoke context Posted)) (law.each (Post context proc) lane e) tt
+  disconnect_by : (o : Option ℕ) (lane : Lane) → R None lane (disconnect_of tick o lane)
+  disconnect_by None lane = says (events.Miss words.Disconnect) lane tt
+  disconnect_by (Some id) lane = or_says (events.Miss words.Disconnect) lane _ (may_disconnect id lane.view) tt (λ e. law.each (View (without id lane.view)) lane (without_leaves lane.view id))
 
-give_by : {script : Plan} {tick : ℕ} {Q : Lane → Lane → Type 0} {R : Option Mail → Lane → Lane → Type 0} → Law script tick Q R → (context to : ℕ) (lane : Lane) (b : Bool) → may_give script context to lane ≡ b
-    → R (cond b (Some (mails.Give context to)) None) lane (cond b (written tick (events.Give context to) (with_given context true lane)) (written tick (events.Miss words.Give) lane))
-give_by law context to lane true e = behind law (Some (mails.Give context to)) lane (with_given context true lane) (Write (events.Give context to)) (law.each (Give context to) lane e) tt
-give_by law context to lane false e = says law (events.Miss words.Give) lane tt
+  call_by : (context proc : ℕ) (acquires : Option ℕ) (lane : Lane) → is_own context lane ≡ true → IsOrNone acquires context → R None lane (called_at_once tick context proc acquires lane)
+  call_by context proc acquires lane e a =
+      one_of (R None lane) _ _ (nat_lt (calls_in_progress lane.frames) 32) (λ k. law.each (Call context proc acquires) lane (e, k, a)) (λ k. law.each Halt lane k)
 
--- by which moves each action goes
-pub acted_by : {script : Plan} {tick : ℕ} {Q : Lane → Lane → Type 0} {R : Option Mail → Lane → Lane → Type 0} → Law script tick Q R → (action : Action) (lane : Lane) → R (sends script action lane) lane (acted script tick action lane)
-acted_by {script} {tick} {R = R} law (actions.Attach context slot spec) lane = one_of (R None lane) _ _ (is_own context lane) (attach_by law context (time_of script tick) slot spec lane) (λ e. says law (events.Miss words.Attach) lane tt)
-acted_by {script} {tick} law (actions.Child parent slot spec) lane = child_by law (time_of script tick) slot spec (place_at parent lane) lane
-acted_by {script} law (actions.Destroy slot) lane = law.of lane _ (plain_by law.plain script (actions.Destroy slot) lane)
-acted_by {script} law (actions.SetReady slot us) lane = law.of lane _ (plain_by law.plain script (actions.SetReady slot us) lane)
-acted_by law (actions.SetPriority slot priority) lane = priority_by law priority (place_at slot lane) lane
-acted_by {R = R} law (actions.Iterate context) lane = one_of (R None lane) _ _ (is_own context lane) (λ e. law.each (Iterate context) lane e) (λ e. says law (events.Iterate context false) lane tt)
-acted_by law (actions.Pending context) lane = says law _ lane tt
-acted_by {script} {R = R} law (actions.Run number) lane =
-    one_of (R None lane) _ _ (is_own (context_of script number) lane) (λ e. law.each (Run number (context_of script number)) lane e) (λ e. says law (events.Miss words.Run) lane tt)
-acted_by {script} law (actions.Quit number) lane = law.of lane _ (plain_by law.plain script (actions.Quit number) lane)
-acted_by law (actions.Cancel c) lane = cancelled_by law c lane (has c lane.view) refl
-acted_by law (actions.Connect c slot proc) lane = connect_by law c slot proc lane
-acted_by law (actions.Disconnect slot) lane = disconnect_by law (handler_at slot lane) lane
-acted_by law (actions.Task spec) lane = law.each (Start spec) lane tt
-acted_by {R = R} law (actions.Push context) lane = one_of (R None lane) _ _ (is_own context lane) (λ e. law.each (Push context) lane e) (λ e. says law (events.Miss words.Push) lane tt)
-acted_by {R = R} law (actions.Pop context) lane = one_of (R None lane) _ _ (is_on_top context lane.defaults) (λ e. law.each (Pop context) lane tt) (λ e. says law (events.Miss words.Pop) lane tt)
-acted_by law actions.ShowDefault lane = says law (events.Default (default_context lane)) lane tt
-acted_by {R = R} law (actions.Acquire context) lane =
-    one_of (R None lane) _ _ (is_own context lane) (λ e. behind law None lane (with_context context acquired lane) (Write (events.Acquire context true)) (law.each (Alter context Acquire) lane e) tt) (λ e. says law (events.Acquire context false) lane tt)
-acted_by {R = R} law (actions.Release context) lane = one_of (R None lane) _ _ (may_release (context_at context lane)) (λ e. law.each (Alter context Release) lane e) (λ e. says law (events.Miss words.Release) lane tt)
-acted_by {script} {tick} law (actions.Invoke context proc) lane = invoke_by law (time_of script tick) context proc lane (is_own context lane) refl
-acted_by {script} law (actions.Give context to) lane = give_by law context to lane (may_give script context to lane) refl
-acted_by {script} law (actions.Log n) lane = law.of lane _ (plain_by law.plain script (actions.Log n) lane)
+  invoke_by : (now context proc : ℕ) (lane : Lane) (b : Bool) → is_own context lane ≡ b
+      → R (cond b None (Some (mails.Attach context (invoke_spec proc)))) lane (cond b (invoke_own tick now context proc lane) (written tick (events.Invoke context Posted) lane))
+  invoke_by now context proc lane true e =
+      one_of (R None lane) _ _ (is_owned context lane) (λ k. call_by context proc None lane e tt)
+      (λ k. one_of (R None lane) _ _ (default_context lane == context) (λ d. call_by context proc (Some context) lane e refl)
+      (λ d. behind None lane (edited context (attached (invoke_spec proc) now) lane) (Write (events.Invoke context Attached)) (law.each (Alter context (Attach (invoke_spec proc) now)) lane e) tt))
+  invoke_by now context proc lane false e = behind (Some (mails.Attach context (invoke_spec proc))) lane lane (Write (events.Invoke context Posted)) (law.each (Post context proc) lane e) tt
+
+  give_by : (context to : ℕ) (lane : Lane) (b : Bool) → may_give script context to lane ≡ b
+      → R (cond b (Some (mails.Give context to)) None) lane (cond b (written tick (events.Give context to) (with_given context true lane)) (missed tick words.Give lane))
+  give_by context to lane true e = behind (Some (mails.Give context to)) lane (with_given context true lane) (Write (events.Give context to)) (law.each (Give context to) lane e) tt
+  give_by context to lane false e = says (events.Miss words.Give) lane tt
+
+  -- by which moves each action goes
+  pub acted_by : (action : Action) (lane : Lane) → R (sends script action lane) lane (acted script tick action lane)
+  acted_by (actions.Attach context slot spec) lane = or_says (events.Miss words.Attach) lane _ (is_own context lane) tt (attach_by context (time_of script tick) slot spec lane)
+  acted_by (actions.Child parent slot spec) lane = child_by (time_of script tick) slot spec (place_at parent lane) lane
+  acted_by (actions.Destroy slot) lane = plain_action (actions.Destroy slot) lane
+  acted_by (actions.SetReady slot us) lane = plain_action (actions.SetReady slot us) lane
+  acted_by (actions.SetPriority slot priority) lane = priority_by priority (place_at slot lane) lane
+  acted_by (actions.Iterate context) lane = or_says (events.Iterate context false) lane _ (is_own context lane) tt (λ e. law.each (Iterate context) lane e)
+  acted_by (actions.Pending context) lane = says _ lane tt
+  acted_by (actions.Run number) lane =
+      let context : ℕ = context_of script number in
+      or_says (events.Miss words.Run) lane _ (is_own context lane) tt (λ e. law.each (Run number context) lane e)
+  acted_by (actions.Quit number) lane = plain_action (actions.Quit number) lane
+  acted_by (actions.Cancel c) lane = cancelled_by c lane (has c lane.view) refl
+  acted_by (actions.Connect c slot proc) lane = connect_by c slot proc lane
+  acted_by (actions.Disconnect slot) lane = disconnect_by (handler_at slot lane) lane
+  acted_by (actions.Task spec) lane = law.each (Start spec) lane tt
+  acted_by (actions.Push context) lane = or_says (events.Miss words.Push) lane _ (is_own context lane) tt (λ e. law.each (Push context) lane e)
+  acted_by (actions.Pop context) lane = or_says (events.Miss words.Pop) lane _ (is_on_top context lane.defaults) tt (λ e. law.each (Pop context) lane tt)
+  acted_by actions.ShowDefault lane = says (events.Default (default_context lane)) lane tt
+  acted_by (actions.Acquire context) lane =
+      or_says (events.Acquire context false) lane _ (is_own context lane) tt
+      (λ e. behind None lane (with_context context acquired lane) (Write (events.Acquire context true)) (law.each (Alter context Acquire) lane e) tt)
+  acted_by (actions.Release context) lane = or_says (events.Miss words.Release) lane _ (may_release (context_at context lane)) tt (λ e. law.each (Alter context Release) lane e)
+  acted_by (actions.Invoke context proc) lane = invoke_by (time_of script tick) context proc lane (is_own context lane) refl
+  acted_by (actions.Give context to) lane = give_by context to lane (may_give script context to lane) refl
+  acted_by (actions.Log n) lane = plain_action (actions.Log n) lane
