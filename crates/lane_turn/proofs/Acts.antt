@@ -1,36 +1,24 @@
 -- No action and no dispatch adds more to a lane than one that is counted may: to its rows, its frames and its counters.
-use Rattle.std.proofs.Common.{◌≡◌, ℕ, ℤ, ◌+◌, ◌≤◌, Bool, true, false, cond, Option, Some, None, List, [], ◌∷◌, ◌++◌, filter, length, refl, arith, ◌==◌}
+use Rattle.std.proofs.Common.{◌≡◌, ℕ, ◌+◌, ◌≤◌, List, [], ◌∷◌, length, refl, arith}
 use Rattle.std.specs.Prelude.{nat_lt}
 use Rattle.loop_script.specs.declared.plan.Plan.{Plan}
-use Rattle.loop_script.specs.declared.source.SourceSpec.{SourceSpec}
 use Rattle.loop_script.specs.declared.action.Action.{Action}
-use Rattle.loop_script.specs.Parts.{time_of, context_of}
 use Rattle.source_rows.specs.declared.row.Row.{Row}
-use Rattle.source_rows.specs.Rows.{RowSet, attached, destroyed, counted, ready_set, reprioritised}
+use Rattle.source_rows.specs.Rows.{attached, counted, reprioritised}
 use Rattle.context_core.specs.declared.context.Context.{Context}
-use Rattle.lane_turn.specs.declared.slot.Place.{Place}
-use Rattle.lane_turn.specs.declared.slot.Named.{Named}
-use Rattle.lane_turn.specs.declared.slot.Named.TheVariants.{Source, Handler}
-use Rattle.cancel_view.specs.Seen.{Seen, has, connected, has_other_id, without}
-use Rattle.lane_turn.specs.declared.line.Event.{Event}
 use Rattle.lane_turn.specs.declared.line.Event.TheVariants as events
 use Rattle.lane_turn.specs.Frames.{Frame, CallOf, IterOf, LoopOf, advanced, calls_in_progress}
-use Rattle.lane_turn.specs.Lane.{Lane, context_at, with_context, edited, taken, place_at, handler_at, next_place, set_slot, viewing, stopped, pushed, set_running, written, is_own}
-use Rattle.lane_turn.specs.Handover.{may_give, with_given}
-use Rattle.lane_turn.specs.Acted.{acted, born, child_of, on_source, set_priority_of, connect, disconnect_of}
-use Rattle.lane_turn.specs.declared.line.Word.{Word}
-use Rattle.lane_turn.specs.declared.line.Word.TheVariants as words
+use Rattle.lane_turn.specs.Lane.{Lane, with_context, taken, viewing, stopped, written}
+use Rattle.lane_turn.specs.Acted.{acted, born}
 use Rattle.lane_turn.specs.declared.lane.Status.TheVariants.{Halted}
 use Rattle.lane_turn.specs.Step.{dispatched, dispatching}
 use Rattle.lane_turn.specs.Turn.{nest_work}
 use Rattle.lane_turn.specs.Sound.{IsBounded}
 use Rattle.lane_turn.proofs.Lists.{each_weaker}
-use Rattle.lane_turn.specs.Owned.{default_context, is_owned, may_release, acquire, release, calling, called_at_once, attaching, invoke_own, invoke, invoke_spec}
-use Rattle.lane_turn.specs.declared.line.Invoked.TheVariants.{Attached, Posted}
 use Rattle.lane_turn.proofs.Moves as moves
 use Rattle.lane_turn.proofs.Moves.{Change, changed_by, Move, noticed, moved, MayMove, Law, acted_by}
-use Rattle.context_core.specs.Defaults.{Defaults, acquired, released, is_on_top, pushed as stack_with, popped}
-use Rattle.lane_turn.proofs.Mild.{Mild, MildChange, MildEdit, quiet, mild_line, either, begins_frame, mild_change, mild_edit, mild_iterating, mild_attached, mild_born, mild_destroyed, mild_ready_set, mild_reprioritised, mild_counted, Plain, plain_moves, cancelled_id, mild_plain, mild_then, rows_edited, bounded_edited, each_bounded}
+use Rattle.context_core.specs.Defaults.{acquired, released}
+use Rattle.lane_turn.proofs.Mild.{Mild, MildChange, quiet, either, begins_frame, mild_change, mild_edit, mild_iterating, mild_attached, mild_born, mild_reprioritised, mild_counted, Plain, plain_moves, cancelled_id, mild_plain, mild_then, rows_edited, bounded_edited, each_bounded}
 
 -- who owns a context
 mild_acquired : MildChange 0 1 acquired

@@ -1,34 +1,24 @@
 -- What actions write, and what they leave of the sources: lines of the tick that are no dispatch.
-use Rattle.std.proofs.Common.{◌≡◌, ℕ, ◌≤◌, ℤ, ◌==◌, Bool, true, false, cond, Option, Some, None, List, [], ◌∷◌, ◌++◌, refl, ap, sym, ◌∙◌, subst, append-nil, append_assoc, arith, ltb-false}
-use Rattle.std.specs.Prelude.{nat_lt, is_some, is_none, not, ◌&&◌}
+use Rattle.std.proofs.Common.{◌≡◌, ℕ, ◌≤◌, Bool, true, false, cond, List, [], ◌∷◌, ◌++◌, refl, ap, sym, ◌∙◌, subst, append-nil, append_assoc, arith, ltb-false}
+use Rattle.std.specs.Prelude.{not, ◌&&◌}
 use Rattle.std.specs.List.{AllByRecursion}
 use Rattle.loop_script.specs.declared.plan.Plan.{Plan}
-use Rattle.loop_script.specs.declared.source.SourceSpec.{SourceSpec}
 use Rattle.loop_script.specs.declared.action.Action.{Action}
 use Rattle.loop_script.specs.declared.body.Body.{Body}
-use Rattle.loop_script.specs.declared.body.Body.TheVariants.{Procedure}
-use Rattle.loop_script.specs.Parts.{time_of, actions_of, context_of, stays}
-use Rattle.source_rows.specs.Rows.{RowSet, attached, destroyed, ready_set, reprioritised, priority_fault, row_of as row_with}
+use Rattle.loop_script.specs.Parts.{time_of, stays}
+use Rattle.source_rows.specs.Rows.{RowSet, destroyed, ready_set, row_of as row_with}
 use Rattle.context_core.specs.declared.context.Context.{Context}
-use Rattle.context_core.specs.Defaults.{acquired, released, is_on_top}
-use Rattle.cancel_view.specs.declared.handler.Fired.{Fired}
-use Rattle.cancel_view.specs.Seen.{has, fired, cancelled, may_disconnect}
+use Rattle.context_core.specs.Defaults.{acquired}
 use Rattle.lane_turn.specs.declared.line.Line.{Line}
 use Rattle.lane_turn.specs.declared.line.Event.{Event}
 use Rattle.lane_turn.specs.declared.line.Event.TheVariants as events
-use Rattle.lane_turn.specs.declared.line.Invoked.TheVariants.{Direct, Attached, Posted}
-use Rattle.lane_turn.specs.declared.line.Word.{Word}
-use Rattle.lane_turn.specs.declared.line.Word.TheVariants as words
+use Rattle.lane_turn.specs.declared.line.Invoked.TheVariants.{Direct}
 use Rattle.lane_turn.specs.declared.layer.Origin.{Origin}
 use Rattle.lane_turn.specs.declared.layer.Origin.TheVariants.{Start, Source, Invoke as Invoked}
-use Rattle.lane_turn.specs.declared.lane.Status.TheVariants.{Halted}
-use Rattle.lane_turn.specs.declared.slot.Place.{Place}
 use Rattle.lane_turn.specs.Frames.{calls_in_progress}
 use Rattle.lane_turn.specs.Sources.{restarted}
-use Rattle.lane_turn.specs.Lane.{Lane, stopped, context_at, with_rows, with_context, edited, row_at, place_at, handler_at, written, viewing, noting, is_own}
-use Rattle.lane_turn.specs.Handover.{may_give, with_given}
-use Rattle.lane_turn.specs.Owned.{default_context, is_owned, may_release, invoke_spec, calling, called_at_once, attaching, invoke_own, invoke}
-use Rattle.lane_turn.specs.Acted.{attach, acted, born, can_bear, child_of, on_source, set_priority_of, plain_acted, all_acted, handled, all_handled, cancel, connect, disconnect_of}
+use Rattle.lane_turn.specs.Lane.{Lane, with_rows, with_context, edited, written}
+use Rattle.lane_turn.specs.Acted.{acted, cancel}
 use Rattle.lane_turn.specs.Step.{returned, answered}
 use Rattle.lane_turn.specs.Traces.{Grows}
 use Rattle.lane_turn.specs.Rest.{IsBrought}

@@ -7,13 +7,9 @@ use Rattle.std.proofs.lemmas.List.Elements.{filter_map-append}
 use Rattle.std.proofs.lemmas.Bool.Decides.{eqb_tells}
 use Rattle.loop_script.specs.declared.plan.Plan.{Plan}
 use Rattle.loop_script.specs.declared.source.SourceSpec.{SourceSpec}
-use Rattle.loop_script.specs.declared.action.Action.{Action}
-use Rattle.loop_script.specs.declared.body.Body.TheVariants.{Procedure}
-use Rattle.loop_script.specs.Parts.{time_of, actions_of, home_of, context_of}
+use Rattle.loop_script.specs.Parts.{time_of, home_of}
 use Rattle.source_rows.specs.Rows.{RowSet, attached, destroyed, ready_set}
 use Rattle.context_core.specs.declared.context.Context.{Context}
-use Rattle.cancel_view.specs.declared.handler.Fired.{Fired}
-use Rattle.cancel_view.specs.Seen.{has, fired, cancelled}
 use Rattle.post_office.specs.declared.letter.Letter.{Letter}
 use Rattle.post_office.specs.declared.letter.Body.{Body as Mail}
 use Rattle.post_office.specs.declared.letter.Body.TheVariants as mails
@@ -21,12 +17,9 @@ use Rattle.task_steps.specs.declared.entry.Reply.{Reply}
 use Rattle.lane_turn.specs.declared.line.Line.{Line}
 use Rattle.lane_turn.specs.declared.line.Event.{Event}
 use Rattle.lane_turn.specs.declared.line.Event.TheVariants as events
-use Rattle.lane_turn.specs.declared.line.Word.{Word}
-use Rattle.lane_turn.specs.declared.line.Word.TheVariants as words
-use Rattle.lane_turn.specs.declared.slot.Place.{Place}
 use Rattle.lane_turn.specs.Sources.{no_sources}
-use Rattle.lane_turn.specs.Lane.{Lane, present, context_at, next_id, with_rows, edited, written, place_at, row_at, set_running, viewing, noting, is_own, is_given}
-use Rattle.lane_turn.specs.Acted.{missed, on_source, plain_acted, all_acted, handled, all_handled, cancel}
+use Rattle.lane_turn.specs.Lane.{Lane, present, context_at, next_id, with_rows, edited, written, is_own, is_given}
+use Rattle.lane_turn.specs.Acted.{cancel}
 use Rattle.lane_turn.specs.Deliver.{reply_spec, holding, received_body, received, received_all}
 use Rattle.lane_turn.specs.Turn.{open_context, open_contexts_to, begun, turned}
 use Rattle.lane_turn.specs.Arrivals.{is_for_body, is_for, arrival_of, arrivals, ids_for}

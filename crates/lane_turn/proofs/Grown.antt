@@ -1,6 +1,6 @@
 -- The sources of a lane stand in trees within the script's levels.
 use Rattle.std.proofs.Common.{◌≡◌, ℕ, ℤ, zero, suc, ◌+◌, ◌*◌, ◌^◌, ◌<◌, ◌≤◌, ◌==◌, Bool, true, false, not, ◌&&◌, cond, map, length, Option, Some, None, List, [], ◌∷◌, ◌++◌, slice_set, refl, ap, sym, ◌∙◌, arith, subst, option_map}
-use Rattle.std.specs.Prelude.{slice_get, is_some, is_none, nat_lt}
+use Rattle.std.specs.Prelude.{slice_get, is_none, nat_lt}
 use Rattle.std.specs.List.{AllByRecursion, range_with_len}
 use Rattle.loop_script.specs.declared.plan.Plan.{Plan}
 use Rattle.loop_script.specs.declared.source.SourceSpec.{SourceSpec}
@@ -9,7 +9,6 @@ use Rattle.loop_script.specs.declared.source.Kind.TheVariants as kinds
 use Rattle.loop_script.specs.declared.action.Action.{Action}
 use Rattle.loop_script.specs.declared.action.Action.TheVariants as actions
 use Rattle.loop_script.specs.declared.body.Body.{Body}
-use Rattle.loop_script.specs.declared.body.Body.TheVariants.{Procedure}
 use Rattle.loop_script.specs.Parts.{time_of, home_of, actions_of, stays}
 use Rattle.loop_script.specs.References.{sizes}
 use Rattle.source_rows.specs.declared.row.Row.{Row}
@@ -19,8 +18,6 @@ use Rattle.source_rows.specs.TwoLevels.{IsWithinLevels}
 use Rattle.source_rows.proofs.AtTwo.{roots, children, destroyed_two, reprioritised_two}
 use Rattle.context_core.proofs.AtTwo.{selected_two}
 use Rattle.source_rows.proofs.Sound.{sound_none, sound_attached, sound_child, sound_destroyed, sound_reprioritised, sound_ready_set, sound_counted}
-use Rattle.cancel_view.specs.declared.handler.Fired.{Fired}
-use Rattle.cancel_view.specs.Seen.{has, fired, cancelled, may_disconnect}
 use Rattle.context_core.specs.declared.context.Context.{Context}
 use Rattle.lane_turn.specs.declared.line.Event.TheVariants as events
 use Rattle.lane_turn.specs.declared.lane.Status.{Status}
@@ -28,23 +25,18 @@ use Rattle.lane_turn.specs.declared.lane.Status.TheVariants.{GoesOn, Ended, Halt
 use Rattle.lane_turn.specs.declared.layer.Origin.{Origin}
 use Rattle.lane_turn.specs.declared.layer.Origin.TheVariants.{Start, Source, Invoke}
 use Rattle.lane_turn.specs.declared.layer.Call.{Call}
-use Rattle.lane_turn.specs.declared.slot.Place.{Place}
 use Rattle.lane_turn.specs.Frames.{Frame, CallOf, IterOf, LoopOf, calls_in_progress}
 use Rattle.lane_turn.specs.Sources.{tree_levels, no_sources, restarted, restarted_row, restarted_kind, due_after}
-use Rattle.lane_turn.specs.Lane.{Lane, Turn, present, context_at, with_rows, with_context, edited, popped, taken, place_at, handler_at, row_of, row_in, row_at, is_running, written, viewing, noting, iterating, is_own}
+use Rattle.lane_turn.specs.Lane.{Lane, Turn, present, context_at, with_rows, with_context, edited, popped, taken, row_of, row_in, is_running, written, iterating, is_own}
 use Rattle.lane_turn.proofs.Whole.{whole}
 use Rattle.lane_turn.proofs.GoingOver.{going_over, ready_over}
-use Rattle.lane_turn.specs.Handover.{handed_over, may_give, with_given}
-use Rattle.context_core.specs.Defaults.{acquired, released, is_on_top}
-use Rattle.lane_turn.specs.declared.line.Invoked.TheVariants.{Posted}
-use Rattle.lane_turn.specs.Owned.{default_context, is_owned, may_release, called_at_once, attaching, invoke_own, invoke, invoke_spec}
-use Rattle.lane_turn.specs.Acted.{acted, sends, born, can_bear, can_bear_in, child_of, on_source, set_priority_of, plain_acted, all_acted, handled, all_handled, cancel, connect, disconnect_of}
+use Rattle.lane_turn.specs.Handover.{handed_over}
+use Rattle.context_core.specs.Defaults.{acquired, released}
+use Rattle.lane_turn.specs.Acted.{acted, sends, born, can_bear_in}
 use Rattle.lane_watch.specs.Tasks.{Started}
 use Rattle.post_office.specs.declared.letter.Letter.{Letter}
 use Rattle.post_office.specs.declared.letter.Body.{Body as Mail}
 use Rattle.post_office.specs.declared.letter.Body.TheVariants as mails
-use Rattle.lane_turn.specs.declared.line.Word.{Word}
-use Rattle.lane_turn.specs.declared.line.Word.TheVariants as words
 use Rattle.lane_turn.specs.Step.{step, step_polling, step_call, step_id, returned, answered, limited_by, with_lane, dispatching}
 use Rattle.lane_turn.specs.Turn.{begun, turned, opening, open_context, open_contexts_to}
 use Rattle.lane_turn.specs.Deliver.{reply_spec, received_body, received, received_all, delivered}

@@ -1,5 +1,5 @@
 -- What each step does to the frames.
-use Rattle.std.proofs.Common.{◌≡◌, ◌<◌, length, arith, ltb-true, ℕ, ℤ, zero, suc, ◌==◌, Bool, true, false, cond, Option, Some, None, List, [], ◌∷◌, ◌++◌, inl, inr, drop, refl, ap, sym, ◌∙◌, subst}
+use Rattle.std.proofs.Common.{◌≡◌, ◌<◌, length, arith, ltb-true, ℕ, zero, suc, ◌==◌, Bool, true, false, cond, Option, Some, None, List, [], ◌∷◌, ◌++◌, inl, inr, drop, refl, ap, sym, ◌∙◌, subst}
 use Rattle.std.specs.Prelude.{slice_get, nat_lt}
 use Rattle.std.specs.List.{AllByRecursion, find}
 use Rattle.std.proofs.lemmas.Bool.Decides.{eqb_tells}
@@ -7,28 +7,21 @@ use Rattle.loop_script.specs.declared.plan.Plan.{Plan}
 use Rattle.loop_script.specs.declared.action.Action.{Action}
 use Rattle.loop_script.specs.declared.body.Body.{Body}
 use Rattle.loop_script.specs.declared.body.Body.TheVariants.{Procedure}
-use Rattle.loop_script.specs.Parts.{actions_of, context_of, time_of}
+use Rattle.loop_script.specs.Parts.{actions_of}
 use Rattle.source_rows.specs.declared.row.Row.{Row}
-use Rattle.source_rows.specs.Rows.{RowSet, has_id}
+use Rattle.source_rows.specs.Rows.{has_id}
 use Rattle.context_core.specs.declared.context.Context.{Context}
-use Rattle.loop_script.specs.declared.source.SourceSpec.{SourceSpec}
 use Rattle.lane_turn.specs.declared.line.Event.TheVariants as events
-use Rattle.lane_turn.specs.declared.slot.Place.{Place}
-use Rattle.lane_turn.specs.declared.line.Word.{Word}
-use Rattle.lane_turn.specs.declared.line.Word.TheVariants as words
 use Rattle.lane_turn.specs.declared.lane.Status.{Status}
 use Rattle.lane_turn.specs.declared.lane.Status.TheVariants.{GoesOn, Ended, Halted}
 use Rattle.lane_turn.specs.declared.layer.Call.{Call}
 use Rattle.lane_turn.specs.declared.layer.Origin.{Origin}
 use Rattle.lane_turn.specs.declared.layer.Origin.TheVariants as origins
 use Rattle.lane_turn.specs.Frames.{Frame, CallOf, IterOf, LoopOf, advanced, advanced_one, emptied, emptied_one, calls_in_progress}
-use Rattle.lane_turn.specs.Lane.{Lane, Turn, taken, pushed, popped, stopped, set_running, written, iterating, chosen, is_any, context_at, place_at, handler_at, row_in, row_of, is_running, is_own}
+use Rattle.lane_turn.specs.Lane.{Lane, Turn, taken, popped, stopped, written, iterating, chosen, is_any, context_at, row_in, row_of, is_running}
 use Rattle.lane_watch.specs.Tasks.{Started}
 use Rattle.post_office.specs.declared.letter.Body.{Body as Mail}
-use Rattle.lane_turn.specs.declared.line.Invoked.TheVariants.{Posted}
-use Rattle.lane_turn.specs.Owned.{default_context, is_owned, calling, called_at_once, attaching, invoke_own, invoke}
-use Rattle.lane_turn.specs.Handover.{may_give, with_given}
-use Rattle.lane_turn.specs.Acted.{acted, sends, missed, child_of, on_source, set_priority_of, disconnect_of}
+use Rattle.lane_turn.specs.Acted.{acted, sends}
 use Rattle.lane_turn.specs.Step.{step, step_polling, step_call, step_id, returned, answered, limited_by, with_lane, dispatched, dispatching}
 use Rattle.lane_turn.proofs.Mild.{Plain, plain_moves}
 use Rattle.lane_turn.specs.Depths.{begun_calls}

@@ -1,36 +1,24 @@
 -- What leaves a lane's tasks alone, and what it has seen; and how the others change them.
-use Rattle.std.proofs.Common.{◌≡◌, ◌⊎◌, inl, inr, ℕ, ℤ, ◌==◌, ◌+◌, Bool, true, false, cond, Option, Some, None, List, [], ◌∷◌, ◌++◌, slice_set, filter, refl, ◌∙◌}
-use Rattle.std.specs.Prelude.{nat_lt, is_some, is_none, not, ◌&&◌}
+use Rattle.std.proofs.Common.{◌≡◌, ◌⊎◌, inl, inr, ℕ, Bool, true, false, cond, Some, slice_set, refl, ◌∙◌}
+use Rattle.std.specs.Prelude.{nat_lt, not, ◌&&◌}
 use Rattle.loop_script.specs.declared.plan.Plan.{Plan}
 use Rattle.loop_script.specs.declared.task.TaskSpec.{TaskSpec}
-use Rattle.loop_script.specs.declared.source.SourceSpec.{SourceSpec}
 use Rattle.loop_script.specs.declared.action.Action.{Action}
 use Rattle.loop_script.specs.declared.action.Action.TheVariants as actions
 use Rattle.loop_script.specs.declared.body.Body.{Body}
-use Rattle.loop_script.specs.declared.body.Body.TheVariants.{Procedure}
-use Rattle.loop_script.specs.Parts.{time_of, actions_of, context_of, stays}
+use Rattle.loop_script.specs.Parts.{stays}
 use Rattle.source_rows.specs.declared.row.Row.{Row}
-use Rattle.source_rows.specs.Rows.{RowSet, destroyed, ready_set, priority_fault}
-use Rattle.context_core.specs.Defaults.{is_on_top}
-use Rattle.cancel_view.specs.declared.handler.Fired.{Fired}
-use Rattle.cancel_view.specs.Seen.{Seen, has, fired, cancelled, connected, has_other_id, may_disconnect, without}
+use Rattle.cancel_view.specs.Seen.{Seen, has}
 use Rattle.post_office.specs.declared.letter.Body.{Body as Mail}
 use Rattle.post_office.specs.declared.letter.Body.TheVariants as mails
 use Rattle.lane_watch.specs.Tasks.{Tasks}
 use Rattle.lane_watch.specs.Watch.{starting}
-use Rattle.lane_turn.specs.declared.line.Event.TheVariants as events
-use Rattle.lane_turn.specs.declared.line.Invoked.TheVariants.{Posted}
-use Rattle.lane_turn.specs.declared.line.Word.{Word}
-use Rattle.lane_turn.specs.declared.line.Word.TheVariants as words
 use Rattle.lane_turn.specs.declared.layer.Origin.{Origin}
 use Rattle.lane_turn.specs.declared.layer.Origin.TheVariants.{Start, Source, Invoke as Invoked}
-use Rattle.lane_turn.specs.declared.slot.Place.{Place}
-use Rattle.lane_turn.specs.declared.lane.Status.TheVariants.{Halted}
 use Rattle.lane_turn.specs.Frames.{calls_in_progress}
-use Rattle.lane_turn.specs.Lane.{Lane, context_at, row_at, stopped, place_at, handler_at, written, viewing, noting, is_own}
-use Rattle.lane_turn.specs.Owned.{default_context, is_owned, may_release, calling, called_at_once, attaching, invoke_own, invoke}
-use Rattle.lane_turn.specs.Handover.{may_give, with_given}
-use Rattle.lane_turn.specs.Acted.{acted, can_bear, child_of, on_source, set_priority_of, plain_acted, all_acted, handled, all_handled, cancel, connect, disconnect_of}
+use Rattle.lane_turn.specs.Lane.{Lane, is_own}
+use Rattle.lane_turn.specs.Owned.{default_context}
+use Rattle.lane_turn.specs.Acted.{acted}
 use Rattle.lane_turn.specs.Step.{dispatching, returned, answered}
 use Rattle.lane_turn.specs.Deliver.{received_body}
 use Rattle.lane_turn.proofs.Moves as moves

@@ -6,26 +6,18 @@ use Rattle.std.proofs.lemmas.List.Sums.{length-filter, count_by-le-length}
 use Rattle.std.specs.List.{AllByRecursion}
 use Rattle.loop_script.specs.declared.plan.Plan.{Plan}
 use Rattle.loop_script.specs.declared.source.SourceSpec.{SourceSpec}
-use Rattle.loop_script.specs.declared.action.Action.{Action}
-use Rattle.loop_script.specs.Parts.{actions_of}
 use Rattle.source_rows.specs.declared.row.Row.{Row}
 use Rattle.source_rows.specs.Row.{root_row, child_row}
 use Rattle.source_rows.specs.Rows.{RowSet, attached, child_added, destroyed, counted, ready_set, reprioritised, moved, changed, has_id, is_under, row_of as row_with}
 use Rattle.context_core.specs.declared.context.Context.{Context}
-use Rattle.lane_turn.specs.declared.slot.Place.{Place}
-use Rattle.cancel_view.specs.declared.handler.Fired.{Fired}
-use Rattle.cancel_view.specs.Seen.{Seen, has, fired, cancelled}
-use Rattle.loop_script.specs.declared.body.Body.TheVariants.{Procedure}
+use Rattle.cancel_view.specs.Seen.{Seen, has, cancelled}
 use Rattle.lane_turn.specs.declared.line.Event.{Event}
-use Rattle.lane_turn.specs.declared.line.Event.TheVariants as events
 use Rattle.lane_turn.specs.Frames.{Frame, CallOf, IterOf, LoopOf, emptied, busy}
 use Rattle.lane_turn.specs.Sources.{restarted, restarted_row, restarted_kind, due_after, own_ready_at, chosen_in}
 use Rattle.loop_script.specs.declared.source.Kind.{Kind}
 use Rattle.loop_script.specs.declared.source.Kind.TheVariants as kinds
-use Rattle.lane_turn.specs.Lane.{Lane, present, context_at, with_rows, with_context, edited, iterating, place_at, viewing, noting, set_running, written, chosen}
-use Rattle.lane_turn.specs.Acted.{missed, born, on_source, plain_acted, all_acted, handled, all_handled, cancel}
-use Rattle.lane_turn.specs.declared.line.Word.{Word}
-use Rattle.lane_turn.specs.declared.line.Word.TheVariants as words
+use Rattle.lane_turn.specs.Lane.{Lane, present, context_at, with_rows, with_context, edited, iterating, written, chosen}
+use Rattle.lane_turn.specs.Acted.{born, cancel}
 use Rattle.lane_turn.specs.Turn.{nest_work, rows_in, row_count}
 use Rattle.lane_turn.specs.Sound.{IsBounded, IsBoundedContext, Bounded, IsWithin}
 use Rattle.lane_turn.proofs.Lists.{each-push, each-filter, each_weaker, length-selected}

@@ -1,5 +1,5 @@
 -- What each action does, said once: by which moves its lane goes on. What is so of each move is so of each action.
-use Rattle.std.proofs.Common.{◌≡◌, ℕ, ℤ, zero, suc, ◌+◌, ◌<◌, ◌≤◌, ◌==◌, Bool, true, false, ◌&&◌, cond, Option, Some, None, List, [], ◌∷◌, ◌++◌, filter, slice_set, option_map, refl, ap, sym, ◌∙◌, arith}
+use Rattle.std.proofs.Common.{◌≡◌, ℕ, ℤ, zero, suc, ◌+◌, ◌<◌, ◌≤◌, ◌==◌, Bool, true, false, ◌&&◌, cond, Option, Some, None, List, [], ◌∷◌, ◌++◌, filter, slice_set, option_map, refl, arith}
 use Rattle.std.specs.Prelude.{nat_lt, is_some, is_none, not, slice_get}
 use Rattle.loop_script.specs.declared.plan.Plan.{Plan}
 use Rattle.loop_script.specs.declared.source.SourceSpec.{SourceSpec}
@@ -28,12 +28,13 @@ use Rattle.lane_turn.specs.declared.slot.Named.{Named}
 use Rattle.lane_turn.specs.declared.slot.Named.TheVariants.{Source, Handler}
 use Rattle.lane_turn.specs.Frames.{LoopOf, calls_in_progress}
 use Rattle.lane_turn.specs.Lane.{Lane, present, context_at, is_given, is_own, with_rows, with_context, edited, next_id, next_place, row_at, place_at, handler_at, written, pushed, stopped, set_running, set_slot, viewing, noting, chosen, is_any, iterating}
-use Rattle.lane_turn.specs.Owned.{default_context, is_owned, may_release, invoke_spec, calling, called_at_once, attaching, invoke_own}
+use Rattle.lane_turn.specs.Owned.{default_context, is_owned, may_release, invoke_spec, calling, called_at_once, invoke_own}
 use Rattle.lane_turn.specs.Handover.{may_give, with_given}
 use Rattle.lane_turn.specs.Acted.{missed, born, can_bear_in, can_bear, child_of, on_source, set_priority_of, plain_acted, all_acted, handled, all_handled, cancel, connect, disconnect_of, start_task, acted, sends}
 
 -- ---- plain moves: what handlers do, and what may come behind another move
 
+-- a line is written; a slot names something; a loop is quit; a source goes, with all under it, or gets a ready time
 pub data PlainMove : Type 0 where
   Write : (event : Event) → PlainMove
   Name : (slot : ℕ) (thing : Named) → PlainMove
@@ -49,7 +50,7 @@ plainly tick (Stop number) lane = set_running number false lane
 plainly tick (Destroy place) lane = edited place.context (destroyed place.id) lane
 plainly tick (SetReady us place) lane = edited place.context (ready_set place.id us) lane
 
--- of what an action does by itself, and no handler
+-- whether it is an action that acts, and no handler
 abbrev pub ByItself : Bool → Type 0
 ByItself true = Unit {0}
 ByItself false = ⊥
@@ -73,7 +74,7 @@ abbrev pub IsThere : Named → Lane → Type 0
 IsThere (Source place) lane = place.id < next_id (context_at place.context lane)
 IsThere (Handler id) lane = Unit {0}
 
--- when a plain move may come
+-- when a plain move may come, of an action itself or of a handler
 abbrev pub IsPlain : Bool → PlainMove → Lane → Type 0
 IsPlain acts (Write event) lane = IsSaid acts event
 IsPlain acts (Name slot thing) lane = ByItself acts × IsThere thing lane
@@ -89,7 +90,7 @@ pub record PlainLaw (acts : Bool) (tick : ℕ) (Q : Lane → Lane → Type 0) : 
 
 -- ---- the other moves, of which an action makes one at most
 
--- a change of one context
+-- a change of one context: it gets a source, or a child of one; a source gets a priority; it is acquired or released
 pub data Change : Type 0 where
   Attach : (spec : SourceSpec) (now : ℕ) → Change
   Bear : (spec : SourceSpec) (now id : ℕ) → Change
@@ -113,6 +114,8 @@ MayChange context (Reprioritise id priority) lane = is_none (priority_fault (row
 MayChange context Acquire lane = is_own context lane ≡ true
 MayChange context Release lane = may_release (context_at context lane) ≡ true
 
+-- a context is changed; an iteration, a run of a loop or a call of an invoke is begun, or the lane halts for its depth; a cancellable comes into
+-- the view, or the view gets other handlers; a task is started; a context is pushed or popped; an invoke is posted; a context is given
 pub data Move : Type 0 where
   Alter : (context : ℕ) (change : Change) → Move
   Iterate : (context : ℕ) → Move

@@ -1,37 +1,25 @@
 -- What a lane is in the middle of is in contexts of its own: what begins an iteration, a run or a call that acquires.
-use Rattle.std.proofs.Common.{◌≡◌, ◌⊎◌, inl, inr, ℕ, ℤ, ◌==◌, ◌||◌, Bool, true, false, cond, Option, Some, None, List, [], ◌∷◌, drop, refl, ap, sym, ◌∙◌, subst, eqb-true, ◌+◌}
-use Rattle.std.specs.Prelude.{not, ◌&&◌, is_some, is_none, nat_lt}
+use Rattle.std.proofs.Common.{◌≡◌, ◌⊎◌, inl, inr, ℕ, ◌==◌, ◌||◌, Bool, true, false, cond, Option, Some, None, List, [], ◌∷◌, drop, refl, ap, sym, ◌∙◌, subst, eqb-true, ◌+◌}
+use Rattle.std.specs.Prelude.{not, ◌&&◌, is_some, nat_lt}
 use Rattle.std.specs.List.{list_any}
 use Rattle.loop_script.specs.declared.plan.Plan.{Plan}
-use Rattle.loop_script.specs.declared.source.SourceSpec.{SourceSpec}
 use Rattle.loop_script.specs.declared.action.Action.{Action}
 use Rattle.loop_script.specs.declared.body.Body.{Body}
-use Rattle.loop_script.specs.Parts.{time_of, context_of, stays}
+use Rattle.loop_script.specs.Parts.{time_of, stays}
 use Rattle.source_rows.specs.declared.row.Row.{Row}
-use Rattle.source_rows.specs.Rows.{RowSet, destroyed, ready_set, priority_fault}
-use Rattle.cancel_view.specs.Seen.{has, may_disconnect}
+use Rattle.source_rows.specs.Rows.{destroyed}
 use Rattle.post_office.specs.declared.letter.Body.{Body as Mail}
-use Rattle.post_office.specs.declared.letter.Body.TheVariants as mails
-use Rattle.context_core.specs.Defaults.{is_on_top}
-use Rattle.lane_turn.specs.declared.line.Event.TheVariants as events
-use Rattle.lane_turn.specs.declared.line.Word.{Word}
-use Rattle.lane_turn.specs.declared.line.Word.TheVariants as words
-use Rattle.lane_turn.specs.declared.lane.Status.TheVariants.{Halted}
-use Rattle.lane_turn.specs.declared.slot.Place.{Place}
 use Rattle.lane_turn.proofs.Moves as moves
 use Rattle.lane_turn.proofs.Moves.{Move, moved, mail_by, MayMove, IsOrNone, Law, acted_by}
 use Rattle.lane_turn.specs.declared.layer.Asker.{Asker}
 use Rattle.lane_turn.specs.declared.layer.Asker.TheVariants as askers
-use Rattle.lane_turn.specs.declared.line.Invoked.TheVariants.{Posted}
 use Rattle.loop_script.specs.declared.body.Body.TheVariants as bodies
 use Rattle.lane_turn.specs.declared.layer.Origin.{Origin}
 use Rattle.lane_turn.specs.declared.layer.Origin.TheVariants as origins
 use Rattle.lane_turn.specs.Frames.{Frame, CallOf, IterOf, LoopOf, owns, advanced, advanced_one, emptied, emptied_one, calls_in_progress}
-use Rattle.lane_turn.specs.Lane.{Lane, is_own, is_any, chosen, edited, pushed, set_running, row_at, place_at, handler_at, written, iterating, context_at, stopped}
-use Rattle.lane_turn.specs.Owned.{default_context, is_owned, may_release, called_at_once, calling, invoke_own, invoke_spec}
-use Rattle.lane_turn.specs.Handover.{may_give, with_given}
+use Rattle.lane_turn.specs.Lane.{Lane, is_own, is_any, chosen, edited}
 use Rattle.lane_turn.specs.Holding.{gives_context}
-use Rattle.lane_turn.specs.Acted.{missed, acted, child_of, can_bear, on_source, set_priority_of, disconnect_of, sends}
+use Rattle.lane_turn.specs.Acted.{acted, sends}
 use Rattle.lane_turn.specs.Step.{dispatching, returned, answered, body_of}
 use Rattle.lane_turn.specs.Replies.{reply_held}
 use Rattle.lane_turn.specs.Sources.{restarted}
@@ -54,10 +42,6 @@ own_either own mail fs x y true p q = p
 own_either own mail fs x y false p q = q
 
 -- what takes nothing of a context leaves it owned
-either_true : (x y z : Bool) → (x || y) ≡ true → (y ≡ true → z ≡ true) → (x ≡ true) ⊎ (z ≡ true)
-either_true true y z e f = inl refl
-either_true false y z e f = inr (f e)
-
 advanced_owns : (c : ℕ) (frame : Frame) → owns c (advanced_one frame) ≡ owns c frame
 advanced_owns c (CallOf call) = refl
 advanced_owns c (IterOf d ids asker) = refl

@@ -1,26 +1,20 @@
 -- What slots name: handlers, and sources that there have been.
-use Rattle.std.proofs.Common.{◌≡◌, ℕ, ℤ, zero, suc, ◌+◌, ◌<◌, Bool, true, false, not, ◌&&◌, cond, Option, Some, None, List, [], ◌∷◌, slice_set, option_map, refl, sym, ◌∙◌, arith, subst}
-use Rattle.std.specs.Prelude.{slice_get, nat_lt, is_some, is_none, ◌==◌}
+use Rattle.std.proofs.Common.{◌≡◌, ℕ, zero, suc, ◌<◌, Bool, true, false, not, ◌&&◌, cond, Option, Some, None, List, [], ◌∷◌, slice_set, refl, sym, ◌∙◌, arith, subst}
+use Rattle.std.specs.Prelude.{slice_get, nat_lt}
 use Rattle.std.specs.List.{AllByRecursion}
 use Rattle.loop_script.specs.declared.plan.Plan.{Plan}
-use Rattle.loop_script.specs.declared.source.SourceSpec.{SourceSpec}
 use Rattle.loop_script.specs.declared.action.Action.{Action}
 use Rattle.loop_script.specs.declared.body.Body.{Body}
-use Rattle.loop_script.specs.declared.body.Body.TheVariants.{Procedure}
-use Rattle.loop_script.specs.Parts.{time_of, actions_of, context_of, stays}
+use Rattle.loop_script.specs.Parts.{actions_of, stays}
 use Rattle.source_rows.specs.declared.row.Row.{Row}
-use Rattle.source_rows.specs.Rows.{RowSet, row_of as row_with, attached, destroyed, ready_set, child_added, child_fault, priority_fault, reprioritised}
+use Rattle.source_rows.specs.Rows.{destroyed, ready_set}
 use Rattle.context_core.specs.declared.context.Context.{Context}
-use Rattle.context_core.specs.Defaults.{acquired, is_on_top}
-use Rattle.cancel_view.specs.declared.handler.Fired.{Fired}
-use Rattle.cancel_view.specs.Seen.{has, fired, cancelled, may_disconnect, without}
+use Rattle.context_core.specs.Defaults.{acquired}
 use Rattle.post_office.specs.declared.letter.Letter.{Letter}
 use Rattle.post_office.specs.declared.letter.Body.{Body as Mail}
 use Rattle.post_office.specs.declared.letter.Body.TheVariants as mails
 use Rattle.lane_watch.specs.Tasks.{Started}
 use Rattle.lane_turn.specs.declared.line.Event.TheVariants as events
-use Rattle.lane_turn.specs.declared.line.Word.{Word}
-use Rattle.lane_turn.specs.declared.line.Word.TheVariants as words
 use Rattle.lane_turn.specs.declared.lane.Status.{Status}
 use Rattle.lane_turn.specs.declared.lane.Status.TheVariants.{GoesOn, Ended, Halted}
 use Rattle.lane_turn.proofs.Moves as moves
@@ -34,10 +28,8 @@ use Rattle.lane_turn.specs.declared.slot.Place.{Place}
 use Rattle.lane_turn.specs.declared.slot.Named.{Named}
 use Rattle.lane_turn.specs.declared.slot.Named.TheVariants.{Source, Handler}
 use Rattle.lane_turn.specs.Frames.{Frame, CallOf, IterOf, LoopOf, calls_in_progress}
-use Rattle.lane_turn.specs.Lane.{Lane, Turn, present, is_own, context_at, with_rows, with_context, edited, next_id, next_place, place_at, handler_at, source_of, held, row_at, row_of, written, stopped, popped, taken, set_running, set_slot, viewing, noting, iterating, is_running}
-use Rattle.lane_turn.specs.Owned.{default_context, is_owned, may_release, calling, called_at_once, attaching, invoke_own, invoke}
-use Rattle.lane_turn.specs.Handover.{may_give, with_given}
-use Rattle.lane_turn.specs.Acted.{missed, born, can_bear_in, can_bear, child_of, on_source, set_ready, set_priority_of, set_priority, destroy, plain_acted, all_acted, handled, all_handled, cancel, connect, disconnect_of, disconnect, acted, sends}
+use Rattle.lane_turn.specs.Lane.{Lane, Turn, present, is_own, context_at, with_rows, with_context, next_id, source_of, held, row_of, written, stopped, popped, taken, iterating, is_running}
+use Rattle.lane_turn.specs.Acted.{cancel, acted, sends}
 use Rattle.lane_turn.specs.Step.{step, step_polling, step_call, step_id, limited_by, with_lane, dispatched, dispatching, returned, answered, polled}
 use Rattle.lane_turn.specs.Turn.{begun, turned, open_slots}
 use Rattle.lane_turn.specs.Deliver.{received_body, received, received_all}

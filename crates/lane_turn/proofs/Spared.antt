@@ -1,26 +1,19 @@
 -- What a step leaves as it stands: each context that is not the lane's own, and not acquired. So each that it gave in this tick.
-use Rattle.std.proofs.Common.{◌≡◌, ◌≢◌, ℕ, ℤ, zero, suc, ◌==◌, ◌||◌, ◌&&◌, Bool, true, false, cond, Option, Some, None, List, [], ◌∷◌, option_map, refl, ap, sym, ◌∙◌, subst}
+use Rattle.std.proofs.Common.{◌≡◌, ◌≢◌, ℕ, zero, suc, ◌||◌, ◌&&◌, Bool, true, false, cond, Option, Some, None, List, [], ◌∷◌, option_map, refl, ap, sym, ◌∙◌, subst}
 use Rattle.std.specs.Prelude.{slice_set, not, is_some, is_none, unwrap_or, slice_get, nat_lt}
 use Rattle.std.specs.List.{list_any}
 use Rattle.std.proofs.lemmas.Bool.{eq-eqb}
 use Rattle.loop_script.specs.declared.plan.Plan.{Plan}
-use Rattle.loop_script.specs.declared.source.SourceSpec.{SourceSpec}
 use Rattle.loop_script.specs.declared.action.Action.{Action}
 use Rattle.loop_script.specs.declared.body.Body.{Body}
-use Rattle.loop_script.specs.declared.body.Body.TheVariants as bodies
-use Rattle.loop_script.specs.Parts.{time_of, actions_of, context_of, stays}
+use Rattle.loop_script.specs.Parts.{time_of, actions_of, stays}
 use Rattle.source_rows.specs.declared.row.Row.{Row}
-use Rattle.source_rows.specs.Rows.{RowSet, attached, counted, destroyed, ready_set, reprioritised, priority_fault}
-use Rattle.cancel_view.specs.declared.handler.Fired.{Fired}
-use Rattle.cancel_view.specs.Seen.{has, fired, cancelled, connected, may_disconnect}
+use Rattle.source_rows.specs.Rows.{RowSet, counted, destroyed, ready_set, priority_fault}
 use Rattle.context_core.specs.declared.context.Context.{Context}
-use Rattle.context_core.specs.Defaults.{acquired, released, is_on_top}
+use Rattle.context_core.specs.Defaults.{acquired}
 use Rattle.post_office.specs.declared.letter.Body.{Body as Mail}
 use Rattle.lane_watch.specs.Tasks.{Started}
 use Rattle.lane_turn.specs.declared.line.Event.TheVariants as events
-use Rattle.lane_turn.specs.declared.line.Invoked.TheVariants.{Posted}
-use Rattle.lane_turn.specs.declared.line.Word.{Word}
-use Rattle.lane_turn.specs.declared.line.Word.TheVariants as words
 use Rattle.lane_turn.specs.declared.lane.Status.{Status}
 use Rattle.lane_turn.specs.declared.lane.Status.TheVariants.{GoesOn, Ended, Halted}
 use Rattle.lane_turn.proofs.Moves as moves
@@ -31,13 +24,11 @@ use Rattle.lane_turn.specs.declared.layer.Call.{Call}
 use Rattle.lane_turn.specs.declared.layer.Origin.{Origin}
 use Rattle.lane_turn.specs.declared.layer.Origin.TheVariants as origins
 use Rattle.lane_turn.specs.declared.slot.Place.{Place}
-use Rattle.lane_turn.specs.declared.slot.Named.TheVariants.{Source, Handler}
 use Rattle.lane_turn.specs.Frames.{Frame, CallOf, IterOf, LoopOf, owns, calls_in_progress}
 use Rattle.lane_turn.specs.Replies.{replies_at, held_without}
-use Rattle.lane_turn.specs.Lane.{Lane, Turn, present, context_at, is_given, is_own, with_rows, with_context, edited, row_of, row_at, place_at, handler_at, next_place, set_slot, set_running, viewing, noting, written, popped, taken, stopped, is_running, iterating}
-use Rattle.lane_turn.specs.Owned.{default_context, is_owned, may_release, called_at_once, calling, attaching, invoke_own, invoke_spec}
-use Rattle.lane_turn.specs.Handover.{may_give}
-use Rattle.lane_turn.specs.Acted.{missed, born, can_bear_in, can_bear, child_of, on_source, set_priority_of, plain_acted, all_acted, handled, all_handled, cancel, disconnect_of, acted, sends}
+use Rattle.lane_turn.specs.Lane.{Lane, Turn, present, context_at, is_given, is_own, with_rows, with_context, edited, row_of, row_at, written, popped, taken, stopped, is_running, iterating}
+use Rattle.lane_turn.specs.Owned.{may_release}
+use Rattle.lane_turn.specs.Acted.{can_bear_in, acted, sends}
 use Rattle.lane_turn.specs.Sources.{restarted}
 use Rattle.lane_turn.specs.Step.{step, step_polling, step_call, step_id, limited_by, with_lane, dispatched, dispatching, returned, answered}
 use Rattle.lane_turn.proofs.Owning.{right_or}
@@ -73,7 +64,7 @@ own_row place lane e = by (is_own place.context lane) e
 
 -- ---- moves
 
--- it stays so, and which contexts are given
+-- plain moves leave it, and which contexts are given
 abbrev pub Spares : ℕ → Lane → Lane → Type 0
 Spares c lane after = (context_at c after ≡ context_at c lane) × (replies_at c after.replies ≡ replies_at c lane.replies) × (after.given ≡ lane.given)
 
@@ -118,27 +109,27 @@ none_more x (g ∷ gs) zero (suc c) h = h
 none_more x (g ∷ gs) (suc i) zero h = h
 none_more x (g ∷ gs) (suc i) (suc c) h = none_more x gs i c h
 
--- it stays as it was, and is not the lane's own
-abbrev Leaves : ℕ → Lane → Lane → Type 0
-Leaves c a b = is_own c a ≡ false → may_release (context_at c a) ≡ false → Still c a b × (is_own c b ≡ false)
+-- a context that is not the lane's own, nor acquired, stays as it was, and is still not its own
+abbrev StaysOut : ℕ → Lane → Lane → Type 0
+StaysOut c a b = is_own c a ≡ false → may_release (context_at c a) ≡ false → Still c a b × (is_own c b ≡ false)
 
-leaves_each : (script : Plan) (tick c : ℕ) (move : Move) (lane : Lane) → MayMove script move lane → Leaves c lane (moved script tick move lane)
-leaves_each script tick c (moves.Alter context it) lane m e f =
+out_each : (script : Plan) (tick c : ℕ) (move : Move) (lane : Lane) → MayMove script move lane → StaysOut c lane (moved script tick move lane)
+out_each script tick c (moves.Alter context it) lane m e f =
     let still = still_change c context (changed_by it) lane (apart_changed c context it lane m e f) in
     (still, not_own_on c lane (with_context context (changed_by it) lane) (still.0, still.1, refl) e)
-leaves_each script tick c (moves.Give context to) lane m e f = ((refl, refl), none_more (is_some (context_at c lane)) lane.given context c e)
-leaves_each script tick c _ lane m e f = ((refl, refl), e)
+out_each script tick c (moves.Give context to) lane m e f = ((refl, refl), none_more (is_some (context_at c lane)) lane.given context c e)
+out_each script tick c _ lane m e f = ((refl, refl), e)
 
-leaves_moves : (script : Plan) (tick c : ℕ) → Law script tick (λ a b. is_own c a ≡ false → Spares c a b) (λ mail. Leaves c)
-leaves_moves script tick c = record {
+out_moves : (script : Plan) (tick c : ℕ) → Law script tick (λ a b. is_own c a ≡ false → Spares c a b) (λ mail. StaysOut c)
+out_moves script tick c = record {
   plain = spares_moves c tick;
   of = λ a b h e f. let all = h e in ((all.0, all.1), not_own_on c a b all e);
   next = λ mail a b d h g e f. let one = h e f in let all = g one.1 in ((all.0 ∙ (one.0).0, all.1 ∙ (one.0).1), not_own_on c b d all one.1);
-  each = leaves_each script tick c;
+  each = out_each script tick c;
 }
 
 still_acted : (script : Plan) (tick : ℕ) (action : Action) (lane : Lane) (c : ℕ) → is_own c lane ≡ false → may_release (context_at c lane) ≡ false → Still c lane (acted script tick action lane)
-still_acted script tick action lane c e f = (acted_by (leaves_moves script tick c) action lane e f).0
+still_acted script tick action lane c e f = (acted_by (out_moves script tick c) action lane e f).0
 
 -- ---- a step
 

@@ -1,37 +1,26 @@
 -- What is done in a turn leaves a lane its number, its contexts and the size of its view, and adds no more to its tasks than is counted.
-use Rattle.std.proofs.Common.{◌≡◌, ◌≢◌, ◌⊎◌, inl, inr, subst, ℕ, ℤ, zero, suc, ◌+◌, ◌≤◌, ◌<◌, ◌==◌, ◌||◌, sym, Bool, true, false, cond, Option, Some, None, List, [], ◌∷◌, ◌++◌, map, length, slice_set, refl, ap, ◌∙◌, arith, length-append, filter}
+use Rattle.std.proofs.Common.{◌≡◌, ◌≢◌, ◌⊎◌, inl, inr, subst, ℕ, zero, suc, ◌+◌, ◌≤◌, ◌<◌, ◌==◌, ◌||◌, sym, Bool, true, false, cond, Option, Some, None, List, [], ◌∷◌, map, length, slice_set, refl, ap, ◌∙◌, arith, length-append}
 use Rattle.std.proofs.lemmas.List.{length-set}
 use Rattle.loop_script.specs.declared.plan.Plan.{Plan}
-use Rattle.loop_script.specs.declared.source.SourceSpec.{SourceSpec}
 use Rattle.loop_script.specs.declared.action.Action.{Action}
 use Rattle.loop_script.specs.declared.body.Body.{Body}
-use Rattle.loop_script.specs.declared.body.Body.TheVariants.{Procedure}
-use Rattle.loop_script.specs.Parts.{time_of, actions_of}
+use Rattle.loop_script.specs.Parts.{time_of}
 use Rattle.source_rows.specs.declared.row.Row.{Row}
-use Rattle.source_rows.specs.Rows.{RowSet, attached, counted, destroyed, ready_set, reprioritised}
-use Rattle.cancel_view.specs.declared.handler.Fired.{Fired}
+use Rattle.source_rows.specs.Rows.{counted, destroyed, ready_set}
 use Rattle.post_office.specs.declared.letter.Body.{Body as Mail}
 use Rattle.post_office.specs.declared.letter.Body.TheVariants as mails
 use Rattle.lane_turn.specs.Views.{tells_of}
 use Rattle.context_core.specs.declared.context.Context.{Context}
-use Rattle.context_core.specs.Defaults.{acquired, released}
+use Rattle.context_core.specs.Defaults.{acquired}
 use Rattle.lane_turn.specs.Sources.{restarted}
 use Rattle.std.proofs.lemmas.Bool.Decides.{eqb_tells}
-use Rattle.cancel_view.specs.Seen.{Seen, has, fired, cancelled, connected, has_other_id, without}
-use Rattle.lane_turn.specs.declared.line.Event.TheVariants as events
-use Rattle.lane_turn.specs.declared.line.Word.{Word}
-use Rattle.lane_turn.specs.declared.line.Word.TheVariants as words
+use Rattle.cancel_view.specs.Seen.{Seen, has, cancelled}
 use Rattle.lane_turn.specs.declared.layer.Origin.{Origin}
 use Rattle.lane_turn.specs.declared.layer.Origin.TheVariants.{Start, Source, Invoke as Invoked}
-use Rattle.lane_turn.specs.declared.slot.Place.{Place}
-use Rattle.lane_turn.specs.Lane.{Lane, present, with_rows, stopped, place_at, handler_at, written, viewing, noting, is_own}
-use Rattle.lane_turn.specs.Handover.{may_give, with_given}
-use Rattle.std.specs.Prelude.{nat_lt, is_some, slice_index_or, slice_get, option_map}
-use Rattle.lane_turn.specs.declared.line.Invoked.TheVariants.{Posted}
-use Rattle.lane_turn.specs.declared.lane.Status.TheVariants.{Halted}
-use Rattle.lane_turn.specs.Frames.{calls_in_progress}
-use Rattle.lane_turn.specs.Owned.{default_context, is_owned, calling, called_at_once, attaching, invoke_own, invoke, invoke_spec, invoke_sends}
-use Rattle.lane_turn.specs.Acted.{acted, born, sends, cancel_sends, child_of, on_source, set_priority_of, plain_acted, all_acted, handled, all_handled, cancel, connect, disconnect_of}
+use Rattle.lane_turn.specs.Lane.{Lane, present, with_rows}
+use Rattle.std.specs.Prelude.{is_some, slice_index_or, slice_get, option_map}
+use Rattle.lane_turn.specs.Owned.{default_context}
+use Rattle.lane_turn.specs.Acted.{acted, sends, cancel}
 use Rattle.lane_turn.specs.Step.{dispatching, returned, answered}
 use Rattle.lane_turn.proofs.Moves as moves
 use Rattle.lane_turn.proofs.Moves.{PlainMove, plainly, PlainLaw, changed_by, Move, noticed, moved, mail_by, MayMove, Law, cancel_by, acted_by}
