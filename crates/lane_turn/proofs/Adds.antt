@@ -8,7 +8,6 @@ use Rattle.loop_script.specs.declared.body.Body.{Body}
 use Rattle.loop_script.specs.Parts.{time_of, stays}
 use Rattle.source_rows.specs.Rows.{RowSet, destroyed, ready_set, row_of as row_with}
 use Rattle.context_core.specs.declared.context.Context.{Context}
-use Rattle.context_core.specs.Defaults.{acquired}
 use Rattle.lane_turn.specs.declared.line.Line.{Line}
 use Rattle.lane_turn.specs.declared.line.Event.{Event}
 use Rattle.lane_turn.specs.declared.line.Event.TheVariants as events

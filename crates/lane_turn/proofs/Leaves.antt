@@ -16,7 +16,7 @@ use Rattle.loop_script.specs.Parts.{time_of, stays}
 use Rattle.source_rows.specs.declared.row.Row.{Row}
 use Rattle.source_rows.specs.Rows.{RowSet, child_added, destroyed, ready_set, row_of as row_with}
 use Rattle.context_core.specs.declared.context.Context.{Context}
-use Rattle.context_core.specs.Defaults.{acquired, pushed, popped, is_on_top}
+use Rattle.context_core.specs.Defaults.{pushed, popped, is_on_top}
 use Rattle.lane_watch.specs.Tasks.{Started}
 use Rattle.lane_turn.specs.declared.line.Line.{Line}
 use Rattle.lane_turn.specs.declared.line.Event.{Event}

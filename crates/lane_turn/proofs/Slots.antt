@@ -9,7 +9,6 @@ use Rattle.loop_script.specs.Parts.{actions_of, stays}
 use Rattle.source_rows.specs.declared.row.Row.{Row}
 use Rattle.source_rows.specs.Rows.{destroyed, ready_set}
 use Rattle.context_core.specs.declared.context.Context.{Context}
-use Rattle.context_core.specs.Defaults.{acquired}
 use Rattle.post_office.specs.declared.letter.Letter.{Letter}
 use Rattle.post_office.specs.declared.letter.Body.{Body as Mail}
 use Rattle.post_office.specs.declared.letter.Body.TheVariants as mails
@@ -107,7 +106,7 @@ slots_moves tick = record { none = λ lane. refl; next = λ a b c h g. g ∙ h; 
 slots_cancel : (script : Plan) (tick c : ℕ) (lane : Lane) → (cancel script tick c lane).slots ≡ lane.slots
 slots_cancel script tick c lane = cancel_by (slots_moves tick) script (λ after. after.slots ≡ lane.slots) c lane (λ e. refl) (λ after e h. h)
 
--- ---- what slots name was given, whatever was named
+-- ---- what slots name was given, after each action too
 
 abbrev Names : Lane → Lane → Type 0
 Names lane after = (most : ℕ → ℕ) → ArePast most lane.contexts lane.slots → ArePast most after.contexts after.slots

@@ -10,7 +10,6 @@ use Rattle.loop_script.specs.Parts.{time_of, actions_of, stays}
 use Rattle.source_rows.specs.declared.row.Row.{Row}
 use Rattle.source_rows.specs.Rows.{RowSet, counted, destroyed, ready_set, priority_fault}
 use Rattle.context_core.specs.declared.context.Context.{Context}
-use Rattle.context_core.specs.Defaults.{acquired}
 use Rattle.post_office.specs.declared.letter.Body.{Body as Mail}
 use Rattle.lane_watch.specs.Tasks.{Started}
 use Rattle.lane_turn.specs.declared.line.Event.TheVariants as events

@@ -11,7 +11,6 @@ use Rattle.post_office.specs.declared.letter.Body.{Body as Mail}
 use Rattle.post_office.specs.declared.letter.Body.TheVariants as mails
 use Rattle.lane_turn.specs.Views.{tells_of}
 use Rattle.context_core.specs.declared.context.Context.{Context}
-use Rattle.context_core.specs.Defaults.{acquired}
 use Rattle.lane_turn.specs.Sources.{restarted}
 use Rattle.std.proofs.lemmas.Bool.Decides.{eqb_tells}
 use Rattle.cancel_view.specs.Seen.{Seen, has, cancelled}
