@@ -7,14 +7,9 @@ use Rattle.std.proofs.lemmas.List.Elements.{filter_map-append}
 use Rattle.std.proofs.lemmas.Bool.Decides.{eqb_tells}
 use Rattle.loop_script.specs.declared.plan.Plan.{Plan}
 use Rattle.loop_script.specs.declared.source.SourceSpec.{SourceSpec}
-use Rattle.loop_script.specs.declared.action.Action.{Action}
-use Rattle.loop_script.specs.declared.action.Action.TheVariants.{Attach, Child, Destroy, SetReady, SetPriority, Iterate, Pending, Run, Quit, Cancel, Connect, Disconnect, Task, Push, Pop, ShowDefault, Acquire, Release, Invoke, Give, Log}
-use Rattle.loop_script.specs.declared.body.Body.TheVariants.{Procedure}
-use Rattle.loop_script.specs.Parts.{time_of, actions_of, home_of, context_of}
+use Rattle.loop_script.specs.Parts.{time_of, home_of}
 use Rattle.source_rows.specs.Rows.{RowSet, attached, destroyed, ready_set}
 use Rattle.context_core.specs.declared.context.Context.{Context}
-use Rattle.cancel_view.specs.declared.handler.Fired.{Fired}
-use Rattle.cancel_view.specs.Seen.{has, fired, cancelled}
 use Rattle.post_office.specs.declared.letter.Letter.{Letter}
 use Rattle.post_office.specs.declared.letter.Body.{Body as Mail}
 use Rattle.post_office.specs.declared.letter.Body.TheVariants as mails
@@ -22,15 +17,14 @@ use Rattle.task_steps.specs.declared.entry.Reply.{Reply}
 use Rattle.lane_turn.specs.declared.line.Line.{Line}
 use Rattle.lane_turn.specs.declared.line.Event.{Event}
 use Rattle.lane_turn.specs.declared.line.Event.TheVariants as events
-use Rattle.lane_turn.specs.declared.line.Word.{Word}
-use Rattle.lane_turn.specs.declared.line.Word.TheVariants as words
-use Rattle.lane_turn.specs.declared.slot.Place.{Place}
 use Rattle.lane_turn.specs.Sources.{no_sources}
-use Rattle.lane_turn.specs.Lane.{Lane, present, context_at, next_id, with_rows, edited, written, place_at, row_at, set_running, viewing, noting, is_own, is_given}
-use Rattle.lane_turn.specs.Acted.{missed, on_source, plain_acted, all_acted, handled, all_handled, cancel}
+use Rattle.lane_turn.specs.Lane.{Lane, present, context_at, next_id, with_rows, edited, written, is_own, is_given}
+use Rattle.lane_turn.specs.Acted.{cancel}
 use Rattle.lane_turn.specs.Deliver.{reply_spec, holding, received_body, received, received_all}
 use Rattle.lane_turn.specs.Turn.{open_context, open_contexts_to, begun, turned}
 use Rattle.lane_turn.specs.Arrivals.{is_for_body, is_for, arrival_of, arrivals, ids_for}
+use Rattle.lane_turn.proofs.Moves as moves
+use Rattle.lane_turn.proofs.Moves.{PlainMove, plainly, IsSaid, IsPlain, PlainLaw, noticed, has_own, next_more, cancel_by}
 use Rattle.lane_turn.proofs.Steady.{held_of}
 use Rattle.lane_turn.proofs.Sends.{step_tells}
 use Rattle.lane_turn.proofs.Delivered.{got_given, received_steady}
@@ -126,10 +120,6 @@ calm_same context lane after t c g = record { given = g; lines = ap (arrivals co
 calm_trans : (context : ℕ) (a b c : Lane) → Calm context a b → Calm context b c → Calm context a c
 calm_trans context a b c h k = record { lines = k.lines ∙ h.lines; next = k.next ∙ h.next; given = k.given ∙ h.given }
 
-calm_either : (context : ℕ) (lane x y : Lane) (b : Bool) → Calm context lane x → Calm context lane y → Calm context lane (cond b x y)
-calm_either context lane x y true p q = p
-calm_either context lane x y false p q = q
-
 next_kept : (f : Context → Context) → ((c : Context) → (f c).rows.next_id ≡ c.rows.next_id) → (contexts : List (Option Context)) (i j : ℕ) → next_id (present (slice_get (slice_set contexts i (option_map f (present (slice_get contexts i)))) j)) ≡ next_id (present (slice_get contexts j))
 next_kept f e [] i j = refl
 next_kept f e (None ∷ contexts) zero zero = refl
@@ -141,62 +131,23 @@ next_kept f e (o ∷ contexts) (suc i) (suc j) = next_kept f e contexts i j
 calm_edit : (context d : ℕ) (edit : RowSet → RowSet) (lane : Lane) → ((s : RowSet) → (edit s).next_id ≡ s.next_id) → Calm context lane (edited d edit lane)
 calm_edit context d edit lane e = record { given = refl; lines = refl; next = next_kept (with_rows edit) (λ c. e c.rows) lane.contexts d context }
 
-calm_source : (context tick : ℕ) (word : Word) (edit : ℕ → RowSet → RowSet) (o : Option Place) (lane : Lane) → ((id : ℕ) (s : RowSet) → (edit id s).next_id ≡ s.next_id) → Calm context lane (on_source tick word edit o lane)
-calm_source context tick word edit None lane e = calm_written context tick (events.Miss word) lane refl
-calm_source context tick word edit (Some place) lane e =
-    calm_either context lane (edited place.context (edit place.id) lane) (missed tick word lane) (is_some (row_at place lane))
-    (calm_edit context place.context (edit place.id) lane (e place.id)) (calm_written context tick (events.Miss word) lane refl)
+calm_event : (context : ℕ) (event : Event) → IsSaid false event → arrival_of context event ≡ None
+calm_event context (events.Arrive d id) h = absurd h
+calm_event context _ h = refl
 
-calm_one : (context : ℕ) (script : Plan) (tick : ℕ) (action : Action) (lane : Lane) → Calm context lane (plain_acted script tick action lane)
-calm_one context script tick (Attach c slot spec) lane = calm_same context lane lane refl refl refl
-calm_one context script tick (Child parent slot spec) lane = calm_same context lane lane refl refl refl
-calm_one context script tick (Destroy slot) lane = calm_source context tick words.Destroy destroyed (place_at slot lane) lane (λ id s. refl)
-calm_one context script tick (SetReady slot us) lane = calm_source context tick words.SetReady (λ id. ready_set id us) (place_at slot lane) lane (λ id s. refl)
-calm_one context script tick (SetPriority slot priority) lane = calm_same context lane lane refl refl refl
-calm_one context script tick (Iterate c) lane = calm_same context lane lane refl refl refl
-calm_one context script tick (Pending c) lane = calm_same context lane lane refl refl refl
-calm_one context script tick (Run number) lane = calm_same context lane lane refl refl refl
-calm_one context script tick (Quit number) lane =
-    calm_either context lane (set_running number false lane) (missed tick words.Quit lane) (is_own (context_of script number) lane)
-    (calm_same context lane (set_running number false lane) refl refl refl) (calm_written context tick (events.Miss words.Quit) lane refl)
-calm_one context script tick (Cancel c) lane = calm_same context lane lane refl refl refl
-calm_one context script tick (Connect c slot proc) lane = calm_same context lane lane refl refl refl
-calm_one context script tick (Disconnect slot) lane = calm_same context lane lane refl refl refl
-calm_one context script tick (Task spec) lane = calm_same context lane lane refl refl refl
-calm_one context script tick (Push c) lane = calm_same context lane lane refl refl refl
-calm_one context script tick (Pop c) lane = calm_same context lane lane refl refl refl
-calm_one context script tick ShowDefault lane = calm_same context lane lane refl refl refl
-calm_one context script tick (Acquire c) lane = calm_same context lane lane refl refl refl
-calm_one context script tick (Release c) lane = calm_same context lane lane refl refl refl
-calm_one context script tick (Invoke c proc) lane = calm_same context lane lane refl refl refl
-calm_one context script tick (Give c to) lane = calm_same context lane lane refl refl refl
-calm_one context script tick (Log n) lane = calm_written context tick (events.Log n) lane refl
-
-calm_all : (context : ℕ) (script : Plan) (tick : ℕ) (actions : List Action) (lane : Lane) → Calm context lane (all_acted script tick actions lane)
-calm_all context script tick [] lane = calm_same context lane lane refl refl refl
-calm_all context script tick (a ∷ actions) lane =
-    let next : Lane = plain_acted script tick a lane in
-    calm_trans context lane next (all_acted script tick actions next) (calm_one context script tick a lane) (calm_all context script tick actions next)
-
-calm_handled : (context : ℕ) (script : Plan) (tick : ℕ) (f : Fired) (lane : Lane) → Calm context lane (handled script tick f lane)
-calm_handled context script tick f lane =
-    let told : Lane = written tick (events.Handler f.id) lane in
-    calm_trans context lane told (handled script tick f lane) (calm_written context tick (events.Handler f.id) lane refl) (calm_all context script tick (actions_of script (Procedure f.proc)) told)
-
-calm_all_handled : (context : ℕ) (script : Plan) (tick : ℕ) (fs : List Fired) (lane : Lane) → Calm context lane (all_handled script tick fs lane)
-calm_all_handled context script tick [] lane = calm_same context lane lane refl refl refl
-calm_all_handled context script tick (f ∷ fs) lane =
-    let next : Lane = handled script tick f lane in
-    calm_trans context lane next (all_handled script tick fs next) (calm_handled context script tick f lane) (calm_all_handled context script tick fs next)
+calm_each : (context tick : ℕ) (move : PlainMove) (lane : Lane) → IsPlain false move lane → Calm context lane (plainly tick move lane)
+calm_each context tick (moves.Write event) lane m = calm_written context tick event lane (calm_event context event m)
+calm_each context tick (moves.Destroy place) lane m = calm_edit context place.context (destroyed place.id) lane (λ s. refl)
+calm_each context tick (moves.SetReady us place) lane m = calm_edit context place.context (ready_set place.id us) lane (λ s. refl)
+calm_each context tick _ lane m = calm_same context lane _ refl refl refl
 
 calm_cancel : (context : ℕ) (script : Plan) (tick c : ℕ) (lane : Lane) → Calm context lane (cancel script tick c lane)
 calm_cancel context script tick c lane =
-    let noted : Lane = noting tick c (viewing (cancelled c lane.view) lane) in
-    let seen : Lane = written tick (events.Cancel c) noted in
-    let after : Lane = all_handled script tick (fired c lane.view) seen in
-    calm_either context lane lane after (has c lane.view) (calm_same context lane lane refl refl refl)
-    (calm_trans context lane noted after (calm_same context lane noted refl refl refl)
-    (calm_trans context noted seen after (calm_written context tick (events.Cancel c) noted refl) (calm_all_handled context script tick (fired c lane.view) seen)))
+    let seen : Lane = noticed tick c lane in
+    cancel_by law script (Calm context lane) c lane (λ e. calm_same context lane lane refl refl refl) (λ after e h. calm_trans context lane seen after (calm_same context lane seen refl refl refl) h)
+  where
+    law : PlainLaw false tick (Calm context)
+    law = record { none = λ l. calm_same context l l refl refl refl; next = calm_trans context; each = calm_each context tick }
 
 -- ---- what a letter attaches
 
@@ -207,13 +158,6 @@ next_other f (o ∷ contexts) zero zero h = absurd (h refl)
 next_other f (o ∷ contexts) zero (suc j) h = refl
 next_other f (o ∷ contexts) (suc i) zero h = refl
 next_other f (o ∷ contexts) (suc i) (suc j) h = next_other f contexts i j (λ e. h (ap suc e))
-
-pub next_more : (f : Context → Context) → ((c : Context) → (f c).rows.next_id ≡ c.rows.next_id + 1) → (contexts : List (Option Context)) (i : ℕ) → is_some (present (slice_get contexts i)) ≡ true
-    → next_id (present (slice_get (slice_set contexts i (option_map f (present (slice_get contexts i)))) i)) ≡ next_id (present (slice_get contexts i)) + 1
-next_more f e [] i h = let no : false ≡ true = h in cc
-next_more f e (None ∷ contexts) zero h = let no : false ≡ true = h in cc
-next_more f e (Some c ∷ contexts) zero h = e c
-next_more f e (o ∷ contexts) (suc i) h = next_more f e contexts i h
 
 abbrev one_id : Bool → ℕ → List ℕ
 one_id true id = id ∷ []
@@ -243,14 +187,6 @@ arrive_line context tick d id ls b e =
     by : (b : Bool) → cons_option (cond b (Some id) None) [] ≡ one_id b id
     by true = refl
     by false = refl
-
-has_both : (a b : Bool) → (a && b) ≡ true → a ≡ true
-has_both true b h = refl
-has_both false b h = let no : false ≡ true = h in cc
-
--- an own context is there
-pub has_own : (d : ℕ) (lane : Lane) → is_own d lane ≡ true → is_some (present (slice_get lane.contexts d)) ≡ true
-has_own d lane h = has_both (is_some (context_at d lane)) (not (is_given d lane)) h
 
 adds_one : (context tick now d : ℕ) (spec : SourceSpec) (lane : Lane) → is_own d lane ≡ true → ((d == context) ≡ true × d ≡ context) ⊎ ((d == context) ≡ false × d ≢ context)
     → Adds context (d == context) lane (attached_at tick now d spec lane)

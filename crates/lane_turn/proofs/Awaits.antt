@@ -21,7 +21,7 @@ use Rattle.lane_turn.specs.Replies.{Replies, held_under, held_with, replies_at, 
 use Rattle.lane_turn.specs.Lane.{is_own, Lane, context_at, edited, next_id, written}
 use Rattle.lane_turn.specs.Deliver.{reply_spec, holding, received_body}
 use Rattle.lane_turn.specs.Arrivals.{Coming, coming_by}
-use Rattle.lane_turn.proofs.Arrivals.{has_own}
+use Rattle.lane_turn.proofs.Moves.{has_own}
 use Rattle.lane_turn.proofs.Leaves.{own_within, leaves_cancel}
 use Rattle.lane_turn.proofs.Taking.{AreGiven, IsFresh}
 use Rattle.lane_turn.proofs.Brought.{leaves_arrived}

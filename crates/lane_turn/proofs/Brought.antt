@@ -25,7 +25,8 @@ use Rattle.lane_turn.specs.Taken.{results, awaited_in, awaited, brings, brought,
 use Rattle.lane_turn.proofs.Leaves.{Leaves, results_other, same, line, edit, leaves_trans, either, leaves_cancel}
 use Rattle.lane_turn.proofs.Taking.{IsFresh, fresh_more, awaited_next, left}
 use Rattle.lane_turn.proofs.Moving.{turned_moves}
-use Rattle.lane_turn.proofs.Arrivals.{has_own, length_held, next_more, still_has}
+use Rattle.lane_turn.proofs.Moves.{has_own, next_more}
+use Rattle.lane_turn.proofs.Arrivals.{length_held, still_has}
 
 -- ---- one letter
 

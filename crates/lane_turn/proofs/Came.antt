@@ -28,7 +28,8 @@ use Rattle.lane_turn.specs.Deliver.{reply_spec, holding, received_body, received
 use Rattle.lane_turn.specs.Step.{step, posted_with, letter as sent_letter}
 use Rattle.lane_turn.specs.Tick.{posted_at, lanes_at}
 use Rattle.lane_turn.specs.Arrivals.{Coming, coming_by, comings, rows_from, AreHeld, rows_of_context, next_order, IsAmong, CallsNone, IsOfInvoke, AreAttached}
-use Rattle.lane_turn.proofs.Arrivals.{has_own, still_has}
+use Rattle.lane_turn.proofs.Moves.{has_own}
+use Rattle.lane_turn.proofs.Arrivals.{still_has}
 use Rattle.lane_turn.proofs.Adds.{each_joined}
 use Rattle.lane_turn.proofs.Taking.{IsFresh}
 use Rattle.lane_turn.proofs.Sums.{went}

@@ -45,7 +45,8 @@ use Rattle.lane_turn.proofs.Turns.{kept_finish, kept_finished}
 use Rattle.lane_turn.proofs.Sends.{IsAllowed, Sends, step_tells}
 use Rattle.lane_turn.proofs.Steady.{given_with}
 use Rattle.lane_turn.proofs.Owning.{gives_maybe, all_advanced, right_or}
-use Rattle.lane_turn.proofs.Arrivals.{own_held, own_same, has_own, held_received, given_received}
+use Rattle.lane_turn.proofs.Moves.{has_own}
+use Rattle.lane_turn.proofs.Arrivals.{own_held, own_same, held_received, given_received}
 use Rattle.lane_turn.proofs.Whole.{whole, set_other}
 use Rattle.lane_turn.proofs.Places.{Counted}
 use Rattle.lane_turn.proofs.Between.{Fits, AreLanes, Goes, over_all}

@@ -1,15 +1,14 @@
--- The sources of a lane stand in trees within the script's levels: one line for each action.
+-- The sources of a lane stand in trees within the script's levels.
 use Rattle.std.proofs.Common.{◌≡◌, ℕ, ℤ, zero, suc, ◌+◌, ◌*◌, ◌^◌, ◌<◌, ◌≤◌, ◌==◌, Bool, true, false, not, ◌&&◌, cond, map, length, Option, Some, None, List, [], ◌∷◌, ◌++◌, slice_set, refl, ap, sym, ◌∙◌, arith, subst, option_map}
-use Rattle.std.specs.Prelude.{slice_get, is_some, is_none, nat_lt}
+use Rattle.std.specs.Prelude.{slice_get, is_none, nat_lt}
 use Rattle.std.specs.List.{AllByRecursion, range_with_len}
 use Rattle.loop_script.specs.declared.plan.Plan.{Plan}
 use Rattle.loop_script.specs.declared.source.SourceSpec.{SourceSpec}
 use Rattle.loop_script.specs.declared.source.Kind.{Kind}
 use Rattle.loop_script.specs.declared.source.Kind.TheVariants as kinds
 use Rattle.loop_script.specs.declared.action.Action.{Action}
-use Rattle.loop_script.specs.declared.action.Action.TheVariants.{Attach, Child, Destroy, SetReady, SetPriority, Iterate, Pending, Run, Quit, Cancel, Connect, Disconnect, Task, Push, Pop, ShowDefault, Acquire, Release, Invoke, Give, Log}
+use Rattle.loop_script.specs.declared.action.Action.TheVariants as actions
 use Rattle.loop_script.specs.declared.body.Body.{Body}
-use Rattle.loop_script.specs.declared.body.Body.TheVariants.{Procedure}
 use Rattle.loop_script.specs.Parts.{time_of, home_of, actions_of, stays}
 use Rattle.loop_script.specs.References.{sizes}
 use Rattle.source_rows.specs.declared.row.Row.{Row}
@@ -19,8 +18,6 @@ use Rattle.source_rows.specs.TwoLevels.{IsWithinLevels}
 use Rattle.source_rows.proofs.AtTwo.{roots, children, destroyed_two, reprioritised_two}
 use Rattle.context_core.proofs.AtTwo.{selected_two}
 use Rattle.source_rows.proofs.Sound.{sound_none, sound_attached, sound_child, sound_destroyed, sound_reprioritised, sound_ready_set, sound_counted}
-use Rattle.cancel_view.specs.declared.handler.Fired.{Fired}
-use Rattle.cancel_view.specs.Seen.{has, fired, cancelled, may_disconnect}
 use Rattle.context_core.specs.declared.context.Context.{Context}
 use Rattle.lane_turn.specs.declared.line.Event.TheVariants as events
 use Rattle.lane_turn.specs.declared.lane.Status.{Status}
@@ -28,23 +25,18 @@ use Rattle.lane_turn.specs.declared.lane.Status.TheVariants.{GoesOn, Ended, Halt
 use Rattle.lane_turn.specs.declared.layer.Origin.{Origin}
 use Rattle.lane_turn.specs.declared.layer.Origin.TheVariants.{Start, Source, Invoke}
 use Rattle.lane_turn.specs.declared.layer.Call.{Call}
-use Rattle.lane_turn.specs.declared.slot.Place.{Place}
 use Rattle.lane_turn.specs.Frames.{Frame, CallOf, IterOf, LoopOf, calls_in_progress}
 use Rattle.lane_turn.specs.Sources.{tree_levels, no_sources, restarted, restarted_row, restarted_kind, due_after}
-use Rattle.lane_turn.specs.Lane.{Lane, Turn, present, context_at, with_rows, with_context, edited, popped, taken, place_at, handler_at, row_of, row_in, row_at, is_running, written, viewing, noting, iterating, is_own}
+use Rattle.lane_turn.specs.Lane.{Lane, Turn, present, context_at, with_rows, with_context, edited, popped, taken, row_of, row_in, is_running, written, iterating, is_own}
 use Rattle.lane_turn.proofs.Whole.{whole}
 use Rattle.lane_turn.proofs.GoingOver.{going_over, ready_over}
-use Rattle.lane_turn.specs.Handover.{handed_over, may_give, with_given}
-use Rattle.context_core.specs.Defaults.{acquired, released, is_on_top}
-use Rattle.lane_turn.specs.declared.line.Invoked.TheVariants.{Posted}
-use Rattle.lane_turn.specs.Owned.{default_context, is_owned, may_release, called_at_once, attaching, invoke_own, invoke, invoke_spec}
-use Rattle.lane_turn.specs.Acted.{acted, sends, born, can_bear, can_bear_in, child_of, on_source, set_priority_of, plain_acted, all_acted, handled, all_handled, cancel, connect, disconnect_of}
+use Rattle.lane_turn.specs.Handover.{handed_over}
+use Rattle.context_core.specs.Defaults.{acquired, released}
+use Rattle.lane_turn.specs.Acted.{acted, sends, born, can_bear_in}
 use Rattle.lane_watch.specs.Tasks.{Started}
 use Rattle.post_office.specs.declared.letter.Letter.{Letter}
 use Rattle.post_office.specs.declared.letter.Body.{Body as Mail}
 use Rattle.post_office.specs.declared.letter.Body.TheVariants as mails
-use Rattle.lane_turn.specs.declared.line.Word.{Word}
-use Rattle.lane_turn.specs.declared.line.Word.TheVariants as words
 use Rattle.lane_turn.specs.Step.{step, step_polling, step_call, step_id, returned, answered, limited_by, with_lane, dispatching}
 use Rattle.lane_turn.specs.Turn.{begun, turned, opening, open_context, open_contexts_to}
 use Rattle.lane_turn.specs.Deliver.{reply_spec, received_body, received, received_all, delivered}
@@ -58,6 +50,8 @@ use Rattle.lane_turn.proofs.Turns.{tidy_on, begun_tidy, kept_finish, kept_finish
 use Rattle.lane_turn.proofs.Runs.{most_at, ready_at, posted_fits, AllReady}
 use Rattle.lane_turn.proofs.Turns.{ready-turned}
 use Rattle.lane_turn.proofs.Delivered.{ready_received}
+use Rattle.lane_turn.proofs.Moves as moves
+use Rattle.lane_turn.proofs.Moves.{PlainMove, plainly, Change, changed_by, MayChange, Move, moved, MayMove, Law, both_right, acted_by}
 use Rattle.lane_turn.specs.declared.layer.Asker.{Asker}
 use Rattle.lane_turn.specs.declared.layer.Asker.TheVariants as askers
 
@@ -147,118 +141,44 @@ levels_born : (levels : ℕ) (spec : SourceSpec) (now : ℕ) (s : RowSet) (o : O
 levels_born levels spec now s None e = e
 levels_born levels spec now s (Some parent) e = e
 
-right_of : (a b : Bool) → (a && b) ≡ true → b ≡ true
-right_of true b h = h
-right_of false b h = let no : false ≡ true = h in cc
-
 own_row : (b : Bool) (o : Option Row) → is_none (priority_fault (cond b o None)) ≡ true → is_none (priority_fault o) ≡ true
 own_row true o h = h
 own_row false o h = let no : false ≡ true = h in cc
 
-grown_child : (levels tick now slot : ℕ) (spec : SourceSpec) (o : Option Place) (lane : Lane) → AllBounded lane → AllGrown levels lane → AllGrown levels (child_of tick now slot spec o lane)
-grown_child levels tick now slot spec None lane b h = h
-grown_child levels tick now slot spec (Some place) lane b h =
-    either levels _ _ (can_bear place lane)
-    (λ bears. grown_edit levels lane place.context (born spec now place.id)
-    (λ c e. let g = own_grown levels lane place.context c e h in
-    let free = no_fault (child_fault c.rows.levels (row_with place.id c.rows.rows)) (sym (ap (can_bear_in place.id) e) ∙ right_of (is_own place.context lane) (can_bear_in place.id (context_at place.context lane)) bears) in
-    record { most = levels_born levels spec now c.rows (row_with place.id c.rows.rows) g.most; sound = sound_child spec now place.id c.rows (few_numbers lane place.context c e b) free g.sound }) h)
-    h
+grown_plain : (levels tick : ℕ) (move : PlainMove) (lane : Lane) → AllGrown levels lane → AllGrown levels (plainly tick move lane)
+grown_plain levels tick (moves.Destroy place) lane h = grown_free levels lane place.context (destroyed place.id) (grown_destroyed levels place.id) h
+grown_plain levels tick (moves.SetReady us place) lane h = grown_free levels lane place.context (ready_set place.id us) (grown_ready_set levels place.id us) h
+grown_plain levels tick _ lane h = h
 
-grown_source : (levels tick : ℕ) (word : Word) (edit : ℕ → RowSet → RowSet) → ((id : ℕ) (s : RowSet) → IsGrown levels s → IsGrown levels (edit id s)) → (o : Option Place) (lane : Lane) → AllGrown levels lane → AllGrown levels (on_source tick word edit o lane)
-grown_source levels tick word edit f None lane h = h
-grown_source levels tick word edit f (Some place) lane h = either levels _ _ (is_some (row_at place lane)) (λ _. grown_free levels lane place.context (edit place.id) (f place.id) h) h
+grown_changed : (levels context : ℕ) (it : Change) (lane : Lane) → MayChange context it lane → AllBounded lane → AllGrown levels lane → AllGrown levels (with_context context (changed_by it) lane)
+grown_changed levels context (moves.Attach spec now) lane m b h = grown_attach levels now context spec lane b h
+grown_changed levels context (moves.Bear spec now id) lane m b h =
+    grown_edit levels lane context (born spec now id)
+    (λ c e. let g = own_grown levels lane context c e h in
+    let free = no_fault (child_fault c.rows.levels (row_with id c.rows.rows)) (sym (ap (can_bear_in id) e) ∙ both_right (is_own context lane) (can_bear_in id (context_at context lane)) m) in
+    record { most = levels_born levels spec now c.rows (row_with id c.rows.rows) g.most; sound = sound_child spec now id c.rows (few_numbers lane context c e b) free g.sound }) h
+grown_changed levels context (moves.Reprioritise id priority) lane m b h =
+    grown_edit levels lane context (reprioritised id priority)
+    (λ c e. let g = own_grown levels lane context c e h in
+    let free = no_fault (priority_fault (row_with id c.rows.rows)) (sym (ap (λ (o : Option Context). is_none (priority_fault (row_in id o))) e) ∙ own_row (is_own context lane) (row_of context id lane) m) in
+    record { most = g.most; sound = sound_reprioritised id priority c.rows (few_numbers lane context c e b) free g.sound }) h
+grown_changed levels context moves.Acquire lane m b h = grown_change levels lane context acquired (λ c. refl) h
+grown_changed levels context moves.Release lane m b h = grown_change levels lane context released (λ c. refl) h
 
-grown_priority : (levels tick : ℕ) (priority : ℤ) (o : Option Place) (lane : Lane) → AllBounded lane → AllGrown levels lane → AllGrown levels (set_priority_of tick priority o lane)
-grown_priority levels tick priority None lane b h = h
-grown_priority levels tick priority (Some place) lane b h =
-    either levels _ _ (is_none (priority_fault (row_at place lane)))
-    (λ moves. grown_edit levels lane place.context (reprioritised place.id priority)
-    (λ c e. let g = own_grown levels lane place.context c e h in
-    let free = no_fault (priority_fault (row_with place.id c.rows.rows)) (sym (ap (λ (o : Option Context). is_none (priority_fault (row_in place.id o))) e) ∙ own_row (is_own place.context lane) (row_of place.context place.id lane) moves) in
-    record { most = g.most; sound = sound_reprioritised place.id priority c.rows (few_numbers lane place.context c e b) free g.sound }) h)
-    h
+grown_each : (levels : ℕ) (script : Plan) (tick : ℕ) (move : Move) (lane : Lane) → MayMove script move lane → AllBounded lane → AllGrown levels lane → AllGrown levels (moved script tick move lane)
+grown_each levels script tick (moves.Alter context it) lane m b h = grown_changed levels context it lane m b h
+grown_each levels script tick _ lane m b h = h
 
-grown_plain : (levels : ℕ) (script : Plan) (tick : ℕ) (action : Action) (lane : Lane) → AllGrown levels lane → AllGrown levels (plain_acted script tick action lane)
-grown_plain levels script tick (Attach context slot spec) lane h = h
-grown_plain levels script tick (Child parent slot spec) lane h = h
-grown_plain levels script tick (Destroy slot) lane h = grown_source levels tick words.Destroy destroyed (grown_destroyed levels) (place_at slot lane) lane h
-grown_plain levels script tick (SetReady slot us) lane h = grown_source levels tick words.SetReady (λ id. ready_set id us) (λ id. grown_ready_set levels id us) (place_at slot lane) lane h
-grown_plain levels script tick (SetPriority slot priority) lane h = h
-grown_plain levels script tick (Iterate context) lane h = h
-grown_plain levels script tick (Pending context) lane h = h
-grown_plain levels script tick (Run number) lane h = h
-grown_plain levels script tick (Quit number) lane h = either levels _ _ _ (λ _. h) h
-grown_plain levels script tick (Cancel c) lane h = h
-grown_plain levels script tick (Connect c slot proc) lane h = h
-grown_plain levels script tick (Disconnect slot) lane h = h
-grown_plain levels script tick (Task spec) lane h = h
-grown_plain levels script tick (Push context) lane h = h
-grown_plain levels script tick (Pop context) lane h = h
-grown_plain levels script tick ShowDefault lane h = h
-grown_plain levels script tick (Acquire context) lane h = h
-grown_plain levels script tick (Release context) lane h = h
-grown_plain levels script tick (Invoke context proc) lane h = h
-grown_plain levels script tick (Give context to) lane h = h
-grown_plain levels script tick (Log n) lane h = h
-
-grown_all : (levels : ℕ) (script : Plan) (tick : ℕ) (actions : List Action) (lane : Lane) → AllGrown levels lane → AllGrown levels (all_acted script tick actions lane)
-grown_all levels script tick [] lane h = h
-grown_all levels script tick (a ∷ actions) lane h = grown_all levels script tick actions (plain_acted script tick a lane) (grown_plain levels script tick a lane h)
-
-grown_handled : (levels : ℕ) (script : Plan) (tick : ℕ) (f : Fired) (lane : Lane) → AllGrown levels lane → AllGrown levels (handled script tick f lane)
-grown_handled levels script tick f lane h = grown_all levels script tick (actions_of script (Procedure f.proc)) (written tick (events.Handler f.id) lane) h
-
-grown_all_handled : (levels : ℕ) (script : Plan) (tick : ℕ) (fs : List Fired) (lane : Lane) → AllGrown levels lane → AllGrown levels (all_handled script tick fs lane)
-grown_all_handled levels script tick [] lane h = h
-grown_all_handled levels script tick (f ∷ fs) lane h = grown_all_handled levels script tick fs (handled script tick f lane) (grown_handled levels script tick f lane h)
-
-grown_cancel : (levels : ℕ) (script : Plan) (tick c : ℕ) (lane : Lane) → AllGrown levels lane → AllGrown levels (cancel script tick c lane)
-grown_cancel levels script tick c lane h =
-    either levels _ _ (has c lane.view) (λ _. h) (grown_all_handled levels script tick (fired c lane.view) (written tick (events.Cancel c) (noting tick c (viewing (cancelled c lane.view) lane))) h)
-
-grown_connect : (levels : ℕ) (script : Plan) (tick c slot proc : ℕ) (lane : Lane) → AllGrown levels lane → AllGrown levels (connect script tick c slot proc lane)
-grown_connect levels script tick c slot proc lane h = either levels _ _ (has c lane.view) (λ _. grown_handled levels script tick (record { id = 0; proc = proc }) lane h) h
-
-grown_disconnect : (levels tick : ℕ) (o : Option ℕ) (lane : Lane) → AllGrown levels lane → AllGrown levels (disconnect_of tick o lane)
-grown_disconnect levels tick None lane h = h
-grown_disconnect levels tick (Some id) lane h = either levels _ _ (may_disconnect id lane.view) (λ _. h) h
-
-grown_at_once : (levels tick context proc : ℕ) (acquires : Option ℕ) (lane : Lane) → AllGrown levels lane → AllGrown levels (called_at_once tick context proc acquires lane)
-grown_at_once levels tick context proc acquires lane h = either levels _ _ (nat_lt (calls_in_progress lane.frames) 32) (λ _. h) h
-
-grown_invoke : (levels tick now context proc : ℕ) (lane : Lane) → AllBounded lane → AllGrown levels lane → AllGrown levels (invoke tick now context proc lane)
-grown_invoke levels tick now context proc lane b h =
-    let none : Lane = called_at_once tick context proc None lane in
-    let some : Lane = called_at_once tick context proc (Some context) lane in
-    let attached : Lane = attaching tick now context proc lane in
-    either levels (invoke_own tick now context proc lane) (written tick (events.Invoke context Posted) lane) (is_own context lane)
-    (λ _. either levels none (cond (default_context lane == context) some attached) (is_owned context lane) (λ _. grown_at_once levels tick context proc None lane h)
-    (either levels some attached (default_context lane == context) (λ _. grown_at_once levels tick context proc (Some context) lane h) (grown_attach levels now context (invoke_spec proc) lane b h)))
-    h
+grown_moves : (levels : ℕ) (script : Plan) (tick : ℕ) → Law script tick (λ a b. AllGrown levels a → AllGrown levels b) (λ mail a b. AllBounded a → AllGrown levels a → AllGrown levels b)
+grown_moves levels script tick = record {
+  plain = record { none = λ lane h. h; next = λ a b c f g h. g (f h); each = λ move lane m. grown_plain levels tick move lane };
+  of = λ a b f k. f;
+  next = λ mail a b c f g k h. g (f k h);
+  each = grown_each levels script tick;
+}
 
 grown_acted : (levels : ℕ) (script : Plan) (tick : ℕ) (action : Action) (lane : Lane) → AllBounded lane → AllGrown levels lane → AllGrown levels (acted script tick action lane)
-grown_acted levels script tick (Attach context slot spec) lane b h = either levels _ _ (is_own context lane) (λ _. grown_attach levels (time_of script tick) context spec lane b h) h
-grown_acted levels script tick (Child parent slot spec) lane b h = grown_child levels tick (time_of script tick) slot spec (place_at parent lane) lane b h
-grown_acted levels script tick (Destroy slot) lane b h = grown_source levels tick words.Destroy destroyed (grown_destroyed levels) (place_at slot lane) lane h
-grown_acted levels script tick (SetReady slot us) lane b h = grown_source levels tick words.SetReady (λ id. ready_set id us) (λ id. grown_ready_set levels id us) (place_at slot lane) lane h
-grown_acted levels script tick (SetPriority slot priority) lane b h = grown_priority levels tick priority (place_at slot lane) lane b h
-grown_acted levels script tick (Iterate context) lane b h = either levels _ _ _ (λ _. h) h
-grown_acted levels script tick (Pending context) lane b h = h
-grown_acted levels script tick (Run number) lane b h = either levels _ _ _ (λ _. h) h
-grown_acted levels script tick (Quit number) lane b h = either levels _ _ _ (λ _. h) h
-grown_acted levels script tick (Cancel c) lane b h = grown_cancel levels script tick c lane h
-grown_acted levels script tick (Connect c slot proc) lane b h = grown_connect levels script tick c slot proc lane h
-grown_acted levels script tick (Disconnect slot) lane b h = grown_disconnect levels tick (handler_at slot lane) lane h
-grown_acted levels script tick (Task spec) lane b h = h
-grown_acted levels script tick (Push context) lane b h = either levels _ _ (is_own context lane) (λ _. h) h
-grown_acted levels script tick (Pop context) lane b h = either levels _ _ (is_on_top context lane.defaults) (λ _. h) h
-grown_acted levels script tick ShowDefault lane b h = h
-grown_acted levels script tick (Acquire context) lane b h = either levels _ _ (is_own context lane) (λ _. grown_change levels lane context acquired (λ c. refl) h) h
-grown_acted levels script tick (Release context) lane b h = either levels _ _ (may_release (context_at context lane)) (λ _. grown_change levels lane context released (λ c. refl) h) h
-grown_acted levels script tick (Invoke context proc) lane b h = grown_invoke levels tick (time_of script tick) context proc lane b h
-grown_acted levels script tick (Give context to) lane b h = either levels (written tick (events.Give context to) (with_given context true lane)) (written tick (events.Miss words.Give) lane) (may_give script context to lane) (λ _. h) h
-grown_acted levels script tick (Log n) lane b h = h
+grown_acted levels script tick action lane = acted_by (grown_moves levels script tick) action lane
 
 -- ---- the steps
 
@@ -363,7 +283,7 @@ grown_received : (levels : ℕ) (script : Plan) (tick sender : ℕ) (body : Mail
 grown_received levels script tick sender (mails.Attach context spec) lane b h = either levels _ _ (is_own context lane) (λ _. grown_attach levels (time_of script tick) context spec lane b h) h
 grown_received levels script tick sender (mails.Complete reply) lane b h =
     either levels _ _ (is_own reply.ctx lane) (λ _. grown_attach levels (time_of script tick) reply.ctx (reply_spec reply) lane b h) h
-grown_received levels script tick sender (mails.Cancelled c) lane b h = grown_cancel levels script tick c lane h
+grown_received levels script tick sender (mails.Cancelled c) lane b h = grown_acted levels script tick (actions.Cancel c) lane b h
 grown_received levels script tick sender (mails.Give context to) lane b h = h
 
 grown_received_all : (levels : ℕ) (script : Plan) (tick next m : ℕ) (letters : List Letter) (lane : Lane) → m + 2 * length letters ≤ 2 ^ 62 → IsReady script next m lane → AllGrown levels lane → AllGrown levels (received_all script tick letters lane)
@@ -438,9 +358,9 @@ grown_sent : (script : Plan) (tick m : ℕ) (letters : List Letter) (lanes : Lis
 grown_sent script tick m letters [] h g = tt
 grown_sent script tick m letters (lane ∷ lanes) h g = (grown_received_all (tree_levels script) script tick (tick + 1) m letters lane h g.0.0 g.0.1, grown_sent script tick m letters lanes h g.1)
 
-grown_each : (script : Plan) (tick m : ℕ) (letters : List Letter) (lanes : List Lane) → m + 20001 + 2 * length letters ≤ 2 ^ 62 → EachGrown script tick m lanes
+all_sent : (script : Plan) (tick m : ℕ) (letters : List Letter) (lanes : List Lane) → m + 20001 + 2 * length letters ≤ 2 ^ 62 → EachGrown script tick m lanes
     → AllByRecursion (AllGrown (tree_levels script)) (delivered script tick letters (map (turned script tick) lanes))
-grown_each script tick m letters lanes h g =
+all_sent script tick m letters lanes h g =
     let after : List Lane = map (turned script tick) lanes in
     let t = grown_turns script tick m lanes (omega (arith, h)) g in
     grown_sent script tick (m + 20001) letters (handed_over tick letters after) h
@@ -451,7 +371,7 @@ grown_at_tick script zero few h = grown_openings script (range_with_len 0 (lengt
 grown_at_tick script (suc tick) few h =
     let lanes : List Lane = lanes_at script tick in
     let ready = ready_at script tick few (omega (arith, h)) in
-    grown_each script tick (most_at tick) (posted_at script tick lanes) lanes (omega (arith, posted_fits script tick few (omega (arith, h)))) (both script tick (most_at tick) lanes ready (grown_at_tick script tick few (omega (arith, h))))
+    all_sent script tick (most_at tick) (posted_at script tick lanes) lanes (omega (arith, posted_fits script tick few (omega (arith, h)))) (both script tick (most_at tick) lanes ready (grown_at_tick script tick few (omega (arith, h))))
 
 each_within : (script : Plan) (tick steps m : ℕ) (lanes : List Lane) → m + 20001 ≤ 2 ^ 62 → EachGrown script tick m lanes → AllByRecursion (λ lane. AllGrown (tree_levels script) (lane_within script tick steps lane)) lanes
 each_within script tick steps m [] h g = tt

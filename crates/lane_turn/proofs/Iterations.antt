@@ -1,40 +1,34 @@
 -- What each step does to the frames.
-use Rattle.std.proofs.Common.{◌≡◌, ◌<◌, length, arith, ltb-true, ℕ, ℤ, zero, suc, ◌==◌, Bool, true, false, cond, Option, Some, None, List, [], ◌∷◌, ◌++◌, inl, inr, drop, refl, ap, sym, ◌∙◌, subst}
+use Rattle.std.proofs.Common.{◌≡◌, ◌<◌, length, arith, ltb-true, ℕ, zero, suc, ◌==◌, Bool, true, false, cond, Option, Some, None, List, [], ◌∷◌, ◌++◌, inl, inr, drop, refl, ap, sym, ◌∙◌, subst}
 use Rattle.std.specs.Prelude.{slice_get, nat_lt}
 use Rattle.std.specs.List.{AllByRecursion, find}
 use Rattle.std.proofs.lemmas.Bool.Decides.{eqb_tells}
 use Rattle.loop_script.specs.declared.plan.Plan.{Plan}
 use Rattle.loop_script.specs.declared.action.Action.{Action}
-use Rattle.loop_script.specs.declared.action.Action.TheVariants.{Attach, Child, Destroy, SetReady, SetPriority, Iterate, Pending, Run, Quit, Cancel, Connect, Disconnect, Task, Push, Pop, ShowDefault, Acquire, Release, Invoke, Give, Log}
 use Rattle.loop_script.specs.declared.body.Body.{Body}
 use Rattle.loop_script.specs.declared.body.Body.TheVariants.{Procedure}
-use Rattle.loop_script.specs.Parts.{actions_of, context_of, time_of}
+use Rattle.loop_script.specs.Parts.{actions_of}
 use Rattle.source_rows.specs.declared.row.Row.{Row}
-use Rattle.source_rows.specs.Rows.{RowSet, has_id}
+use Rattle.source_rows.specs.Rows.{has_id}
 use Rattle.context_core.specs.declared.context.Context.{Context}
-use Rattle.loop_script.specs.declared.source.SourceSpec.{SourceSpec}
 use Rattle.lane_turn.specs.declared.line.Event.TheVariants as events
-use Rattle.lane_turn.specs.declared.slot.Place.{Place}
-use Rattle.lane_turn.specs.declared.line.Word.{Word}
-use Rattle.lane_turn.specs.declared.line.Word.TheVariants as words
 use Rattle.lane_turn.specs.declared.lane.Status.{Status}
 use Rattle.lane_turn.specs.declared.lane.Status.TheVariants.{GoesOn, Ended, Halted}
 use Rattle.lane_turn.specs.declared.layer.Call.{Call}
 use Rattle.lane_turn.specs.declared.layer.Origin.{Origin}
 use Rattle.lane_turn.specs.declared.layer.Origin.TheVariants as origins
 use Rattle.lane_turn.specs.Frames.{Frame, CallOf, IterOf, LoopOf, advanced, advanced_one, emptied, emptied_one, calls_in_progress}
-use Rattle.lane_turn.specs.Lane.{Lane, Turn, taken, pushed, popped, stopped, set_running, written, iterating, chosen, is_any, context_at, place_at, handler_at, row_in, row_of, is_running, is_own}
+use Rattle.lane_turn.specs.Lane.{Lane, Turn, taken, popped, stopped, written, iterating, chosen, is_any, context_at, row_in, row_of, is_running}
 use Rattle.lane_watch.specs.Tasks.{Started}
 use Rattle.post_office.specs.declared.letter.Body.{Body as Mail}
-use Rattle.lane_turn.specs.declared.line.Invoked.TheVariants.{Posted}
-use Rattle.lane_turn.specs.Owned.{default_context, is_owned, calling, called_at_once, attaching, invoke_own, invoke}
-use Rattle.lane_turn.specs.Handover.{may_give, with_given}
-use Rattle.lane_turn.specs.Acted.{acted, sends, missed, child_of, on_source, set_priority_of, disconnect_of}
+use Rattle.lane_turn.specs.Acted.{acted, sends}
 use Rattle.lane_turn.specs.Step.{step, step_polling, step_call, step_id, returned, answered, limited_by, with_lane, dispatched, dispatching}
-use Rattle.lane_turn.proofs.Mild.{Plain, plain_cancel, plain_handled}
+use Rattle.lane_turn.proofs.Mild.{Plain, plain_moves}
 use Rattle.lane_turn.specs.Depths.{begun_calls}
 use Rattle.lane_turn.proofs.Depths.{calls_begun, calls_advanced}
-use Rattle.lane_turn.specs.Iterations.{IsRest, Later, EachLater, IsOver, TellsAny, Begun, FramesGoOn}
+use Rattle.lane_turn.specs.Iterations.{IsRest, Later, EachLater, IsOver, TellsAny, MayBegin, Begun, FramesGoOn}
+use Rattle.lane_turn.proofs.Moves as moves
+use Rattle.lane_turn.proofs.Moves.{Move, moved, MayMove, Law, acted_by}
 use Rattle.lane_turn.specs.declared.layer.Asker.{Asker}
 use Rattle.lane_turn.specs.declared.layer.Asker.TheVariants as askers
 
@@ -112,73 +106,38 @@ tells_any : (ids : List ℕ) → TellsAny ids (askers.Iterate (is_any ids))
 tells_any [] = refl
 tells_any (id ∷ ids) = λ e. cc
 
-child_on : (ch : ℕ → List ℕ) (tick now slot : ℕ) (spec : SourceSpec) (o : Option Place) (lane : Lane) (fs : List Frame) → FramesGoOn ch fs lane.frames → FramesGoOn ch fs (child_of tick now slot spec o lane).frames
-child_on ch tick now slot spec None lane fs h = h
-child_on ch tick now slot spec (Some place) lane fs h = by_either ch fs _ _ _ h h
+-- a move of a lane whose innermost frame has taken its action, with what was selected then
+abbrev Acts : Plan → ℕ → Lane → Lane → Type 0
+Acts script tick a b = (ch : ℕ → List ℕ) (fs : List Frame) → a.frames ≡ advanced fs → ((c : ℕ) → chosen script tick c a ≡ ch c) → FramesGoOn ch fs b.frames
 
-source_on : (ch : ℕ → List ℕ) (tick : ℕ) (word : Word) (edit : ℕ → RowSet → RowSet) (o : Option Place) (lane : Lane) (fs : List Frame) → FramesGoOn ch fs lane.frames → FramesGoOn ch fs (on_source tick word edit o lane).frames
-source_on ch tick word edit None lane fs h = h
-source_on ch tick word edit (Some place) lane fs h = by_either ch fs _ _ _ h h
+-- one that leaves the frames
+left_on : (script : Plan) (tick : ℕ) (a b : Lane) → b.frames ≡ a.frames → Acts script tick a b
+left_on script tick a b h ch fs e k = subst (FramesGoOn ch fs) (sym (h ∙ e)) (taken_on ch fs)
 
-priority_on : (ch : ℕ → List ℕ) (tick : ℕ) (priority : ℤ) (o : Option Place) (lane : Lane) (fs : List Frame) → FramesGoOn ch fs lane.frames → FramesGoOn ch fs (set_priority_of tick priority o lane).frames
-priority_on ch tick priority None lane fs h = h
-priority_on ch tick priority (Some place) lane fs h = by_either ch fs _ _ _ h h
+-- one that begins a frame
+begun_on : (ch : ℕ → List ℕ) (fs frames : List Frame) (f : Frame) → frames ≡ advanced fs → MayBegin ch fs (advanced fs) f → FramesGoOn ch fs (f ∷ frames)
+begun_on ch fs frames f e m = subst (λ (now : List Frame). FramesGoOn ch fs (f ∷ now)) (sym e) (let begun : Begun ch fs (f ∷ advanced fs) = (each_taken fs, m) in inr (inr begun))
 
-plain_on : (ch : ℕ → List ℕ) (fs : List Frame) (lane after : Lane) → Plain lane after → FramesGoOn ch fs lane.frames → FramesGoOn ch fs after.frames
-plain_on ch fs lane after p h = subst (FramesGoOn ch fs) (sym p.frames) h
+acts_each : (script : Plan) (tick : ℕ) (move : Move) (lane : Lane) → MayMove script move lane → Acts script tick lane (moved script tick move lane)
+acts_each script tick (moves.Iterate context) lane m ch fs e k =
+    subst (λ (now : List Frame). FramesGoOn ch fs (IterOf context (chosen script tick context lane) (askers.Iterate (is_any (chosen script tick context lane))) ∷ emptied context now)) (sym e)
+    (iterated_on ch fs context (chosen script tick context lane) _ (k context) (tells_any (chosen script tick context lane)))
+acts_each script tick (moves.Run number context) lane m ch fs e k = begun_on ch fs lane.frames (LoopOf number context) e tt
+acts_each script tick (moves.Call context proc acquires) lane m ch fs e k =
+    let few : length (begun_calls fs) < 32 = omega (arith, ltb-true (calls_in_progress lane.frames) 32 m.1, ap calls_in_progress e, calls_advanced fs, calls_begun fs) in
+    begun_on ch fs lane.frames (CallOf (record { origin = origins.Invoke acquires; body = Procedure proc; place = 0 })) e (few, tt)
+acts_each script tick move lane m ch fs e k = left_on script tick lane (moved script tick move lane) refl ch fs e k
 
-disconnect_on : (ch : ℕ → List ℕ) (tick : ℕ) (o : Option ℕ) (lane : Lane) (fs : List Frame) → FramesGoOn ch fs lane.frames → FramesGoOn ch fs (disconnect_of tick o lane).frames
-disconnect_on ch tick None lane fs h = h
-disconnect_on ch tick (Some id) lane fs h = by_either ch fs _ _ _ h h
-
-at_once_on : (ch : ℕ → List ℕ) (tick context proc : ℕ) (acquires : Option ℕ) (lane : Lane) → FramesGoOn ch lane.frames (called_at_once tick context proc acquires (taken lane)).frames
-at_once_on ch tick context proc acquires lane = by (nat_lt (calls_in_progress (taken lane).frames) 32) refl
-  where
-    by : (b : Bool) → nat_lt (calls_in_progress (taken lane).frames) 32 ≡ b → FramesGoOn ch lane.frames (cond b (calling tick context proc acquires (taken lane)) (stopped Halted (written tick events.HaltDepth (taken lane)))).frames
-    by true e =
-        let few : length (begun_calls lane.frames) < 32 = omega (arith, ltb-true (calls_in_progress (advanced lane.frames)) 32 e, calls_advanced lane.frames, calls_begun lane.frames) in
-        let begun : Begun ch lane.frames (CallOf (record { origin = origins.Invoke acquires; body = Procedure proc; place = 0 }) ∷ advanced lane.frames) = (each_taken lane.frames, (few, tt)) in
-        inr (inr begun)
-    by false e = taken_on ch lane.frames
-
-invoke_on : (ch : ℕ → List ℕ) (tick now context proc : ℕ) (lane : Lane) → FramesGoOn ch lane.frames (invoke tick now context proc (taken lane)).frames
-invoke_on ch tick now context proc lane =
-    let next : Lane = taken lane in
-    let none : Lane = called_at_once tick context proc None next in
-    let some : Lane = called_at_once tick context proc (Some context) next in
-    let attached : Lane = attaching tick now context proc next in
-    by_either ch lane.frames (invoke_own tick now context proc next) (written tick (events.Invoke context Posted) next) (is_own context next)
-    (by_either ch lane.frames none (cond (default_context next == context) some attached) (is_owned context next) (at_once_on ch tick context proc None lane)
-    (by_either ch lane.frames some attached (default_context next == context) (at_once_on ch tick context proc (Some context) lane) (taken_on ch lane.frames)))
-    (taken_on ch lane.frames)
+acts_moves : (script : Plan) (tick : ℕ) → Law script tick Plain (λ mail. Acts script tick)
+acts_moves script tick = record {
+  plain = plain_moves tick;
+  of = λ a b h. left_on script tick a b h.frames;
+  next = λ mail a b c h g ch fs e k. subst (FramesGoOn ch fs) (sym g.frames) (h ch fs e k);
+  each = acts_each script tick;
+}
 
 acted_on : (ch : ℕ → List ℕ) (script : Plan) (tick : ℕ) (action : Action) (lane : Lane) → ((c : ℕ) → chosen script tick c (taken lane) ≡ ch c) → FramesGoOn ch lane.frames (acted script tick action (taken lane)).frames
-acted_on ch script tick (Attach context slot spec) lane k = by_either ch lane.frames _ _ _ (taken_on ch lane.frames) (taken_on ch lane.frames)
-acted_on ch script tick (Child parent slot spec) lane k = child_on ch tick _ slot spec (place_at parent (taken lane)) (taken lane) lane.frames (taken_on ch lane.frames)
-acted_on ch script tick (Destroy slot) lane k = source_on ch tick _ _ (place_at slot (taken lane)) (taken lane) lane.frames (taken_on ch lane.frames)
-acted_on ch script tick (SetReady slot us) lane k = source_on ch tick _ _ (place_at slot (taken lane)) (taken lane) lane.frames (taken_on ch lane.frames)
-acted_on ch script tick (SetPriority slot priority) lane k = priority_on ch tick priority (place_at slot (taken lane)) (taken lane) lane.frames (taken_on ch lane.frames)
-acted_on ch script tick (Iterate context) lane k = by_either ch lane.frames _ _ _ (iterated_on ch lane.frames context _ _ (k context) (tells_any (chosen script tick context (taken lane)))) (taken_on ch lane.frames)
-acted_on ch script tick (Pending context) lane k = taken_on ch lane.frames
-acted_on ch script tick (Run number) lane k =
-    let begun : Begun ch lane.frames (LoopOf number (context_of script number) ∷ advanced lane.frames) = (each_taken lane.frames, tt) in
-    by_either ch lane.frames (pushed (LoopOf number (context_of script number)) (set_running number true (taken lane))) (missed tick words.Run (taken lane)) (is_own (context_of script number) (taken lane))
-    (inr (inr begun)) (taken_on ch lane.frames)
-acted_on ch script tick (Quit number) lane k = by_either ch lane.frames _ _ _ (taken_on ch lane.frames) (taken_on ch lane.frames)
-acted_on ch script tick (Cancel c) lane k = plain_on ch lane.frames (taken lane) _ (plain_cancel script tick c (taken lane)) (taken_on ch lane.frames)
-acted_on ch script tick (Connect c slot proc) lane k =
-    by_either ch lane.frames _ _ _ (plain_on ch lane.frames (taken lane) _ (plain_handled script tick (record { id = 0; proc = proc }) (taken lane)) (taken_on ch lane.frames)) (taken_on ch lane.frames)
-acted_on ch script tick (Disconnect slot) lane k = disconnect_on ch tick (handler_at slot (taken lane)) (taken lane) lane.frames (taken_on ch lane.frames)
-acted_on ch script tick (Task spec) lane k = taken_on ch lane.frames
-acted_on ch script tick (Push context) lane k = by_either ch lane.frames _ _ _ (taken_on ch lane.frames) (taken_on ch lane.frames)
-acted_on ch script tick (Pop context) lane k = by_either ch lane.frames _ _ _ (taken_on ch lane.frames) (taken_on ch lane.frames)
-acted_on ch script tick ShowDefault lane k = taken_on ch lane.frames
-acted_on ch script tick (Acquire context) lane k = by_either ch lane.frames _ _ _ (taken_on ch lane.frames) (taken_on ch lane.frames)
-acted_on ch script tick (Release context) lane k = by_either ch lane.frames _ _ _ (taken_on ch lane.frames) (taken_on ch lane.frames)
-acted_on ch script tick (Invoke context proc) lane k = invoke_on ch tick (time_of script tick) context proc lane
-acted_on ch script tick (Give context to) lane k =
-    by_either ch lane.frames (written tick (events.Give context to) (with_given context true (taken lane))) (written tick (events.Miss words.Give) (taken lane)) (may_give script context to (taken lane)) (taken_on ch lane.frames) (taken_on ch lane.frames)
-acted_on ch script tick (Log n) lane k = taken_on ch lane.frames
+acted_on ch script tick action lane k = acted_by (acts_moves script tick) action (taken lane) ch lane.frames refl k
 
 pub some_turn : (t u : Turn) → Some t ≡ Some u → t ≡ u
 some_turn t u e = cc

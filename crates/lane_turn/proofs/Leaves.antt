@@ -1,6 +1,6 @@
 -- What tells no result, leaves the replies that are held, and lowers no next id of as many contexts.
-use Rattle.std.proofs.Common.{◌≡◌, ℕ, ℤ, zero, suc, ◌+◌, ◌-◌, ◌<◌, ◌≤◌, ◌==◌, Bool, true, false, cond, Option, Some, None, List, [], ◌∷◌, ◌++◌, slice_set, length, take, refl, ap, sym, ◌∙◌, arith, subst}
-use Rattle.std.specs.Prelude.{nat_lt, is_some, is_none, not, ◌&&◌, slice_get, option_map, unwrap_or}
+use Rattle.std.proofs.Common.{◌≡◌, ℕ, zero, suc, ◌+◌, ◌-◌, ◌<◌, ◌≤◌, Bool, true, false, cond, Option, Some, None, List, [], ◌∷◌, ◌++◌, slice_set, length, take, refl, ap, sym, ◌∙◌, arith, subst}
+use Rattle.std.specs.Prelude.{is_some, not, ◌&&◌, slice_get, option_map, unwrap_or}
 use Rattle.std.specs.List.{AllByRecursion}
 use Rattle.std.proofs.lemmas.List.{length-set}
 use Rattle.std.proofs.lemmas.List.Sums.{sum_by_push}
@@ -10,36 +10,30 @@ use Rattle.loop_script.specs.declared.source.Kind.{Kind}
 use Rattle.loop_script.specs.declared.source.Kind.TheVariants as kinds
 use Rattle.loop_script.specs.declared.task.TaskSpec.{TaskSpec}
 use Rattle.loop_script.specs.declared.action.Action.{Action}
-use Rattle.loop_script.specs.declared.action.Action.TheVariants.{Attach, Child, Destroy, SetReady, SetPriority, Iterate, Pending, Run, Quit, Cancel, Connect, Disconnect, Task, Push, Pop, ShowDefault, Acquire, Release, Invoke, Give, Log}
+use Rattle.loop_script.specs.declared.action.Action.TheVariants as actions
 use Rattle.loop_script.specs.declared.body.Body.{Body}
-use Rattle.loop_script.specs.declared.body.Body.TheVariants.{Procedure}
-use Rattle.loop_script.specs.Parts.{time_of, actions_of, context_of, stays}
+use Rattle.loop_script.specs.Parts.{time_of, stays}
 use Rattle.source_rows.specs.declared.row.Row.{Row}
-use Rattle.source_rows.specs.Rows.{RowSet, attached, child_added, destroyed, ready_set, reprioritised, priority_fault, row_of as row_with}
+use Rattle.source_rows.specs.Rows.{RowSet, child_added, destroyed, ready_set, row_of as row_with}
 use Rattle.context_core.specs.declared.context.Context.{Context}
-use Rattle.context_core.specs.Defaults.{acquired, released, pushed, popped, is_on_top}
-use Rattle.cancel_view.specs.declared.handler.Fired.{Fired}
-use Rattle.cancel_view.specs.Seen.{has, fired, cancelled, may_disconnect}
+use Rattle.context_core.specs.Defaults.{pushed, popped, is_on_top}
 use Rattle.lane_watch.specs.Tasks.{Started}
 use Rattle.lane_turn.specs.declared.line.Line.{Line}
 use Rattle.lane_turn.specs.declared.line.Event.{Event}
 use Rattle.lane_turn.specs.declared.line.Event.TheVariants as events
-use Rattle.lane_turn.specs.declared.line.Invoked.TheVariants.{Direct, Attached, Posted}
-use Rattle.lane_turn.specs.declared.line.Word.{Word}
-use Rattle.lane_turn.specs.declared.line.Word.TheVariants as words
+use Rattle.lane_turn.specs.declared.line.Invoked.TheVariants.{Direct}
 use Rattle.lane_turn.specs.declared.layer.Origin.{Origin}
 use Rattle.lane_turn.specs.declared.layer.Origin.TheVariants.{Start, Source, Invoke as Invoked}
-use Rattle.lane_turn.specs.declared.slot.Place.{Place}
-use Rattle.lane_turn.specs.Frames.{calls_in_progress}
 use Rattle.lane_turn.specs.Sources.{restarted, restarted_row, restarted_kind}
-use Rattle.lane_turn.specs.Lane.{Lane, present, context_at, next_id, with_rows, with_context, edited, row_at, place_at, handler_at, written, viewing, noting, is_own, is_given}
-use Rattle.lane_turn.specs.Handover.{may_give, with_given}
-use Rattle.lane_turn.specs.Owned.{default_context, is_owned, may_release, invoke_spec, calling, called_at_once, attaching, invoke_own, invoke}
-use Rattle.lane_turn.specs.Acted.{attach, acted, start_task, born, can_bear, child_of, on_source, set_priority_of, plain_acted, all_acted, handled, all_handled, cancel, connect, disconnect_of}
+use Rattle.lane_turn.specs.Lane.{Lane, present, context_at, next_id, with_rows, with_context, edited, written, is_own}
+use Rattle.lane_turn.specs.Owned.{default_context}
+use Rattle.lane_turn.specs.Acted.{acted, start_task, cancel}
 use Rattle.lane_turn.specs.Step.{returned, answered}
 use Rattle.lane_turn.specs.Owed.{one_for}
 use Rattle.lane_turn.specs.Taken.{is_result, results}
 use Rattle.lane_turn.proofs.Lists.{each-push}
+use Rattle.lane_turn.proofs.Moves as moves
+use Rattle.lane_turn.proofs.Moves.{PlainMove, plainly, IsSaid, IsPlain, Change, changed_by, Move, moved, MayMove, Law, has_own, acted_by}
 use Rattle.lane_turn.specs.declared.layer.Asker.{Asker}
 use Rattle.lane_turn.specs.declared.layer.Asker.TheVariants as askers
 
@@ -120,116 +114,25 @@ pub either : (s n : ℕ) (lane x y : Lane) (b : Bool) → Leaves s n lane x → 
 either s n lane x y true p q = p
 either s n lane x y false p q = q
 
--- ---- handlers
+-- ---- moves
 
-leaves_source : (s n tick : ℕ) (word : Word) (f : ℕ → RowSet → RowSet) (o : Option Place) (lane : Lane) → ((id : ℕ) (rows : RowSet) → rows.next_id ≤ (f id rows).next_id) → Leaves s n lane (on_source tick word f o lane)
-leaves_source s n tick word f None lane e = line s n lane tick (events.Miss word) refl
-leaves_source s n tick word f (Some place) lane e = either s n lane _ _ (is_some (row_at place lane)) (edit s n lane place.context (f place.id) (e place.id)) (line s n lane tick (events.Miss word) refl)
+said_none : (s n : ℕ) (event : Event) → IsSaid true event → is_result s n event ≡ false
+said_none s n (events.Task lane task outcome) h = absurd h
+said_none s n _ h = refl
 
-leaves_one : (s n : ℕ) (script : Plan) (tick : ℕ) (action : Action) (lane : Lane) → Leaves s n lane (plain_acted script tick action lane)
-leaves_one s n script tick (Attach context slot spec) lane = same s n lane lane refl refl refl refl refl
-leaves_one s n script tick (Child parent slot spec) lane = same s n lane lane refl refl refl refl refl
-leaves_one s n script tick (Destroy slot) lane = leaves_source s n tick words.Destroy destroyed (place_at slot lane) lane (λ id rows. omega arith)
-leaves_one s n script tick (SetReady slot us) lane = leaves_source s n tick words.SetReady (λ id. ready_set id us) (place_at slot lane) lane (λ id rows. omega arith)
-leaves_one s n script tick (SetPriority slot priority) lane = same s n lane lane refl refl refl refl refl
-leaves_one s n script tick (Iterate context) lane = same s n lane lane refl refl refl refl refl
-leaves_one s n script tick (Pending context) lane = same s n lane lane refl refl refl refl refl
-leaves_one s n script tick (Run number) lane = same s n lane lane refl refl refl refl refl
-leaves_one s n script tick (Quit number) lane = either s n lane _ _ (is_own (context_of script number) lane) (same s n lane _ refl refl refl refl refl) (line s n lane tick (events.Miss words.Quit) refl)
-leaves_one s n script tick (Cancel c) lane = same s n lane lane refl refl refl refl refl
-leaves_one s n script tick (Connect c slot proc) lane = same s n lane lane refl refl refl refl refl
-leaves_one s n script tick (Disconnect slot) lane = same s n lane lane refl refl refl refl refl
-leaves_one s n script tick (Task spec) lane = same s n lane lane refl refl refl refl refl
-leaves_one s n script tick (Push context) lane = same s n lane lane refl refl refl refl refl
-leaves_one s n script tick (Pop context) lane = same s n lane lane refl refl refl refl refl
-leaves_one s n script tick ShowDefault lane = same s n lane lane refl refl refl refl refl
-leaves_one s n script tick (Acquire context) lane = same s n lane lane refl refl refl refl refl
-leaves_one s n script tick (Release context) lane = same s n lane lane refl refl refl refl refl
-leaves_one s n script tick (Invoke context proc) lane = same s n lane lane refl refl refl refl refl
-leaves_one s n script tick (Give context to) lane = same s n lane lane refl refl refl refl refl
-leaves_one s n script tick (Log m) lane = line s n lane tick (events.Log m) refl
-
-leaves_all : (s n : ℕ) (script : Plan) (tick : ℕ) (actions : List Action) (lane : Lane) → Leaves s n lane (all_acted script tick actions lane)
-leaves_all s n script tick [] lane = same s n lane lane refl refl refl refl refl
-leaves_all s n script tick (a ∷ actions) lane = leaves_trans s n lane _ _ (leaves_one s n script tick a lane) (leaves_all s n script tick actions (plain_acted script tick a lane))
-
-leaves_handled : (s n : ℕ) (script : Plan) (tick : ℕ) (f : Fired) (lane : Lane) → Leaves s n lane (handled script tick f lane)
-leaves_handled s n script tick f lane =
-    let told : Lane = written tick (events.Handler f.id) lane in
-    leaves_trans s n lane told _ (line s n lane tick (events.Handler f.id) refl) (leaves_all s n script tick (actions_of script (Procedure f.proc)) told)
-
-leaves_all_handled : (s n : ℕ) (script : Plan) (tick : ℕ) (fs : List Fired) (lane : Lane) → Leaves s n lane (all_handled script tick fs lane)
-leaves_all_handled s n script tick [] lane = same s n lane lane refl refl refl refl refl
-leaves_all_handled s n script tick (f ∷ fs) lane = leaves_trans s n lane _ _ (leaves_handled s n script tick f lane) (leaves_all_handled s n script tick fs (handled script tick f lane))
-
-pub leaves_cancel : (s n : ℕ) (script : Plan) (tick c : ℕ) (lane : Lane) → Leaves s n lane (cancel script tick c lane)
-leaves_cancel s n script tick c lane =
-    let noted : Lane = noting tick c (viewing (cancelled c lane.view) lane) in
-    let seen : Lane = written tick (events.Cancel c) noted in
-    let after : Lane = all_handled script tick (fired c lane.view) seen in
-    either s n lane lane after (has c lane.view) (same s n lane lane refl refl refl refl refl)
-    (leaves_trans s n lane noted after (same s n lane noted refl refl refl refl refl)
-    (leaves_trans s n noted seen after (line s n noted tick (events.Cancel c) refl) (leaves_all_handled s n script tick (fired c lane.view) seen)))
-
--- ---- actions
-
-leaves_connect : (s n : ℕ) (script : Plan) (tick c slot proc : ℕ) (lane : Lane) → Leaves s n lane (connect script tick c slot proc lane)
-leaves_connect s n script tick c slot proc lane =
-    let after : Lane = handled script tick (record { id = 0; proc = proc }) lane in
-    either s n lane _ _ (has c lane.view)
-    (leaves_trans s n lane after _ (leaves_handled s n script tick (record { id = 0; proc = proc }) lane) (same s n after _ refl refl refl refl refl))
-    (same s n lane _ refl refl refl refl refl)
-
-leaves_disconnect : (s n tick : ℕ) (o : Option ℕ) (lane : Lane) → Leaves s n lane (disconnect_of tick o lane)
-leaves_disconnect s n tick None lane = line s n lane tick (events.Miss words.Disconnect) refl
-leaves_disconnect s n tick (Some id) lane = either s n lane _ _ (may_disconnect id lane.view) (same s n lane _ refl refl refl refl refl) (line s n lane tick (events.Miss words.Disconnect) refl)
+leaves_plain : (s n tick : ℕ) (move : PlainMove) (lane : Lane) → IsPlain true move lane → Leaves s n lane (plainly tick move lane)
+leaves_plain s n tick (moves.Write event) lane m = line s n lane tick event (said_none s n event m)
+leaves_plain s n tick (moves.Destroy place) lane m = edit s n lane place.context (destroyed place.id) (λ rows. omega arith)
+leaves_plain s n tick (moves.SetReady us place) lane m = edit s n lane place.context (ready_set place.id us) (λ rows. omega arith)
+leaves_plain s n tick _ lane m = same s n lane _ refl refl refl refl refl
 
 child_rises : (spec : SourceSpec) (now : ℕ) (o : Option Row) (rows : RowSet) → rows.next_id ≤ (child_added spec now o rows).next_id
 child_rises spec now None rows = omega arith
 child_rises spec now (Some parent) rows = omega arith
 
-leaves_child : (s n tick now slot : ℕ) (spec : SourceSpec) (o : Option Place) (lane : Lane) → Leaves s n lane (child_of tick now slot spec o lane)
-leaves_child s n tick now slot spec None lane = line s n lane tick (events.Miss words.Child) refl
-leaves_child s n tick now slot spec (Some place) lane =
-    let there : Lane = edited place.context (born spec now place.id) lane in
-    either s n lane _ _ (can_bear place lane)
-    (leaves_trans s n lane there _ (edit s n lane place.context (born spec now place.id) (λ rows. child_rises spec now (row_with place.id rows.rows) rows)) (same s n there _ refl refl refl refl refl))
-    (line s n lane tick (events.Miss words.Child) refl)
-
-leaves_priority : (s n tick : ℕ) (priority : ℤ) (o : Option Place) (lane : Lane) → Leaves s n lane (set_priority_of tick priority o lane)
-leaves_priority s n tick priority None lane = line s n lane tick (events.Miss words.SetPriority) refl
-leaves_priority s n tick priority (Some place) lane =
-    either s n lane _ _ (is_none (priority_fault (row_at place lane))) (edit s n lane place.context (reprioritised place.id priority) (λ rows. omega arith)) (line s n lane tick (events.Miss words.SetPriority) refl)
-
-leaves_at_once : (s n tick context proc : ℕ) (acquires : Option ℕ) (lane : Lane) → Leaves s n lane (called_at_once tick context proc acquires lane)
-leaves_at_once s n tick context proc acquires lane =
-    let told : Lane = written tick (events.Invoke context Direct) lane in
-    let halted : Lane = written tick events.HaltDepth lane in
-    either s n lane (calling tick context proc acquires lane) _ (nat_lt (calls_in_progress lane.frames) 32)
-    (leaves_trans s n lane told _ (line s n lane tick (events.Invoke context Direct) refl) (same s n told _ refl refl refl refl refl))
-    (leaves_trans s n lane halted _ (line s n lane tick events.HaltDepth refl) (same s n halted _ refl refl refl refl refl))
-
-leaves_attaching : (s n tick now context proc : ℕ) (lane : Lane) → Leaves s n lane (attaching tick now context proc lane)
-leaves_attaching s n tick now context proc lane =
-    let there : Lane = edited context (attached (invoke_spec proc) now) lane in
-    leaves_trans s n lane there _ (edit s n lane context (attached (invoke_spec proc) now) (λ rows. omega arith)) (line s n there tick (events.Invoke context Attached) refl)
-
-leaves_invoke : (s n tick now context proc : ℕ) (lane : Lane) → Leaves s n lane (invoke tick now context proc lane)
-leaves_invoke s n tick now context proc lane =
-    let none : Lane = called_at_once tick context proc None lane in
-    let some : Lane = called_at_once tick context proc (Some context) lane in
-    let there : Lane = attaching tick now context proc lane in
-    either s n lane (invoke_own tick now context proc lane) (written tick (events.Invoke context Posted) lane) (is_own context lane)
-    (either s n lane none (cond (default_context lane == context) some there) (is_owned context lane) (leaves_at_once s n tick context proc None lane)
-    (either s n lane some there (default_context lane == context) (leaves_at_once s n tick context proc (Some context) lane) (leaves_attaching s n tick now context proc lane)))
-    (line s n lane tick (events.Invoke context Posted) refl)
-
-leaves_attach : (s n tick now context slot : ℕ) (spec : SourceSpec) (lane : Lane) → Leaves s n lane (attach tick now context slot spec lane)
-leaves_attach s n tick now context slot spec lane =
-    let there : Lane = edited context (attached spec now) lane in
-    either s n lane _ _ (is_own context lane)
-    (leaves_trans s n lane there _ (edit s n lane context (attached spec now) (λ rows. omega arith)) (same s n there _ refl refl refl refl refl))
-    (line s n lane tick (events.Miss words.Attach) refl)
+rises_by : (it : Change) (c : Context) → c.rows.next_id ≤ (changed_by it c).rows.next_id
+rises_by (moves.Bear spec now id) c = child_rises spec now (row_with id c.rows.rows) c.rows
+rises_by _ c = omega arith
 
 pub own_within : (contexts : List (Option Context)) (c : ℕ) → is_some (present (slice_get contexts c)) ≡ true → c < length contexts
 own_within [] c e = let no : false ≡ true = e in cc
@@ -242,19 +145,14 @@ each_front P zero (x ∷ xs) h = tt
 each_front P (suc k) [] h = tt
 each_front P (suc k) (x ∷ xs) h = (h.0, each_front P k xs h.1)
 
-left_of : (a b : Bool) → (a && b) ≡ true → a ≡ true
-left_of true b h = refl
-left_of false b h = let no : false ≡ true = h in cc
-
-leaves_push : (s n tick context : ℕ) (lane : Lane) (b : Bool) → is_own context lane ≡ b → Leaves s n lane (cond b (record lane { defaults = pushed context lane.defaults }) (written tick (events.Miss words.Push) lane))
-leaves_push s n tick context lane true e = record {
+leaves_push : (s n context : ℕ) (lane : Lane) → is_own context lane ≡ true → Leaves s n lane (record lane { defaults = pushed context lane.defaults })
+leaves_push s n context lane e = record {
   told = refl;
   replies = refl;
   size = refl;
   rise = λ i. omega arith;
-  place = λ m z p. record { all = p.all; defaults = each-push (λ c. c < m) lane.defaults context p.defaults (omega (arith, own_within lane.contexts context (left_of (is_some (context_at context lane)) (not (is_given context lane)) e), p.all)); tasks = p.tasks };
+  place = λ m z p. record { all = p.all; defaults = each-push (λ c. c < m) lane.defaults context p.defaults (omega (arith, own_within lane.contexts context (has_own context lane e), p.all)); tasks = p.tasks };
 }
-leaves_push s n tick context lane false e = line s n lane tick (events.Miss words.Push) refl
 
 leaves_popped : (s n context : ℕ) (lane : Lane) → Leaves s n lane (record lane { defaults = popped context lane.defaults })
 leaves_popped s n context lane = record { told = refl; replies = refl; size = refl; rise = λ i. omega arith; place = λ m z p. record { all = p.all; defaults = by m (is_on_top context lane.defaults) p.defaults; tasks = p.tasks } }
@@ -282,32 +180,32 @@ leaves_task s n tick spec lane = record {
   };
 }
 
+leaves_each : (s n : ℕ) (script : Plan) (tick : ℕ) (move : Move) (lane : Lane) → MayMove script move lane → Leaves s n lane (moved script tick move lane)
+leaves_each s n script tick (moves.Alter context it) lane m = change s n lane context (changed_by it) (rises_by it)
+leaves_each s n script tick (moves.Call context proc acquires) lane m =
+    let told : Lane = written tick (events.Invoke context Direct) lane in
+    leaves_trans s n lane told _ (line s n lane tick (events.Invoke context Direct) refl) (same s n told _ refl refl refl refl refl)
+leaves_each s n script tick moves.Halt lane m =
+    let halted : Lane = written tick events.HaltDepth lane in
+    leaves_trans s n lane halted _ (line s n lane tick events.HaltDepth refl) (same s n halted _ refl refl refl refl refl)
+leaves_each s n script tick (moves.Start spec) lane m = leaves_task s n tick spec lane
+leaves_each s n script tick (moves.Push context) lane m = leaves_push s n context lane m
+leaves_each s n script tick (moves.Pop context) lane m = leaves_popped s n context lane
+leaves_each s n script tick _ lane m = same s n lane _ refl refl refl refl refl
+
+leaves_moves : (s n : ℕ) (script : Plan) (tick : ℕ) → Law script tick (Leaves s n) (λ mail. Leaves s n)
+leaves_moves s n script tick = record {
+  plain = record { none = λ lane. same s n lane lane refl refl refl refl refl; next = leaves_trans s n; each = leaves_plain s n tick };
+  of = λ a b h. h;
+  next = λ mail. leaves_trans s n;
+  each = leaves_each s n script tick;
+}
+
 pub leaves_acted : (s n : ℕ) (script : Plan) (tick : ℕ) (action : Action) (lane : Lane) → Leaves s n lane (acted script tick action lane)
-leaves_acted s n script tick (Attach context slot spec) lane = leaves_attach s n tick (time_of script tick) context slot spec lane
-leaves_acted s n script tick (Child parent slot spec) lane = leaves_child s n tick (time_of script tick) slot spec (place_at parent lane) lane
-leaves_acted s n script tick (Destroy slot) lane = leaves_source s n tick words.Destroy destroyed (place_at slot lane) lane (λ id rows. omega arith)
-leaves_acted s n script tick (SetReady slot us) lane = leaves_source s n tick words.SetReady (λ id. ready_set id us) (place_at slot lane) lane (λ id rows. omega arith)
-leaves_acted s n script tick (SetPriority slot priority) lane = leaves_priority s n tick priority (place_at slot lane) lane
-leaves_acted s n script tick (Iterate context) lane = either s n lane _ _ (is_own context lane) (same s n lane _ refl refl refl refl refl) (line s n lane tick (events.Iterate context false) refl)
-leaves_acted s n script tick (Pending context) lane = line s n lane tick _ refl
-leaves_acted s n script tick (Run number) lane = either s n lane _ _ (is_own (context_of script number) lane) (same s n lane _ refl refl refl refl refl) (line s n lane tick (events.Miss words.Run) refl)
-leaves_acted s n script tick (Quit number) lane = either s n lane _ _ (is_own (context_of script number) lane) (same s n lane _ refl refl refl refl refl) (line s n lane tick (events.Miss words.Quit) refl)
-leaves_acted s n script tick (Cancel c) lane = leaves_cancel s n script tick c lane
-leaves_acted s n script tick (Connect c slot proc) lane = leaves_connect s n script tick c slot proc lane
-leaves_acted s n script tick (Disconnect slot) lane = leaves_disconnect s n tick (handler_at slot lane) lane
-leaves_acted s n script tick (Task spec) lane = leaves_task s n tick spec lane
-leaves_acted s n script tick (Push context) lane = leaves_push s n tick context lane (is_own context lane) refl
-leaves_acted s n script tick (Pop context) lane = either s n lane _ _ (is_on_top context lane.defaults) (leaves_popped s n context lane) (line s n lane tick (events.Miss words.Pop) refl)
-leaves_acted s n script tick ShowDefault lane = line s n lane tick (events.Default (default_context lane)) refl
-leaves_acted s n script tick (Acquire context) lane =
-    let there : Lane = with_context context acquired lane in
-    either s n lane _ _ (is_own context lane)
-    (leaves_trans s n lane there _ (change s n lane context acquired (λ c. omega arith)) (line s n there tick (events.Acquire context true) refl))
-    (line s n lane tick (events.Acquire context false) refl)
-leaves_acted s n script tick (Release context) lane = either s n lane _ _ (may_release (context_at context lane)) (change s n lane context released (λ c. omega arith)) (line s n lane tick (events.Miss words.Release) refl)
-leaves_acted s n script tick (Invoke context proc) lane = leaves_invoke s n tick (time_of script tick) context proc lane
-leaves_acted s n script tick (Give context to) lane = either s n lane _ _ (may_give script context to lane) (leaves_trans s n lane (with_given context true lane) _ (same s n lane (with_given context true lane) refl refl refl refl refl) (line s n (with_given context true lane) tick (events.Give context to) refl)) (line s n lane tick (events.Miss words.Give) refl)
-leaves_acted s n script tick (Log m) lane = line s n lane tick (events.Log m) refl
+leaves_acted s n script tick action lane = acted_by (leaves_moves s n script tick) action lane
+
+pub leaves_cancel : (s n : ℕ) (script : Plan) (tick c : ℕ) (lane : Lane) → Leaves s n lane (cancel script tick c lane)
+leaves_cancel s n script tick c lane = leaves_acted s n script tick (actions.Cancel c) lane
 
 -- ---- what ends
 

@@ -6,6 +6,7 @@ pub mod Halting
 pub mod Lists
 pub mod Polled
 pub mod Measure
+pub mod Moves
 pub mod Mild
 pub mod Acts
 pub mod Bounds

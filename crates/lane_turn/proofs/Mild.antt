@@ -6,30 +6,23 @@ use Rattle.std.proofs.lemmas.List.Sums.{length-filter, count_by-le-length}
 use Rattle.std.specs.List.{AllByRecursion}
 use Rattle.loop_script.specs.declared.plan.Plan.{Plan}
 use Rattle.loop_script.specs.declared.source.SourceSpec.{SourceSpec}
-use Rattle.loop_script.specs.declared.action.Action.{Action}
-use Rattle.loop_script.specs.declared.action.Action.TheVariants.{Attach, Child, Destroy, SetReady, SetPriority, Iterate, Pending, Run, Quit, Cancel, Connect, Disconnect, Task, Push, Pop, ShowDefault, Acquire, Release, Invoke, Give, Log}
-use Rattle.loop_script.specs.Parts.{actions_of}
 use Rattle.source_rows.specs.declared.row.Row.{Row}
 use Rattle.source_rows.specs.Row.{root_row, child_row}
 use Rattle.source_rows.specs.Rows.{RowSet, attached, child_added, destroyed, counted, ready_set, reprioritised, moved, changed, has_id, is_under, row_of as row_with}
 use Rattle.context_core.specs.declared.context.Context.{Context}
-use Rattle.lane_turn.specs.declared.slot.Place.{Place}
-use Rattle.cancel_view.specs.declared.handler.Fired.{Fired}
-use Rattle.cancel_view.specs.Seen.{Seen, has, fired, cancelled}
-use Rattle.loop_script.specs.declared.body.Body.TheVariants.{Procedure}
+use Rattle.cancel_view.specs.Seen.{Seen, has, cancelled}
 use Rattle.lane_turn.specs.declared.line.Event.{Event}
-use Rattle.lane_turn.specs.declared.line.Event.TheVariants as events
 use Rattle.lane_turn.specs.Frames.{Frame, CallOf, IterOf, LoopOf, emptied, busy}
 use Rattle.lane_turn.specs.Sources.{restarted, restarted_row, restarted_kind, due_after, own_ready_at, chosen_in}
 use Rattle.loop_script.specs.declared.source.Kind.{Kind}
 use Rattle.loop_script.specs.declared.source.Kind.TheVariants as kinds
-use Rattle.lane_turn.specs.Lane.{Lane, present, context_at, with_rows, with_context, edited, iterating, place_at, viewing, noting, set_running, written, chosen}
-use Rattle.lane_turn.specs.Acted.{missed, born, on_source, plain_acted, all_acted, handled, all_handled, cancel}
-use Rattle.lane_turn.specs.declared.line.Word.{Word}
-use Rattle.lane_turn.specs.declared.line.Word.TheVariants as words
+use Rattle.lane_turn.specs.Lane.{Lane, present, context_at, with_rows, with_context, edited, iterating, written, chosen}
+use Rattle.lane_turn.specs.Acted.{born, cancel}
 use Rattle.lane_turn.specs.Turn.{nest_work, rows_in, row_count}
 use Rattle.lane_turn.specs.Sound.{IsBounded, IsBoundedContext, Bounded, IsWithin}
 use Rattle.lane_turn.proofs.Lists.{each-push, each-filter, each_weaker, length-selected}
+use Rattle.lane_turn.proofs.Moves as moves
+use Rattle.lane_turn.proofs.Moves.{PlainMove, plainly, PlainLaw, noticed, cancel_by}
 use Rattle.lane_turn.specs.declared.layer.Asker.{Asker}
 
 -- it adds a row, as many ids as there were rows and two frames, and 2 to each counter.
@@ -301,10 +294,6 @@ plain_line lane after c f v = record { rows = omega (arith, ap row_count c); fra
 plain_trans : (a b c : Lane) → Plain a b → Plain b c → Plain a c
 plain_trans a b c h k = record { rows = omega (arith, h.rows, k.rows); frames = k.frames ∙ h.frames; handlers = k.handlers ∙ h.handlers; bounded = λ m w. k.bounded m (h.bounded m w) }
 
-plain_either : (lane x y : Lane) (b : Bool) → Plain lane x → Plain lane y → Plain lane (cond b x y)
-plain_either lane x y true p q = p
-plain_either lane x y false p q = q
-
 plain_edit : (lane : Lane) (context : ℕ) (edit : RowSet → RowSet) → MildEdit 0 0 edit → Plain lane (edited context edit lane)
 plain_edit lane context edit e = record {
   rows = omega (arith, rows_edited 0 0 edit e lane.contexts context);
@@ -313,46 +302,15 @@ plain_edit lane context edit e = record {
   bounded = λ m b. each_bounded (m + 0) m (omega arith) _ (bounded_edited 0 0 m edit e lane.contexts context b);
 }
 
-plain_source : (tick : ℕ) (word : Word) (edit : ℕ → RowSet → RowSet) → ((id : ℕ) → MildEdit 0 0 (edit id)) → (o : Option Place) (lane : Lane) → Plain lane (on_source tick word edit o lane)
-plain_source tick word edit e None lane = plain_line lane _ refl refl refl
-plain_source tick word edit e (Some place) lane = plain_either lane _ _ _ (plain_edit lane place.context (edit place.id) (e place.id)) (plain_line lane (missed tick word lane) refl refl refl)
+plain_each : (tick : ℕ) (move : PlainMove) (lane : Lane) → Plain lane (plainly tick move lane)
+plain_each tick (moves.Destroy place) lane = plain_edit lane place.context (destroyed place.id) (mild_destroyed place.id)
+plain_each tick (moves.SetReady us place) lane = plain_edit lane place.context (ready_set place.id us) (mild_ready_set place.id us)
+plain_each tick _ lane = plain_line lane _ refl refl refl
 
-plain_one : (script : Plan) (tick : ℕ) (action : Action) (lane : Lane) → Plain lane (plain_acted script tick action lane)
-plain_one script tick (Attach context slot spec) lane = plain_line lane _ refl refl refl
-plain_one script tick (Child parent slot spec) lane = plain_line lane _ refl refl refl
-plain_one script tick (Destroy slot) lane = plain_source tick words.Destroy destroyed mild_destroyed (place_at slot lane) lane
-plain_one script tick (SetReady slot us) lane = plain_source tick words.SetReady (λ id. ready_set id us) (λ id. mild_ready_set id us) (place_at slot lane) lane
-plain_one script tick (SetPriority slot priority) lane = plain_line lane _ refl refl refl
-plain_one script tick (Iterate context) lane = plain_line lane _ refl refl refl
-plain_one script tick (Pending context) lane = plain_line lane _ refl refl refl
-plain_one script tick (Run number) lane = plain_line lane _ refl refl refl
-plain_one script tick (Quit number) lane = plain_either lane _ _ _ (plain_line lane (set_running number false lane) refl refl refl) (plain_line lane (missed tick words.Quit lane) refl refl refl)
-plain_one script tick (Cancel c) lane = plain_line lane _ refl refl refl
-plain_one script tick (Connect c slot proc) lane = plain_line lane _ refl refl refl
-plain_one script tick (Disconnect slot) lane = plain_line lane _ refl refl refl
-plain_one script tick (Task spec) lane = plain_line lane _ refl refl refl
-plain_one script tick (Push context) lane = plain_line lane _ refl refl refl
-plain_one script tick (Pop context) lane = plain_line lane _ refl refl refl
-plain_one script tick ShowDefault lane = plain_line lane _ refl refl refl
-plain_one script tick (Acquire context) lane = plain_line lane _ refl refl refl
-plain_one script tick (Release context) lane = plain_line lane _ refl refl refl
-plain_one script tick (Invoke context proc) lane = plain_line lane _ refl refl refl
-plain_one script tick (Give context to) lane = plain_line lane _ refl refl refl
-plain_one script tick (Log n) lane = plain_line lane _ refl refl refl
+pub plain_moves : (tick : ℕ) → PlainLaw true tick Plain
+plain_moves tick = record { none = λ lane. plain_line lane lane refl refl refl; next = plain_trans; each = λ move lane m. plain_each tick move lane }
 
-plain_all : (script : Plan) (tick : ℕ) (actions : List Action) (lane : Lane) → Plain lane (all_acted script tick actions lane)
-plain_all script tick [] lane = plain_line lane lane refl refl refl
-plain_all script tick (a ∷ actions) lane = plain_trans lane _ _ (plain_one script tick a lane) (plain_all script tick actions (plain_acted script tick a lane))
-
-pub plain_handled : (script : Plan) (tick : ℕ) (f : Fired) (lane : Lane) → Plain lane (handled script tick f lane)
-plain_handled script tick f lane =
-    plain_trans lane _ _ (plain_line lane (written tick (events.Handler f.id) lane) refl refl refl) (plain_all script tick (actions_of script (Procedure f.proc)) (written tick (events.Handler f.id) lane))
-
-plain_all_handled : (script : Plan) (tick : ℕ) (fs : List Fired) (lane : Lane) → Plain lane (all_handled script tick fs lane)
-plain_all_handled script tick [] lane = plain_line lane lane refl refl refl
-plain_all_handled script tick (f ∷ fs) lane = plain_trans lane _ _ (plain_handled script tick f lane) (plain_all_handled script tick fs (handled script tick f lane))
-
-cancelled_id : (view : Seen) (c : ℕ) → (cancelled c view).next_id ≡ view.next_id
+pub cancelled_id : (view : Seen) (c : ℕ) → (cancelled c view).next_id ≡ view.next_id
 cancelled_id view c = id_by (has c view)
   where
     id_by : (b : Bool) → (cond b view (record view { members = slice_set view.members c true })).next_id ≡ view.next_id
@@ -361,9 +319,8 @@ cancelled_id view c = id_by (has c view)
 
 pub plain_cancel : (script : Plan) (tick c : ℕ) (lane : Lane) → Plain lane (cancel script tick c lane)
 plain_cancel script tick c lane =
-    let seen : Lane = written tick (events.Cancel c) (noting tick c (viewing (cancelled c lane.view) lane)) in
-    plain_either lane lane _ (has c lane.view) (plain_line lane lane refl refl refl)
-    (plain_trans lane seen _ (plain_line lane seen refl refl (cancelled_id lane.view c)) (plain_all_handled script tick (fired c lane.view) seen))
+    let seen : Lane = noticed tick c lane in
+    cancel_by (plain_moves tick) script (Plain lane) c lane (λ e. plain_line lane lane refl refl refl) (λ after e h. plain_trans lane seen after (plain_line lane seen refl refl (cancelled_id lane.view c)) h)
 
 pub mild_plain : (lane after : Lane) → Plain lane after → Mild lane after
 mild_plain lane after h = record {
@@ -373,5 +330,16 @@ mild_plain lane after h = record {
     contexts = each_bounded m (m + 2) (omega arith) after.contexts (h.bounded m w.contexts);
     frames = omega (arith, ap (λ (fs : List Frame). length fs) h.frames, w.frames);
     handlers = omega (arith, h.handlers, w.handlers);
+  };
+}
+
+pub mild_then : (a b c : Lane) → Mild a b → Plain b c → Mild a c
+mild_then a b c h g = record {
+  rows = omega (arith, h.rows, g.rows);
+  frames = omega (arith, h.frames, ap nest_work g.frames);
+  within = λ m w. let i = h.within m w in record {
+    contexts = g.bounded (m + 2) i.contexts;
+    frames = omega (arith, ap (λ (fs : List Frame). length fs) g.frames, i.frames);
+    handlers = omega (arith, g.handlers, i.handlers);
   };
 }

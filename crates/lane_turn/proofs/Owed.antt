@@ -4,7 +4,7 @@ use Rattle.std.specs.Prelude.{slice_get, nat_le}
 use Rattle.std.specs.List.{range_with_len}
 use Rattle.loop_script.specs.declared.plan.Plan.{Plan}
 use Rattle.loop_script.specs.declared.action.Action.{Action}
-use Rattle.loop_script.specs.declared.action.Action.TheVariants.{Attach, Child, Destroy, SetReady, SetPriority, Iterate, Pending, Run, Quit, Cancel, Connect, Disconnect, Task, Push, Pop, ShowDefault, Acquire, Release, Invoke, Give, Log}
+use Rattle.loop_script.specs.declared.action.Action.TheVariants.{Cancel, Invoke, Give}
 use Rattle.loop_script.specs.Parts.{actions_of}
 use Rattle.source_rows.specs.declared.row.Row.{Row}
 use Rattle.cancel_view.specs.Seen.{Seen, has}
@@ -52,29 +52,12 @@ sends_none n script (Invoke context proc) lane = by (is_own context lane)
     by : (b : Bool) → mail_count n (cond b None (Some (mails.Attach context (invoke_spec proc)))) ≡ 0
     by true = refl
     by false = refl
-sends_none n script (Attach context slot spec) lane = refl
-sends_none n script (Child parent slot spec) lane = refl
-sends_none n script (Destroy slot) lane = refl
-sends_none n script (SetReady slot us) lane = refl
-sends_none n script (SetPriority slot priority) lane = refl
-sends_none n script (Iterate context) lane = refl
-sends_none n script (Pending context) lane = refl
-sends_none n script (Run number) lane = refl
-sends_none n script (Quit number) lane = refl
-sends_none n script (Connect c slot proc) lane = refl
-sends_none n script (Disconnect slot) lane = refl
-sends_none n script (Task spec) lane = refl
-sends_none n script (Push context) lane = refl
-sends_none n script (Pop context) lane = refl
-sends_none n script ShowDefault lane = refl
-sends_none n script (Acquire context) lane = refl
-sends_none n script (Release context) lane = refl
 sends_none n script (Give context to) lane = by (may_give script context to lane)
   where
     by : (b : Bool) → mail_count n (cond b (Some (mails.Give context to)) None) ≡ 0
     by true = refl
     by false = refl
-sends_none n script (Log m) lane = refl
+sends_none n script _ lane = refl
 
 -- the same of a lane whose innermost call has taken an action, or was left
 taken_changes : (k : ℕ) (lane after : Lane) → Changes k (taken lane) after → Changes k lane after

@@ -1,40 +1,29 @@
 -- What a lane is in the middle of is in contexts of its own: what begins an iteration, a run or a call that acquires.
-use Rattle.std.proofs.Common.{◌≡◌, ◌⊎◌, inl, inr, ℕ, ℤ, ◌==◌, ◌||◌, Bool, true, false, cond, Option, Some, None, List, [], ◌∷◌, drop, refl, ap, sym, ◌∙◌, subst, eqb-true, ◌+◌}
-use Rattle.std.specs.Prelude.{not, ◌&&◌, is_some, is_none, nat_lt}
+use Rattle.std.proofs.Common.{◌≡◌, ◌⊎◌, inl, inr, ℕ, ◌==◌, ◌||◌, Bool, true, false, cond, Option, Some, None, List, [], ◌∷◌, drop, refl, ap, sym, ◌∙◌, subst, eqb-true, ◌+◌}
+use Rattle.std.specs.Prelude.{not, ◌&&◌, is_some, nat_lt}
 use Rattle.std.specs.List.{list_any}
 use Rattle.loop_script.specs.declared.plan.Plan.{Plan}
-use Rattle.loop_script.specs.declared.source.SourceSpec.{SourceSpec}
 use Rattle.loop_script.specs.declared.action.Action.{Action}
-use Rattle.loop_script.specs.declared.action.Action.TheVariants as actions
 use Rattle.loop_script.specs.declared.body.Body.{Body}
-use Rattle.loop_script.specs.Parts.{time_of, context_of, stays}
+use Rattle.loop_script.specs.Parts.{time_of, stays}
 use Rattle.source_rows.specs.declared.row.Row.{Row}
-use Rattle.source_rows.specs.Rows.{RowSet, destroyed, ready_set, priority_fault}
-use Rattle.cancel_view.specs.Seen.{has, may_disconnect}
+use Rattle.source_rows.specs.Rows.{destroyed}
 use Rattle.post_office.specs.declared.letter.Body.{Body as Mail}
-use Rattle.post_office.specs.declared.letter.Body.TheVariants as mails
-use Rattle.context_core.specs.Defaults.{is_on_top}
-use Rattle.lane_turn.specs.declared.line.Event.TheVariants as events
-use Rattle.lane_turn.specs.declared.line.Word.{Word}
-use Rattle.lane_turn.specs.declared.line.Word.TheVariants as words
-use Rattle.lane_turn.specs.declared.lane.Status.TheVariants.{Halted}
-use Rattle.lane_turn.specs.declared.slot.Place.{Place}
+use Rattle.lane_turn.proofs.Moves as moves
+use Rattle.lane_turn.proofs.Moves.{Move, moved, mail_by, MayMove, IsOrNone, Law, acted_by}
 use Rattle.lane_turn.specs.declared.layer.Asker.{Asker}
 use Rattle.lane_turn.specs.declared.layer.Asker.TheVariants as askers
-use Rattle.lane_turn.specs.declared.line.Invoked.TheVariants.{Posted}
 use Rattle.loop_script.specs.declared.body.Body.TheVariants as bodies
 use Rattle.lane_turn.specs.declared.layer.Origin.{Origin}
 use Rattle.lane_turn.specs.declared.layer.Origin.TheVariants as origins
 use Rattle.lane_turn.specs.Frames.{Frame, CallOf, IterOf, LoopOf, owns, advanced, advanced_one, emptied, emptied_one, calls_in_progress}
-use Rattle.lane_turn.specs.Lane.{Lane, is_own, chosen, edited, pushed, set_running, row_at, place_at, handler_at, written, iterating, context_at, stopped}
-use Rattle.lane_turn.specs.Owned.{default_context, is_owned, may_release, called_at_once, calling, invoke_own, invoke_spec}
-use Rattle.lane_turn.specs.Handover.{may_give, with_given}
+use Rattle.lane_turn.specs.Lane.{Lane, is_own, is_any, chosen, edited}
 use Rattle.lane_turn.specs.Holding.{gives_context}
-use Rattle.lane_turn.specs.Acted.{missed, acted, child_of, can_bear, on_source, set_priority_of, disconnect_of, sends}
+use Rattle.lane_turn.specs.Acted.{acted, sends}
 use Rattle.lane_turn.specs.Step.{dispatching, returned, answered, body_of}
 use Rattle.lane_turn.specs.Replies.{reply_held}
 use Rattle.lane_turn.specs.Sources.{restarted}
-use Rattle.lane_turn.proofs.Mild.{plain_cancel, plain_handled}
+use Rattle.lane_turn.proofs.Mild.{Plain, plain_moves}
 
 -- whether a letter that may be sent gives a context
 abbrev pub gives_maybe : ℕ → Option Mail → Bool
@@ -53,10 +42,6 @@ own_either own mail fs x y true p q = p
 own_either own mail fs x y false p q = q
 
 -- what takes nothing of a context leaves it owned
-either_true : (x y z : Bool) → (x || y) ≡ true → (y ≡ true → z ≡ true) → (x ≡ true) ⊎ (z ≡ true)
-either_true true y z e f = inl refl
-either_true false y z e f = inr (f e)
-
 advanced_owns : (c : ℕ) (frame : Frame) → owns c (advanced_one frame) ≡ owns c frame
 advanced_owns c (CallOf call) = refl
 advanced_owns c (IterOf d ids asker) = refl
@@ -97,77 +82,34 @@ own_iterating own mail fs d ids asker o g =
 
 -- ---- each action
 
-own_source : (own : ℕ → Bool) (tick : ℕ) (word : Word) (edit : ℕ → RowSet → RowSet) (o : Option Place) (lane : Lane) → OwnOn own None lane.frames (on_source tick word edit o lane).frames
-own_source own tick word edit None lane = own_same own None lane.frames
-own_source own tick word edit (Some place) lane = own_either own None lane.frames _ _ (is_some (row_at place lane)) (own_same own None lane.frames) (own_same own None lane.frames)
+own_left : (own : ℕ → Bool) (mail : Option Mail) (fs old new : List Frame) → new ≡ old → OwnOn own mail fs old → OwnOn own mail fs new
+own_left own mail fs old new e h = subst (OwnOn own mail fs) (sym e) h
 
-own_child : (own : ℕ → Bool) (tick now slot : ℕ) (spec : SourceSpec) (o : Option Place) (lane : Lane) → OwnOn own None lane.frames (child_of tick now slot spec o lane).frames
-own_child own tick now slot spec None lane = own_same own None lane.frames
-own_child own tick now slot spec (Some place) lane = own_either own None lane.frames _ _ (can_bear place lane) (own_same own None lane.frames) (own_same own None lane.frames)
+-- a frame of a context that is the lane's own
+own_begun : (context : ℕ) (frame : Frame) (lane : Lane) → is_own context lane ≡ true → ((c : ℕ) → owns c frame ≡ true → context ≡ c) → OwnOn (λ c. is_own c lane) None lane.frames (frame ∷ lane.frames)
+own_begun context frame lane e f =
+    own_pushed (λ c. is_own c lane) None lane.frames lane.frames frame (λ c k. (subst (λ (n : ℕ). is_own n lane ≡ true) (f c k) e, refl)) (own_same (λ c. is_own c lane) None lane.frames)
 
-own_priority : (own : ℕ → Bool) (tick : ℕ) (priority : ℤ) (o : Option Place) (lane : Lane) → OwnOn own None lane.frames (set_priority_of tick priority o lane).frames
-own_priority own tick priority None lane = own_same own None lane.frames
-own_priority own tick priority (Some place) lane = own_either own None lane.frames _ _ (is_none (priority_fault (row_at place lane))) (own_same own None lane.frames) (own_same own None lane.frames)
+acquired_is : (context proc : ℕ) (acquires : Option ℕ) → IsOrNone acquires context → (c : ℕ) → owns c (CallOf (record { origin = origins.Invoke acquires; body = bodies.Procedure proc; place = 0 })) ≡ true → context ≡ c
+acquired_is context proc None a c k = let no : false ≡ true = k in cc
+acquired_is context proc (Some d) a c k = a ∙ eqb-true d c k
 
-own_disconnect : (own : ℕ → Bool) (tick : ℕ) (o : Option ℕ) (lane : Lane) → OwnOn own None lane.frames (disconnect_of tick o lane).frames
-own_disconnect own tick None lane = own_same own None lane.frames
-own_disconnect own tick (Some id) lane = own_either own None lane.frames _ _ (may_disconnect id lane.view) (own_same own None lane.frames) (own_same own None lane.frames)
-
-own_at_once : (own : ℕ → Bool) (mail : Option Mail) (tick context proc : ℕ) (acquires : Option ℕ) (lane : Lane) → ((c : ℕ) → owns c (CallOf (record { origin = origins.Invoke acquires; body = bodies.Procedure proc; place = 0 })) ≡ true → (own c ≡ true) × (gives_maybe c mail ≡ false)) → OwnOn own mail lane.frames (called_at_once tick context proc acquires lane).frames
-own_at_once own mail tick context proc acquires lane f =
-    own_either own mail lane.frames (calling tick context proc acquires lane) (stopped Halted (written tick events.HaltDepth lane)) (nat_lt (calls_in_progress lane.frames) 32) (own_pushed own mail lane.frames lane.frames (CallOf (record { origin = origins.Invoke acquires; body = bodies.Procedure proc; place = 0 })) f (own_same own mail lane.frames)) (own_same own mail lane.frames)
-
-own_invoke : (tick now context proc : ℕ) (lane : Lane) (b : Bool) → is_own context lane ≡ b
-    → OwnOn (λ c. is_own c lane) (cond b None (Some (mails.Attach context (invoke_spec proc)))) lane.frames (cond b (invoke_own tick now context proc lane) (written tick (events.Invoke context Posted) lane)).frames
-own_invoke tick now context proc lane false e = own_same (λ c. is_own c lane) (Some (mails.Attach context (invoke_spec proc))) lane.frames
-own_invoke tick now context proc lane true e =
-    own_either (λ c. is_own c lane) None lane.frames _ _ (is_owned context lane)
-    (own_at_once (λ c. is_own c lane) None tick context proc None lane (λ c k. let no : false ≡ true = k in cc))
-    (own_either (λ c. is_own c lane) None lane.frames _ _ (default_context lane == context)
-    (own_at_once (λ c. is_own c lane) None tick context proc (Some context) lane (λ c k. (subst (λ (n : ℕ). is_own n lane ≡ true) (eqb-true context c k) e, refl))) (own_same (λ c. is_own c lane) None lane.frames))
-
-own_iterate : (script : Plan) (tick context : ℕ) (lane : Lane) (b : Bool) → is_own context lane ≡ b → (asker : Asker) → OwnOn (λ c. is_own c lane) None lane.frames (cond b (iterating script tick context asker lane) (written tick (events.Iterate context false) lane)).frames
-own_iterate script tick context lane true e asker = own_iterating (λ c. is_own c lane) None lane.frames context (chosen script tick context lane) asker e refl
-own_iterate script tick context lane false e asker = own_same (λ c. is_own c lane) None lane.frames
-
-own_run : (tick number context : ℕ) (lane : Lane) (b : Bool) → is_own context lane ≡ b → OwnOn (λ c. is_own c lane) None lane.frames (cond b (pushed (LoopOf number context) (set_running number true lane)) (missed tick words.Run lane)).frames
-own_run tick number context lane true e =
-    own_pushed (λ c. is_own c lane) None lane.frames lane.frames (LoopOf number context) (λ c k. (subst (λ (n : ℕ). is_own n lane ≡ true) (eqb-true context c k) e, refl)) (own_same (λ c. is_own c lane) None lane.frames)
-own_run tick number context lane false e = own_same (λ c. is_own c lane) None lane.frames
-
-own_left : (own : ℕ → Bool) (fs after : List Frame) → after ≡ fs → OwnOn own None fs after
-own_left own fs after e c k = inl (ap (list_any (owns c)) (sym e) ∙ k)
-
-own_mail : (own : ℕ → Bool) (mail : Option Mail) (fs after : List Frame) → after ≡ fs → OwnOn own mail fs after
-own_mail own mail fs after e c k = inl (ap (list_any (owns c)) (sym e) ∙ k)
+own_each : (script : Plan) (tick : ℕ) (move : Move) (lane : Lane) → MayMove script move lane → OwnOn (λ c. is_own c lane) (mail_by move) lane.frames (moved script tick move lane).frames
+own_each script tick (moves.Iterate context) lane m = own_iterating (λ c. is_own c lane) None lane.frames context (chosen script tick context lane) (askers.Iterate (is_any (chosen script tick context lane))) m refl
+own_each script tick (moves.Run number context) lane m = own_begun context (LoopOf number context) lane m (λ c k. eqb-true context c k)
+own_each script tick (moves.Call context proc acquires) lane m = own_begun context (CallOf (record { origin = origins.Invoke acquires; body = bodies.Procedure proc; place = 0 })) lane m.0 (acquired_is context proc acquires m.2)
+own_each script tick move lane m = own_same (λ c. is_own c lane) (mail_by move) lane.frames
 
 pub own_acted : (script : Plan) (tick : ℕ) (action : Action) (lane : Lane) → OwnOn (λ c. is_own c lane) (sends script action lane) lane.frames (acted script tick action lane).frames
-own_acted script tick (actions.Attach context slot spec) lane = own_either (λ c. is_own c lane) None lane.frames _ _ (is_own context lane) (own_same (λ c. is_own c lane) None lane.frames) (own_same (λ c. is_own c lane) None lane.frames)
-own_acted script tick (actions.Child parent slot spec) lane = own_child (λ c. is_own c lane) tick (time_of script tick) slot spec (place_at parent lane) lane
-own_acted script tick (actions.Destroy slot) lane = own_source (λ c. is_own c lane) tick words.Destroy destroyed (place_at slot lane) lane
-own_acted script tick (actions.SetReady slot us) lane = own_source (λ c. is_own c lane) tick words.SetReady (λ id. ready_set id us) (place_at slot lane) lane
-own_acted script tick (actions.SetPriority slot priority) lane = own_priority (λ c. is_own c lane) tick priority (place_at slot lane) lane
-own_acted script tick (actions.Iterate context) lane = own_iterate script tick context lane (is_own context lane) refl _
-own_acted script tick (actions.Pending context) lane = own_same (λ c. is_own c lane) None lane.frames
-own_acted script tick (actions.Run number) lane = own_run tick number (context_of script number) lane (is_own (context_of script number) lane) refl
-own_acted script tick (actions.Quit number) lane = own_either (λ c. is_own c lane) None lane.frames _ _ (is_own (context_of script number) lane) (own_same (λ c. is_own c lane) None lane.frames) (own_same (λ c. is_own c lane) None lane.frames)
-own_acted script tick (actions.Cancel c) lane = own_mail (λ c. is_own c lane) _ lane.frames _ (plain_cancel script tick c lane).frames
-own_acted script tick (actions.Connect c slot proc) lane =
-    own_either (λ c. is_own c lane) None lane.frames _ _ (has c lane.view) (own_left (λ c. is_own c lane) lane.frames _ (plain_handled script tick (record { id = 0; proc = proc }) lane).frames) (own_same (λ c. is_own c lane) None lane.frames)
-own_acted script tick (actions.Disconnect slot) lane = own_disconnect (λ c. is_own c lane) tick (handler_at slot lane) lane
-own_acted script tick (actions.Task spec) lane = own_same (λ c. is_own c lane) None lane.frames
-own_acted script tick (actions.Push context) lane = own_either (λ c. is_own c lane) None lane.frames _ _ (is_own context lane) (own_same (λ c. is_own c lane) None lane.frames) (own_same (λ c. is_own c lane) None lane.frames)
-own_acted script tick (actions.Pop context) lane = own_either (λ c. is_own c lane) None lane.frames _ _ (is_on_top context lane.defaults) (own_same (λ c. is_own c lane) None lane.frames) (own_same (λ c. is_own c lane) None lane.frames)
-own_acted script tick actions.ShowDefault lane = own_same (λ c. is_own c lane) None lane.frames
-own_acted script tick (actions.Acquire context) lane = own_either (λ c. is_own c lane) None lane.frames _ _ (is_own context lane) (own_same (λ c. is_own c lane) None lane.frames) (own_same (λ c. is_own c lane) None lane.frames)
-own_acted script tick (actions.Release context) lane = own_either (λ c. is_own c lane) None lane.frames _ _ (may_release (context_at context lane)) (own_same (λ c. is_own c lane) None lane.frames) (own_same (λ c. is_own c lane) None lane.frames)
-own_acted script tick (actions.Invoke context proc) lane = own_invoke tick (time_of script tick) context proc lane (is_own context lane) refl
-own_acted script tick (actions.Give context to) lane = by (may_give script context to lane)
+own_acted script tick action lane = acted_by law action lane
   where
-    by : (b : Bool) → OwnOn (λ c. is_own c lane) (cond b (Some (mails.Give context to)) None) lane.frames (cond b (written tick (events.Give context to) (with_given context true lane)) (written tick (events.Miss words.Give) lane)).frames
-    by true = own_same (λ c. is_own c lane) (Some (mails.Give context to)) lane.frames
-    by false = own_same (λ c. is_own c lane) None lane.frames
-own_acted script tick (actions.Log n) lane = own_same (λ c. is_own c lane) None lane.frames
+    law : Law script tick Plain (λ mail a b. OwnOn (λ c. is_own c a) mail a.frames b.frames)
+    law = record {
+      plain = plain_moves tick;
+      of = λ a b h. own_left (λ c. is_own c a) None a.frames a.frames b.frames h.frames (own_same (λ c. is_own c a) None a.frames);
+      next = λ mail a b c h g. own_left (λ x. is_own x a) mail a.frames b.frames c.frames g.frames h;
+      each = own_each script tick;
+    }
 
 -- ---- what else a step does
 

@@ -65,24 +65,7 @@ sends_allowed script (actions.Give context to) lane = by (may_give script contex
     by : (b : Bool) → may_give script context to lane ≡ b → IsAllowed script lane (cond b (Some (mails.Give context to)) None)
     by true e = e
     by false e = tt
-sends_allowed script (actions.Attach context slot spec) lane = tt
-sends_allowed script (actions.Child parent slot spec) lane = tt
-sends_allowed script (actions.Destroy slot) lane = tt
-sends_allowed script (actions.SetReady slot us) lane = tt
-sends_allowed script (actions.SetPriority slot priority) lane = tt
-sends_allowed script (actions.Iterate context) lane = tt
-sends_allowed script (actions.Pending context) lane = tt
-sends_allowed script (actions.Run number) lane = tt
-sends_allowed script (actions.Quit number) lane = tt
-sends_allowed script (actions.Connect c slot proc) lane = tt
-sends_allowed script (actions.Disconnect slot) lane = tt
-sends_allowed script (actions.Task spec) lane = tt
-sends_allowed script (actions.Push context) lane = tt
-sends_allowed script (actions.Pop context) lane = tt
-sends_allowed script actions.ShowDefault lane = tt
-sends_allowed script (actions.Acquire context) lane = tt
-sends_allowed script (actions.Release context) lane = tt
-sends_allowed script (actions.Log n) lane = tt
+sends_allowed script _ lane = tt
 
 -- a step sends one letter at most, the next of the turn, and starts one task at most where it counts one
 pub record Sends (script : Plan) (tick : ℕ) (t u : Turn) : Type 0 where

@@ -1,42 +1,33 @@
 -- What a step leaves as it stands: each context that is not the lane's own, and not acquired. So each that it gave in this tick.
-use Rattle.std.proofs.Common.{◌≡◌, ◌≢◌, ℕ, ℤ, zero, suc, ◌==◌, ◌||◌, ◌&&◌, Bool, true, false, cond, Option, Some, None, List, [], ◌∷◌, option_map, refl, ap, sym, ◌∙◌, subst}
-use Rattle.std.specs.Prelude.{not, is_some, is_none, unwrap_or, slice_get, nat_lt}
+use Rattle.std.proofs.Common.{◌≡◌, ◌≢◌, ℕ, zero, suc, ◌||◌, ◌&&◌, Bool, true, false, cond, Option, Some, None, List, [], ◌∷◌, option_map, refl, ap, sym, ◌∙◌, subst}
+use Rattle.std.specs.Prelude.{slice_set, not, is_some, is_none, unwrap_or, slice_get, nat_lt}
 use Rattle.std.specs.List.{list_any}
 use Rattle.std.proofs.lemmas.Bool.{eq-eqb}
 use Rattle.loop_script.specs.declared.plan.Plan.{Plan}
-use Rattle.loop_script.specs.declared.source.SourceSpec.{SourceSpec}
 use Rattle.loop_script.specs.declared.action.Action.{Action}
-use Rattle.loop_script.specs.declared.action.Action.TheVariants as actions
 use Rattle.loop_script.specs.declared.body.Body.{Body}
-use Rattle.loop_script.specs.declared.body.Body.TheVariants as bodies
-use Rattle.loop_script.specs.Parts.{time_of, actions_of, context_of, stays}
+use Rattle.loop_script.specs.Parts.{time_of, actions_of, stays}
 use Rattle.source_rows.specs.declared.row.Row.{Row}
-use Rattle.source_rows.specs.Rows.{RowSet, attached, counted, destroyed, ready_set, reprioritised, priority_fault}
-use Rattle.cancel_view.specs.declared.handler.Fired.{Fired}
-use Rattle.cancel_view.specs.Seen.{has, fired, cancelled, connected, may_disconnect}
+use Rattle.source_rows.specs.Rows.{RowSet, counted, destroyed, ready_set, priority_fault}
 use Rattle.context_core.specs.declared.context.Context.{Context}
-use Rattle.context_core.specs.Defaults.{acquired, released, is_on_top}
 use Rattle.post_office.specs.declared.letter.Body.{Body as Mail}
 use Rattle.lane_watch.specs.Tasks.{Started}
 use Rattle.lane_turn.specs.declared.line.Event.TheVariants as events
-use Rattle.lane_turn.specs.declared.line.Invoked.TheVariants.{Posted}
-use Rattle.lane_turn.specs.declared.line.Word.{Word}
-use Rattle.lane_turn.specs.declared.line.Word.TheVariants as words
 use Rattle.lane_turn.specs.declared.lane.Status.{Status}
 use Rattle.lane_turn.specs.declared.lane.Status.TheVariants.{GoesOn, Ended, Halted}
+use Rattle.lane_turn.proofs.Moves as moves
+use Rattle.lane_turn.proofs.Moves.{PlainMove, plainly, IsPlain, PlainLaw, Change, changed_by, MayChange, Move, moved, MayMove, Law, both_left, acted_by}
 use Rattle.lane_turn.specs.declared.layer.Asker.{Asker}
 use Rattle.lane_turn.specs.declared.layer.Asker.TheVariants as askers
 use Rattle.lane_turn.specs.declared.layer.Call.{Call}
 use Rattle.lane_turn.specs.declared.layer.Origin.{Origin}
 use Rattle.lane_turn.specs.declared.layer.Origin.TheVariants as origins
 use Rattle.lane_turn.specs.declared.slot.Place.{Place}
-use Rattle.lane_turn.specs.declared.slot.Named.TheVariants.{Source, Handler}
 use Rattle.lane_turn.specs.Frames.{Frame, CallOf, IterOf, LoopOf, owns, calls_in_progress}
 use Rattle.lane_turn.specs.Replies.{replies_at, held_without}
-use Rattle.lane_turn.specs.Lane.{Lane, Turn, present, context_at, is_given, is_own, with_rows, with_context, edited, row_of, row_at, place_at, handler_at, next_place, set_slot, set_running, viewing, noting, written, popped, taken, stopped, is_running, iterating}
-use Rattle.lane_turn.specs.Owned.{default_context, is_owned, may_release, called_at_once, calling, attaching, invoke_own, invoke_spec}
-use Rattle.lane_turn.specs.Handover.{may_give}
-use Rattle.lane_turn.specs.Acted.{missed, born, can_bear_in, can_bear, child_of, on_source, set_priority_of, plain_acted, all_acted, handled, all_handled, cancel, disconnect_of, acted, sends}
+use Rattle.lane_turn.specs.Lane.{Lane, Turn, present, context_at, is_given, is_own, with_rows, with_context, edited, row_of, row_at, written, popped, taken, stopped, is_running, iterating}
+use Rattle.lane_turn.specs.Owned.{may_release}
+use Rattle.lane_turn.specs.Acted.{can_bear_in, acted, sends}
 use Rattle.lane_turn.specs.Sources.{restarted}
 use Rattle.lane_turn.specs.Step.{step, step_polling, step_call, step_id, limited_by, with_lane, dispatched, dispatching, returned, answered}
 use Rattle.lane_turn.proofs.Owning.{right_or}
@@ -52,11 +43,6 @@ still_either : (c : ℕ) (lane x y : Lane) (b : Bool) → Still c lane x → Sti
 still_either c lane x y true p q = p
 still_either c lane x y false p q = q
 
--- of what is done only where a test holds
-still_where : (c : ℕ) (lane x y : Lane) (b : Bool) → (b ≡ true → Still c lane x) → Still c lane y → Still c lane (cond b x y)
-still_where c lane x y true f q = f refl
-still_where c lane x y false f q = q
-
 -- a context of the lane's own is another
 apart : (c d : ℕ) (lane : Lane) → is_own d lane ≡ true → is_own c lane ≡ false → c ≢ d
 apart c d lane e f q = no_false (is_own d lane) e (ap (λ (n : ℕ). is_own n lane) (sym q) ∙ f)
@@ -67,10 +53,6 @@ still_change c d change lane h = (ap present (set_other lane.contexts d c (optio
 still_edit : (c d : ℕ) (edit : RowSet → RowSet) (lane : Lane) → c ≢ d → Still c lane (edited d edit lane)
 still_edit c d edit lane h = still_change c d (with_rows edit) lane h
 
-left_of : (x y : Bool) → (x && y) ≡ true → x ≡ true
-left_of true y e = refl
-left_of false y e = e
-
 -- a source that a slot names is there where its context is the lane's own
 own_row : (place : Place) (lane : Lane) → is_some (row_at place lane) ≡ true → is_own place.context lane ≡ true
 own_row place lane e = by (is_own place.context lane) e
@@ -79,128 +61,74 @@ own_row place lane e = by (is_own place.context lane) e
     by true p = refl
     by false p = p
 
--- ---- handlers
+-- ---- moves
 
--- what handlers do leaves it, and which contexts are given
-abbrev Spares : ℕ → Lane → Lane → Type 0
+-- plain moves leave it, and which contexts are given
+abbrev pub Spares : ℕ → Lane → Lane → Type 0
 Spares c lane after = (context_at c after ≡ context_at c lane) × (replies_at c after.replies ≡ replies_at c lane.replies) × (after.given ≡ lane.given)
-
-spares_trans : (c : ℕ) (x y z : Lane) → Spares c x y → Spares c y z → Spares c x z
-spares_trans c x y z h k = (k.0 ∙ h.0, k.1 ∙ h.1, k.2 ∙ h.2)
-
-spares_where : (c : ℕ) (lane x y : Lane) (b : Bool) → (b ≡ true → Spares c lane x) → Spares c lane y → Spares c lane (cond b x y)
-spares_where c lane x y true f q = f refl
-spares_where c lane x y false f q = q
 
 not_own_on : (c : ℕ) (lane after : Lane) → Spares c lane after → is_own c lane ≡ false → is_own c after ≡ false
 not_own_on c lane after h e =
     ap (λ (o : Option Context). is_some o && not (is_given c after)) h.0
     ∙ (ap (λ (gs : List Bool). is_some (context_at c lane) && not (unwrap_or (slice_get gs c) false)) h.2 ∙ e)
 
-spares_source : (c tick : ℕ) (word : Word) (edit : ℕ → RowSet → RowSet) (o : Option Place) (lane : Lane) → is_own c lane ≡ false → Spares c lane (on_source tick word edit o lane)
-spares_source c tick word edit None lane e = (refl, refl, refl)
-spares_source c tick word edit (Some place) lane e =
-    spares_where c lane (edited place.context (edit place.id) lane) (missed tick word lane) (is_some (row_at place lane))
-    (λ k. ((still_edit c place.context (edit place.id) lane (apart c place.context lane (own_row place lane k) e)).0, refl, refl)) (refl, refl, refl)
+spares_each : (c tick : ℕ) (move : PlainMove) (lane : Lane) → IsPlain true move lane → is_own c lane ≡ false → Spares c lane (plainly tick move lane)
+spares_each c tick (moves.Destroy place) lane m e = ((still_edit c place.context (destroyed place.id) lane (apart c place.context lane (own_row place lane m) e)).0, refl, refl)
+spares_each c tick (moves.SetReady us place) lane m e = ((still_edit c place.context (ready_set place.id us) lane (apart c place.context lane (own_row place lane m) e)).0, refl, refl)
+spares_each c tick _ lane m e = (refl, refl, refl)
 
-spares_one : (script : Plan) (tick : ℕ) (action : Action) (lane : Lane) (c : ℕ) → is_own c lane ≡ false → Spares c lane (plain_acted script tick action lane)
-spares_one script tick (actions.Destroy slot) lane c e = spares_source c tick words.Destroy destroyed (place_at slot lane) lane e
-spares_one script tick (actions.SetReady slot us) lane c e = spares_source c tick words.SetReady (λ id. ready_set id us) (place_at slot lane) lane e
-spares_one script tick (actions.Quit number) lane c e =
-    spares_where c lane (set_running number false lane) (missed tick words.Quit lane) (is_own (context_of script number) lane) (λ k. (refl, refl, refl)) (refl, refl, refl)
-spares_one script tick _ lane c e = (refl, refl, refl)
-
-spares_all : (script : Plan) (tick : ℕ) (list : List Action) (lane : Lane) (c : ℕ) → is_own c lane ≡ false → Spares c lane (all_acted script tick list lane)
-spares_all script tick [] lane c e = (refl, refl, refl)
-spares_all script tick (a ∷ list) lane c e =
-    let now : Lane = plain_acted script tick a lane in
-    let one : Spares c lane now = spares_one script tick a lane c e in
-    spares_trans c lane now (all_acted script tick list now) one (spares_all script tick list now c (not_own_on c lane now one e))
-
-spares_handled : (script : Plan) (tick : ℕ) (f : Fired) (lane : Lane) (c : ℕ) → is_own c lane ≡ false → Spares c lane (handled script tick f lane)
-spares_handled script tick f lane c e = spares_all script tick (actions_of script (bodies.Procedure f.proc)) (written tick (events.Handler f.id) lane) c e
-
-spares_all_handled : (script : Plan) (tick : ℕ) (fs : List Fired) (lane : Lane) (c : ℕ) → is_own c lane ≡ false → Spares c lane (all_handled script tick fs lane)
-spares_all_handled script tick [] lane c e = (refl, refl, refl)
-spares_all_handled script tick (f ∷ fs) lane c e =
-    let now : Lane = handled script tick f lane in
-    let one : Spares c lane now = spares_handled script tick f lane c e in
-    spares_trans c lane now (all_handled script tick fs now) one (spares_all_handled script tick fs now c (not_own_on c lane now one e))
-
-spares_cancel : (script : Plan) (tick k : ℕ) (lane : Lane) (c : ℕ) → is_own c lane ≡ false → Still c lane (cancel script tick k lane)
-spares_cancel script tick k lane c e =
-    let seen : Lane = written tick (events.Cancel k) (noting tick k (viewing (cancelled k lane.view) lane)) in
-    let h : Spares c seen (all_handled script tick (fired k lane.view) seen) = spares_all_handled script tick (fired k lane.view) seen c e in
-    still_either c lane lane (all_handled script tick (fired k lane.view) seen) (has k lane.view) (refl, refl) (h.0, h.1)
-
--- ---- each action
-
-still_source : (c tick : ℕ) (word : Word) (edit : ℕ → RowSet → RowSet) (o : Option Place) (lane : Lane) → is_own c lane ≡ false → Still c lane (on_source tick word edit o lane)
-still_source c tick word edit o lane e = let h = spares_source c tick word edit o lane e in (h.0, h.1)
-
-still_child : (c tick now slot : ℕ) (spec : SourceSpec) (o : Option Place) (lane : Lane) → is_own c lane ≡ false → Still c lane (child_of tick now slot spec o lane)
-still_child c tick now slot spec None lane e = (refl, refl)
-still_child c tick now slot spec (Some place) lane e =
-    still_where c lane (set_slot slot (Source (next_place place.context lane)) (edited place.context (born spec now place.id) lane)) (missed tick words.Child lane) (can_bear place lane)
-    (λ k. still_edit c place.context (born spec now place.id) lane (apart c place.context lane (left_of (is_own place.context lane) (can_bear_in place.id (context_at place.context lane)) k) e)) (refl, refl)
-
-still_priority : (c tick : ℕ) (priority : ℤ) (o : Option Place) (lane : Lane) → is_own c lane ≡ false → Still c lane (set_priority_of tick priority o lane)
-still_priority c tick priority None lane e = (refl, refl)
-still_priority c tick priority (Some place) lane e =
-    still_where c lane (edited place.context (reprioritised place.id priority) lane) (missed tick words.SetPriority lane) (is_none (priority_fault (row_at place lane)))
-    (λ k. still_edit c place.context (reprioritised place.id priority) lane (apart c place.context lane (own_row place lane (there (row_at place lane) k)) e)) (refl, refl)
-  where
-    there : (o : Option Row) → is_none (priority_fault o) ≡ true → is_some o ≡ true
-    there None p = p
-    there (Some row) p = refl
-
-still_disconnect : (c tick : ℕ) (o : Option ℕ) (lane : Lane) → Still c lane (disconnect_of tick o lane)
-still_disconnect c tick None lane = (refl, refl)
-still_disconnect c tick (Some id) lane = still_either c lane _ _ (may_disconnect id lane.view) (refl, refl) (refl, refl)
-
-still_at_once : (c tick context proc : ℕ) (acquires : Option ℕ) (lane : Lane) → Still c lane (called_at_once tick context proc acquires lane)
-still_at_once c tick context proc acquires lane =
-    still_either c lane (calling tick context proc acquires lane) (stopped Halted (written tick events.HaltDepth lane)) (nat_lt (calls_in_progress lane.frames) 32) (refl, refl) (refl, refl)
-
-still_invoke : (c tick now context proc : ℕ) (lane : Lane) → c ≢ context → Still c lane (invoke_own tick now context proc lane)
-still_invoke c tick now context proc lane h =
-    let some : Lane = called_at_once tick context proc (Some context) lane in
-    let there : Lane = attaching tick now context proc lane in
-    still_either c lane (called_at_once tick context proc None lane) (cond (default_context lane == context) some there) (is_owned context lane) (still_at_once c tick context proc None lane)
-    (still_either c lane some there (default_context lane == context) (still_at_once c tick context proc (Some context) lane) (still_edit c context (attached (invoke_spec proc) now) lane h))
+spares_moves : (c tick : ℕ) → PlainLaw true tick (λ a b. is_own c a ≡ false → Spares c a b)
+spares_moves c tick = record {
+  none = λ lane e. (refl, refl, refl);
+  next = λ a b d h g e. let one = h e in let two = g (not_own_on c a b one e) in (two.0 ∙ one.0, two.1 ∙ one.1, two.2 ∙ one.2);
+  each = spares_each c tick;
+}
 
 -- what is released is acquired
 apart_released : (c d : ℕ) (lane : Lane) → may_release (context_at d lane) ≡ true → may_release (context_at c lane) ≡ false → c ≢ d
 apart_released c d lane e f q = no_false (may_release (context_at d lane)) e (ap (λ (n : ℕ). may_release (context_at n lane)) (sym q) ∙ f)
 
+apart_changed : (c d : ℕ) (it : Change) (lane : Lane) → MayChange d it lane → is_own c lane ≡ false → may_release (context_at c lane) ≡ false → c ≢ d
+apart_changed c d (moves.Attach spec now) lane m e f = apart c d lane m e
+apart_changed c d (moves.Bear spec now id) lane m e f = apart c d lane (both_left (is_own d lane) (can_bear_in id (context_at d lane)) m) e
+apart_changed c d (moves.Reprioritise id priority) lane m e f = apart c d lane (own_row (record { context = d; id = id }) lane (there (row_at (record { context = d; id = id }) lane) m)) e
+  where
+    there : (o : Option Row) → is_none (priority_fault o) ≡ true → is_some o ≡ true
+    there None p = p
+    there (Some row) p = refl
+apart_changed c d moves.Acquire lane m e f = apart c d lane m e
+apart_changed c d moves.Release lane m e f = apart_released c d lane m f
+
+-- what is given besides is not the lane's own either
+none_more : (x : Bool) (gs : List Bool) (i c : ℕ) → (x && not (unwrap_or (slice_get gs c) false)) ≡ false → (x && not (unwrap_or (slice_get (slice_set gs i true) c) false)) ≡ false
+none_more x [] i c h = h
+none_more true (g ∷ gs) zero zero h = refl
+none_more false (g ∷ gs) zero zero h = refl
+none_more x (g ∷ gs) zero (suc c) h = h
+none_more x (g ∷ gs) (suc i) zero h = h
+none_more x (g ∷ gs) (suc i) (suc c) h = none_more x gs i c h
+
+-- a context that is not the lane's own, nor acquired, stays as it was, and is still not its own
+abbrev StaysOut : ℕ → Lane → Lane → Type 0
+StaysOut c a b = is_own c a ≡ false → may_release (context_at c a) ≡ false → Still c a b × (is_own c b ≡ false)
+
+out_each : (script : Plan) (tick c : ℕ) (move : Move) (lane : Lane) → MayMove script move lane → StaysOut c lane (moved script tick move lane)
+out_each script tick c (moves.Alter context it) lane m e f =
+    let still = still_change c context (changed_by it) lane (apart_changed c context it lane m e f) in
+    (still, not_own_on c lane (with_context context (changed_by it) lane) (still.0, still.1, refl) e)
+out_each script tick c (moves.Give context to) lane m e f = ((refl, refl), none_more (is_some (context_at c lane)) lane.given context c e)
+out_each script tick c _ lane m e f = ((refl, refl), e)
+
+out_moves : (script : Plan) (tick c : ℕ) → Law script tick (λ a b. is_own c a ≡ false → Spares c a b) (λ mail. StaysOut c)
+out_moves script tick c = record {
+  plain = spares_moves c tick;
+  of = λ a b h e f. let all = h e in ((all.0, all.1), not_own_on c a b all e);
+  next = λ mail a b d h g e f. let one = h e f in let all = g one.1 in ((all.0 ∙ (one.0).0, all.1 ∙ (one.0).1), not_own_on c b d all one.1);
+  each = out_each script tick c;
+}
+
 still_acted : (script : Plan) (tick : ℕ) (action : Action) (lane : Lane) (c : ℕ) → is_own c lane ≡ false → may_release (context_at c lane) ≡ false → Still c lane (acted script tick action lane)
-still_acted script tick (actions.Attach context slot spec) lane c e f =
-    still_where c lane (set_slot slot (Source (next_place context lane)) (edited context (attached spec (time_of script tick)) lane)) (missed tick words.Attach lane) (is_own context lane) (λ k. still_edit c context (attached spec (time_of script tick)) lane (apart c context lane k e)) (refl, refl)
-still_acted script tick (actions.Child parent slot spec) lane c e f = still_child c tick (time_of script tick) slot spec (place_at parent lane) lane e
-still_acted script tick (actions.Destroy slot) lane c e f = still_source c tick words.Destroy destroyed (place_at slot lane) lane e
-still_acted script tick (actions.SetReady slot us) lane c e f = still_source c tick words.SetReady (λ id. ready_set id us) (place_at slot lane) lane e
-still_acted script tick (actions.SetPriority slot priority) lane c e f = still_priority c tick priority (place_at slot lane) lane e
-still_acted script tick (actions.Iterate context) lane c e f = still_either c lane _ _ (is_own context lane) (refl, refl) (refl, refl)
-still_acted script tick (actions.Pending context) lane c e f = (refl, refl)
-still_acted script tick (actions.Run number) lane c e f = still_either c lane _ _ (is_own (context_of script number) lane) (refl, refl) (refl, refl)
-still_acted script tick (actions.Quit number) lane c e f = still_either c lane _ _ (is_own (context_of script number) lane) (refl, refl) (refl, refl)
-still_acted script tick (actions.Cancel k) lane c e f = spares_cancel script tick k lane c e
-still_acted script tick (actions.Connect k slot proc) lane c e f =
-    let h = spares_handled script tick (record { id = 0; proc = proc }) lane c e in
-    still_either c lane (set_slot slot (Handler 0) (handled script tick (record { id = 0; proc = proc }) lane)) (set_slot slot (Handler lane.view.next_id) (viewing (connected k proc lane.view) lane)) (has k lane.view) (h.0, h.1) (refl, refl)
-still_acted script tick (actions.Disconnect slot) lane c e f = still_disconnect c tick (handler_at slot lane) lane
-still_acted script tick (actions.Task spec) lane c e f = (refl, refl)
-still_acted script tick (actions.Push context) lane c e f = still_either c lane _ _ (is_own context lane) (refl, refl) (refl, refl)
-still_acted script tick (actions.Pop context) lane c e f = still_either c lane _ _ (is_on_top context lane.defaults) (refl, refl) (refl, refl)
-still_acted script tick actions.ShowDefault lane c e f = (refl, refl)
-still_acted script tick (actions.Acquire context) lane c e f =
-    still_where c lane (written tick (events.Acquire context true) (with_context context acquired lane)) (written tick (events.Acquire context false) lane) (is_own context lane) (λ k. still_change c context acquired lane (apart c context lane k e)) (refl, refl)
-still_acted script tick (actions.Release context) lane c e f =
-    still_where c lane (with_context context released lane) (written tick (events.Miss words.Release) lane) (may_release (context_at context lane)) (λ k. still_change c context released lane (apart_released c context lane k f)) (refl, refl)
-still_acted script tick (actions.Invoke context proc) lane c e f =
-    still_where c lane (invoke_own tick (time_of script tick) context proc lane) (written tick (events.Invoke context Posted) lane) (is_own context lane) (λ k. still_invoke c tick (time_of script tick) context proc lane (apart c context lane k e)) (refl, refl)
-still_acted script tick (actions.Give context to) lane c e f = still_either c lane _ _ (may_give script context to lane) (refl, refl) (refl, refl)
-still_acted script tick (actions.Log n) lane c e f = (refl, refl)
+still_acted script tick action lane c e f = (acted_by (out_moves script tick c) action lane e f).0
 
 -- ---- a step
 

@@ -1,39 +1,28 @@
 -- What is done in a turn leaves a lane its number, its contexts and the size of its view, and adds no more to its tasks than is counted.
-use Rattle.std.proofs.Common.{◌≡◌, ◌≢◌, ◌⊎◌, inl, inr, subst, ℕ, ℤ, zero, suc, ◌+◌, ◌≤◌, ◌<◌, ◌==◌, ◌||◌, sym, Bool, true, false, cond, Option, Some, None, List, [], ◌∷◌, ◌++◌, map, length, slice_set, refl, ap, ◌∙◌, arith, length-append, filter}
+use Rattle.std.proofs.Common.{◌≡◌, ◌≢◌, ◌⊎◌, inl, inr, subst, ℕ, zero, suc, ◌+◌, ◌≤◌, ◌<◌, ◌==◌, ◌||◌, sym, Bool, true, false, cond, Option, Some, None, List, [], ◌∷◌, map, length, slice_set, refl, ap, ◌∙◌, arith, length-append}
 use Rattle.std.proofs.lemmas.List.{length-set}
 use Rattle.loop_script.specs.declared.plan.Plan.{Plan}
-use Rattle.loop_script.specs.declared.source.SourceSpec.{SourceSpec}
 use Rattle.loop_script.specs.declared.action.Action.{Action}
-use Rattle.loop_script.specs.declared.action.Action.TheVariants.{Attach, Child, Destroy, SetReady, SetPriority, Iterate, Pending, Run, Quit, Cancel, Connect, Disconnect, Task, Push, Pop, ShowDefault, Acquire, Release, Invoke, Give, Log}
 use Rattle.loop_script.specs.declared.body.Body.{Body}
-use Rattle.loop_script.specs.declared.body.Body.TheVariants.{Procedure}
-use Rattle.loop_script.specs.Parts.{time_of, actions_of}
+use Rattle.loop_script.specs.Parts.{time_of}
 use Rattle.source_rows.specs.declared.row.Row.{Row}
-use Rattle.source_rows.specs.Rows.{RowSet, attached, counted, destroyed, ready_set, reprioritised}
-use Rattle.cancel_view.specs.declared.handler.Fired.{Fired}
+use Rattle.source_rows.specs.Rows.{counted, destroyed, ready_set}
 use Rattle.post_office.specs.declared.letter.Body.{Body as Mail}
 use Rattle.post_office.specs.declared.letter.Body.TheVariants as mails
 use Rattle.lane_turn.specs.Views.{tells_of}
 use Rattle.context_core.specs.declared.context.Context.{Context}
-use Rattle.context_core.specs.Defaults.{acquired, released}
 use Rattle.lane_turn.specs.Sources.{restarted}
 use Rattle.std.proofs.lemmas.Bool.Decides.{eqb_tells}
-use Rattle.cancel_view.specs.Seen.{Seen, has, fired, cancelled, connected, has_other_id, without}
-use Rattle.lane_turn.specs.declared.line.Event.TheVariants as events
-use Rattle.lane_turn.specs.declared.line.Word.{Word}
-use Rattle.lane_turn.specs.declared.line.Word.TheVariants as words
+use Rattle.cancel_view.specs.Seen.{Seen, has, cancelled}
 use Rattle.lane_turn.specs.declared.layer.Origin.{Origin}
 use Rattle.lane_turn.specs.declared.layer.Origin.TheVariants.{Start, Source, Invoke as Invoked}
-use Rattle.lane_turn.specs.declared.slot.Place.{Place}
-use Rattle.lane_turn.specs.Lane.{Lane, present, with_rows, stopped, place_at, handler_at, written, viewing, noting, is_own}
-use Rattle.lane_turn.specs.Handover.{may_give, with_given}
-use Rattle.std.specs.Prelude.{nat_lt, is_some, slice_index_or, slice_get, option_map}
-use Rattle.lane_turn.specs.declared.line.Invoked.TheVariants.{Posted}
-use Rattle.lane_turn.specs.declared.lane.Status.TheVariants.{Halted}
-use Rattle.lane_turn.specs.Frames.{calls_in_progress}
-use Rattle.lane_turn.specs.Owned.{default_context, is_owned, calling, called_at_once, attaching, invoke_own, invoke, invoke_spec, invoke_sends}
-use Rattle.lane_turn.specs.Acted.{acted, born, sends, cancel_sends, child_of, on_source, set_priority_of, plain_acted, all_acted, handled, all_handled, cancel, connect, disconnect_of}
+use Rattle.lane_turn.specs.Lane.{Lane, present, with_rows}
+use Rattle.std.specs.Prelude.{is_some, slice_index_or, slice_get, option_map}
+use Rattle.lane_turn.specs.Owned.{default_context}
+use Rattle.lane_turn.specs.Acted.{acted, sends, cancel}
 use Rattle.lane_turn.specs.Step.{dispatching, returned, answered}
+use Rattle.lane_turn.proofs.Moves as moves
+use Rattle.lane_turn.proofs.Moves.{PlainMove, plainly, PlainLaw, changed_by, Move, noticed, moved, mail_by, MayMove, Law, cancel_by, acted_by}
 use Rattle.lane_turn.specs.declared.layer.Asker.{Asker}
 use Rattle.lane_turn.specs.declared.layer.Asker.TheVariants as askers
 
@@ -107,7 +96,7 @@ steady_trans k mail a b c h g = record {
   given = g.given ∙ ap (given_with mail) h.given;
 }
 
-steady_then : (k : ℕ) (mail : Option Mail) (a b c : Lane) → Steady 0 mail a b → Steady k None b c → Steady k mail a c
+steady_then : (k : ℕ) (mail : Option Mail) (a b c : Lane) → Steady k mail a b → Steady 0 None b c → Steady k mail a c
 steady_then k mail a b c h g = record {
   number = g.number ∙ h.number;
   tick = g.tick ∙ h.tick;
@@ -119,44 +108,13 @@ steady_then k mail a b c h g = record {
   given = g.given ∙ h.given;
 }
 
-steady_source : (k tick : ℕ) (word : Word) (edit : ℕ → RowSet → RowSet) (o : Option Place) (lane : Lane) → Steady k None lane (on_source tick word edit o lane)
-steady_source k tick word edit None lane = still k lane _ refl refl refl refl refl
-steady_source k tick word edit (Some place) lane = steady_either k None lane _ _ _ (still k lane _ refl refl refl refl (kept_held (with_rows (edit place.id)) lane.contexts place.context)) (still k lane _ refl refl refl refl refl)
+steady_plain : (tick : ℕ) (move : PlainMove) (lane : Lane) → Steady 0 None lane (plainly tick move lane)
+steady_plain tick (moves.Destroy place) lane = still 0 lane _ refl refl refl refl (kept_held (with_rows (destroyed place.id)) lane.contexts place.context)
+steady_plain tick (moves.SetReady us place) lane = still 0 lane _ refl refl refl refl (kept_held (with_rows (ready_set place.id us)) lane.contexts place.context)
+steady_plain tick _ lane = still 0 lane _ refl refl refl refl refl
 
-steady_one : (script : Plan) (tick : ℕ) (action : Action) (lane : Lane) → Steady 0 None lane (plain_acted script tick action lane)
-steady_one script tick (Attach context slot spec) lane = still 0 lane _ refl refl refl refl refl
-steady_one script tick (Child parent slot spec) lane = still 0 lane _ refl refl refl refl refl
-steady_one script tick (Destroy slot) lane = steady_source 0 tick words.Destroy destroyed (place_at slot lane) lane
-steady_one script tick (SetReady slot us) lane = steady_source 0 tick words.SetReady (λ id. ready_set id us) (place_at slot lane) lane
-steady_one script tick (SetPriority slot priority) lane = still 0 lane _ refl refl refl refl refl
-steady_one script tick (Iterate context) lane = still 0 lane _ refl refl refl refl refl
-steady_one script tick (Pending context) lane = still 0 lane _ refl refl refl refl refl
-steady_one script tick (Run number) lane = still 0 lane _ refl refl refl refl refl
-steady_one script tick (Quit number) lane = steady_either 0 None lane _ _ _ (still 0 lane _ refl refl refl refl refl) (still 0 lane _ refl refl refl refl refl)
-steady_one script tick (Cancel c) lane = still 0 lane _ refl refl refl refl refl
-steady_one script tick (Connect c slot proc) lane = still 0 lane _ refl refl refl refl refl
-steady_one script tick (Disconnect slot) lane = still 0 lane _ refl refl refl refl refl
-steady_one script tick (Task spec) lane = still 0 lane _ refl refl refl refl refl
-steady_one script tick (Push context) lane = still 0 lane _ refl refl refl refl refl
-steady_one script tick (Pop context) lane = still 0 lane _ refl refl refl refl refl
-steady_one script tick ShowDefault lane = still 0 lane _ refl refl refl refl refl
-steady_one script tick (Acquire context) lane = still 0 lane _ refl refl refl refl refl
-steady_one script tick (Release context) lane = still 0 lane _ refl refl refl refl refl
-steady_one script tick (Invoke context proc) lane = still 0 lane _ refl refl refl refl refl
-steady_one script tick (Give context to) lane = still 0 lane _ refl refl refl refl refl
-steady_one script tick (Log n) lane = still 0 lane _ refl refl refl refl refl
-
-steady_all : (script : Plan) (tick : ℕ) (actions : List Action) (lane : Lane) → Steady 0 None lane (all_acted script tick actions lane)
-steady_all script tick [] lane = still 0 lane lane refl refl refl refl refl
-steady_all script tick (a ∷ actions) lane = steady_trans 0 None lane _ _ (steady_one script tick a lane) (steady_all script tick actions (plain_acted script tick a lane))
-
-steady_handled : (script : Plan) (tick : ℕ) (f : Fired) (lane : Lane) → Steady 0 None lane (handled script tick f lane)
-steady_handled script tick f lane =
-    steady_trans 0 None lane _ _ (still 0 lane (written tick (events.Handler f.id) lane) refl refl refl refl refl) (steady_all script tick (actions_of script (Procedure f.proc)) (written tick (events.Handler f.id) lane))
-
-steady_all_handled : (script : Plan) (tick : ℕ) (fs : List Fired) (lane : Lane) → Steady 0 None lane (all_handled script tick fs lane)
-steady_all_handled script tick [] lane = still 0 lane lane refl refl refl refl refl
-steady_all_handled script tick (f ∷ fs) lane = steady_trans 0 None lane _ _ (steady_handled script tick f lane) (steady_all_handled script tick fs (handled script tick f lane))
+steady_moves : (tick : ℕ) → PlainLaw true tick (Steady 0 None)
+steady_moves tick = record { none = λ lane. still 0 lane lane refl refl refl refl refl; next = steady_trans 0 None; each = λ move lane m. steady_plain tick move lane }
 
 -- as many cancellables
 cancelled_size : (view : Seen) (c : ℕ) → length (cancelled c view).members ≡ length view.members
@@ -165,20 +123,6 @@ cancelled_size view c = size_by (has c view)
     size_by : (b : Bool) → length (cond b view (record view { members = slice_set view.members c true })).members ≡ length view.members
     size_by true = refl
     size_by false = simp length-set
-
-connected_size : (view : Seen) (c proc : ℕ) → length (connected c proc view).members ≡ length view.members
-connected_size view c proc = size_by (has c view)
-  where
-    size_by : (b : Bool) → length (cond b view (record view { handlers = view.handlers ++ (record { id = view.next_id; cancellable = c; proc = proc }) ∷ []; next_id = view.next_id + 1 })).members ≡ length view.members
-    size_by true = refl
-    size_by false = refl
-
-without_size : (view : Seen) (id : ℕ) → length (without id view).members ≡ length view.members
-without_size view id = size_by (id == 0)
-  where
-    size_by : (b : Bool) → length (cond b view (record view { handlers = filter (has_other_id id) view.handlers })).members ≡ length view.members
-    size_by true = refl
-    size_by false = refl
 
 -- what is told is seen
 member_same : (ms : List Bool) (i : ℕ) → i < length ms → slice_index_or (slice_set ms i true) i false ≡ true
@@ -214,132 +158,62 @@ has_told : (view : Seen) (c i : ℕ) → has c view ≡ true → Told c i → ha
 has_told view c i e (inl p) = subst (λ (k : ℕ). has k view ≡ true) p.1 e ∙ sym (ap (λ b. b || has i view) p.0)
 has_told view c i e (inr p) = sym (ap (λ b. b || has i view) p.0)
 
--- a cancellation: what it changes, by whether it was seen before
-cancel_new : (script : Plan) (tick c : ℕ) (lane : Lane) → has c lane.view ≡ false →
-    let seen : Lane = written tick (events.Cancel c) (noting tick c (viewing (cancelled c lane.view) lane)) in
-    Steady 0 (Some (mails.Cancelled c)) lane (all_handled script tick (fired c lane.view) seen)
-cancel_new script tick c lane e =
-    let seen : Lane = written tick (events.Cancel c) (noting tick c (viewing (cancelled c lane.view) lane)) in
-    steady_then 0 (Some (mails.Cancelled c)) lane seen _
-    (record { number = refl; tick = refl; view = cancelled_size lane.view c; next = omega arith; few = omega arith; seen = λ i h. has_cancelled lane.view c i (has c lane.view) e h; holds = refl; given = refl })
-    (steady_all_handled script tick (fired c lane.view) seen)
-
-cancel_by : (script : Plan) (tick c : ℕ) (lane : Lane) (b : Bool) → has c lane.view ≡ b →
-    let seen : Lane = written tick (events.Cancel c) (noting tick c (viewing (cancelled c lane.view) lane)) in
-    Steady 0 (cond b None (Some (mails.Cancelled c))) lane (cond b lane (all_handled script tick (fired c lane.view) seen))
-cancel_by script tick c lane true e = still 0 lane lane refl refl refl refl refl
-cancel_by script tick c lane false e = cancel_new script tick c lane e
-
-steady_cancel : (script : Plan) (tick c : ℕ) (lane : Lane) → Steady 0 (cancel_sends c lane) lane (cancel script tick c lane)
-steady_cancel script tick c lane = cancel_by script tick c lane (has c lane.view) refl
-
--- a cancellation that a letter tells
-told_cancel_by : (script : Plan) (tick c : ℕ) (lane : Lane) (b : Bool) → has c lane.view ≡ b →
-    let seen : Lane = written tick (events.Cancel c) (noting tick c (viewing (cancelled c lane.view) lane)) in
-    Steady 0 (Some (mails.Cancelled c)) lane (cond b lane (all_handled script tick (fired c lane.view) seen))
-told_cancel_by script tick c lane true e = record { number = refl; tick = refl; view = refl; next = omega arith; few = omega arith; seen = λ i h. has_told lane.view c i e (eqb_tells c i); holds = refl; given = refl }
-told_cancel_by script tick c lane false e = cancel_new script tick c lane e
-
-pub steady_told_cancel : (script : Plan) (tick c : ℕ) (lane : Lane) → Steady 0 (Some (mails.Cancelled c)) lane (cancel script tick c lane)
-steady_told_cancel script tick c lane = told_cancel_by script tick c lane (has c lane.view) refl
-
-weaker : (mail : Option Mail) (lane after : Lane) → Steady 0 mail lane after → Steady 1 mail lane after
-weaker mail lane after h = record { number = h.number; tick = h.tick; view = h.view; next = omega (arith, h.next); few = omega (arith, h.few); seen = h.seen; holds = h.holds; given = h.given }
-
--- and the same of them are seen
-connected_has : (view : Seen) (c proc i : ℕ) → has i (connected c proc view) ≡ has i view
-connected_has view c proc i = has_by (has c view)
-  where
-    has_by : (b : Bool) → has i (cond b view (record view { handlers = view.handlers ++ (record { id = view.next_id; cancellable = c; proc = proc }) ∷ []; next_id = view.next_id + 1 })) ≡ has i view
-    has_by true = refl
-    has_by false = refl
-
-without_has : (view : Seen) (id i : ℕ) → has i (without id view) ≡ has i view
-without_has view id i = has_by (id == 0)
-  where
-    has_by : (b : Bool) → has i (cond b view (record view { handlers = filter (has_other_id id) view.handlers })) ≡ has i view
-    has_by true = refl
-    has_by false = refl
-
--- a slot is named
-named_too : (lane after named : Lane) → Steady 1 None lane after → named.number ≡ after.number → named.given ≡ after.given → named.tasks ≡ after.tasks → named.view ≡ after.view → held_of named.contexts ≡ held_of after.contexts → Steady 1 None lane named
-named_too lane after named h n g t v o = record {
-  number = n ∙ h.number;
-  tick = ap (λ x. x.tick) t ∙ h.tick;
-  view = ap (λ (s : Seen). length s.members) v ∙ h.view;
-  next = omega (arith, ap (λ x. x.next) t, h.next);
-  few = omega (arith, ap (λ x. length x.started) t, h.few);
-  seen = λ c l. ap (has c) v ∙ h.seen c l;
-  holds = o ∙ h.holds;
-  given = g ∙ h.given;
+-- a cancellation that is noted, and one that a letter tells
+noticed_steady : (k tick c : ℕ) (lane : Lane) → has c lane.view ≡ false → Steady k (Some (mails.Cancelled c)) lane (noticed tick c lane)
+noticed_steady k tick c lane e = record {
+  number = refl;
+  tick = refl;
+  view = cancelled_size lane.view c;
+  next = omega arith;
+  few = omega arith;
+  seen = λ i h. has_cancelled lane.view c i (has c lane.view) e h;
+  holds = refl;
+  given = refl;
 }
 
-steady_connect : (script : Plan) (tick c slot proc : ℕ) (lane : Lane) → Steady 1 None lane (connect script tick c slot proc lane)
-steady_connect script tick c slot proc lane =
-    steady_either 1 None lane _ _ _
-    (named_too lane _ _ (weaker None lane _ (steady_handled script tick (record { id = 0; proc = proc }) lane)) refl refl refl refl refl)
-    (record { number = refl; tick = refl; view = connected_size lane.view c proc; next = omega arith; few = omega arith; seen = λ i h. connected_has lane.view c proc i; holds = refl; given = refl })
+pub steady_told_cancel : (script : Plan) (tick c : ℕ) (lane : Lane) → Steady 0 (Some (mails.Cancelled c)) lane (cancel script tick c lane)
+steady_told_cancel script tick c lane =
+    cancel_by (steady_moves tick) script (Steady 0 (Some (mails.Cancelled c)) lane) c lane
+    (λ e. record { number = refl; tick = refl; view = refl; next = omega arith; few = omega arith; seen = λ i h. has_told lane.view c i e (eqb_tells c i); holds = refl; given = refl })
+    (λ after e h. steady_then 0 (Some (mails.Cancelled c)) lane (noticed tick c lane) after (noticed_steady 0 tick c lane e) h)
 
-steady_disconnect : (tick : ℕ) (o : Option ℕ) (lane : Lane) → Steady 1 None lane (disconnect_of tick o lane)
-steady_disconnect tick None lane = still 1 lane _ refl refl refl refl refl
-steady_disconnect tick (Some id) lane =
-    steady_either 1 None lane _ _ _ (record { number = refl; tick = refl; view = without_size lane.view id; next = omega arith; few = omega arith; seen = λ i h. without_has lane.view id i; holds = refl; given = refl }) (still 1 lane _ refl refl refl refl refl)
+-- a plain move starts none
+weaker : (lane after : Lane) → Steady 0 None lane after → Steady 1 None lane after
+weaker lane after h = record { number = h.number; tick = h.tick; view = h.view; next = omega (arith, h.next); few = omega (arith, h.few); seen = h.seen; holds = h.holds; given = h.given }
 
-steady_child : (tick now slot : ℕ) (spec : SourceSpec) (o : Option Place) (lane : Lane) → Steady 1 None lane (child_of tick now slot spec o lane)
-steady_child tick now slot spec None lane = still 1 lane _ refl refl refl refl refl
-steady_child tick now slot spec (Some place) lane = steady_either 1 None lane _ _ _ (still 1 lane _ refl refl refl refl (kept_held (with_rows (born spec now place.id)) lane.contexts place.context)) (still 1 lane _ refl refl refl refl refl)
-
-steady_priority : (tick : ℕ) (priority : ℤ) (o : Option Place) (lane : Lane) → Steady 1 None lane (set_priority_of tick priority o lane)
-steady_priority tick priority None lane = still 1 lane _ refl refl refl refl refl
-steady_priority tick priority (Some place) lane = steady_either 1 None lane _ _ _ (still 1 lane _ refl refl refl refl (kept_held (with_rows (reprioritised place.id priority)) lane.contexts place.context)) (still 1 lane _ refl refl refl refl refl)
-
-steady_at_once : (tick context proc : ℕ) (acquires : Option ℕ) (lane : Lane) → Steady 1 None lane (called_at_once tick context proc acquires lane)
-steady_at_once tick context proc acquires lane =
-    steady_either 1 None lane (calling tick context proc acquires lane) (stopped Halted (written tick events.HaltDepth lane)) (nat_lt (calls_in_progress lane.frames) 32) (still 1 lane _ refl refl refl refl refl) (still 1 lane _ refl refl refl refl refl)
-
-steady_own : (tick now context proc : ℕ) (lane : Lane) → Steady 1 None lane (invoke_own tick now context proc lane)
-steady_own tick now context proc lane =
-    let none : Lane = called_at_once tick context proc None lane in
-    let some : Lane = called_at_once tick context proc (Some context) lane in
-    let there : Lane = attaching tick now context proc lane in
-    steady_either 1 None lane none (cond (default_context lane == context) some there) (is_owned context lane) (steady_at_once tick context proc None lane)
-    (steady_either 1 None lane some there (default_context lane == context) (steady_at_once tick context proc (Some context) lane) (still 1 lane there refl refl refl refl (kept_held (with_rows (attached (invoke_spec proc) now)) lane.contexts context)))
-
--- what is posted tells of no cancellable
-invoke_by : (tick now context proc : ℕ) (lane : Lane) (b : Bool) → Steady 1 (cond b None (Some (mails.Attach context (invoke_spec proc)))) lane (cond b (invoke_own tick now context proc lane) (written tick (events.Invoke context Posted) lane))
-invoke_by tick now context proc lane true = steady_own tick now context proc lane
-invoke_by tick now context proc lane false = record { number = refl; tick = refl; view = refl; next = omega arith; few = omega arith; seen = λ c h. refl; holds = refl; given = refl }
-
-steady_invoke : (tick now context proc : ℕ) (lane : Lane) → Steady 1 (invoke_sends context proc lane) lane (invoke tick now context proc lane)
-steady_invoke tick now context proc lane = invoke_by tick now context proc lane (is_own context lane)
+steady_each : (script : Plan) (tick : ℕ) (move : Move) (lane : Lane) → MayMove script move lane → Steady 1 (mail_by move) lane (moved script tick move lane)
+steady_each script tick (moves.Alter context it) lane m = still 1 lane _ refl refl refl refl (kept_held (changed_by it) lane.contexts context)
+steady_each script tick (moves.Note c) lane m = noticed_steady 1 tick c lane m
+steady_each script tick (moves.View view) lane m = record {
+  number = refl;
+  tick = refl;
+  view = ap (λ (ms : List Bool). length ms) m.0;
+  next = omega arith;
+  few = omega arith;
+  seen = λ c h. ap (λ (ms : List Bool). slice_index_or ms c false) m.0;
+  holds = refl;
+  given = refl;
+}
+steady_each script tick (moves.Start spec) lane m = record {
+  number = refl;
+  tick = refl;
+  view = refl;
+  next = omega arith;
+  few = omega (arith, length-append lane.tasks.started (record { number = lane.tasks.next; spec = spec; ctx = default_context lane; first = tick + 1 } ∷ []));
+  seen = λ c h. refl;
+  holds = refl;
+  given = refl;
+}
+steady_each script tick (moves.Post context proc) lane m = record { number = refl; tick = refl; view = refl; next = omega arith; few = omega arith; seen = λ c h. refl; holds = refl; given = refl }
+steady_each script tick (moves.Give context to) lane m = record { number = refl; tick = refl; view = refl; next = omega arith; few = omega arith; seen = λ c h. refl; holds = refl; given = refl }
+steady_each script tick _ lane m = still 1 lane _ refl refl refl refl refl
 
 -- an action starts one task at most
 pub steady_acted : (script : Plan) (tick : ℕ) (action : Action) (lane : Lane) → Steady 1 (sends script action lane) lane (acted script tick action lane)
-steady_acted script tick (Attach context slot spec) lane = steady_either 1 None lane _ _ _ (still 1 lane _ refl refl refl refl (kept_held (with_rows (attached spec (time_of script tick))) lane.contexts context)) (still 1 lane _ refl refl refl refl refl)
-steady_acted script tick (Child parent slot spec) lane = steady_child tick (time_of script tick) slot spec (place_at parent lane) lane
-steady_acted script tick (Destroy slot) lane = steady_source 1 tick words.Destroy destroyed (place_at slot lane) lane
-steady_acted script tick (SetReady slot us) lane = steady_source 1 tick words.SetReady (λ id. ready_set id us) (place_at slot lane) lane
-steady_acted script tick (SetPriority slot priority) lane = steady_priority tick priority (place_at slot lane) lane
-steady_acted script tick (Iterate context) lane = steady_either 1 None lane _ _ _ (still 1 lane _ refl refl refl refl refl) (still 1 lane _ refl refl refl refl refl)
-steady_acted script tick (Pending context) lane = still 1 lane _ refl refl refl refl refl
-steady_acted script tick (Run number) lane = steady_either 1 None lane _ _ _ (still 1 lane _ refl refl refl refl refl) (still 1 lane _ refl refl refl refl refl)
-steady_acted script tick (Quit number) lane = steady_either 1 None lane _ _ _ (still 1 lane _ refl refl refl refl refl) (still 1 lane _ refl refl refl refl refl)
-steady_acted script tick (Cancel c) lane = weaker (cancel_sends c lane) lane _ (steady_cancel script tick c lane)
-steady_acted script tick (Connect c slot proc) lane = steady_connect script tick c slot proc lane
-steady_acted script tick (Disconnect slot) lane = steady_disconnect tick (handler_at slot lane) lane
-steady_acted script tick (Task spec) lane = record { number = refl; tick = refl; view = refl; next = omega arith; few = omega (arith, length-append lane.tasks.started (record { number = lane.tasks.next; spec = spec; ctx = default_context lane; first = tick + 1 } ∷ [])); seen = λ c h. refl; holds = refl; given = refl }
-steady_acted script tick (Push context) lane = steady_either 1 None lane _ _ _ (still 1 lane _ refl refl refl refl refl) (still 1 lane _ refl refl refl refl refl)
-steady_acted script tick (Pop context) lane = steady_either 1 None lane _ _ _ (still 1 lane _ refl refl refl refl refl) (still 1 lane _ refl refl refl refl refl)
-steady_acted script tick ShowDefault lane = still 1 lane _ refl refl refl refl refl
-steady_acted script tick (Acquire context) lane = steady_either 1 None lane _ _ _ (still 1 lane _ refl refl refl refl (kept_held acquired lane.contexts context)) (still 1 lane _ refl refl refl refl refl)
-steady_acted script tick (Release context) lane = steady_either 1 None lane _ _ _ (still 1 lane _ refl refl refl refl (kept_held released lane.contexts context)) (still 1 lane _ refl refl refl refl refl)
-steady_acted script tick (Invoke context proc) lane = steady_invoke tick (time_of script tick) context proc lane
-steady_acted script tick (Give context to) lane = by (may_give script context to lane)
+steady_acted script tick action lane = acted_by law action lane
   where
-    by : (b : Bool) → Steady 1 (cond b (Some (mails.Give context to)) None) lane (cond b (written tick (events.Give context to) (with_given context true lane)) (written tick (events.Miss words.Give) lane))
-    by true = record { number = refl; tick = refl; view = refl; next = omega arith; few = omega arith; seen = λ c h. refl; holds = refl; given = refl }
-    by false = still 1 lane _ refl refl refl refl refl
-steady_acted script tick (Log n) lane = still 1 lane _ refl refl refl refl refl
+    law : Law script tick (Steady 0 None) (Steady 1)
+    law = record { plain = steady_moves tick; of = weaker; next = steady_then 1; each = steady_each script tick }
 
 pub steady_dispatching : (tick context : ℕ) (row : Row) (lane : Lane) → Steady 1 None lane (dispatching tick context row lane)
 steady_dispatching tick context row lane = steady_either 1 None lane _ _ _ (still 1 lane _ refl refl refl refl (kept_held (with_rows (counted row.id)) lane.contexts context)) (still 1 lane _ refl refl refl refl refl)

@@ -25,7 +25,7 @@ use Rattle.lane_turn.proofs.Leaves.{results_other, own_within}
 use Rattle.lane_turn.proofs.Taking.{AreGiven, AreFresh, IsFresh}
 use Rattle.lane_turn.proofs.Moving.{IsHomed, AreHomed, turned_moves}
 use Rattle.lane_turn.proofs.Turns.{turned_number}
-use Rattle.lane_turn.proofs.Arrivals.{has_own}
+use Rattle.lane_turn.proofs.Moves.{has_own}
 use Rattle.lane_turn.specs.Holding.{holder_at}
 use Rattle.lane_turn.proofs.Brought.{never, never_both, brought_cons, received_gains, open_fresh, open_awaited}
 use Rattle.lane_turn.proofs.Whole.{whole}
