@@ -1,4 +1,4 @@
-use Rattle.std.proofs.Common.{◌≡◌, ◌+◌, ap, sym, ◌∙◌, subst, List, map}
+use Rattle.std.proofs.Common.{◌+◌, sym, subst, List, map}
 use Rattle.std.specs.List.{AllByRecursion}
 use Rattle.lane_turn.specs.Lane.{Lane, State}
 use Rattle.lane_turn.specs.Turn.{turned}

@@ -1,4 +1,4 @@
-use Rattle.std.proofs.Common.{rules, ◌≡◌, None, Some, ap, sym, ◌∙◌, get_or, arith}
+use Rattle.std.proofs.Common.{rules, ◌≡◌, None, ap, sym, ◌∙◌, get_or, arith}
 use Rattle.std.specs.Option.{option_and_then}
 use Rattle.lane_turn.specs.Lane.{Lane, State}
 use Rattle.lane_turn.specs.Handover.{handed_of, left_by}
