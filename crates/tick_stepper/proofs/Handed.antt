@@ -72,9 +72,6 @@ all_fresh script tick states shares ready dealt trays k d h =
 
 -- ---- coming back
 
-pub gathered_none : IsGathered [] [] []
-gathered_none = record { shares = []; all = refl; back = refl; posted = refl }
-
 pub gathered_more : (hauls : List (Result Share LaneFault)) (lanes lanes' : List State) (letters letters' : List Letter) (haul : Result Share LaneFault) (share : Share)
     → IsGathered hauls lanes letters → haul ≡ Ok share → lanes' ≡ lanes ++ share.lanes.items → letters' ≡ letters ++ share.tray → IsGathered (hauls ++ haul ∷ []) lanes' letters'
 gathered_more hauls lanes lanes' letters letters' haul share so_far is more sent = record {

@@ -1,12 +1,12 @@
 -- Lanes that stand by number: what one of them does, and what goes from one to another.
-use Rattle.std.proofs.Common.{◌≡◌, ◌≢◌, ◌⊎◌, inl, inr, ℕ, zero, suc, ◌+◌, ◌<◌, ◌≤◌, ◌==◌, Bool, true, false, cond, Option, Some, None, is_some, List, [], ◌∷◌, map, length, get_or, set, option_map, refl, ap, sym, ◌∙◌, subst, arith, ltb-true, ltb-false}
+use Rattle.std.proofs.Common.{◌≡◌, ◌⊎◌, inl, inr, ℕ, zero, suc, ◌+◌, ◌<◌, ◌≤◌, ◌==◌, Bool, true, false, cond, Option, Some, None, is_some, List, [], ◌∷◌, map, length, get_or, set, option_map, refl, ap, sym, ◌∙◌, subst, arith, ltb-true, ltb-false}
 use Rattle.std.specs.Prelude.{nat_lt, OnOk, Result, Ok, Err}
 use Rattle.std.proofs.lemmas.Result.{on_ok_weaker}
 use Rattle.context_core.specs.declared.context.Context.{Context}
 use Rattle.std.specs.Option.{option_and_then}
 use Rattle.std.specs.List.{cons_option, range_with_len}
 use Rattle.std.proofs.lemmas.List.{length-map}
-use Rattle.std.proofs.lemmas.Bool.{eq-eqb, ne_eqb}
+use Rattle.std.proofs.lemmas.Bool.{eq-eqb}
 use Rattle.lane_turn.specs.Lane.{Lane, State, Kept, context_at, is_given}
 use Rattle.lane_turn.specs.Handover.{Handing, kept_of, handed_of, left_by, without_context, taken_over, handed, all_handed, lane_of_number, handing_of, moved, handings, handed_over}
 use Rattle.post_office.specs.declared.letter.Letter.{Letter}
@@ -214,9 +214,6 @@ counted_left sender context lanes c = counted_at_number sender (left_by context)
 pub counted_moved : (tick : ℕ) (o : Option Handing) (lanes : List Lane) → Counted 0 lanes → Counted 0 (moved tick o lanes)
 counted_moved tick None lanes c = c
 counted_moved tick (Some h) lanes c = counted_step (handed tick h) (λ lane. number_over tick (h ∷ []) lane) 0 lanes c
-
-pub counted_over : (tick : ℕ) (hs : List Handing) (lanes : List Lane) → Counted 0 lanes → Counted 0 (map (all_handed tick hs) lanes)
-counted_over tick hs lanes c = counted_step (all_handed tick hs) (number_over tick hs) 0 lanes c
 
 -- ---- what the first letter gives goes over, and then the rest
 

@@ -16,22 +16,7 @@ use Rattle.tick_stepper.specs.declared.work.Hired.{Hired}
 use Rattle.tick_stepper.specs.declared.work.Haul.{Haul}
 use Rattle.tick_stepper.specs.Share.{turned_one, out_of_one, IsReadyOne}
 use Rattle.tick_stepper.specs.Queue.{filled, IsHired, MayWork, IsHaul, IsOf, IsTakenIn}
-use Rattle.tick_stepper.proofs.Concats.{map_snoc, flat_snoc}
-
--- ---- one more turn
-
-module _ {X Y : Type 0} (f : X → Y) where
-  pub turns_more : (items old : List Y) (taken taken' : List X) (x : X) (y : Y) → items ≡ old → old ≡ map f taken → taken' ≡ taken ++ x ∷ [] → y ≡ f x → items ++ y ∷ [] ≡ map f taken'
-  turns_more items old taken taken' x y a b c d = (λ i. (a ∙ b) i ++ d i ∷ []) ∙ sym (map_snoc f taken x) ∙ ap (map f) (sym c)
-
-  -- behind others
-  pub turns_behind : (items old before : List Y) (taken taken' : List X) (x : X) (y : Y) → items ≡ old → old ≡ before ++ map f taken → taken' ≡ taken ++ x ∷ [] → y ≡ f x → items ++ y ∷ [] ≡ before ++ map f taken'
-  turns_behind items old before taken taken' x y a b c d =
-      (λ i. (a ∙ b) i ++ d i ∷ []) ∙ append_assoc before (map f taken) (f x ∷ []) ∙ ap (λ (l : List Y). before ++ l) (sym (map_snoc f taken x) ∙ ap (map f) (sym c))
-
-module _ {X Y : Type 0} (f : X → List Y) where
-  pub posts_more : (now : List Y) (taken taken' : List X) (x : X) → now ≡ flat_map f taken → taken' ≡ taken ++ x ∷ [] → now ++ f x ≡ flat_map f taken'
-  posts_more now taken taken' x a b = ap (λ (l : List Y). l ++ f x) a ∙ sym (flat_snoc f taken x) ∙ ap (flat_map f) (sym b)
+use Rattle.tick_stepper.proofs.Concats.{map_snoc}
 
 -- ---- one more lane is put
 
@@ -44,18 +29,6 @@ filled_more old new lanes lane so_far more =
 length_snoc : {X : Type 0} (xs : List X) (x : X) → length (xs ++ x ∷ []) ≡ length xs + 1
 length_snoc [] x = refl
 length_snoc (y ∷ ys) x = let more = length_snoc ys x in omega arith
-
-pub taken_none : (list : WorkState State) (office : OfficeState) → IsTakenIn [] list list office office []
-taken_none list office =
-    let none : list.out ≡ list.out - 0 = omega arith in
-    let idle : office.out ≡ office.out - 0 = omega arith in
-    record {
-      each = [];
-      all = refl;
-      taken = λ i. record list { recorded = sym (append-nil list.recorded) i; out = none i };
-      posted = λ i. record office { recorded = sym (append-nil office.recorded) i; out = idle i };
-      back = refl;
-    }
 
 pub taken_more : (hauls : List (Result Haul OutOfMemory)) (list now next : WorkState State) (office desk after : OfficeState) (lanes more : List State) (result : Result Haul OutOfMemory) (haul : Haul)
     → IsTakenIn hauls list now office desk lanes → result ≡ Ok haul → next ≡ takes_in now haul.work → after ≡ closes desk haul.post → more ≡ lanes ++ haul.lanes.items → IsTakenIn (hauls ++ result ∷ []) list next office after more

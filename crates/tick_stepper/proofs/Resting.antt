@@ -1,10 +1,9 @@
 -- Lanes that rest: those whose turn comes, and those that are left alone.
-use Rattle.std.proofs.Common.{◌≡◌, ◌⊎◌, inl, inr, ⊎_elim, ℕ, zero, suc, ◌+◌, ◌<◌, ◌≤◌, ◌==◌, ◌||◌, Bool, true, false, not, cond, Option, Some, None, List, [], ◌∷◌, ◌++◌, map, length, get_or, refl, sym, ap, ◌∙◌, subst, arith, rules, tests, add-one, append-nil, eqb-true}
+use Rattle.std.proofs.Common.{◌≡◌, ◌⊎◌, inl, inr, ⊎_elim, ℕ, zero, suc, ◌+◌, ◌<◌, ◌≤◌, ◌==◌, ◌||◌, Bool, true, false, not, cond, Option, Some, None, List, [], ◌∷◌, ◌++◌, map, length, get_or, refl, sym, ap, ◌∙◌, subst, arith, rules, tests, add-one, eqb-true}
 use Rattle.std.specs.Prelude.{IsPermutation}
 use Rattle.std.specs.List.{AllByRecursion, filter, flat_map, list_any}
 use Rattle.std.specs.List.Sorted.{IsNonDecreasingBy}
 use Rattle.std.proofs.lemmas.List.{map-append, length-map, get_or-map}
-use Rattle.std.proofs.lemmas.List.Elements.{filter-append}
 use Rattle.std.proofs.lemmas.List.Sorted.{IsPermutation-refl, IsPermutation-sym, IsPermutation-trans, IsPermutation-cons, IsPermutation-middle, IsPermutation-map, All-permutation}
 use Rattle.loop_script.specs.declared.plan.Plan.{Plan}
 use Rattle.post_office.specs.declared.letter.Letter.{Letter}
@@ -21,13 +20,13 @@ use Rattle.tick_stepper.specs.Order.{RisesBy}
 use Rattle.tick_stepper.specs.declared.rest.Resting.{Resting}
 use Rattle.tick_stepper.specs.Share.{unspent, unspent_all, lanes_in, stepped_one, turned_one, out_of_one, IsReadyOne, IsRound}
 use Rattle.tick_stepper.specs.Rest.{lane_at, all_at, comes_by, is_due, woken, all_woken, HasPassed, Rests, IsSettled, AreAt, IsParted, AreTurned}
-use Rattle.tick_stepper.proofs.Lined.{lanes_unspent}
+use Rattle.tick_stepper.proofs.Lined.{lanes_unspent, none_left}
 use Rattle.tick_stepper.proofs.Handed.{rec_of, of_rec, front_of}
 use Rattle.tick_stepper.proofs.Sorted.{sorted_is}
 use Rattle.tick_stepper.proofs.Turns.{turned_in_order}
 use Rattle.tick_stepper.proofs.Counted.{counted_at, below_count, lane_count, by_number_at}
 use Rattle.tick_stepper.proofs.Rounds.{unspent_step, unspent_rise, ready_turns, ready_delivery}
-use Rattle.tick_stepper.proofs.Deals.{all_map}
+use Rattle.tick_stepper.proofs.Deals.{all_append, all_map}
 
 -- ---- what holds of all, of those that pass a test
 
@@ -196,10 +195,6 @@ now_turned : (script : Plan) (tick : ℕ) (lanes : List Lane) → AllByRecursion
 now_turned script tick [] r = refl
 now_turned script tick (lane ∷ lanes) r = λ i. record lane { tasks = record lane.tasks { tick = sym r.0.ready.now i } } ∷ now_turned script tick lanes r.1 i
 
-pub all_of_both : {X : Type 0} (P : X → Type 0) (xs ys : List X) → AllByRecursion P xs → AllByRecursion P ys → AllByRecursion P (xs ++ ys)
-all_of_both P [] ys h k = k
-all_of_both P (x ∷ xs) ys h k = (h.0, all_of_both P xs ys h.1 k)
-
 abbrev lane_of : ℕ → State → Lane
 lane_of tick s = at_tick tick s.lane
 
@@ -230,12 +225,8 @@ none_received : (script : Plan) (tick : ℕ) (lanes : List Lane) → map (receiv
 none_received script tick [] = refl
 none_received script tick (lane ∷ lanes) = ap (λ (ls : List Lane). lane ∷ ls) (none_received script tick lanes)
 
-none_handed : (tick : ℕ) (lanes : List Lane) → handed_over tick [] lanes ≡ lanes
-none_handed tick [] = refl
-none_handed tick (lane ∷ lanes) = ap (λ (ls : List Lane). lane ∷ ls) (none_handed tick lanes)
-
 none_delivered : (script : Plan) (tick : ℕ) (lanes : List Lane) → delivered script tick [] lanes ≡ lanes
-none_delivered script tick lanes = none_received script tick (handed_over tick [] lanes) ∙ none_handed tick lanes
+none_delivered script tick lanes = none_received script tick (handed_over tick [] lanes) ∙ none_left tick lanes
 
 pub put_back_at : (script : Plan) (tick : ℕ) (done : List State) (rest settled sorted : List Resting) → length script.lanes ≤ 64 → tick < 4096
     → AllByRecursion (Rests script (tick + 1)) rest
@@ -246,7 +237,7 @@ put_back_at script tick done rest settled sorted few low rests perm none s p up 
     let next = tick + 1 in
     let turns : List Lane = map (turned script tick) (lanes_at script tick) in
     let P : Resting → Type 0 = Rests script next in
-    let all : AllByRecursion P sorted = rec_of P sorted (All-permutation P (settled ++ rest) sorted p (of_rec P (settled ++ rest) (all_of_both P settled rest s.rest rests))) in
+    let all : AllByRecursion P sorted = rec_of P sorted (All-permutation P (settled ++ rest) sorted p (of_rec P (settled ++ rest) (all_append P settled rest s.rest rests))) in
     let left : map (lane_of next) (unspent_all turns) ≡ turns = lanes_of_unspent next turns ∙ now_turned script next turns (ready_delivery script tick few low) in
     let right : map (lane_of next) (done ++ all_woken next rest) ≡ all_at next (settled ++ rest) =
     map-append (lane_of next) done (all_woken next rest)
@@ -321,16 +312,10 @@ opening_at script ones same due few = record {
 
 -- ---- one more
 
-pub filter_hit : {X : Type 0} (p : X → Bool) (xs : List X) (x : X) → p x ≡ true → filter p (xs ++ x ∷ []) ≡ filter p xs ++ x ∷ []
-filter_hit {X} p xs x e = filter-append p xs (x ∷ []) ∙ ap (λ (b : Bool). filter p xs ++ cond b (x ∷ []) []) e
-
-pub filter_miss : {X : Type 0} (p : X → Bool) (xs : List X) (x : X) → p x ≡ false → filter p (xs ++ x ∷ []) ≡ filter p xs
-filter_miss {X} p xs x e = filter-append p xs (x ∷ []) ∙ (ap (λ (b : Bool). filter p xs ++ cond b (x ∷ []) []) e ∙ append-nil (filter p xs))
-
 pub settled_more : (script : Plan) (tick : ℕ) (lanes : List State) (ones : List Resting) (one : Resting) → IsSettled script tick lanes ones → Rests script (tick + 1) one → IsSettled script tick (lanes ++ one.lane ∷ []) (ones ++ one ∷ [])
 settled_more script tick lanes ones one s r = record {
   same = map-append (λ (o : Resting). o.lane) ones (one ∷ []) ∙ ap (λ (ls : List State). ls ++ one.lane ∷ []) s.same;
-  rest = all_of_both (Rests script (tick + 1)) ones (one ∷ []) s.rest (r, tt);
+  rest = all_append (Rests script (tick + 1)) ones (one ∷ []) s.rest (r, tt);
 }
 
 -- a lane that was asked for its next tick rests until then

@@ -1,5 +1,5 @@
 //! What a tick's turns posted is delivered.
-ghost use Rattle.std.specs.Prelude.{◌≡◌, ◌+◌, ◌^◌, ◌<◌, ◌≤◌, map, length, OnOk};
+ghost use Rattle.std.specs.Prelude.{◌≡◌, ◌+◌, ◌<◌, ◌≤◌, map, length, OnOk};
 ghost use Rattle.std.specs.List.{AllByRecursion};
 ghost use Rattle.loop_script.specs.Bounds.{most_ticks};
 ghost use Rattle.lane_turn.specs.Deliver.{received_all};

@@ -1,5 +1,5 @@
 //! Lanes are taken from a queue.
-ghost use Rattle.std.specs.Prelude.{◌≡◌, ◌+◌, ◌<◌, ◌≤◌, ◌++◌, [], ◌∷◌, map, length, vec_len, OnOk, IfOk, IsPermutation};
+ghost use Rattle.std.specs.Prelude.{◌≡◌, ◌+◌, ◌<◌, ◌++◌, [], ◌∷◌, map, vec_len, OnOk, IfOk, IsPermutation};
 ghost use Rattle.std.specs.List.{All, AllByRecursion, flat_map};
 ghost use Rattle.loop_script.specs.Bounds.{most_ticks};
 ghost use Rattle.post_office.specs.Merge.{concat};

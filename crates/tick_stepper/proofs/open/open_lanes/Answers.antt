@@ -6,7 +6,7 @@ use Rattle.lane_turn.specs.Lane.{State}
 use Rattle.lane_turn.specs.Turn.{opening}
 use Rattle.tick_stepper.specs.declared.rest.Resting.{Resting}
 use Rattle.tick_stepper.specs.Share.{unspent, unspent_all}
-use Rattle.tick_stepper.proofs.Resting.{all_of_both}
+use Rattle.tick_stepper.proofs.Deals.{all_append}
 use Rattle.tick_stepper.proofs.open.open_lanes.Goals as goal
 
 pub loop-number-preserved : goal.loop-number-preserved
@@ -20,5 +20,5 @@ loop-number-preserved c =
     record {
       lanes = ap (map (λ (o : Resting). o.lane)) pushed ∙ (map_push (λ (o : Resting). o.lane) c.loop-number.lanes.items one
           ∙ (ap (λ (ls : List State). ls ++ one.lane ∷ []) c.loop-number.invariant.lanes ∙ (ap (λ (k : State). unspent_all (map made (range_with_len 0 n)) ++ k ∷ []) c.in_ok-lane.ensures.opening ∙ sym more)));
-      due = subst (AllByRecursion (λ (o : Resting). o.next ≡ Some 0)) (sym pushed) (all_of_both (λ (o : Resting). o.next ≡ Some 0) c.loop-number.lanes.items (one ∷ []) c.loop-number.invariant.due (refl, tt));
+      due = subst (AllByRecursion (λ (o : Resting). o.next ≡ Some 0)) (sym pushed) (all_append (λ (o : Resting). o.next ≡ Some 0) c.loop-number.lanes.items (one ∷ []) c.loop-number.invariant.due (refl, tt));
     }
