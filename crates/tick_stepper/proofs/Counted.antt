@@ -2,11 +2,11 @@
 use Rattle.std.proofs.Common.{◌≡◌, ℕ, zero, suc, ◌+◌, ◌<◌, List, [], ◌∷◌, map, length, refl, ◌∙◌, arith}
 use Rattle.std.proofs.lemmas.List.{length-map}
 use Rattle.std.proofs.lemmas.List.FromFn.{length-range_with_len}
-use Rattle.std.specs.List.{AllByRecursion, range_with_len}
+use Rattle.std.specs.List.{AllByRecursion}
 use Rattle.loop_script.specs.declared.plan.Plan.{Plan}
 use Rattle.post_office.specs.declared.letter.Letter.{Letter}
 use Rattle.lane_turn.specs.Lane.{Lane}
-use Rattle.lane_turn.specs.Turn.{opening, turned}
+use Rattle.lane_turn.specs.Turn.{turned}
 use Rattle.lane_turn.specs.Handover.{Handing, all_handed, handings}
 use Rattle.lane_turn.proofs.GoingOver.{handed_part}
 use Rattle.lane_turn.specs.Deliver.{received_all}

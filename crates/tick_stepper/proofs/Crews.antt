@@ -5,10 +5,10 @@ use Rattle.std.proofs.Math.Nat.{mod-lt}
 use Rattle.tick_stepper.specs.declared.fault.StepFault.TheVariants.{Workers, Table}
 use Rattle.std.specs.List.{All, AllByRecursion, list_all}
 use Rattle.loop_script.specs.declared.plan.Plan.{Plan}
+use Rattle.lane_turn.specs.Lane.{State}
 use Rattle.tick_stepper.specs.declared.crew.Crew.{Crew}
 use Rattle.tick_stepper.specs.declared.crew.Sharing.{Sharing}
 use Rattle.tick_stepper.specs.declared.crew.Sharing.TheVariants.{Round, Fixed, Queue}
-use Rattle.tick_stepper.specs.declared.share.Numbered.{Numbered}
 use Rattle.tick_stepper.specs.Crew.{worker_by, worker_of, names_workers, refusal_of}
 use Rattle.tick_stepper.proofs.Handed.{of_rec}
 
@@ -49,13 +49,13 @@ named_one lanes workers lane (Fixed table) some named h =
     let long = eq_of (length table.items) lanes tests.0 in
     named_at workers lane table.items tests.1 (omega arith)
 
-each_named : (most : ℕ) (crew : Crew) (ones : List Numbered) → 0 < crew.workers → names_workers most crew.workers crew.sharing ≡ true → AllByRecursion (λ (one : Numbered). one.number < most) ones
-    → AllByRecursion (λ (one : Numbered). worker_of crew one.number < crew.workers) ones
+each_named : (most : ℕ) (crew : Crew) (states : List State) → 0 < crew.workers → names_workers most crew.workers crew.sharing ≡ true → AllByRecursion (λ (s : State). s.lane.number < most) states
+    → AllByRecursion (λ (s : State). worker_of crew s.lane.number < crew.workers) states
 each_named most crew [] some named h = tt
-each_named most crew (one ∷ ones) some named h = (named_one most crew.workers one.number crew.sharing some named h.0, each_named most crew ones some named h.1)
+each_named most crew (s ∷ states) some named h = (named_one most crew.workers s.lane.number crew.sharing some named h.0, each_named most crew states some named h.1)
 
-pub all_named : (script : Plan) (crew : Crew) (ones : List Numbered) → refusal_of script crew.workers crew.sharing ≡ None → AllByRecursion (λ (one : Numbered). one.number < length script.lanes) ones
-    → All (λ one. worker_of crew one.number < crew.workers) ones
-all_named script crew ones e below =
+pub all_named : (script : Plan) (crew : Crew) (states : List State) → refusal_of script crew.workers crew.sharing ≡ None → AllByRecursion (λ (s : State). s.lane.number < length script.lanes) states
+    → All (λ s. worker_of crew s.lane.number < crew.workers) states
+all_named script crew states e below =
     let named = (passed (nat_le 1 crew.workers && nat_le crew.workers 64) (names_workers (length script.lanes) crew.workers crew.sharing) e).1 in
-    of_rec (λ (one : Numbered). worker_of crew one.number < crew.workers) ones (each_named (length script.lanes) crew ones (some_workers script crew.workers crew.sharing e) named below)
+    of_rec (λ (s : State). worker_of crew s.lane.number < crew.workers) states (each_named (length script.lanes) crew states (some_workers script crew.workers crew.sharing e) named below)

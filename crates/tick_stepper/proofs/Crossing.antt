@@ -41,7 +41,6 @@ use Rattle.post_office.proofs.work_queue.WorkQueue.TheSendSync as work_queue
 use Rattle.post_office.proofs.letter_queue.LetterQueue.TheSendSync as letter_queue
 use Rattle.post_office.specs.contracts.work_queue.WorkQueue as WorkQueue
 use Rattle.post_office.specs.contracts.letter_queue.LetterQueue as LetterQueue
-use Rattle.tick_stepper.specs.contracts.share.Numbered as Numbered
 use Rattle.tick_stepper.specs.contracts.share.Share as Share
 use Rattle.tick_stepper.specs.contracts.work.Hired as Hired
 use Rattle.tick_stepper.specs.contracts.work.Haul as Haul
@@ -106,21 +105,18 @@ state_send = search (lane_send, sendable, crosses) depth 60
 pub share_send : IsSend Share.the_row
 share_send = search (state_send, sendable, crosses) depth 60 fits 10000
 
-pub numbered_send : IsSend Numbered.the_row
-numbered_send = search (state_send, sendable, crosses) depth 60 fits 10000
-
 -- ---- passes
 
 pub hired_send : IsSend Hired.the_row
-hired_send = search (numbered_send, work_pass.the_send, office_pass.the_send, sendable, crosses) depth 60 fits 10000
+hired_send = search (state_send, work_pass.the_send, office_pass.the_send, sendable, crosses) depth 60 fits 10000
 
 pub haul_send : IsSend Haul.the_row
-haul_send = search (numbered_send, work_pass.the_send, office_pass.the_send, sendable, crosses) depth 60 fits 10000
+haul_send = search (state_send, work_pass.the_send, office_pass.the_send, sendable, crosses) depth 60 fits 10000
 
 -- ---- queues
 
-pub list_sync : IsSync (WorkQueue.the_row Numbered.the_row)
-list_sync = search (numbered_send, work_queue.the_sync, sendable) depth 20
+pub list_sync : IsSync (WorkQueue.the_row LaneState.the_row)
+list_sync = search (state_send, work_queue.the_sync, sendable) depth 20
 
 pub office_sync : IsSync LetterQueue.the_row
 office_sync = search (letter_queue.the_sync, sendable) depth 20

@@ -7,8 +7,8 @@ use Rattle.std.proofs.lemmas.List.{map-append, flat_map_more}
 use Rattle.std.proofs.lemmas.List.Sorted.{IsPermutation-refl, IsPermutation-sym, IsPermutation-trans, IsPermutation-cons, IsPermutation-middle, IsPermutation-append, All-permutation}
 use Rattle.loop_script.specs.declared.plan.Plan.{Plan}
 use Rattle.post_office.specs.declared.letter.Letter.{Letter}
+use Rattle.lane_turn.specs.Lane.{State}
 use Rattle.lane_turn.specs.declared.state.LaneFault.{LaneFault}
-use Rattle.tick_stepper.specs.declared.share.Numbered.{Numbered}
 use Rattle.tick_stepper.specs.declared.share.Share.{Share}
 use Rattle.tick_stepper.specs.Share.{turned_one, out_of_one, has_lanes, handed, carried, IsReadyOne, IsFresh, IsTurned, IsGathered}
 
@@ -61,10 +61,10 @@ module _ {X : Type 0} (P : X → Type 0) where
   each_of f (s ∷ ss) a (suc k) d h = each_of f ss (back_of (f s) (flat_map f ss) a) k d (omega arith)
 
 -- what is dealt out of ready lanes is fresh
-pub all_fresh : (script : Plan) (tick : ℕ) (ones : List Numbered) (shares : List Share) → AllByRecursion (IsReadyOne script tick) ones → IsPermutation ones (handed shares) → All (λ share. share.tray ≡ []) shares → All (IsFresh script tick) shares
-all_fresh script tick ones shares ready dealt trays k d h =
-    let P : Numbered → Type 0 = IsReadyOne script tick in
-    let all : AllByRecursion P (handed shares) = rec_of P (handed shares) (All-permutation P ones (handed shares) dealt (of_rec P ones ready)) in
+pub all_fresh : (script : Plan) (tick : ℕ) (states : List State) (shares : List Share) → AllByRecursion (IsReadyOne script tick) states → IsPermutation states (handed shares) → All (λ share. share.tray ≡ []) shares → All (IsFresh script tick) shares
+all_fresh script tick states shares ready dealt trays k d h =
+    let P : State → Type 0 = IsReadyOne script tick in
+    let all : AllByRecursion P (handed shares) = rec_of P (handed shares) (All-permutation P states (handed shares) dealt (of_rec P states ready)) in
     record {
       lanes = each_of P (λ (share : Share). share.lanes.items) shares all k d h;
       tray = trays k d h;
@@ -72,15 +72,12 @@ all_fresh script tick ones shares ready dealt trays k d h =
 
 -- ---- coming back
 
-pub gathered_none : IsGathered [] [] []
-gathered_none = record { shares = []; all = refl; back = refl; posted = refl }
-
-pub gathered_more : (hauls : List (Result Share LaneFault)) (lanes lanes' : List Numbered) (letters letters' : List Letter) (haul : Result Share LaneFault) (share : Share)
+pub gathered_more : (hauls : List (Result Share LaneFault)) (lanes lanes' : List State) (letters letters' : List Letter) (haul : Result Share LaneFault) (share : Share)
     → IsGathered hauls lanes letters → haul ≡ Ok share → lanes' ≡ lanes ++ share.lanes.items → letters' ≡ letters ++ share.tray → IsGathered (hauls ++ haul ∷ []) lanes' letters'
 gathered_more hauls lanes lanes' letters letters' haul share so_far is more sent = record {
   shares = so_far.shares ++ share ∷ [];
   all = (λ i. so_far.all i ++ is i ∷ []) ∙ sym (map-append Ok so_far.shares (share ∷ []));
-  back = more ∙ ap (λ (l : List Numbered). l ++ share.lanes.items) so_far.back ∙ flat_map_more (λ (s : Share). s.lanes.items) [] so_far.shares share;
+  back = more ∙ ap (λ (l : List State). l ++ share.lanes.items) so_far.back ∙ flat_map_more (λ (s : Share). s.lanes.items) [] so_far.shares share;
   posted = sent ∙ ap (λ (l : List Letter). l ++ share.tray) so_far.posted ∙ flat_map_more (λ (s : Share). s.tray) [] so_far.shares share;
 }
 
@@ -113,9 +110,9 @@ came_back script tick old new hauls all same each =
     came_each script tick old new long
     (λ i d e h. subst (λ (rs : List (Result Share LaneFault)). IfOk (get_or rs i d) (IsTurned script tick (get_or old i e))) all (each i d e h))
 
-none_in : (ones : List Numbered) → nat_lt 0 (length ones) ≡ false → ones ≡ []
+none_in : (states : List State) → nat_lt 0 (length states) ≡ false → states ≡ []
 none_in [] e = refl
-none_in (one ∷ ones) e = absurd (true≢false (sym (lt-ltb 0 (length (one ∷ ones)) (omega arith)) ∙ e))
+none_in (s ∷ states) e = absurd (true≢false (sym (lt-ltb 0 (length (s ∷ states)) (omega arith)) ∙ e))
 
 pub none_there : (share : Share) → has_lanes share ≡ false → share.lanes.items ≡ []
 none_there share e = none_in share.lanes.items e

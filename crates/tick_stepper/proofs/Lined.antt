@@ -1,17 +1,16 @@
 -- Lanes that stand by number: what one of them does, and what goes from one to another.
-use Rattle.std.proofs.Common.{◌≡◌, ◌≢◌, ◌⊎◌, inl, inr, ℕ, zero, suc, ◌+◌, ◌<◌, ◌≤◌, ◌==◌, Bool, true, false, cond, Option, Some, None, is_some, List, [], ◌∷◌, map, length, get_or, set, option_map, refl, ap, sym, ◌∙◌, subst, arith, ltb-true, ltb-false}
+use Rattle.std.proofs.Common.{◌≡◌, ◌⊎◌, inl, inr, ℕ, zero, suc, ◌+◌, ◌<◌, ◌≤◌, ◌==◌, Bool, true, false, cond, Option, Some, None, is_some, List, [], ◌∷◌, map, length, get_or, set, option_map, refl, ap, sym, ◌∙◌, subst, arith, ltb-true, ltb-false}
 use Rattle.std.specs.Prelude.{nat_lt, OnOk, Result, Ok, Err}
 use Rattle.std.proofs.lemmas.Result.{on_ok_weaker}
 use Rattle.context_core.specs.declared.context.Context.{Context}
 use Rattle.std.specs.Option.{option_and_then}
 use Rattle.std.specs.List.{cons_option, range_with_len}
 use Rattle.std.proofs.lemmas.List.{length-map}
-use Rattle.std.proofs.lemmas.Bool.{eq-eqb, ne_eqb}
+use Rattle.std.proofs.lemmas.Bool.{eq-eqb}
 use Rattle.lane_turn.specs.Lane.{Lane, State, Kept, context_at, is_given}
 use Rattle.lane_turn.specs.Handover.{Handing, kept_of, handed_of, left_by, without_context, taken_over, handed, all_handed, lane_of_number, handing_of, moved, handings, handed_over}
 use Rattle.post_office.specs.declared.letter.Letter.{Letter}
-use Rattle.tick_stepper.specs.Share.{unspent, numbered_one, numbered, lanes_in, at_number, AreLined, HasGone}
-use Rattle.tick_stepper.specs.declared.share.Numbered.{Numbered}
+use Rattle.tick_stepper.specs.Share.{unspent, unspent_all, lanes_in, at_number, AreLined, HasGone}
 use Rattle.tick_stepper.proofs.Ready.{kept_is}
 use Rattle.lane_turn.proofs.Places.{Counted, counted_step, IsOutside, tail_outside, is_other, other_number, found_none, found_at}
 use Rattle.tick_stepper.proofs.Counted.{number_over}
@@ -38,20 +37,20 @@ at_index step k a (suc i) (lane ∷ lanes) d e c h =
 
 -- ---- lanes in a row
 
-pub lanes_numbered : (lanes : List Lane) → lanes_in (numbered lanes) ≡ lanes
-lanes_numbered [] = refl
-lanes_numbered (lane ∷ lanes) = ap (λ (ls : List Lane). lane ∷ ls) (lanes_numbered lanes)
+pub lanes_unspent : (lanes : List Lane) → lanes_in (unspent_all lanes) ≡ lanes
+lanes_unspent [] = refl
+lanes_unspent (lane ∷ lanes) = ap (λ (ls : List Lane). lane ∷ ls) (lanes_unspent lanes)
 
 places_of : (a : ℕ) (lanes : List Lane) → Counted a lanes → map (λ (l : Lane). l.number) lanes ≡ range_with_len a (length lanes)
 places_of a [] c = refl
 places_of a (lane ∷ lanes) c = ap (λ (n : ℕ). n ∷ map (λ (l : Lane). l.number) lanes) c.0 ∙ ap (λ (ns : List ℕ). a ∷ ns) (places_of (a + 1) lanes c.1)
 
-pub lined : (lanes : List Lane) → Counted 0 lanes → AreLined (numbered lanes)
+pub lined : (lanes : List Lane) → Counted 0 lanes → AreLined (unspent_all lanes)
 lined lanes c =
-    let same : length (numbered lanes) ≡ length lanes = simp length-map in
+    let same : length (unspent_all lanes) ≡ length lanes = simp length-map in
     record {
-      numbered = sym (ap numbered (lanes_numbered lanes));
-      places = ap (map (λ (l : Lane). l.number)) (lanes_numbered lanes) ∙ (places_of 0 lanes c ∙ ap (range_with_len 0) (sym same));
+      unspent = ap unspent_all (sym (lanes_unspent lanes));
+      places = ap (map (λ (l : Lane). l.number)) (lanes_unspent lanes) ∙ (places_of 0 lanes c ∙ ap (range_with_len 0) (sym same));
     }
 
 counted_of : (a n : ℕ) (lanes : List Lane) → map (λ (l : Lane). l.number) lanes ≡ range_with_len a n → Counted a lanes
@@ -65,58 +64,53 @@ counted_of a (suc n) (lane ∷ lanes) e = (first_same lane.number a _ _ e, count
     rest_same : (x y : ℕ) (xs ys : List ℕ) → x ∷ xs ≡ y ∷ ys → xs ≡ ys
     rest_same x y xs ys p = cc
 
-pub counted_in : (ones : List Numbered) → AreLined ones → Counted 0 (lanes_in ones)
-counted_in ones l = counted_of 0 (length ones) (lanes_in ones) l.places
+pub counted_in : (states : List State) → AreLined states → Counted 0 (lanes_in states)
+counted_in states l = counted_of 0 (length states) (lanes_in states) l.places
 
-in_length : (ones : List Numbered) → length (lanes_in ones) ≡ length ones
-in_length ones = simp length-map
+in_length : (states : List State) → length (lanes_in states) ≡ length states
+in_length states = simp length-map
 
-set_numbered : (lanes : List Lane) (i : ℕ) (lane : Lane) → set (numbered lanes) i (numbered_one lane) ≡ numbered (set lanes i lane)
-set_numbered [] i lane = refl
-set_numbered (x ∷ lanes) zero lane = refl
-set_numbered (x ∷ lanes) (suc i) lane = ap (λ (ones : List Numbered). numbered_one x ∷ ones) (set_numbered lanes i lane)
+set_unspent : (lanes : List Lane) (i : ℕ) (lane : Lane) → set (unspent_all lanes) i (unspent lane) ≡ unspent_all (set lanes i lane)
+set_unspent [] i lane = refl
+set_unspent (x ∷ lanes) zero lane = refl
+set_unspent (x ∷ lanes) (suc i) lane = ap (λ (all : List State). unspent x ∷ all) (set_unspent lanes i lane)
 
-get_numbered : (lanes : List Lane) (i : ℕ) (one : Numbered) → i < length lanes → get_or (numbered lanes) i one ≡ numbered_one (get_or lanes i one.state.lane)
-get_numbered [] i one h = absurd (omega (arith, h))
-get_numbered (x ∷ lanes) zero one h = refl
-get_numbered (x ∷ lanes) (suc i) one h = get_numbered lanes i one (omega (arith, h))
+get_unspent : (lanes : List Lane) (i : ℕ) (d : State) → i < length lanes → get_or (unspent_all lanes) i d ≡ unspent (get_or lanes i d.lane)
+get_unspent [] i d h = absurd (omega (arith, h))
+get_unspent (x ∷ lanes) zero d h = refl
+get_unspent (x ∷ lanes) (suc i) d h = get_unspent lanes i d (omega (arith, h))
 
 -- the one in a place is in it
-pub one_there : (ones : List Numbered) (i : ℕ) (one : Numbered) → AreLined ones → i < length ones → get_or ones i one ≡ numbered_one (get_or (lanes_in ones) i one.state.lane)
-one_there ones i one l h = ap (λ (all : List Numbered). get_or all i one) l.numbered ∙ get_numbered (lanes_in ones) i one (omega (arith, h, in_length ones))
+pub one_there : (states : List State) (i : ℕ) (d : State) → AreLined states → i < length states → get_or states i d ≡ unspent (get_or (lanes_in states) i d.lane)
+one_there states i d l h = ap (λ (all : List State). get_or all i d) l.unspent ∙ get_unspent (lanes_in states) i d (omega (arith, h, in_length states))
 
 -- no call of it was refused memory
-pub unspent_there : (ones : List Numbered) (i : ℕ) (one : Numbered) → AreLined ones → i < length ones → (get_or ones i one).state ≡ unspent (get_or ones i one).state.lane
-unspent_there ones i one l h =
-    let there = one_there ones i one l h in
-    ap (λ (x : Numbered). x.state) there ∙ ap (λ (x : Numbered). unspent x.state.lane) (sym there)
+pub unspent_there : (states : List State) (i : ℕ) (d : State) → AreLined states → i < length states → get_or states i d ≡ unspent (get_or states i d).lane
+unspent_there states i d l h =
+    let there = one_there states i d l h in
+    there ∙ ap (λ (s : State). unspent s.lane) (sym there)
 
--- it takes a step that leaves its number
-pub steps_there : (step : Lane → Lane) (ones : List Numbered) (i : ℕ) (d : Numbered) (now : State) → ((lane : Lane) → (step lane).number ≡ lane.number) → AreLined ones → i < length ones
-    → now ≡ unspent (step (get_or ones i d).state.lane) → set ones i (record { number = (get_or ones i d).number; state = now }) ≡ numbered (map (at_number i step) (lanes_in ones))
-steps_there step ones i d now same l h took =
-    let lanes : List Lane = lanes_in ones in
-    let lane : Lane = get_or lanes i d.state.lane in
-    let there : get_or ones i d ≡ numbered_one lane = one_there ones i d l h in
-    let next : (record { number = (get_or ones i d).number; state = now }) ≡ numbered_one (step lane) =
-    ap (λ (s : State). record { number = (get_or ones i d).number; state = s }) took
-    ∙ (ap (λ (one : Numbered). record { number = one.number; state = unspent (step one.state.lane) }) there
-    ∙ ap (λ (n : ℕ). record { number = n; state = unspent (step lane) }) (sym (same lane))) in
-    ap (λ (one : Numbered). set ones i one) next
-    ∙ (ap (λ (all : List Numbered). set all i (numbered_one (step lane))) l.numbered
-    ∙ (set_numbered lanes i (step lane)
-    ∙ ap numbered (sym (at_index step i 0 i lanes d.state.lane (omega arith) (counted_in ones l) (omega (arith, h, in_length ones))))))
+-- it takes a step
+pub steps_there : (step : Lane → Lane) (states : List State) (i : ℕ) (d now : State) → AreLined states → i < length states
+    → now ≡ unspent (step (get_or states i d).lane) → set states i now ≡ unspent_all (map (at_number i step) (lanes_in states))
+steps_there step states i d now l h took =
+    let lanes : List Lane = lanes_in states in
+    let lane : Lane = get_or lanes i d.lane in
+    ap (set states i) (took ∙ ap (λ (s : State). unspent (step s.lane)) (one_there states i d l h))
+    ∙ (ap (λ (all : List State). set all i (unspent (step lane))) l.unspent
+    ∙ (set_unspent lanes i (step lane)
+    ∙ ap unspent_all (sym (at_index step i 0 i lanes d.lane (omega arith) (counted_in states l) (omega (arith, h, in_length states))))))
 
-pub none_there : (step : Lane → Lane) (ones : List Numbered) (i : ℕ) → AreLined ones → length ones ≤ i → ones ≡ numbered (map (at_number i step) (lanes_in ones))
-none_there step ones i l h = l.numbered ∙ ap numbered (sym (at_none step i 0 (lanes_in ones) (counted_in ones l) (inr (omega (arith, h, in_length ones)))))
+pub none_there : (step : Lane → Lane) (states : List State) (i : ℕ) → AreLined states → length states ≤ i → states ≡ unspent_all (map (at_number i step) (lanes_in states))
+none_there step states i l h = l.unspent ∙ ap unspent_all (sym (at_none step i 0 (lanes_in states) (counted_in states l) (inr (omega (arith, h, in_length states)))))
 
-pub found_there : (ones : List Numbered) (i : ℕ) (d : Numbered) → AreLined ones → i < length ones → lane_of_number i (lanes_in ones) ≡ Some (get_or ones i d).state.lane
-found_there ones i d l h =
-    found_at i 0 i (lanes_in ones) d.state.lane (omega arith) (counted_in ones l) (omega (arith, h, in_length ones))
-    ∙ ap (λ (one : Numbered). Some one.state.lane) (sym (one_there ones i d l h))
+pub found_there : (states : List State) (i : ℕ) (d : State) → AreLined states → i < length states → lane_of_number i (lanes_in states) ≡ Some (get_or states i d).lane
+found_there states i d l h =
+    found_at i 0 i (lanes_in states) d.lane (omega arith) (counted_in states l) (omega (arith, h, in_length states))
+    ∙ ap (λ (s : State). Some s.lane) (sym (one_there states i d l h))
 
-pub nowhere : (ones : List Numbered) (i : ℕ) → AreLined ones → length ones ≤ i → lane_of_number i (lanes_in ones) ≡ None
-nowhere ones i l h = found_none i 0 (lanes_in ones) (counted_in ones l) (inr (omega (arith, h, in_length ones)))
+pub nowhere : (states : List State) (i : ℕ) → AreLined states → length states ≤ i → lane_of_number i (lanes_in states) ≡ None
+nowhere states i l h = found_none i 0 (lanes_in states) (counted_in states l) (inr (omega (arith, h, in_length states)))
 
 both_ok : {T E : Type 0} (P Q : Type 0) (r : Result T E) → OnOk r P → OnOk r Q → OnOk r (P × Q)
 both_ok P Q (Ok v) p q = (p, q)
@@ -221,9 +215,6 @@ pub counted_moved : (tick : ℕ) (o : Option Handing) (lanes : List Lane) → Co
 counted_moved tick None lanes c = c
 counted_moved tick (Some h) lanes c = counted_step (handed tick h) (λ lane. number_over tick (h ∷ []) lane) 0 lanes c
 
-pub counted_over : (tick : ℕ) (hs : List Handing) (lanes : List Lane) → Counted 0 lanes → Counted 0 (map (all_handed tick hs) lanes)
-counted_over tick hs lanes c = counted_step (all_handed tick hs) (number_over tick hs) 0 lanes c
-
 -- ---- what the first letter gives goes over, and then the rest
 
 map_after : (tick : ℕ) (h : Handing) (hs : List Handing) (lanes : List Lane) → map (all_handed tick hs) (map (handed tick h) lanes) ≡ map (all_handed tick (h ∷ hs)) lanes
@@ -239,14 +230,14 @@ none_left tick [] = refl
 none_left tick (lane ∷ lanes) = ap (λ (ls : List Lane). lane ∷ ls) (none_left tick lanes)
 
 -- after a letter lanes stand in a row as before
-pub next_lined : (tick : ℕ) (l : Letter) (ones next : List Numbered) → AreLined ones → HasGone tick l ones next → AreLined next
-next_lined tick l ones next h e =
-    let o = handing_of l (lanes_in ones) in
-    subst AreLined (sym e.over) (lined (moved tick o (lanes_in ones)) (counted_moved tick o (lanes_in ones) (counted_in ones h)))
+pub next_lined : (tick : ℕ) (l : Letter) (states next : List State) → AreLined states → HasGone tick l states next → AreLined next
+next_lined tick l states next h e =
+    let o = handing_of l (lanes_in states) in
+    subst AreLined (sym e.over) (lined (moved tick o (lanes_in states)) (counted_moved tick o (lanes_in states) (counted_in states h)))
 
 -- and what the other letters give goes over as it did
-pub rest_over : (tick : ℕ) (l : Letter) (rest : List Letter) (ones next : List Numbered) → HasGone tick l ones next → handed_over tick rest (lanes_in next) ≡ handed_over tick (l ∷ rest) (lanes_in ones)
-rest_over tick l rest ones next e =
-    let o = handing_of l (lanes_in ones) in
-    ap (λ (all : List Numbered). handed_over tick rest (lanes_in all)) e.over
-    ∙ (ap (handed_over tick rest) (lanes_numbered (moved tick o (lanes_in ones))) ∙ first_over tick o rest (lanes_in ones))
+pub rest_over : (tick : ℕ) (l : Letter) (rest : List Letter) (states next : List State) → HasGone tick l states next → handed_over tick rest (lanes_in next) ≡ handed_over tick (l ∷ rest) (lanes_in states)
+rest_over tick l rest states next e =
+    let o = handing_of l (lanes_in states) in
+    ap (λ (all : List State). handed_over tick rest (lanes_in all)) e.over
+    ∙ (ap (handed_over tick rest) (lanes_unspent (moved tick o (lanes_in states))) ∙ first_over tick o rest (lanes_in states))

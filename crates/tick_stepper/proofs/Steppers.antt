@@ -16,7 +16,7 @@ held_count script tick ones h = (let same : length (all_at tick ones) ≡ length
 pub next_is : (script : Plan) (tick : ℕ) (ones : List Resting) → AreAt script tick ones → lanes_at script (tick + 1) ≡ ticked script tick (all_at tick ones)
 next_is script tick ones h = ap (lanes_at script) (add-one tick) ∙ ap (ticked script tick) (sym h.lanes)
 
-pub trace_at : (tick : ℕ) (ones : List Resting) (i : ℕ) (d : Resting) → i < length ones → option_map (λ (l : Lane). l.trace) (slice_get (all_at tick ones) i) ≡ Some (get_or ones i d).lane.state.lane.trace
+pub trace_at : (tick : ℕ) (ones : List Resting) (i : ℕ) (d : Resting) → i < length ones → option_map (λ (l : Lane). l.trace) (slice_get (all_at tick ones) i) ≡ Some (get_or ones i d).lane.lane.trace
 trace_at tick [] i d h = absurd (omega arith)
 trace_at tick (one ∷ ones) zero d h = refl
 trace_at tick (one ∷ ones) (suc i) d h = trace_at tick ones i d (omega arith)

@@ -8,11 +8,11 @@ use Rattle.post_office.specs.declared.views.WorkView.{WorkView}
 use Rattle.post_office.specs.Parts.{Work, without, claims, claim_of, posts, post_of}
 use Rattle.post_office.specs.WorkQueue.{work_of as queued}
 use Rattle.post_office.proofs.Changed.{takes_are_claims, pushes_are_posts}
-use Rattle.lane_turn.specs.Lane.{Lane, Turn}
+use Rattle.lane_turn.specs.Lane.{Lane, State, Turn}
 use Rattle.lane_turn.specs.Step.{step}
-use Rattle.tick_stepper.specs.declared.share.Numbered.{Numbered}
+use Rattle.tick_stepper.specs.Share.{lanes_in}
 use Rattle.tick_stepper.specs.Machine.{Worker, TickState, Claim, Step, moved, by_worker, claim, claimed, takes, go_on, gone_on, goes_on, posted_by, taken_of, posted_of, work_of, mail_of}
-use Rattle.tick_stepper.specs.Tie.{lane_of, lanes_of, IsFree, IsTurning, QueuesMove}
+use Rattle.tick_stepper.specs.Tie.{lanes_of, IsFree, IsTurning, QueuesMove}
 use Rattle.tick_stepper.proofs.Readings.{read_worker}
 
 -- ---- what is claimed, lane by lane
@@ -27,18 +27,21 @@ without_map f n [] = refl
 without_map f zero (x ∷ xs) = refl
 without_map f (suc n) (x ∷ xs) = ap (λ l. f x ∷ l) (without_map f n xs)
 
-by_claim : (w n : ℕ) (work : Work Numbered) (o : Option (List Numbered)) (p : Option Numbered) → lanes_of (claim_of w n work o p) ≡ claim_of w n (lanes_of work) (option_map (map lane_of) o) (option_map lane_of p)
+abbrev lane_of : State → Lane
+lane_of s = s.lane
+
+by_claim : (w n : ℕ) (work : Work State) (o : Option (List State)) (p : Option State) → lanes_of (claim_of w n work o p) ≡ claim_of w n (lanes_of work) (option_map lanes_in o) (option_map lane_of p)
 by_claim w n work (Some list) (Some x) =
-    let taken : map (map lane_of) (set work.taken w (list ++ x ∷ [])) ≡ set (map (map lane_of) work.taken) w (map lane_of list ++ lane_of x ∷ []) =
-    map-set (map lane_of) work.taken w (list ++ x ∷ []) ∙ ap (λ (l : List Lane). set (map (map lane_of) work.taken) w l) (map-append lane_of list (x ∷ [])) in
+    let taken : map lanes_in (set work.taken w (list ++ x ∷ [])) ≡ set (map lanes_in work.taken) w (lanes_in list ++ lane_of x ∷ []) =
+    map-set lanes_in work.taken w (list ++ x ∷ []) ∙ ap (λ (l : List Lane). set (map lanes_in work.taken) w l) (map-append lane_of list (x ∷ [])) in
     λ i. record { waiting = without_map lane_of n work.waiting i; taken = taken i }
 by_claim w n work (Some list) None = refl
 by_claim w n work None p = refl
 
-map_claims : (w n : ℕ) (work : Work Numbered) → lanes_of (claims w n work) ≡ claims w n (lanes_of work)
+map_claims : (w n : ℕ) (work : Work State) → lanes_of (claims w n work) ≡ claims w n (lanes_of work)
 map_claims w n work =
     by_claim w n work (slice_get work.taken w) (slice_get work.waiting n)
-    ∙ (λ i. claim_of w n (lanes_of work) (sym (get_map (map lane_of) work.taken w) i) (sym (get_map lane_of work.waiting n) i))
+    ∙ (λ i. claim_of w n (lanes_of work) (sym (get_map lanes_in work.taken w) i) (sym (get_map lane_of work.waiting n) i))
 
 -- ---- the machine's moves
 
@@ -60,16 +63,16 @@ step_moves script tick w s t u x held e one =
 
 -- ---- both together
 
-first_waits : (s : TickState) (items : List Numbered) (own : WorkView Numbered) (vs : List (WorkView Numbered)) (x : Numbered) → lanes_of (queued (x ∷ items) own vs) ≡ work_of s → slice_get s.waiting 0 ≡ Some (lane_of x)
+first_waits : (s : TickState) (items : List State) (own : WorkView State) (vs : List (WorkView State)) (x : State) → lanes_of (queued (x ∷ items) own vs) ≡ work_of s → slice_get s.waiting 0 ≡ Some (lane_of x)
 first_waits s items own vs x same = ap (λ (work : Work Lane). slice_get work.waiting 0) (sym same)
 
 pub queues_move : QueuesMove
 queues_move = record {
   takes = λ script tick s items own vs x port v at same free.
       let w : ℕ = suc (length own.recorded + port) in
-      ap lanes_of ((takes_are_claims Numbered items own vs x).0 port v at) ∙ (map_claims w 0 (queued (x ∷ items) own vs) ∙ (ap (claims w 0) same ∙ sym (claim_moves script tick w s (lane_of x) free (first_waits s items own vs x same))));
+      ap lanes_of ((takes_are_claims State items own vs x).0 port v at) ∙ (map_claims w 0 (queued (x ∷ items) own vs) ∙ (ap (claims w 0) same ∙ sym (claim_moves script tick w s (lane_of x) free (first_waits s items own vs x same))));
   takes_itself = λ script tick s items own vs x same free.
-      ap lanes_of ((takes_are_claims Numbered items own vs x).1) ∙ (map_claims 0 0 (queued (x ∷ items) own vs) ∙ (ap (claims 0 0) same ∙ sym (claim_moves script tick 0 s (lane_of x) free (first_waits s items own vs x same))));
+      ap lanes_of ((takes_are_claims State items own vs x).1) ∙ (map_claims 0 0 (queued (x ∷ items) own vs) ∙ (ap (claims 0 0) same ∙ sym (claim_moves script tick 0 s (lane_of x) free (first_waits s items own vs x same))));
   pushes = λ script tick s items own vs x port v t u at same held e one.
       let w : ℕ = length own.recorded + port in
       pushes_are_posts items own vs x port v at ∙ (ap (posts w x) same ∙ sym (step_moves script tick w s t u x held e one));

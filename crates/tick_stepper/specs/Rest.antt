@@ -4,19 +4,18 @@ use Rattle.std.specs.List.{AllByRecursion, filter}
 use Rattle.loop_script.specs.declared.plan.Plan.{Plan}
 use Rattle.task_steps.specs.Run.{IsAfter}
 use Rattle.lane_watch.specs.Watch.{GivesNothing}
-use Rattle.lane_turn.specs.Lane.{Lane}
+use Rattle.lane_turn.specs.Lane.{Lane, State}
 use Rattle.lane_turn.specs.Quiet.{at_tick, IsQuiet}
 use Rattle.lane_turn.specs.Turn.{turned}
 use Rattle.lane_turn.specs.Tick.{posted_at, lanes_at}
 use Rattle.post_office.specs.declared.letter.Letter.{Letter}
-use Rattle.tick_stepper.specs.declared.share.Numbered.{Numbered}
 use Rattle.tick_stepper.specs.declared.rest.Resting.{Resting}
-use Rattle.tick_stepper.specs.Share.{unspent, numbered}
+use Rattle.tick_stepper.specs.Share.{unspent, unspent_all}
 use Rattle.loop_script.specs.Units.{Tick}
 
 -- the lane as it is at the beginning of a tick
 abbrev pub lane_at : Tick → Resting → Lane
-lane_at tick one = at_tick tick one.lane.state.lane
+lane_at tick one = at_tick tick one.lane.lane
 
 -- lanes brought to a tick
 abbrev pub all_at : Tick → List Resting → List Lane
@@ -32,27 +31,26 @@ abbrev pub is_due : Tick → Resting → Bool
 is_due tick one = comes_by tick one.next
 
 -- the same lane, brought to a tick
-abbrev pub woken : Tick → Resting → Numbered
-woken tick one = record { number = one.lane.number; state = unspent (lane_at tick one) }
+abbrev pub woken : Tick → Resting → State
+woken tick one = unspent (lane_at tick one)
 
 -- the same of all
-abbrev pub all_woken : Tick → List Resting → List Numbered
+abbrev pub all_woken : Tick → List Resting → List State
 all_woken tick ones = map (woken tick) ones
 
--- a lane by its own number, whose tasks tell nothing from their last poll up to a tick
+-- a lane whose tasks tell nothing from their last poll up to a tick
 pub record HasPassed (tick : Tick) (one : Resting) : Type 0 where
-  pub named : one.lane.number ≡ one.lane.state.lane.number
-  pub unspent : one.lane.state.spent ≡ false
-  pub past : one.lane.state.lane.tasks.tick ≤ tick
-  pub tasks : (k : Tick) → one.lane.state.lane.tasks.tick ≤ k → k < tick → GivesNothing k one.lane.state.lane.tasks
+  pub unspent : one.lane.spent ≡ false
+  pub past : one.lane.lane.tasks.tick ≤ tick
+  pub tasks : (k : Tick) → one.lane.lane.tasks.tick ≤ k → k < tick → GivesNothing k one.lane.lane.tasks
 
 -- such a lane, whose turns from the tick on are quiet, up to its next one
 pub record Rests (script : Plan) (tick : Tick) (one : Resting) : Type 0 where
   pub passed : HasPassed tick one
-  pub quiet : (k : Tick) → tick ≤ k → k < script.ticks → IsAfter k one.next → IsQuiet script k one.lane.state.lane
+  pub quiet : (k : Tick) → tick ≤ k → k < script.ticks → IsAfter k one.next → IsQuiet script k one.lane.lane
 
 -- lanes after a tick, that rest from the next one on
-pub record IsSettled (script : Plan) (tick : Tick) (lanes : List Numbered) (ones : List Resting) : Type 0 where
+pub record IsSettled (script : Plan) (tick : Tick) (lanes : List State) (ones : List Resting) : Type 0 where
   pub same : map (λ one. one.lane) ones ≡ lanes
   pub rest : AllByRecursion (Rests script (tick + 1)) ones
 
@@ -62,12 +60,12 @@ pub record AreAt (script : Plan) (tick : Tick) (ones : List Resting) : Type 0 wh
   pub rest : AllByRecursion (Rests script tick) ones
 
 -- lanes are parted into those whose turn comes at a tick, brought to it, and those that rest
-pub record IsParted (tick : Tick) (lanes : List Resting) (turning : List Numbered) (others : List Resting) : Type 0 where
+pub record IsParted (tick : Tick) (lanes : List Resting) (turning : List State) (others : List Resting) : Type 0 where
   pub due : turning ≡ all_woken tick (filter (is_due tick) lanes)
   pub resting : others ≡ filter (λ one. not (is_due tick one)) lanes
 
 -- the lanes of a run after the turns of a tick: those that took theirs, what these posted, and those that rest
-pub record AreTurned (script : Plan) (tick : Tick) (done : List Numbered) (posted : List Letter) (resting : List Resting) : Type 0 where
-  pub lanes : IsPermutation (numbered (map (turned script tick) (lanes_at script tick))) (done ++ all_woken (tick + 1) resting)
+pub record AreTurned (script : Plan) (tick : Tick) (done : List State) (posted : List Letter) (resting : List Resting) : Type 0 where
+  pub lanes : IsPermutation (unspent_all (map (turned script tick) (lanes_at script tick))) (done ++ all_woken (tick + 1) resting)
   pub letters : posted ≡ posted_at script tick (lanes_at script tick)
   pub rest : AllByRecursion (Rests script (tick + 1)) resting

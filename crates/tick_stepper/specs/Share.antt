@@ -11,7 +11,6 @@ use Rattle.lane_turn.specs.Handover.{handing_of, moved}
 use Rattle.tick_stepper.specs.Crew.{worker_of}
 use Rattle.tick_stepper.specs.Order.{RisesBy}
 use Rattle.tick_stepper.specs.declared.crew.Crew.{Crew}
-use Rattle.tick_stepper.specs.declared.share.Numbered.{Numbered}
 use Rattle.tick_stepper.specs.declared.share.Share.{Share}
 use Rattle.lane_turn.specs.declared.state.LaneFault.{LaneFault}
 use Rattle.loop_script.specs.Units.{Tick, LaneNumber}
@@ -20,54 +19,49 @@ use Rattle.loop_script.specs.Units.{Tick, LaneNumber}
 abbrev pub unspent : Lane → State
 unspent lane = record { lane = lane; spent = false }
 
--- a lane with its number
-abbrev pub numbered_one : Lane → Numbered
-numbered_one lane = record { number = lane.number; state = unspent lane }
+-- the same of all
+abbrev pub unspent_all : List Lane → List State
+unspent_all lanes = map unspent lanes
 
--- lanes with their numbers
-abbrev pub numbered : List Lane → List Numbered
-numbered lanes = map numbered_one lanes
-
--- the lanes, without their numbers
-abbrev pub lanes_in : List Numbered → List Lane
-lanes_in ones = map (λ (one : Numbered). one.state.lane) ones
+-- the lanes, without whether they are spent
+abbrev pub lanes_in : List State → List Lane
+lanes_in states = map (λ (s : State). s.lane) states
 
 -- lanes of which no call was refused memory, each in the place of its number
-pub record AreLined (ones : List Numbered) : Type 0 where
-  pub numbered : ones ≡ numbered (lanes_in ones)
-  pub places : map (λ lane. lane.number) (lanes_in ones) ≡ range_with_len 0 (length ones)
+pub record AreLined (states : List State) : Type 0 where
+  pub unspent : states ≡ unspent_all (lanes_in states)
+  pub places : map (λ lane. lane.number) (lanes_in states) ≡ range_with_len 0 (length states)
 
 -- what a letter gives has gone over, between lanes in the places of their numbers
-pub record HasGone (tick : Tick) (letter : Letter) (ones now : List Numbered) : Type 0 where
-  pub over : now ≡ numbered (moved tick (handing_of letter (lanes_in ones)) (lanes_in ones))
+pub record HasGone (tick : Tick) (letter : Letter) (states now : List State) : Type 0 where
+  pub over : now ≡ unspent_all (moved tick (handing_of letter (lanes_in states)) (lanes_in states))
 
 -- a lane after a step, where it is that of a number
 abbrev pub at_number : LaneNumber → (Lane → Lane) → Lane → Lane
 at_number number step lane = if lane.number == number then step lane else lane
 
--- a lane with its number after a step
-abbrev pub stepped_one : (Lane → Lane) → Numbered → Numbered
-stepped_one step one = record { number = one.number; state = unspent (step one.state.lane) }
+-- a lane after a step, of which no call was refused memory
+abbrev pub stepped_one : (Lane → Lane) → State → State
+stepped_one step s = unspent (step s.lane)
 
 -- the same where the step is its turn
-abbrev pub turned_one : Plan → Tick → Numbered → Numbered
-turned_one script tick one = stepped_one (turned script tick) one
+abbrev pub turned_one : Plan → Tick → State → State
+turned_one script tick s = stepped_one (turned script tick) s
 
 -- the letters that a lane posts in its turn
-abbrev pub out_of_one : Plan → Tick → Numbered → List Letter
-out_of_one script tick one = out_of script tick one.state.lane
+abbrev pub out_of_one : Plan → Tick → State → List Letter
+out_of_one script tick s = out_of script tick s.lane
 
--- a lane by its own number that may take its turn at a tick, or the delivery before it
-pub record IsReadyOne (script : Plan) (tick : Tick) (one : Numbered) : Type 0 where
-  pub named : one.number ≡ one.state.lane.number
-  pub unspent : one.state.spent ≡ false
-  pub ready : IsReady script tick half_count one.state.lane
+-- a lane that may take its turn at a tick, or the delivery before it
+pub record IsReadyOne (script : Plan) (tick : Tick) (s : State) : Type 0 where
+  pub unspent : s.spent ≡ false
+  pub ready : IsReady script tick half_count s.lane
 
 -- lanes of a script by their rising numbers, each of which may take its turn at a tick
-pub record IsRound (script : Plan) (tick : Tick) (ones : List Numbered) : Type 0 where
-  pub ready : AllByRecursion (IsReadyOne script tick) ones
-  pub order : RisesBy (λ (one : Numbered). one.number) ones
-  pub below : AllByRecursion (λ one. one.number < length script.lanes) ones
+pub record IsRound (script : Plan) (tick : Tick) (states : List State) : Type 0 where
+  pub ready : AllByRecursion (IsReadyOne script tick) states
+  pub order : RisesBy (λ (s : State). s.lane.number) states
+  pub below : AllByRecursion (λ s. s.lane.number < length script.lanes) states
 
 -- lanes that may take their turns, and an empty tray
 pub record IsFresh (script : Plan) (tick : Tick) (share : Share) : Type 0 where
@@ -84,7 +78,7 @@ abbrev pub has_lanes : Share → Bool
 has_lanes share = nat_lt 0 (length share.lanes.items)
 
 -- the lanes of all shares
-abbrev pub handed : List Share → List Numbered
+abbrev pub handed : List Share → List State
 handed shares = flat_map (λ share. share.lanes.items) shares
 
 -- the letters of all shares
@@ -92,7 +86,7 @@ abbrev pub carried : List Share → List Letter
 carried shares = flat_map (λ share. share.tray) shares
 
 -- no worker failed, and these are the lanes and the letters of their shares
-pub record IsGathered (hauls : List (Result Share LaneFault)) (lanes : List Numbered) (letters : List Letter) : Type 0 where
+pub record IsGathered (hauls : List (Result Share LaneFault)) (lanes : List State) (letters : List Letter) : Type 0 where
   pub shares : List Share
   pub all : hauls ≡ map Ok shares
   pub back : lanes ≡ handed shares
@@ -104,9 +98,9 @@ AreWorkers n [] = Unit {0}
 AreWorkers n (share ∷ shares) = (share.worker ≡ n) × AreWorkers (n + 1) shares
 
 -- the lanes of a worker, in their order
-abbrev pub lanes_of : Crew → ℕ → List Numbered → List Numbered
-lanes_of crew worker lanes = filter (λ one. worker_of crew one.number == worker) lanes
+abbrev pub lanes_of : Crew → ℕ → List State → List State
+lanes_of crew worker lanes = filter (λ s. worker_of crew s.lane.number == worker) lanes
 
 -- of the lanes that were dealt, a share has those of its worker
-abbrev pub HasTheirs : Crew → List Numbered → Share → Type 0
+abbrev pub HasTheirs : Crew → List State → Share → Type 0
 HasTheirs crew lanes share = share.lanes.items ≡ lanes_of crew share.worker lanes

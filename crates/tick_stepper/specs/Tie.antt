@@ -9,19 +9,15 @@ use Rattle.post_office.specs.declared.views.PostView.{PostView}
 use Rattle.post_office.specs.Parts.{Work}
 use Rattle.post_office.specs.WorkQueue.{took, work_of as queued}
 use Rattle.post_office.specs.LetterQueue.{posted, mail_of as mailed}
-use Rattle.lane_turn.specs.Lane.{Lane, Turn}
+use Rattle.lane_turn.specs.Lane.{Lane, State, Turn}
 use Rattle.lane_turn.specs.Step.{step}
-use Rattle.tick_stepper.specs.declared.share.Numbered.{Numbered}
+use Rattle.tick_stepper.specs.Share.{lanes_in}
 use Rattle.tick_stepper.specs.Machine.{Worker, TickState, Claim, Step, moved, posted_by, work_of, mail_of}
 use Rattle.loop_script.specs.Units.{Tick}
 
--- the lane that waits in a work list with its number
-abbrev pub lane_of : Numbered → Lane
-lane_of one = one.state.lane
-
--- what waits and what was taken, as lanes without their numbers
-abbrev pub lanes_of : Work Numbered → Work Lane
-lanes_of work = record { waiting = map lane_of work.waiting; taken = map (map lane_of) work.taken }
+-- what waits and what was taken, as lanes
+abbrev pub lanes_of : Work State → Work Lane
+lanes_of work = record { waiting = lanes_in work.waiting; taken = map lanes_in work.taken }
 
 -- a worker of the machine holds no lane
 abbrev pub IsFree : TickState → ℕ → Type 0
@@ -34,11 +30,11 @@ IsTurning s w t = (worker : Worker) × (slice_get s.workers w ≡ Some worker) �
 -- each queue by itself takes the moves of the machine
 pub record QueuesMove : Type 0 where
   -- a take that gives a lane, by a pass that is out, is the claim of a worker that holds none
-  pub takes : (script : Plan) (tick : Tick) (s : TickState) (items : List Numbered) (own : WorkView Numbered) (vs : List (WorkView Numbered)) (x : Numbered) (port : ℕ) (v : WorkView Numbered) → get_elem? vs port ≡ some v
+  pub takes : (script : Plan) (tick : Tick) (s : TickState) (items : List State) (own : WorkView State) (vs : List (WorkView State)) (x : State) (port : ℕ) (v : WorkView State) → get_elem? vs port ≡ some v
       → lanes_of (queued (x ∷ items) own vs) ≡ work_of s → IsFree s (suc (length own.recorded + port))
       → lanes_of (queued items own (set vs port (took v x))) ≡ work_of (moved script tick s (Claim (suc (length own.recorded + port)) 0))
   -- one by the list itself is that of the first worker
-  pub takes_itself : (script : Plan) (tick : Tick) (s : TickState) (items : List Numbered) (own : WorkView Numbered) (vs : List (WorkView Numbered)) (x : Numbered)
+  pub takes_itself : (script : Plan) (tick : Tick) (s : TickState) (items : List State) (own : WorkView State) (vs : List (WorkView State)) (x : State)
       → lanes_of (queued (x ∷ items) own vs) ≡ work_of s → IsFree s 0 → lanes_of (queued items (took own x) vs) ≡ work_of (moved script tick s (Claim 0 0))
   -- a push of a letter is the step that posts it
   pub pushes : (script : Plan) (tick : Tick) (s : TickState) (items : List Letter) (own : PostView) (vs : List PostView) (x : Letter) (port : ℕ) (v : PostView) (t u : Turn) → get_elem? vs port ≡ some v

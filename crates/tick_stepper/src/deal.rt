@@ -1,15 +1,15 @@
 //! Lanes go to their workers, and come back.
 ghost use Rattle.std.specs.Prelude.{◌≡◌, ◌<◌, [], ◌∷◌, ◌++◌, List, OnOk, IfOk, true, vec_len, IsPermutation};
 ghost use Rattle.std.specs.List.{All, filter};
+ghost use Rattle.lane_turn.specs.Lane.{State};
 ghost use Rattle.tick_stepper.specs.Crew.{worker_of};
 ghost use Rattle.tick_stepper.specs.Share.{has_lanes, handed, AreWorkers, HasTheirs, IsGathered};
 ghost use Rattle.tick_stepper.specs.declared.crew.Crew.{Crew};
-ghost use Rattle.tick_stepper.specs.declared.share.Numbered.{Numbered};
 
 use crate::crew::Crew;
-use crate::share::{Numbered, Share};
-use lane_turn::LaneFault;
-use post_office::{Letter, Tray};
+use crate::share::Share;
+use lane_turn::{LaneFault, LaneState};
+use post_office::{Letter, Numbered, Tray};
 use std::alloc::{AllocError, Global};
 
 /// A share for each worker, without a lane.
@@ -39,29 +39,29 @@ fn leave_out_idle(shares: &mut Vec<Share>)
 }
 
 /// Hands a lane to a worker.
-fn give(shares: &mut Vec<Share>, worker: u32, lane: Numbered) -> Result<(), AllocError>
+fn give(shares: &mut Vec<Share>, worker: u32, lane: LaneState) -> Result<(), AllocError>
     requires { worker < vec_len shares.old }
     ensures lanes { OnOk result (IsPermutation (handed shares.new.items) (lane ∷ handed shares.old.items)) }
     ensures trays { OnOk result (All (λ share. share.tray ≡ []) shares.old.items → All (λ share. share.tray ≡ []) shares.new.items) }
     ensures as_many { vec_len shares.new ≡ vec_len shares.old }
     ensures workers { OnOk result (AreWorkers 0 shares.old.items → AreWorkers 0 shares.new.items) }
-    ensures theirs { OnOk result ((crew : Crew) (dealt : List Numbered) → worker_of crew lane.number ≡ worker → AreWorkers 0 shares.old.items → All (HasTheirs crew dealt) shares.old.items → All (HasTheirs crew (dealt ++ lane ∷ [])) shares.new.items) }
+    ensures theirs { OnOk result ((crew : Crew) (dealt : List State) → worker_of crew lane.lane.number ≡ worker → AreWorkers 0 shares.old.items → All (HasTheirs crew dealt) shares.old.items → All (HasTheirs crew (dealt ++ lane ∷ [])) shares.new.items) }
 {
     shares[worker as usize].lanes.push(lane)?;
     Ok(())
 }
 
 /// Hands each lane to its worker: a share for each worker, with an empty tray.
-fn hand_out(alloc: Global, crew: &Crew, lanes: Vec<Numbered>) -> Result<Vec<Share>, AllocError>
+fn hand_out(alloc: Global, crew: &Crew, lanes: Vec<LaneState>) -> Result<Vec<Share>, AllocError>
     requires some { 0 < crew.now.workers }
-    requires named { All (λ one. worker_of crew.now one.number < crew.now.workers) lanes.items }
+    requires named { All (λ s. worker_of crew.now s.lane.number < crew.now.workers) lanes.items }
     ensures lanes { IfOk result (λ shares. IsPermutation lanes.items (handed shares.items)) }
     ensures trays { IfOk result (λ shares. All (λ share. share.tray ≡ []) shares.items) }
     ensures theirs { IfOk result (λ shares. All (HasTheirs crew.now lanes.items) shares.items) }
 {
     let mut shares = empty_shares(alloc, crew.workers)?;
     for lane in lanes {
-        let worker = crew.worker_of(lane.number);
+        let worker = crew.worker_of(lane.number());
         give(&mut shares, worker, lane)?;
     }
     Ok(shares)
@@ -71,10 +71,10 @@ fn hand_out(alloc: Global, crew: &Crew, lanes: Vec<Numbered>) -> Result<Vec<Shar
 pub(crate) fn deal(
     alloc: Global,
     crew: &Crew,
-    lanes: Vec<Numbered>,
+    lanes: Vec<LaneState>,
 ) -> Result<Vec<Share>, AllocError>
     requires some { 0 < crew.now.workers }
-    requires named { All (λ one. worker_of crew.now one.number < crew.now.workers) lanes.items }
+    requires named { All (λ s. worker_of crew.now s.lane.number < crew.now.workers) lanes.items }
     ensures lanes { IfOk result (λ shares. IsPermutation lanes.items (handed shares.items)) }
     ensures trays { IfOk result (λ shares. All (λ share. share.tray ≡ []) shares.items) }
     ensures theirs { IfOk result (λ shares. All (HasTheirs crew.now lanes.items) shares.items) }
@@ -89,7 +89,7 @@ pub(crate) fn deal(
 pub(crate) fn gather(
     alloc: Global,
     hauls: Vec<Result<Share, LaneFault>>,
-) -> Result<(Vec<Numbered>, Vec<Letter>), LaneFault>
+) -> Result<(Vec<LaneState>, Vec<Letter>), LaneFault>
     ensures { IfOk result (λ r. IsGathered hauls.items r.0.items r.1.items) }
 {
     let mut lanes = Vec::new(alloc);

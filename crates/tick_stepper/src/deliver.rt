@@ -1,13 +1,12 @@
 //! What a tick's turns posted is delivered.
-ghost use Rattle.std.specs.Prelude.{◌≡◌, ◌+◌, ◌^◌, ◌<◌, ◌≤◌, map, length, OnOk};
+ghost use Rattle.std.specs.Prelude.{◌≡◌, ◌+◌, ◌<◌, ◌≤◌, map, length, OnOk};
 ghost use Rattle.std.specs.List.{AllByRecursion};
 ghost use Rattle.loop_script.specs.Bounds.{most_ticks};
 ghost use Rattle.lane_turn.specs.Deliver.{received_all};
 ghost use Rattle.tick_stepper.specs.Share.{stepped_one, IsReadyOne};
 ghost use Rattle.lane_turn.specs.Limits.{most_letters};
 
-use crate::share::Numbered;
-use lane_turn::LaneFault;
+use lane_turn::{LaneFault, LaneState};
 use loop_script::Script;
 use post_office::Letter;
 
@@ -15,7 +14,7 @@ use post_office::Letter;
 pub(crate) fn deliver_all(
     script: &Script,
     tick: u32,
-    lanes: &mut [Numbered],
+    lanes: &mut [LaneState],
     letters: &[Letter],
 ) -> Result<(), LaneFault>
     requires tick { tick < most_ticks }
@@ -24,7 +23,7 @@ pub(crate) fn deliver_all(
     ensures { OnOk result (lanes.new ≡ map (stepped_one (received_all script.now tick letters.now)) lanes.old) }
 {
     for lane in lanes.iter_mut() {
-        lane.state.deliver(script, tick, letters)?;
+        lane.deliver(script, tick, letters)?;
     }
     Ok(())
 }

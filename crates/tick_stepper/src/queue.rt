@@ -1,5 +1,5 @@
 //! Lanes are taken from a queue.
-ghost use Rattle.std.specs.Prelude.{◌≡◌, ◌+◌, ◌<◌, ◌≤◌, ◌++◌, [], ◌∷◌, map, length, vec_len, OnOk, IfOk, IsPermutation};
+ghost use Rattle.std.specs.Prelude.{◌≡◌, ◌+◌, ◌<◌, ◌++◌, [], ◌∷◌, map, vec_len, OnOk, IfOk, IsPermutation};
 ghost use Rattle.std.specs.List.{All, AllByRecursion, flat_map};
 ghost use Rattle.loop_script.specs.Bounds.{most_ticks};
 ghost use Rattle.post_office.specs.Merge.{concat};
@@ -9,9 +9,10 @@ ghost use Rattle.tick_stepper.specs.Queue.{filled, IsHired, MayWork, IsHaul, IsO
 
 use crate::fault::OutOfMemory;
 use crate::gate::Gate;
-use crate::share::{Numbered, in_order};
+use crate::share::in_order;
 use crate::side_by_side::map_side_by_side;
 use crate::work::{Haul, Hired, turn_with, work_through};
+use lane_turn::LaneState;
 use loop_script::Script;
 use post_office::{Letter, LetterQueue, Office, OfficePass, WorkList, WorkQueue, merge};
 use std::alloc::{AllocError, Global};
@@ -22,8 +23,8 @@ use std::thread::Threads;
 fn fill<R: Wait>(
     rt: &R,
     alloc: Global,
-    lanes: Vec<Numbered>,
-) -> Result<WorkList<Numbered>, OutOfMemory>
+    lanes: Vec<LaneState>,
+) -> Result<WorkList<LaneState>, OutOfMemory>
     ensures { IfOk result (λ list. list ≡ filled list.home lanes.items) }
 {
     let mut list = WorkList::new(alloc)?;
@@ -39,7 +40,7 @@ fn fill<R: Wait>(
 fn hire(
     alloc: Global,
     workers: u32,
-    list: &mut WorkList<Numbered>,
+    list: &mut WorkList<LaneState>,
     office: &mut Office,
 ) -> Result<Vec<Hired>, OutOfMemory>
     ensures hired { IfOk result (λ all. All (IsHired list.old.home office.old.home list.old.put) all.items) }
@@ -65,7 +66,7 @@ fn run_hired<R: Threads + Wait + Sync, G: Gate>(
     gate: &G,
     script: &Script,
     tick: u32,
-    list: &WorkQueue<Numbered>,
+    list: &WorkQueue<LaneState>,
     office: &LetterQueue,
     all: Vec<Hired>,
 ) -> Result<Vec<Result<Haul, OutOfMemory>>, AllocError>
@@ -86,9 +87,9 @@ fn run_hired<R: Threads + Wait + Sync, G: Gate>(
 
 /// Takes the passes of one worker back, and its lanes.
 fn take_in(
-    list: &mut WorkList<Numbered>,
+    list: &mut WorkList<LaneState>,
     office: &mut Office,
-    lanes: &mut Vec<Numbered>,
+    lanes: &mut Vec<LaneState>,
     haul: Haul,
 ) -> Result<(), OutOfMemory>
     requires { IsOf list.old.home office.old.home haul }
@@ -110,10 +111,10 @@ fn take_in(
 /// Takes all passes back where no worker failed, and puts the lanes into one list.
 fn gather(
     alloc: Global,
-    list: &mut WorkList<Numbered>,
+    list: &mut WorkList<LaneState>,
     office: &mut Office,
     hauls: Vec<Result<Haul, OutOfMemory>>,
-) -> Result<Vec<Numbered>, OutOfMemory>
+) -> Result<Vec<LaneState>, OutOfMemory>
     requires { All (λ haul. IfOk haul (IsOf list.old.home office.old.home)) hauls.items }
     ensures { IfOk result (λ lanes. IsTakenIn hauls.items list.old list.new office.old office.new lanes.items) }
 {
@@ -130,11 +131,11 @@ fn finish<R: Wait, G: Gate>(
     gate: &G,
     script: &Script,
     tick: u32,
-    list: &mut WorkList<Numbered>,
+    list: &mut WorkList<LaneState>,
     office: &LetterQueue,
     mut pass: OfficePass,
-    mut lanes: Vec<Numbered>,
-) -> Result<(Vec<Numbered>, OfficePass), OutOfMemory>
+    mut lanes: Vec<LaneState>,
+) -> Result<(Vec<LaneState>, OfficePass), OutOfMemory>
     requires tick { tick < most_ticks }
     requires ready { AllByRecursion (IsReadyOne script.now tick) list.old.put }
     requires list { (list.old.taken ≡ []) × (list.old.out ≡ 0) }
@@ -173,8 +174,8 @@ pub(crate) fn turn_by_queue<R: Threads + Wait + Sync, G: Gate>(
     script: &Script,
     tick: u32,
     workers: u32,
-    lanes: Vec<Numbered>,
-) -> Result<(Vec<Numbered>, Vec<Letter>), OutOfMemory>
+    lanes: Vec<LaneState>,
+) -> Result<(Vec<LaneState>, Vec<Letter>), OutOfMemory>
     requires tick { tick < most_ticks }
     requires lanes { IsRound script.now tick lanes.items }
     ensures lanes { IfOk result (λ r. r.0.items ≡ map (turned_one script.now tick) lanes.items) }

@@ -8,15 +8,15 @@ ghost use Rattle.tick_stepper.specs.Share.{IsReadyOne};
 ghost use Rattle.tick_stepper.specs.Rest.{is_due, woken, all_woken, HasPassed, Rests, IsSettled};
 
 use crate::fault::OutOfMemory;
-use crate::share::Numbered;
-use lane_turn::LaneFault;
+use lane_turn::{LaneFault, LaneState};
 use loop_script::Script;
+use post_office::Numbered;
 use std::alloc::{AllocError, Global};
 
 /// A lane that is left alone until its next turn.
 #[derive(Drop)]
 pub(crate) struct Resting {
-    pub(crate) lane: Numbered,
+    pub(crate) lane: LaneState,
     /// The tick of its next turn; none where no later turn does anything.
     pub(crate) next: Option<u32>,
 }
@@ -33,13 +33,13 @@ impl Resting {
     }
 
     /// The lane, brought to a tick.
-    fn wake(self, tick: u32) -> Result<Numbered, LaneFault>
+    fn wake(self, tick: u32) -> Result<LaneState, LaneFault>
         requires tick { tick < 4097 }
         requires passed { HasPassed tick self }
         ensures { IfOk result (λ lane. lane ≡ woken tick self) }
     {
         let Resting { mut lane, next: _ } = self;
-        lane.state.pass_to(tick)?;
+        lane.pass_to(tick)?;
         Ok(lane)
     }
 }
@@ -68,9 +68,9 @@ pub(crate) fn part(
 /// Adds lanes that rest to others, brought to a tick.
 pub(crate) fn wake_all(
     tick: u32,
-    mut lanes: Vec<Numbered>,
+    mut lanes: Vec<LaneState>,
     resting: Vec<Resting>,
-) -> Result<Vec<Numbered>, OutOfMemory>
+) -> Result<Vec<LaneState>, OutOfMemory>
     requires tick { tick < 4097 }
     requires passed { All (HasPassed tick) resting.items }
     ensures { IfOk result (λ all. all.items ≡ lanes.items ++ all_woken tick resting.items) }
@@ -84,13 +84,13 @@ pub(crate) fn wake_all(
 }
 
 /// A lane after a tick, with the tick of its next turn.
-fn rest(script: &Script, tick: u32, lane: Numbered) -> Resting
+fn rest(script: &Script, tick: u32, lane: LaneState) -> Resting
     requires tick { tick < most_ticks }
     requires ready { IsReadyOne script.now (tick + 1) lane }
     ensures same { result.lane ≡ lane }
     ensures rests { Rests script.now (tick + 1) result }
 {
-    let next = lane.state.next_tick(script, tick);
+    let next = lane.next_tick(script, tick);
     Resting { lane, next }
 }
 
@@ -106,7 +106,7 @@ pub(crate) fn settle(
     alloc: Global,
     script: &Script,
     tick: u32,
-    lanes: Vec<Numbered>,
+    lanes: Vec<LaneState>,
 ) -> Result<Vec<Resting>, AllocError>
     requires tick { tick < most_ticks }
     requires ready { All (IsReadyOne script.now (tick + 1)) lanes.items }
@@ -122,8 +122,8 @@ pub(crate) fn settle(
 /// Lanes that rest, by their numbers.
 pub(crate) fn by_number(mut ones: Vec<Resting>) -> Result<Vec<Resting>, AllocError>
     ensures same { IfOk result (λ sorted. IsPermutation ones.items sorted.items) }
-    ensures order { IfOk result (λ sorted. IsNonDecreasingBy (λ (one : Resting). one.lane.number) sorted.items) }
+    ensures order { IfOk result (λ sorted. IsNonDecreasingBy (λ (one : Resting). one.lane.lane.number) sorted.items) }
 {
-    ones.sort_by_key(|one| one.lane.number)?;
+    ones.sort_by_key(|one| one.lane.number())?;
     Ok(ones)
 }

@@ -6,7 +6,7 @@ ghost use Rattle.lane_turn.specs.Turn.{turned};
 ghost use Rattle.lane_turn.specs.Tick.{posted_at, lanes_at};
 ghost use Rattle.tick_stepper.specs.Crew.{refusal_of};
 ghost use Rattle.tick_stepper.specs.Rest.{all_woken, HasPassed, Rests, AreAt, IsParted, AreTurned};
-ghost use Rattle.tick_stepper.specs.Share.{numbered, turned_one, out_of_one, IsFresh, IsTurned, IsRound};
+ghost use Rattle.tick_stepper.specs.Share.{unspent_all, turned_one, out_of_one, IsFresh, IsTurned, IsRound};
 
 use crate::crew::{Crew, Sharing};
 use crate::deal::{deal, gather};
@@ -15,9 +15,9 @@ use crate::gate::{Gate, OpenGate};
 use crate::hand::bring;
 use crate::queue::turn_by_queue;
 use crate::rest::{Resting, by_number, part, settle, wake_all};
-use crate::share::{Numbered, Share, in_order, take_turns, turn_share};
+use crate::share::{Share, in_order, take_turns, turn_share};
 use crate::side_by_side::map_side_by_side;
-use lane_turn::LaneFault;
+use lane_turn::{LaneFault, LaneState};
 use loop_script::Script;
 use post_office::{Letter, Tray, merge};
 use std::alloc::{AllocError, Global};
@@ -56,8 +56,8 @@ fn turn_by_deal<R: Threads + Sync, G: Gate>(
     script: &Script,
     tick: u32,
     crew: &Crew,
-    lanes: Vec<Numbered>,
-) -> Result<(Vec<Numbered>, Vec<Letter>), OutOfMemory>
+    lanes: Vec<LaneState>,
+) -> Result<(Vec<LaneState>, Vec<Letter>), OutOfMemory>
     requires tick { tick < most_ticks }
     requires crew { refusal_of script.now crew.now.workers crew.now.sharing ≡ None }
     requires lanes { IsRound script.now tick lanes.items }
@@ -81,8 +81,8 @@ fn turn_all<R: Threads + Wait + Sync, G: Gate>(
     script: &Script,
     tick: u32,
     crew: &Crew,
-    lanes: Vec<Numbered>,
-) -> Result<(Vec<Numbered>, Vec<Letter>), OutOfMemory>
+    lanes: Vec<LaneState>,
+) -> Result<(Vec<LaneState>, Vec<Letter>), OutOfMemory>
     requires tick { tick < most_ticks }
     requires crew { refusal_of script.now crew.now.workers crew.now.sharing ≡ None }
     requires lanes { IsRound script.now tick lanes.items }
@@ -102,13 +102,13 @@ fn deliver_to_all(
     alloc: Global,
     script: &Script,
     tick: u32,
-    done: Vec<Numbered>,
+    done: Vec<LaneState>,
     resting: Vec<Resting>,
     letters: &[Letter],
 ) -> Result<Vec<Resting>, OutOfMemory>
     requires tick { tick < most_ticks }
     requires passed { All (HasPassed (tick + 1)) resting.items }
-    requires lanes { IsPermutation (numbered (map (turned script.now tick) (lanes_at script.now tick))) (done.items ++ all_woken (tick + 1) resting.items) }
+    requires lanes { IsPermutation (unspent_all (map (turned script.now tick) (lanes_at script.now tick))) (done.items ++ all_woken (tick + 1) resting.items) }
     requires letters { letters.now ≡ posted_at script.now tick (lanes_at script.now tick) }
     requires few { length script.now.lanes ≤ most_lanes }
     ensures { IfOk result (λ ones. AreAt script.now (tick + 1) ones.items) }
@@ -124,12 +124,12 @@ fn put_back(
     alloc: Global,
     script: &Script,
     tick: u32,
-    done: Vec<Numbered>,
+    done: Vec<LaneState>,
     resting: Vec<Resting>,
 ) -> Result<Vec<Resting>, OutOfMemory>
     requires tick { tick < most_ticks }
     requires rest { AllByRecursion (Rests script.now (tick + 1)) resting.items }
-    requires lanes { IsPermutation (numbered (map (turned script.now tick) (lanes_at script.now tick))) (done.items ++ all_woken (tick + 1) resting.items) }
+    requires lanes { IsPermutation (unspent_all (map (turned script.now tick) (lanes_at script.now tick))) (done.items ++ all_woken (tick + 1) resting.items) }
     requires none { posted_at script.now tick (lanes_at script.now tick) ≡ [] }
     requires few { length script.now.lanes ≤ most_lanes }
     ensures { IfOk result (λ ones. AreAt script.now (tick + 1) ones.items) }
@@ -142,7 +142,7 @@ fn put_back(
 
 /// The lanes whose turn comes at a tick, by number, and those that rest.
 struct Parted {
-    due: Vec<Numbered>,
+    due: Vec<LaneState>,
     resting: Vec<Resting>,
 }
 
@@ -170,7 +170,7 @@ fn end_tick(
     alloc: Global,
     script: &Script,
     tick: u32,
-    done: Vec<Numbered>,
+    done: Vec<LaneState>,
     letters: &[Letter],
     resting: Vec<Resting>,
 ) -> Result<Vec<Resting>, OutOfMemory>
@@ -214,8 +214,8 @@ fn turn_alone(
     alloc: Global,
     script: &Script,
     tick: u32,
-    mut lanes: Vec<Numbered>,
-) -> Result<(Vec<Numbered>, Vec<Letter>), OutOfMemory>
+    mut lanes: Vec<LaneState>,
+) -> Result<(Vec<LaneState>, Vec<Letter>), OutOfMemory>
     requires tick { tick < most_ticks }
     requires lanes { IsRound script.now tick lanes.items }
     ensures lanes { IfOk result (λ r. r.0.items ≡ map (turned_one script.now tick) lanes.items) }

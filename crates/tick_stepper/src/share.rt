@@ -3,35 +3,20 @@ ghost use Rattle.std.specs.Prelude.{◌≡◌, ◌<◌, ◌++◌, map, OnOk, IfO
 ghost use Rattle.std.specs.List.{AllByRecursion, flat_map};
 ghost use Rattle.std.specs.List.Sorted.{IsNonDecreasingBy};
 ghost use Rattle.loop_script.specs.Bounds.{most_ticks};
+ghost use Rattle.lane_turn.specs.Lane.{State};
 ghost use Rattle.tick_stepper.specs.Share.{turned_one, out_of_one, IsReadyOne, IsFresh, IsTurned};
-ghost use Rattle.tick_stepper.specs.declared.share.Numbered.{Numbered};
 
 use crate::gate::Gate;
 use lane_turn::{LaneFault, LaneState};
 use loop_script::Script;
-use post_office::Tray;
+use post_office::{Numbered, Tray};
 use std::alloc::AllocError;
-
-/// A lane, and its number.
-#[derive(Drop)]
-pub(crate) struct Numbered {
-    pub(crate) number: u32,
-    pub(crate) state: LaneState,
-}
-
-impl post_office::Numbered for Numbered {
-    ghost number_of = { λ one. one.number };
-
-    fn number(&self) -> u32 {
-        self.number
-    }
-}
 
 /// What a worker is handed and gives back: lanes, and a tray for what these post.
 #[derive(Drop)]
 pub(crate) struct Share {
     pub(crate) worker: u32,
-    pub(crate) lanes: Vec<Numbered>,
+    pub(crate) lanes: Vec<LaneState>,
     pub(crate) tray: Tray,
 }
 
@@ -41,7 +26,7 @@ pub(crate) fn take_turns<G: Gate>(
     script: &Script,
     tick: u32,
     worker: u32,
-    lanes: &mut [Numbered],
+    lanes: &mut [LaneState],
     tray: &mut Tray,
 ) -> Result<(), LaneFault>
     requires tick { tick < most_ticks }
@@ -50,7 +35,7 @@ pub(crate) fn take_turns<G: Gate>(
     ensures letters { OnOk result (tray.new ≡ tray.old ++ flat_map (out_of_one script.now tick) lanes.old) }
 {
     for lane in lanes.iter_mut() {
-        gate.turn(worker, lane.number, &mut lane.state, script, tick, tray)?;
+        gate.turn(worker, lane.number(), lane, script, tick, tray)?;
     }
     Ok(())
 }
@@ -80,10 +65,10 @@ pub(crate) fn turn_share<G: Gate>(
 }
 
 /// Lanes by their numbers.
-pub(crate) fn in_order(mut lanes: Vec<Numbered>) -> Result<Vec<Numbered>, AllocError>
+pub(crate) fn in_order(mut lanes: Vec<LaneState>) -> Result<Vec<LaneState>, AllocError>
     ensures same { IfOk result (λ sorted. IsPermutation lanes.items sorted.items) }
-    ensures order { IfOk result (λ sorted. IsNonDecreasingBy (λ (one : Numbered). one.number) sorted.items) }
+    ensures order { IfOk result (λ sorted. IsNonDecreasingBy (λ (s : State). s.lane.number) sorted.items) }
 {
-    lanes.sort_by_key(|lane| lane.number)?;
+    lanes.sort_by_key(|lane| lane.number())?;
     Ok(lanes)
 }

@@ -235,6 +235,6 @@ impl Stepper {
         if self.spent {
             return Err(StepFault::Spent);
         }
-        Ok(self.lanes[lane as usize].lane.state.trace())
+        Ok(self.lanes[lane as usize].lane.trace())
     }
 }

@@ -6,10 +6,9 @@ ghost use Rattle.tick_stepper.specs.Queue.{MayWork, IsHaul};
 
 use crate::fault::OutOfMemory;
 use crate::gate::Gate;
-use crate::share::Numbered;
-use lane_turn::LaneFault;
+use lane_turn::{LaneFault, LaneState};
 use loop_script::Script;
-use post_office::{LetterQueue, OfficePass, WorkPass, WorkQueue};
+use post_office::{LetterQueue, Numbered, OfficePass, WorkPass, WorkQueue};
 use std::alloc::Global;
 use std::sync::Wait;
 
@@ -17,15 +16,15 @@ use std::sync::Wait;
 #[derive(Drop)]
 pub(crate) struct Hired {
     pub(crate) worker: u32,
-    pub(crate) work: WorkPass<Numbered>,
+    pub(crate) work: WorkPass<LaneState>,
     pub(crate) post: OfficePass,
 }
 
 /// What a worker brings back: the lanes that it turned, and its passes.
 #[derive(Drop)]
 pub(crate) struct Haul {
-    pub(crate) lanes: Vec<Numbered>,
-    pub(crate) work: WorkPass<Numbered>,
+    pub(crate) lanes: Vec<LaneState>,
+    pub(crate) work: WorkPass<LaneState>,
     pub(crate) post: OfficePass,
 }
 
@@ -38,7 +37,7 @@ pub(crate) fn turn_with<R: Wait, G: Gate>(
     worker: u32,
     office: &LetterQueue,
     pass: OfficePass,
-    lane: &mut Numbered,
+    lane: &mut LaneState,
 ) -> Result<OfficePass, LaneFault>
     requires tick { tick < most_ticks }
     requires ready { IsReadyOne script.now tick lane.old }
@@ -46,9 +45,8 @@ pub(crate) fn turn_with<R: Wait, G: Gate>(
     ensures lane { OnOk result (lane.new ≡ turned_one script.now tick lane.old) }
     ensures pass { IfOk result (λ back. back ≡ record { home = office.now; posted = pass.posted ++ out_of_one script.now tick lane.old }) }
 {
-    let number = lane.number;
     let mut lent = office.lend(rt, pass);
-    let done = gate.turn(worker, number, &mut lane.state, script, tick, &mut lent);
+    let done = gate.turn(worker, lane.number(), lane, script, tick, &mut lent);
     let pass = lent.into_pass();
     done?;
     Ok(pass)
@@ -61,7 +59,7 @@ pub(crate) fn work_through<R: Wait, G: Gate>(
     gate: &G,
     script: &Script,
     tick: u32,
-    list: &WorkQueue<Numbered>,
+    list: &WorkQueue<LaneState>,
     office: &LetterQueue,
     hired: Hired,
 ) -> Result<Haul, OutOfMemory>

@@ -2,9 +2,8 @@ use Rattle.std.proofs.Common.{◌≡◌, ap, sym, ◌∙◌, subst, List, map}
 use Rattle.std.proofs.lemmas.Result.{on_ok_weaker}
 use Rattle.lane_turn.specs.Lane.{Lane}
 use Rattle.lane_turn.specs.Handover.{left_by, taken_over, handing, moved}
-use Rattle.tick_stepper.specs.Share.{numbered, lanes_in, at_number, AreLined}
-use Rattle.tick_stepper.specs.declared.share.Numbered.{Numbered}
-use Rattle.tick_stepper.proofs.Lined.{lanes_numbered, lined, counted_in, counted_left, over_none, over_some}
+use Rattle.tick_stepper.specs.Share.{unspent_all, lanes_in, at_number, AreLined}
+use Rattle.tick_stepper.proofs.Lined.{lanes_unspent, lined, counted_in, counted_left, over_none, over_some}
 use Rattle.tick_stepper.proofs.hand.hand.Goals as goal
 
 pub take_over-requires : goal.take_over-requires
@@ -18,7 +17,7 @@ returns-in-None c =
     let lanes : List Lane = lanes_in c.args.lanes.now in
     let none = sym c.in_ok-hand_over.ensures.held ∙ c.in-None.is in
     c.in_ok-hand_over.ensures.left
-    ∙ ap numbered (over_none c.args.sender c.args.context lanes (counted_in c.args.lanes.now c.requires.lined) none
+    ∙ ap unspent_all (over_none c.args.sender c.args.context lanes (counted_in c.args.lanes.now c.requires.lined) none
     ∙ ap (λ o. moved c.args.tick (handing c.args.sender c.args.to o) lanes) (sym none))
 
 pub returns-in-Some : goal.returns-in-Some
@@ -26,9 +25,9 @@ returns-in-Some c =
     let lanes : List Lane = lanes_in c.args.lanes.now in
     let left : List Lane = map (at_number c.args.sender (left_by c.args.context)) lanes in
     let some = sym c.in_ok-hand_over.ensures.held ∙ c.in-Some.is in
-    let same : lanes_in c.hand_over.new.lanes ≡ left = ap lanes_in c.in_ok-hand_over.ensures.left ∙ lanes_numbered left in
+    let same : lanes_in c.hand_over.new.lanes ≡ left = ap lanes_in c.in_ok-hand_over.ensures.left ∙ lanes_unspent left in
     let goes =
-    ap numbered (ap (map (at_number c.args.to (taken_over c.args.tick c.in-Some.held))) same
+    ap unspent_all (ap (map (at_number c.args.to (taken_over c.args.tick c.in-Some.held))) same
     ∙ (over_some c.args.tick c.args.sender c.args.context c.args.to lanes c.in-Some.held (counted_in c.args.lanes.now c.requires.lined) some
     ∙ ap (λ o. moved c.args.tick (handing c.args.sender c.args.to o) lanes) (sym some))) in
     on_ok_weaker c.take_over.result (λ took. took ∙ goes) c.take_over.ensures

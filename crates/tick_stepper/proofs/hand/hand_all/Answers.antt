@@ -1,8 +1,8 @@
-use Rattle.std.proofs.Common.{◌≡◌, ◌+◌, ◌<◌, ◌≤◌, List, [], sym, ◌∙◌, ap, drop, length, arith}
+use Rattle.std.proofs.Common.{◌≡◌, ◌+◌, ◌<◌, List, [], sym, ◌∙◌, ap, drop, length, arith}
 use Rattle.std.proofs.lemmas.List.{at_drop_more, drop_all}
 use Rattle.post_office.specs.declared.letter.Letter.{Letter}
 use Rattle.lane_turn.specs.Handover.{handed_over}
-use Rattle.tick_stepper.specs.Share.{numbered, lanes_in}
+use Rattle.tick_stepper.specs.Share.{unspent_all, lanes_in}
 use Rattle.tick_stepper.proofs.Lined.{next_lined, rest_over, none_left}
 use Rattle.tick_stepper.proofs.hand.hand_all.Goals as goal
 
@@ -23,5 +23,5 @@ returns c =
     let tick = c.args.tick in
     let letters = c.args.letters.now in
     let none : drop c.letters.letter-index letters ≡ [] = drop_all c.letters.letter-index letters (omega arith) in
-    c.letters.invariant.lined.numbered
-    ∙ ap numbered (sym (none_left tick (lanes_in c.letters.lanes)) ∙ (ap (λ (l : List Letter). handed_over tick l (lanes_in c.letters.lanes)) (sym none) ∙ c.letters.invariant.same))
+    c.letters.invariant.lined.unspent
+    ∙ ap unspent_all (sym (none_left tick (lanes_in c.letters.lanes)) ∙ (ap (λ (l : List Letter). handed_over tick l (lanes_in c.letters.lanes)) (sym none) ∙ c.letters.invariant.same))

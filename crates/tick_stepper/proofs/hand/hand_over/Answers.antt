@@ -1,11 +1,10 @@
-use Rattle.std.proofs.Common.{rules, ◌≡◌, None, Some, ap, sym, ◌∙◌, get_or, arith}
+use Rattle.std.proofs.Common.{rules, ◌≡◌, None, ap, sym, ◌∙◌, get_or, arith}
 use Rattle.std.specs.Option.{option_and_then}
-use Rattle.lane_turn.specs.Lane.{Lane}
+use Rattle.lane_turn.specs.Lane.{Lane, State}
 use Rattle.lane_turn.specs.Handover.{handed_of, left_by}
 use Rattle.tick_stepper.specs.Share.{unspent}
-use Rattle.tick_stepper.specs.declared.share.Numbered.{Numbered}
 use Rattle.tick_stepper.proofs.Ready.{kept_is}
-use Rattle.tick_stepper.proofs.Lined.{nowhere, none_there, found_there, steps_there, unspent_there, left_none, left_some, left_number}
+use Rattle.tick_stepper.proofs.Lined.{nowhere, none_there, found_there, steps_there, unspent_there, left_none, left_some}
 use Rattle.tick_stepper.proofs.hand.hand_over.Goals as goal
 
 pub returns-then-sender-lanes-clause-held : goal.returns-then-sender-lanes-clause-held
@@ -20,23 +19,23 @@ returns-in-Ok-clause-held c =
 
 pub returns-in-Ok-clause-left : goal.returns-in-Ok-clause-left
 returns-in-Ok-clause-left c =
-    let d : Numbered = c.index-lanes-sender.result in
-    let lane : Lane = (get_or c.args.lanes.now c.args.sender d).state.lane in
+    let d : State = c.index-lanes-sender.result in
+    let lane : Lane = (get_or c.args.lanes.now c.args.sender d).lane in
     let goes = sym (left_some c.args.context lane (handed_of c.args.context lane) c.in-Ok.held c.in-Ok.ensures.handed) in
-    steps_there (left_by c.args.context) c.args.lanes.now c.args.sender d c.hand_over.new.self (left_number c.args.context) c.requires.lined (omega arith)
+    steps_there (left_by c.args.context) c.args.lanes.now c.args.sender d c.hand_over.new.self c.requires.lined (omega arith)
     (kept_is c.hand_over.new.self (left_by c.args.context lane) (c.in-Ok.ensures.left ∙ goes) c.in-Ok.ensures.lasts)
 
 pub returns-in-Err-NotGiven-clause-held : goal.returns-in-Err-NotGiven-clause-held
 returns-in-Err-NotGiven-clause-held c =
-    let d : Numbered = c.index-lanes-sender.result in
-    let lane : Lane = (get_or c.args.lanes.now c.args.sender d).state.lane in
+    let d : State = c.index-lanes-sender.result in
+    let lane : Lane = (get_or c.args.lanes.now c.args.sender d).lane in
     let none : handed_of c.args.context lane ≡ None = search rules in
     sym (ap (option_and_then (handed_of c.args.context)) (found_there c.args.lanes.now c.args.sender d c.requires.lined (omega arith)) ∙ none)
 
 pub returns-in-Err-NotGiven-clause-left : goal.returns-in-Err-NotGiven-clause-left
 returns-in-Err-NotGiven-clause-left c =
-    let d : Numbered = c.index-lanes-sender.result in
-    let lane : Lane = (get_or c.args.lanes.now c.args.sender d).state.lane in
+    let d : State = c.index-lanes-sender.result in
+    let lane : Lane = (get_or c.args.lanes.now c.args.sender d).lane in
     let none : handed_of c.args.context lane ≡ None = search rules in
-    steps_there (left_by c.args.context) c.args.lanes.now c.args.sender d c.hand_over.new.self (left_number c.args.context) c.requires.lined (omega arith)
+    steps_there (left_by c.args.context) c.args.lanes.now c.args.sender d c.hand_over.new.self c.requires.lined (omega arith)
     (c.in-Err-NotGiven.ensures.fault ∙ (unspent_there c.args.lanes.now c.args.sender d c.requires.lined (omega arith) ∙ ap unspent (sym (left_none c.args.context lane (handed_of c.args.context lane) none))))

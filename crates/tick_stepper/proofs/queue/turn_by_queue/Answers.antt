@@ -2,8 +2,8 @@ use Rattle.std.proofs.Common.{◌≡◌, ◌∙◌, ◌++◌, List, length, sym,
 use Rattle.std.specs.List.{AllByRecursion}
 use Rattle.post_office.specs.Merge.{IsMerge, concat}
 use Rattle.post_office.specs.Passes.{WorkState, OfficeState}
+use Rattle.lane_turn.specs.Lane.{State}
 use Rattle.tick_stepper.specs.Share.{IsReadyOne}
-use Rattle.tick_stepper.specs.declared.share.Numbered.{Numbered}
 use Rattle.tick_stepper.proofs.Rounds.{turned_by_number, posted_by_sender}
 use Rattle.tick_stepper.proofs.Queues.{taken_by, posted_by, may_work, hauls_of, as_many, gathered_list, gathered_office, office_at_last, split_at_last, turns_all, letters_all}
 use Rattle.tick_stepper.proofs.queue.turn_by_queue.Goals as goal
@@ -11,9 +11,9 @@ use Rattle.tick_stepper.proofs.queue.turn_by_queue.Goals as goal
 pub run_hired-requires-clause-hired : goal.run_hired-requires-clause-hired
 run_hired-requires-clause-hired g c κs _ =
     let script = c.args.script.now in
-    let put : c.in_ok-list.list.put ≡ c.args.lanes.items = ap (λ (s : WorkState Numbered). s.put) c.in_ok-list.ensures in
-    let ready = subst (λ (l : List Numbered). AllByRecursion (IsReadyOne script c.args.tick) l) (sym put) c.requires.lanes.ready in
-    may_work script c.args.tick _ _ _ _ _ _ (c.queue.ensures.home ∙ ap (λ (s : WorkState Numbered). s.home) c.in_ok-all.ensures.list) (c.queue-2.ensures.home ∙ ap (λ (s : OfficeState). s.home) c.in_ok-all.ensures.office) ready c.in_ok-all.ensures.hired
+    let put : c.in_ok-list.list.put ≡ c.args.lanes.items = ap (λ (s : WorkState State). s.put) c.in_ok-list.ensures in
+    let ready = subst (λ (l : List State). AllByRecursion (IsReadyOne script c.args.tick) l) (sym put) c.requires.lanes.ready in
+    may_work script c.args.tick _ _ _ _ _ _ (c.queue.ensures.home ∙ ap (λ (s : WorkState State). s.home) c.in_ok-all.ensures.list) (c.queue-2.ensures.home ∙ ap (λ (s : OfficeState). s.home) c.in_ok-all.ensures.office) ready c.in_ok-all.ensures.hired
 
 pub gather-requires : goal.gather-requires
 gather-requires g c = hauls_of c.args.script.now c.args.tick _ _ _ _ _ c.queue.ensures.home c.queue-2.ensures.home c.in_ok-hauls.ensures.hauls
@@ -22,15 +22,15 @@ pub finish-requires-clause-ready : goal.finish-requires-clause-ready
 finish-requires-clause-ready g c κs _ =
     let script = c.args.script.now in
     let put : c.gather.new.list.put ≡ c.args.lanes.items =
-    ap (λ (s : WorkState Numbered). s.put) (c.in_ok-lanes.ensures.taken) ∙ ap (λ (s : WorkState Numbered). s.put) c.in_ok-all.ensures.list ∙ ap (λ (s : WorkState Numbered). s.put) c.in_ok-list.ensures in
-    subst (λ (l : List Numbered). AllByRecursion (IsReadyOne script c.args.tick) l) (sym put) c.requires.lanes.ready
+    ap (λ (s : WorkState State). s.put) (c.in_ok-lanes.ensures.taken) ∙ ap (λ (s : WorkState State). s.put) c.in_ok-all.ensures.list ∙ ap (λ (s : WorkState State). s.put) c.in_ok-list.ensures in
+    subst (λ (l : List State). AllByRecursion (IsReadyOne script c.args.tick) l) (sym put) c.requires.lanes.ready
 
 pub returns-clause-lanes : goal.returns-clause-lanes
 returns-clause-lanes g c =
     let script = c.args.script.now in
     let back = c.in_ok-lanes.ensures in
     let hauls = c.in_ok-hauls.hauls in
-    let own : List Numbered = c.finish.new.list.taken in
+    let own : List State = c.finish.new.list.taken in
     let long : length back.each ≡ c.least-workers.result = omega (arith, as_many hauls.items back.each back.all, c.in_ok-hauls.ensures.all, c.in_ok-all.ensures.as_many, hauls.ok.0) in
     let list = gathered_list c.in_ok-list.list c.hire.new.list c.gather.new.list c.args.lanes.items c.least-workers.result back.each c.in_ok-list.ensures c.in_ok-all.ensures.list back.taken long in
     let split = split_at_last c.gather.new.list c.in_ok-list.list.home c.args.lanes.items own back.each list c.in_ok-lanes-2.ensures.all in
@@ -43,7 +43,7 @@ returns-clause-letters g c =
     let script = c.args.script.now in
     let back = c.in_ok-lanes.ensures in
     let hauls = c.in_ok-hauls.hauls in
-    let own : List Numbered = c.finish.new.list.taken in
+    let own : List State = c.finish.new.list.taken in
     let long : length back.each ≡ c.least-workers.result = omega (arith, as_many hauls.items back.each back.all, c.in_ok-hauls.ensures.all, c.in_ok-all.ensures.as_many, hauls.ok.0) in
     let list = gathered_list c.in_ok-list.list c.hire.new.list c.gather.new.list c.args.lanes.items c.least-workers.result back.each c.in_ok-list.ensures c.in_ok-all.ensures.list back.taken long in
     let split = split_at_last c.gather.new.list c.in_ok-list.list.home c.args.lanes.items own back.each list c.in_ok-lanes-2.ensures.all in

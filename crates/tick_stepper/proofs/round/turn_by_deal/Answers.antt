@@ -2,8 +2,8 @@ use Rattle.std.proofs.Common.{◌≡◌, ◌∙◌, sym, subst, List, arith, len
 use Rattle.std.specs.Prelude.{IsPermutation}
 use Rattle.std.specs.List.{flat_map}
 use Rattle.std.proofs.lemmas.List.Sorted.{IsPermutation-refl}
+use Rattle.lane_turn.specs.Lane.{State}
 use Rattle.tick_stepper.specs.Share.{handed, out_of_one}
-use Rattle.tick_stepper.specs.declared.share.Numbered.{Numbered}
 use Rattle.tick_stepper.proofs.Crews.{some_workers, all_named}
 use Rattle.tick_stepper.proofs.Handed.{all_fresh, came_back}
 use Rattle.tick_stepper.proofs.Rounds.{turned_by_number, posted_by_sender}
@@ -29,7 +29,7 @@ returns-clause-lanes g c =
     let dealt = c.in_ok-shares.ensures.lanes in
     let long : length hauls.items ≡ length shares.items = omega (arith, c.in_ok-hauls.ensures.all, hauls.ok.0, shares.ok.0) in
     let back = came_back script c.args.tick shares.items all.shares hauls.items all.all long (λ i d e h. c.in_ok-hauls.ensures.each i d e (omega (arith, h, shares.ok.0))) in
-    turned_by_number script c.args.tick c.args.lanes.items (handed shares.items) (handed all.shares) c.in_ok-lanes-2.lanes.items c.requires.lanes.order dealt back.lanes (subst (λ (l : List Numbered). IsPermutation l c.in_ok-lanes-2.lanes.items) all.back c.in_ok-lanes-2.ensures.same) c.in_ok-lanes-2.ensures.order
+    turned_by_number script c.args.tick c.args.lanes.items (handed shares.items) (handed all.shares) c.in_ok-lanes-2.lanes.items c.requires.lanes.order dealt back.lanes (subst (λ (l : List State). IsPermutation l c.in_ok-lanes-2.lanes.items) all.back c.in_ok-lanes-2.ensures.same) c.in_ok-lanes-2.ensures.order
 
 pub returns-clause-letters : goal.returns-clause-letters
 returns-clause-letters g c =

@@ -20,4 +20,4 @@ returns-clause-trace c =
     let low : c.args.lane < length s.script.lanes = subst (λ (v : Steps). c.args.lane < length v.script.lanes) (sym c.self.view_is) c.requires in
     let d : Resting = c.index.result.now in
     ap (λ (v : Steps). option_map (λ (l : Lane). l.trace) (slice_get v.lanes c.args.lane)) (sym c.self.view_is) ∙ trace_at s.tick s.lanes.items c.args.lane d (omega (arith, count, low))
-    ∙ ap (λ (one : Resting). Some one.lane.state.lane.trace) (sym c.index.ensures) ∙ ap Some (sym c.trace.ensures)
+    ∙ ap (λ (one : Resting). Some one.lane.lane.trace) (sym c.index.ensures) ∙ ap Some (sym c.trace.ensures)
