@@ -8,11 +8,7 @@ use Rattle.lane_turn.specs.declared.layer.Origin.{Origin}
 use Rattle.lane_turn.specs.declared.layer.Origin.TheVariants as origins
 use Rattle.lane_turn.specs.declared.tally.Tally.{Tally}
 use Rattle.lane_turn.specs.Frames.{blocked_by, blocked_in, busy}
-<<<<<<< HEAD
 use Rattle.lane_turn.specs.Nest.{is_dispatch_layer, is_call_layer, is_blocking, is_blocking_layer, frame_of, frames_of, taken_layer, taken_layers}
-=======
-use Rattle.lane_turn.specs.Nest.{is_dispatch_layer, is_call_layer, is_blocking, is_blocking_layer, frame_of, frames_of, advanced_layer, advanced_layers, taken_layer, taken_layers}
->>>>>>> 216274eb9e3f42a4dd46e22c0129acf3735c96e0
 use Rattle.lane_turn.specs.Tally.{one_if, more, tally_of, IsSmall, Counts}
 
 count_more : (f : Layer → Bool) (l : Layer) (ls : List Layer) → count_by f (l ∷ ls) ≡ count_by f ls + one_if (f l)

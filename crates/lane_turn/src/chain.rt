@@ -1,10 +1,6 @@
 //! What is in progress, counted, and the boxes of what has ended. Contracts see the layers, the innermost first.
 ghost use Rattle.std.specs.Prelude.{◌≡◌, ◌∷◌, ◌≤◌, ◌-◌, [], drop, length, count_by, OnOk, IfOk, slice_get, option_map, reverse};
-<<<<<<< HEAD
 ghost use Rattle.lane_turn.specs.Nest.{layers_of, frames_of, is_dispatch_layer, is_call_layer, is_blocking_layer, taken_layers, top_of_layers};
-=======
-ghost use Rattle.lane_turn.specs.Nest.{layers_of, frames_of, is_dispatch_layer, is_call_layer, is_blocking_layer, advanced_layers, taken_layers, top_of_layers, HasRoomLayers};
->>>>>>> 216274eb9e3f42a4dd46e22c0129acf3735c96e0
 
 use crate::in_progress::InProgress;
 use crate::layer::{Layer, Top};
