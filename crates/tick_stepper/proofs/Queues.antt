@@ -16,7 +16,7 @@ use Rattle.tick_stepper.specs.declared.work.Hired.{Hired}
 use Rattle.tick_stepper.specs.declared.work.Haul.{Haul}
 use Rattle.tick_stepper.specs.Share.{turned_one, out_of_one, IsReadyOne}
 use Rattle.tick_stepper.specs.Queue.{filled, IsHired, MayWork, IsHaul, IsOf, IsTakenIn}
-use Rattle.tick_stepper.proofs.Concats.{map_snoc}
+use Rattle.tick_stepper.proofs.Concats.{map_snoc, flat_snoc}
 
 -- ---- one more lane is put
 
