@@ -9,7 +9,6 @@ pub mod Owned
 pub mod Handover
 pub mod Acted
 pub mod Step
-pub mod Halt
 pub mod Turn
 pub mod Deliver
 pub mod Tick
