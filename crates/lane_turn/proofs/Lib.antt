@@ -2,6 +2,7 @@ pub mod Layers
 pub mod Resting
 pub mod Tallies
 pub mod Freely
+pub mod Halting
 pub mod Lists
 pub mod Polled
 pub mod Measure

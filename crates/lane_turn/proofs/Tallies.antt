@@ -8,7 +8,7 @@ use Rattle.lane_turn.specs.declared.layer.Origin.{Origin}
 use Rattle.lane_turn.specs.declared.layer.Origin.TheVariants as origins
 use Rattle.lane_turn.specs.declared.tally.Tally.{Tally}
 use Rattle.lane_turn.specs.Frames.{blocked_by, blocked_in, busy}
-use Rattle.lane_turn.specs.Nest.{is_dispatch_layer, is_call_layer, is_blocking, is_blocking_layer, frame_of, frames_of, advanced_layer, advanced_layers, taken_layer, taken_layers}
+use Rattle.lane_turn.specs.Nest.{is_dispatch_layer, is_call_layer, is_blocking, is_blocking_layer, frame_of, frames_of, taken_layer, taken_layers}
 use Rattle.lane_turn.specs.Tally.{one_if, more, tally_of, IsSmall, Counts}
 
 count_more : (f : Layer → Bool) (l : Layer) (ls : List Layer) → count_by f (l ∷ ls) ≡ count_by f ls + one_if (f l)
@@ -63,18 +63,9 @@ less_first [] l t e m = absurd cc
 less_first (x ∷ ls) l t e m = less_of l ls t (m ∙ ap (λ y. tally_of (y ∷ ls)) (some_layer l x e))
 
 -- what takes its next action or id stays what it is
-advanced_one_same : (l : Layer) (ls : List Layer) → tally_of (advanced_layer l ∷ ls) ≡ tally_of (l ∷ ls)
-advanced_one_same (layers.Call call) ls = sym (more_of (advanced_layer (layers.Call call)) ls) ∙ more_of (layers.Call call) ls
-advanced_one_same (layers.Iteration i) ls = sym (more_of (advanced_layer (layers.Iteration i)) ls) ∙ more_of (layers.Iteration i) ls
-advanced_one_same (layers.Loop number context) ls = refl
-
-pub advanced_same : (ls : List Layer) → tally_of (advanced_layers ls) ≡ tally_of ls
-advanced_same [] = refl
-advanced_same (l ∷ ls) = advanced_one_same l ls
-
 taken_one_same : (l : Layer) (ls : List Layer) → tally_of (taken_layer l ∷ ls) ≡ tally_of (l ∷ ls)
 taken_one_same (layers.Call call) ls = sym (more_of (taken_layer (layers.Call call)) ls) ∙ more_of (layers.Call call) ls
-taken_one_same (layers.Iteration i) ls = advanced_one_same (layers.Iteration i) ls
+taken_one_same (layers.Iteration i) ls = sym (more_of (taken_layer (layers.Iteration i)) ls) ∙ more_of (layers.Iteration i) ls
 taken_one_same (layers.Loop number context) ls = refl
 
 pub taken_same : (ls : List Layer) → tally_of (taken_layers ls) ≡ tally_of ls

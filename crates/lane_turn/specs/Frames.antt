@@ -105,13 +105,6 @@ owns context (CallOf call) = is_acquired_by context call.origin
 owns context (IterOf c ids asker) = c == context
 owns context (LoopOf number c) = c == context
 
--- the place of the innermost frame can be raised by one, where it is a call
-abbrev pub HasRoom : List Frame → Type 0
-HasRoom [] = Unit {0}
-HasRoom (CallOf call ∷ below) = call.place < count_end
-HasRoom (IterOf context ids asker ∷ below) = Unit {0}
-HasRoom (LoopOf number context ∷ below) = Unit {0}
-
 -- the frames before and after a take, by what was taken: the innermost call or iteration has gone on by one, and what is below it stands
 abbrev pub IsTaken : Top → List Frame → List Frame → Type 0
 IsTaken tops.Nothing old new = new ≡ old

@@ -9,6 +9,7 @@ pub mod Owned
 pub mod Handover
 pub mod Acted
 pub mod Step
+pub mod Halt
 pub mod Turn
 pub mod Deliver
 pub mod Tick

@@ -1,6 +1,6 @@
 //! What is in progress, counted, and the boxes of what has ended. Contracts see the layers, the innermost first.
 ghost use Rattle.std.specs.Prelude.{◌≡◌, ◌∷◌, ◌≤◌, ◌-◌, [], drop, length, count_by, OnOk, IfOk, slice_get, option_map, reverse};
-ghost use Rattle.lane_turn.specs.Nest.{layers_of, frames_of, is_dispatch_layer, is_call_layer, is_blocking_layer, advanced_layers, taken_layers, top_of_layers, HasRoomLayers};
+ghost use Rattle.lane_turn.specs.Nest.{layers_of, frames_of, is_dispatch_layer, is_call_layer, is_blocking_layer, taken_layers, top_of_layers};
 
 use crate::in_progress::InProgress;
 use crate::layer::{Layer, Top};
@@ -153,14 +153,5 @@ impl Chain {
             self.nest.take(live, self.tally.layers - 1, &mut top);
         }
         top
-    }
-
-    /// Counts an action or an id of what is innermost as taken.
-    #[tactic(auto, using(crate::proofs::Tallies::advanced_same))]
-    pub(crate) fn advance(&mut self)
-        requires { HasRoomLayers self.old }
-        ensures { self.new ≡ advanced_layers self.old }
-    {
-        self.nest.advance();
     }
 }

@@ -1,7 +1,7 @@
 //! What a lane is in the middle of. Contracts see a flat list of frames, the innermost first.
 ghost use Rattle.std.specs.Prelude.{◌≡◌, ℕ, ◌∷◌, ◌<◌, ◌≤◌, ◌^◌, ◌==◌, [], Some, reverse, drop, length, OnOk, IfOk, if◌then◌else◌};
 ghost use Rattle.std.specs.List.{list_any};
-ghost use Rattle.lane_turn.specs.Frames.{CallOf, IterOf, LoopOf, top_of, advanced, emptied, depth, calls_in_progress, busy, owns, HasRoom, IsTaken};
+ghost use Rattle.lane_turn.specs.Frames.{CallOf, IterOf, LoopOf, top_of, emptied, depth, calls_in_progress, busy, owns, IsTaken};
 ghost use Rattle.lane_turn.specs.Nest.{height_at};
 ghost use Rattle.lane_turn.specs.Quiet.{has_rest};
 ghost use Rattle.loop_script.specs.Bounds.{count_end};
@@ -180,14 +180,5 @@ impl Frames {
         ensures taken { IsTaken result self.old self.new }
     {
         self.chain.take(&self.live)
-    }
-
-    /// Counts an action or an id of the innermost as taken.
-    #[tactic(auto, using(crate::proofs::Layers::advance_frames))]
-    pub fn advance(&mut self)
-        requires { HasRoom self.old }
-        ensures { self.new ≡ advanced self.old }
-    {
-        self.chain.advance();
     }
 }

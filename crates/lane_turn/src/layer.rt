@@ -1,7 +1,7 @@
 //! The things that a lane can be in the middle of: a call, an iteration, a run of a loop.
 ghost use Rattle.std.specs.Prelude.{◌≡◌, [], ◌∷◌, slice_get};
 ghost use Rattle.lane_turn.specs.Frames.{top_of};
-ghost use Rattle.lane_turn.specs.Nest.{frame_of, ids_left, is_live, is_dispatch_layer, is_call_layer, is_blocking_layer, advanced_layer, taken_layer, HasRoomLayer};
+ghost use Rattle.lane_turn.specs.Nest.{frame_of, ids_left, is_live, is_dispatch_layer, is_call_layer, is_blocking_layer, taken_layer};
 
 use loop_script::Body;
 
@@ -143,22 +143,6 @@ impl Layer {
                 _ => false,
             },
             _ => false,
-        }
-    }
-
-    /// Counts an action or an id as taken.
-    pub(crate) fn advance(&mut self)
-        requires { HasRoomLayer self.old }
-        ensures { self.new ≡ advanced_layer self.old }
-    {
-        match self {
-            Layer::Call(call) => call.place += 1,
-            Layer::Iteration(iteration) => {
-                if iteration.place < iteration.ids.len() {
-                    iteration.place += 1;
-                }
-            }
-            Layer::Loop { .. } => {}
         }
     }
 

@@ -1,6 +1,6 @@
 //! What is in progress in boxes: each call, iteration and loop holds what was begun in it.
 ghost use Rattle.std.specs.Prelude.{◌≡◌, ◌++◌, ◌∷◌, [], IsTrue, ◌↔◌, drop, slice_get, option_map};
-ghost use Rattle.lane_turn.specs.Nest.{layers_of, advanced_layers, taken_layers, top_of_layers, HasRoomLayers};
+ghost use Rattle.lane_turn.specs.Nest.{layers_of, taken_layers, top_of_layers};
 
 use crate::layer::{Layer, Top};
 use std::mem;
@@ -99,24 +99,6 @@ impl Nest {
                     shell.layer.take();
                 } else {
                     shell.inner.take(live, height, top);
-                }
-            }
-        }
-    }
-
-    /// Counts an action or an id of what is innermost as taken.
-    pub(crate) fn advance(&mut self)
-        requires { HasRoomLayers (layers_of self.old) }
-        ensures { layers_of self.new ≡ advanced_layers (layers_of self.old) }
-    {
-        match self {
-            Nest::Nothing => {}
-            Nest::Begun(shell) => {
-                let shell = &mut **shell;
-                if shell.inner.is_nothing() {
-                    shell.layer.advance();
-                } else {
-                    shell.inner.advance();
                 }
             }
         }

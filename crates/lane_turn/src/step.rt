@@ -1,16 +1,17 @@
 //! One step of what is innermost.
-ghost use Rattle.std.specs.Prelude.{◌≡◌, ◌≢◌, ◌+◌, ◌^◌, ◌≤◌, ◌<◌, List, length, IsTrue, IsOk, OnOk, IfOk, is_some, slice_get, unwrap_or};
-ghost use Rattle.loop_script.specs.Parts.{actions_of, time_of};
-ghost use Rattle.lane_turn.specs.Frames.{HasRoom, top_of, calls_in_progress};
-ghost use Rattle.lane_turn.specs.Lane.{popped, taken};
-ghost use Rattle.lane_turn.specs.Step.{body_of, result_of, taking, dispatching, dispatched_at, answered, returned, left_source, step_call, step_iteration, step_loop, step, is_passed};
+ghost use Rattle.std.specs.Prelude.{◌≡◌, ◌≢◌, ◌+◌, ◌^◌, ◌≤◌, ◌<◌, None, List, length, IsTrue, IsOk, OnOk, IfOk, is_some, unwrap_or};
+ghost use Rattle.loop_script.specs.Parts.{time_of};
+ghost use Rattle.lane_turn.specs.Frames.{top_of};
+ghost use Rattle.lane_turn.specs.Lane.{popped};
+ghost use Rattle.lane_turn.specs.Halt.{halt_of, halt_of_dispatch};
+ghost use Rattle.lane_turn.specs.Step.{body_of, result_of, taking, dispatched_at, answered, returned, left_source, step_loop, step, is_passed};
 ghost use Rattle.lane_turn.specs.Turn.{stepped};
 ghost use Rattle.task_steps.specs.Book.{sees};
 ghost use Rattle.post_office.specs.declared.letter.Letter.{Letter};
 ghost use Rattle.lane_turn.specs.Sound.{IsWithin};
 ghost use Rattle.lane_turn.specs.Meaning.{lane_of, turn_of};
 ghost use Rattle.loop_script.specs.Bounds.{count_end, tick_end};
-ghost use Rattle.lane_turn.specs.Limits.{most_calls, most_count};
+ghost use Rattle.lane_turn.specs.Limits.{most_count};
 
 use crate::lane::{Lane, Status};
 use crate::layer::{Asker, Call, Caller, Origin, Top};
@@ -66,6 +67,19 @@ fn body(call: Option<u32>) -> Body
     }
 }
 
+/// The line by which a lane halts in place of a dispatch, where it does.
+fn dispatch_halt(left: u32, may_call: bool) -> Option<Event>
+    ensures { result ≡ halt_of_dispatch left may_call }
+{
+    if left == 0 {
+        Some(Event::HaltSteps)
+    } else if may_call {
+        None
+    } else {
+        Some(Event::HaltDepth)
+    }
+}
+
 impl Lane {
     /// A source's call returns: the source begins anew, or is destroyed.
     fn leave_source(&mut self, script: &Script, tick: u32, body: Body, caller: Caller)
@@ -94,40 +108,6 @@ impl Lane {
                 Ok(())
             }
             Origin::Invoke(_) => Ok(()),
-        }
-    }
-
-    /// A step of the innermost call.
-    fn step_call<P: Post>(
-        &mut self,
-        alloc: Global,
-        script: &Script,
-        tick: u32,
-        progress: &mut Progress,
-        call: Call,
-        post: &mut P,
-    ) -> Result<(), AllocError>
-        requires within { IsWithin most_count (lane_of self.old) }
-        requires now { (lane_of self.old).tasks.tick ≡ tick + 1 }
-        requires tick { tick < tick_end }
-        requires room { (lane_of self.old).tasks.next < count_end }
-        requires view { length (lane_of self.old).view.members ≡ script.now.cancellables }
-        requires sent { progress.old.sent < count_end }
-        requires top { top_of (lane_of self.old).frames ≡ Top.Call call }
-        ensures next { OnOk result (turn_of self.new progress.new (P.letters post.new)
-            ≡ step_call script.now tick (turn_of self.old progress.old (P.letters post.old)) call (slice_get (actions_of script.now call.body) call.place)) }
-        ensures home { P.home post.new ≡ P.home post.old }
-    {
-        match script.actions(call.body).get(call.place) {
-            None => self.end_call(script, tick, call),
-            Some(action) => {
-                if progress.left == 0 {
-                    return self.halt(tick, Event::HaltSteps);
-                }
-                progress.left -= 1;
-                self.frames.advance();
-                self.act_and_send(alloc, script, tick, progress, action, post)
-            }
         }
     }
 
@@ -188,29 +168,6 @@ impl Lane {
         })
     }
 
-    /// Begins the dispatch of a row, or halts the lane where too many calls are in progress.
-    fn begin_dispatch(&mut self, tick: u32, context: u32, row: Row) -> Result<(), AllocError>
-        requires count { row.count ≤ most_count }
-        requires within { IsWithin most_count (lane_of self.old) }
-        requires top { HasRoom (lane_of self.old).frames }
-        ensures { OnOk result (lane_of self.new ≡ dispatching tick context row (lane_of self.old)) }
-    {
-        let depth = self.frames.depth();
-        if self.frames.calls_in_progress() >= MOST_CALLS {
-            return self.halt(tick, Event::HaltDepth);
-        }
-        self.frames.advance();
-        self.dispatch(tick, context, row, depth)
-    }
-
-    /// Passes over an id whose source is destroyed.
-    fn pass_over(&mut self)
-        requires { HasRoom (lane_of self.old).frames }
-        ensures { lane_of self.new ≡ taken (lane_of self.old) }
-    {
-        self.frames.advance();
-    }
-
     /// An iteration that has no id left ends.
     fn end_iteration(&mut self, tick: u32, context: u32, asker: Asker) -> Result<(), AllocError>
         ensures { OnOk result (lane_of self.new ≡ answered tick context asker (popped (lane_of self.old))) }
@@ -219,38 +176,6 @@ impl Lane {
         match asker {
             Asker::Loop => Ok(()),
             Asker::Iterate(any) => self.write(tick, Event::Iterate(context, any)),
-        }
-    }
-
-    /// A step of the innermost iteration.
-    fn step_iteration(
-        &mut self,
-        tick: u32,
-        progress: &mut Progress,
-        context: u32,
-        next: Option<u64>,
-        asker: Asker,
-    ) -> Result<(), AllocError>
-        requires within { IsWithin most_count (lane_of self.old) }
-        requires top { top_of (lane_of self.old).frames ≡ Top.Iteration context next asker }
-        ensures next { (letters : List Letter) → OnOk result (turn_of self.new progress.new letters ≡ step_iteration tick (turn_of self.old progress.old letters) context asker next) }
-        ensures passes { IsTrue (is_passed (lane_of self.old) (top_of (lane_of self.old).frames)) → IsOk result }
-    {
-        match next {
-            None => self.end_iteration(tick, context, asker),
-            Some(id) => match self.row(context, id) {
-                None => {
-                    self.pass_over();
-                    Ok(())
-                }
-                Some(row) => {
-                    if progress.left == 0 {
-                        return self.halt(tick, Event::HaltSteps);
-                    }
-                    progress.left -= 1;
-                    self.begin_dispatch(tick, context, row)
-                }
-            },
         }
     }
 
@@ -283,8 +208,36 @@ impl Lane {
         Ok(true)
     }
 
-    /// A step where an action or a dispatch may be counted and a call begun: what is innermost takes the next at once.
-    fn step_freely<P: Post>(
+    /// The line by which the lane halts in place of the next step, where it does: the turn may count no more, or too many calls are in
+    /// progress.
+    #[tactic(auto, using(crate::proofs::Halting::none_where_free))]
+    fn halt_line(&self, script: &Script, left: u32) -> Option<Event>
+        requires { IsWithin most_count (lane_of self.now) }
+        ensures { result ≡ halt_of script.now left (lane_of self.now) (top_of (lane_of self.now).frames) }
+    {
+        let may_call = self.frames.calls_in_progress() < MOST_CALLS;
+        if left > 0 && may_call {
+            return None;
+        }
+        match self.frames.top() {
+            Top::Call(call) if left == 0 => {
+                script.actions(call.body).get(call.place)?;
+                Some(Event::HaltSteps)
+            }
+            Top::Iteration {
+                context,
+                next: Some(id),
+                ..
+            } => {
+                self.row(context, id)?;
+                dispatch_halt(left, may_call)
+            }
+            _ => None,
+        }
+    }
+
+    /// A step of what is innermost, where the lane does not halt in place of it: it takes the next at once.
+    fn step_innermost<P: Post>(
         &mut self,
         alloc: Global,
         script: &Script,
@@ -299,8 +252,7 @@ impl Lane {
         requires view { length (lane_of self.old).view.members ≡ script.now.cancellables }
         requires sent { progress.old.sent < count_end }
         requires goes { self.old.status ≡ Status.GoesOn }
-        requires left { 1 ≤ progress.old.left }
-        requires calls { calls_in_progress (lane_of self.old).frames < most_calls }
+        requires free { halt_of script.now progress.old.left (lane_of self.old) (top_of (lane_of self.old).frames) ≡ None }
         ensures more { IfOk result (λ more. more ≡ is_some (step script.now tick (turn_of self.old progress.old (P.letters post.old)))) }
         ensures next { OnOk result (turn_of self.new progress.new (P.letters post.new) ≡ stepped script.now tick (turn_of self.old progress.old (P.letters post.old))) }
         ensures home { P.home post.new ≡ P.home post.old }
@@ -373,25 +325,12 @@ impl Lane {
             Status::GoesOn => {}
             _ => return Ok(false),
         }
-        if progress.left > 0 && self.frames.calls_in_progress() < MOST_CALLS {
-            return self.step_freely(alloc, script, tick, progress, post);
-        }
-        match self.frames.top() {
-            Top::Nothing => Ok(false),
-            Top::Call(call) => {
-                self.step_call(alloc, script, tick, progress, call, post)?;
+        match self.halt_line(script, progress.left) {
+            None => self.step_innermost(alloc, script, tick, progress, post),
+            Some(line) => {
+                progress.left = progress.left.saturating_sub(1);
+                self.halt(tick, line)?;
                 Ok(true)
-            }
-            Top::Iteration {
-                context,
-                next,
-                asker,
-            } => {
-                self.step_iteration(tick, progress, context, next, asker)?;
-                Ok(true)
-            }
-            Top::Loop { number, context } => {
-                self.step_loop(alloc, script, tick, progress, number, context)
             }
         }
     }

@@ -1,17 +1,19 @@
-use Rattle.std.proofs.Common.{◌^◌, ap, ◌∙◌, List, Bool, Option, None, Some, is_some, unwrap_or, ◌-◌, slice_get, sym, refl, ltb-false}
+use Rattle.std.proofs.Common.{◌≡◌, ◌^◌, ap, ◌∙◌, List, Bool, Option, None, Some, is_some, unwrap_or, ◌-◌, slice_get, sym, refl, ltb-false}
 use Rattle.std.proofs.lemmas.Bool.{ltb-true}
 use Rattle.std.proofs.lemmas.Result.{IfOk-weaker}
 use Rattle.std.proofs.lemmas.Option.{slice_get_past, slice_get_read}
 use Rattle.loop_script.specs.declared.action.Action.{Action}
-use Rattle.lane_turn.specs.Frames.{Frame}
+use Rattle.loop_script.specs.Parts.{actions_of}
+use Rattle.lane_turn.specs.Frames.{Frame, top_of}
 use Rattle.lane_turn.specs.Lane.{Lane, Turn, taken}
 use Rattle.lane_turn.specs.Acted.{acted, sends}
 use Rattle.lane_turn.specs.Step.{returned, sending, step_loop}
 use Rattle.lane_turn.specs.Meaning.{lane_of, turn_of}
 use Rattle.lane_turn.proofs.Bounds.{row_within}
 use Rattle.lane_turn.proofs.Freely.{call_stepped, counted_one, loop_stepped}
+use Rattle.lane_turn.proofs.Halting.{action_counts}
 use Rattle.lane_turn.proofs.Layers.{on_ok}
-use Rattle.lane_turn.proofs.lane.Lane.step_freely.Goals as goal
+use Rattle.lane_turn.proofs.lane.Lane.step_innermost.Goals as goal
 
 pub dispatch-requires-clause-count : goal.dispatch-requires-clause-count
 dispatch-requires-clause-count g c = row_within (2 ^ 62) _ _ (lane_of c.args.self.now) _ c.requires.within c.in-Some-row.ensures
@@ -33,10 +35,11 @@ returns-in_ok-act_and_send-in-Some-clause-next g c =
     let t = turn_of c.args.self.now c.args.progress.now (g.P.Post.letters c.args.post.now) in
     let call = c.in-Call.call in
     let action = c.in-Some.action.now in
+    let there : Some action ≡ slice_get (actions_of script call.body) call.place = sym (slice_get_read c.actions.result.now _ call.place action refl (ltb-true _ _ (sym (c.in-Some.ensures.lookup.0))) (c.in-Some.ensures.lookup.1)) ∙ ap (λ (xs : List Action). slice_get xs call.place) c.actions.ensures.actions in
     let done : List Frame → Turn = λ fs. let l : Lane = record lane { frames = fs } in record (sending tick (sends script action l) t) { lane = acted script tick action l; left = t.left - 1 } in
     c.in_ok-act_and_send-in-Some.ensures.acted ∙ (ap done (c.in-Call.ensures.taken.0 c.if-prove.false)
-    ∙ (counted_one tick (sends script action (taken lane)) (λ (l : Lane). acted script tick action (taken l)) t c.requires.left
-    ∙ call_stepped script tick t call (Some action) refl c.requires.goes c.in-Call.ensures.top (sym (slice_get_read c.actions.result.now _ call.place action refl (ltb-true _ _ (sym (c.in-Some.ensures.lookup.0))) (c.in-Some.ensures.lookup.1)) ∙ ap (λ (xs : List Action). slice_get xs call.place) c.actions.ensures.actions)))
+    ∙ (counted_one tick (sends script action (taken lane)) (λ (l : Lane). acted script tick action (taken l)) t (action_counts script t.left lane call action (top_of lane.frames) c.in-Call.ensures.top c.requires.free there)
+    ∙ call_stepped script tick t call (Some action) refl c.requires.goes c.in-Call.ensures.top there))
 
 pub returns-in-Loop-clause-more : goal.returns-in-Loop-clause-more
 returns-in-Loop-clause-more g c =
