@@ -1,7 +1,7 @@
 //! One step of what is innermost.
-ghost use Rattle.std.specs.Prelude.{◌≡◌, ◌≢◌, ◌+◌, ◌^◌, ◌≤◌, ◌<◌, None, List, length, IsTrue, IsOk, OnOk, IfOk, is_some, unwrap_or};
+ghost use Rattle.std.specs.Prelude.{◌≡◌, ◌≢◌, ◌+◌, ◌^◌, ◌≤◌, ◌<◌, None, List, length, IsTrue, IsOk, OnOk, IfOk, is_some, nat_lt, unwrap_or};
 ghost use Rattle.loop_script.specs.Parts.{time_of};
-ghost use Rattle.lane_turn.specs.Frames.{top_of};
+ghost use Rattle.lane_turn.specs.Frames.{top_of, calls_in_progress};
 ghost use Rattle.lane_turn.specs.Lane.{popped};
 ghost use Rattle.lane_turn.specs.Halt.{halt_of, halt_of_dispatch};
 ghost use Rattle.lane_turn.specs.Step.{body_of, result_of, taking, dispatched_at, answered, returned, left_source, step_loop, step, is_passed};
@@ -11,7 +11,7 @@ ghost use Rattle.post_office.specs.declared.letter.Letter.{Letter};
 ghost use Rattle.lane_turn.specs.Sound.{IsWithin};
 ghost use Rattle.lane_turn.specs.Meaning.{lane_of, turn_of};
 ghost use Rattle.loop_script.specs.Bounds.{count_end, tick_end};
-ghost use Rattle.lane_turn.specs.Limits.{most_count};
+ghost use Rattle.lane_turn.specs.Limits.{most_calls, most_count};
 
 use crate::lane::{Lane, Status};
 use crate::layer::{Asker, Call, Caller, Origin, Top};
@@ -208,17 +208,13 @@ impl Lane {
         Ok(true)
     }
 
-    /// The line by which the lane halts in place of the next step, where it does: the turn may count no more, or too many calls are in
-    /// progress.
-    #[tactic(auto, using(crate::proofs::Halting::none_where_free))]
-    fn halt_line(&self, script: &Script, left: u32) -> Option<Event>
-        requires { IsWithin most_count (lane_of self.now) }
+    /// The line by which the lane halts in place of the next step, where it does: of a turn that may count so many more, and of a lane that
+    /// may begin a call or not.
+    fn halt_line(&self, script: &Script, left: u32, may_call: bool) -> Option<Event>
+        requires within { IsWithin most_count (lane_of self.now) }
+        requires calls { may_call ≡ nat_lt (calls_in_progress (lane_of self.now).frames) most_calls }
         ensures { result ≡ halt_of script.now left (lane_of self.now) (top_of (lane_of self.now).frames) }
     {
-        let may_call = self.frames.calls_in_progress() < MOST_CALLS;
-        if left > 0 && may_call {
-            return None;
-        }
         match self.frames.top() {
             Top::Call(call) if left == 0 => {
                 script.actions(call.body).get(call.place)?;
@@ -325,13 +321,14 @@ impl Lane {
             Status::GoesOn => {}
             _ => return Ok(false),
         }
-        match self.halt_line(script, progress.left) {
-            None => self.step_innermost(alloc, script, tick, progress, post),
-            Some(line) => {
-                progress.left = progress.left.saturating_sub(1);
-                self.halt(tick, line)?;
-                Ok(true)
-            }
+        let may_call = self.frames.calls_in_progress() < MOST_CALLS;
+        if (progress.left == 0 || !may_call)
+            && let Some(line) = self.halt_line(script, progress.left, may_call)
+        {
+            progress.left = progress.left.saturating_sub(1);
+            self.halt(tick, line)?;
+            return Ok(true);
         }
+        self.step_innermost(alloc, script, tick, progress, post)
     }
 }
