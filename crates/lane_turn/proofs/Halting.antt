@@ -1,12 +1,11 @@
 -- What halts a lane in place of its next step, and what does not.
-use Rattle.std.proofs.Common.{◌≡◌, ℕ, zero, suc, ◌-◌, ◌<◌, ◌≤◌, Bool, true, false, cond, Option, Some, None, [], refl, sym, ap, ◌∙◌, arith}
-use Rattle.std.specs.Prelude.{nat_lt, slice_get, is_none}
+use Rattle.std.proofs.Common.{◌≡◌, ℕ, zero, suc, ◌-◌, ◌≤◌, Bool, true, false, cond, Option, Some, None, [], refl, sym, ap, ◌∙◌, arith}
+use Rattle.std.specs.Prelude.{nat_lt, slice_get}
 use Rattle.loop_script.specs.declared.plan.Plan.{Plan}
 use Rattle.loop_script.specs.declared.action.Action.{Action}
 use Rattle.loop_script.specs.Parts.{actions_of}
 use Rattle.source_rows.specs.declared.row.Row.{Row}
 use Rattle.lane_turn.specs.declared.lane.Status.TheVariants.{GoesOn, Halted}
-use Rattle.lane_turn.specs.declared.layer.Asker.{Asker}
 use Rattle.lane_turn.specs.declared.layer.Call.{Call}
 use Rattle.lane_turn.specs.declared.layer.Top.{Top}
 use Rattle.lane_turn.specs.declared.layer.Top.TheVariants as tops
@@ -16,29 +15,9 @@ use Rattle.lane_turn.specs.Acted.{acted, sends}
 use Rattle.lane_turn.specs.Frames.{calls_in_progress, top_of}
 use Rattle.lane_turn.specs.Halt.{halt_of, halt_of_action, halt_of_dispatch, halt_of_id}
 use Rattle.lane_turn.specs.Lane.{Lane, Turn, row_of, stopped, taken, written}
-use Rattle.lane_turn.specs.Step.{dispatched, dispatching, is_passed, limited_by, step, step_call, step_going, step_id, step_polling, step_top, with_lane}
+use Rattle.lane_turn.specs.Step.{dispatched, dispatching, limited_by, step, step_call, step_going, step_id, step_polling, step_top, with_lane}
 
-free_action : (left : ℕ) (a : Option Action) → 0 < left → halt_of_action left a ≡ None
-free_action zero a h = absurd (omega (arith, h))
-free_action (suc n) a h = refl
-
-free_dispatch : (left : ℕ) (b : Bool) → 0 < left → b ≡ true → halt_of_dispatch left b ≡ None
-free_dispatch zero b h e = absurd (omega (arith, h))
-free_dispatch (suc n) true h e = refl
-free_dispatch (suc n) false h e = cc
-
-free_id : (left : ℕ) (b : Bool) (o : Option Row) → 0 < left → b ≡ true → halt_of_id left b o ≡ None
-free_id left b None h e = refl
-free_id left b (Some row) h e = free_dispatch left b h e
-
-pub none_where_free : (script : Plan) (left : ℕ) (lane : Lane) (top : Top) → 0 < left → nat_lt (calls_in_progress lane.frames) 32 ≡ true → halt_of script left lane top ≡ None
-none_where_free script left lane tops.Nothing h e = refl
-none_where_free script left lane (tops.Call call) h e = free_action left (slice_get (actions_of script call.body) call.place) h
-none_where_free script left lane (tops.Iteration context None asker) h e = refl
-none_where_free script left lane (tops.Iteration context (Some id) asker) h e = free_id left (nat_lt (calls_in_progress lane.frames) 32) (row_of context id lane) h e
-none_where_free script left lane (tops.Loop number context) h e = refl
-
--- ---- an action or a dispatch in whose place the lane does not halt may be counted, and the call of a dispatch begun
+-- ---- an action in whose place the lane does not halt may be counted
 
 counts_action : (left : ℕ) (a : Action) (o : Option Action) → Some a ≡ o → halt_of_action left o ≡ None → 1 ≤ left
 counts_action zero a None e h = cc
@@ -48,20 +27,6 @@ counts_action (suc n) a o e h = omega arith
 pub action_counts : (script : Plan) (left : ℕ) (lane : Lane) (call : Call) (a : Action) (top : Top) → tops.Call call ≡ top → halt_of script left lane top ≡ None
     → Some a ≡ slice_get (actions_of script call.body) call.place → 1 ≤ left
 action_counts script left lane call a top e h k = counts_action left a (slice_get (actions_of script call.body) call.place) k (ap (halt_of script left lane) e ∙ h)
-
-counts_dispatch : (left : ℕ) (b : Bool) → halt_of_dispatch left b ≡ None → (1 ≤ left) × b ≡ true
-counts_dispatch zero b h = cc
-counts_dispatch (suc n) true h = (omega arith, refl)
-counts_dispatch (suc n) false h = cc
-
-counts_id : (left : ℕ) (b : Bool) (row : Row) (o : Option Row) → Some row ≡ o → halt_of_id left b o ≡ None → (1 ≤ left) × b ≡ true
-counts_id left b row None e h = cc
-counts_id left b row (Some r) e h = counts_dispatch left b h
-
-pub id_counts : (script : Plan) (left : ℕ) (lane : Lane) (context id : ℕ) (asker : Asker) (row : Row) (top : Top) → tops.Iteration context (Some id) asker ≡ top → halt_of script left lane top ≡ None
-    → Some row ≡ row_of context id lane → (1 ≤ left) × nat_lt (calls_in_progress lane.frames) 32 ≡ true
-id_counts script left lane context id asker row top e h k =
-    counts_id left (nat_lt (calls_in_progress lane.frames) 32) row (row_of context id lane) k (ap (halt_of script left lane) e ∙ h)
 
 -- ---- a step in whose place the lane halts
 
@@ -120,15 +85,3 @@ pub halts : (script : Plan) (tick : ℕ) (t : Turn) (line : Event) → t.unpolle
 halts script tick t line p s h =
     halts_top script tick t (top_of t.lane.frames) line h
     ∙ (ap (step_going script tick t) (sym s) ∙ ap (step_polling script tick t) (sym p))
-
--- an id whose source is destroyed is passed over, whatever the turn may count
-passed_id : (left : ℕ) (b : Bool) (o : Option Row) (line : Event) → is_none o ≡ true → Some line ≡ halt_of_id left b o → ⊥
-passed_id left b None line e h = cc
-passed_id left b (Some row) line e h = cc
-
-pub passed_goes : (script : Plan) (left : ℕ) (lane : Lane) (top : Top) (line : Event) → is_passed lane top ≡ true → Some line ≡ halt_of script left lane top → ⊥
-passed_goes script left lane tops.Nothing line e h = cc
-passed_goes script left lane (tops.Call call) line e h = cc
-passed_goes script left lane (tops.Iteration context None asker) line e h = cc
-passed_goes script left lane (tops.Iteration context (Some id) asker) line e h = passed_id left (nat_lt (calls_in_progress lane.frames) 32) (row_of context id lane) line e h
-passed_goes script left lane (tops.Loop number context) line e h = cc
