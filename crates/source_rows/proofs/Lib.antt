@@ -11,6 +11,7 @@ pub mod Gone
 pub mod Kept
 pub mod Slots
 pub mod Entries
+pub mod MayBe
 pub mod Tree
 pub mod Placing
 pub mod Named

@@ -5,13 +5,14 @@ use Rattle.slab.specs.Slab.{get, with_value}
 use Rattle.source_rows.specs.declared.row.Row.{Row}
 use Rattle.source_rows.specs.Rows.{row_of, changed}
 use Rattle.source_rows.specs.Seats.{in_seats}
-use Rattle.source_rows.specs.Slots.{rows_at, asks, IsTime}
+use Rattle.source_rows.specs.Slots.{rows_at, IsTime}
 use Rattle.source_rows.proofs.Edits.{Stays}
 use Rattle.source_rows.proofs.Filled.{in_slot, put_filled, rises_rows_at, times_put}
 use Rattle.source_rows.proofs.Forest.{found}
 use Rattle.source_rows.proofs.InSeats.{in_seats-same}
 use Rattle.source_rows.proofs.Kept.{put_one, none_changed}
-use Rattle.source_rows.proofs.Slots.{at_id, put_done, looked, none_there, id_of, may-put, neither}
+use Rattle.source_rows.proofs.Slots.{at_id, put_done, looked, none_there, id_of}
+use Rattle.source_rows.proofs.MayBe.{Quiet, Alone, may-kept}
 use Rattle.source_rows.proofs.table.Table.count_one.Goals as goal
 
 stays : Stays (λ r. record r { count = r.count + 1 })
@@ -38,7 +39,8 @@ invariant_of-self c =
         few = c.self.invariant.seated.few;
         low = c.self.invariant.seated.low;
       };
-      quiet = λ e. may-put c.self.inside.may_ask rows new row c.self.invariant.quiet done (neither c.self.inside.may_ask (asks row.kind) e (found (λ r. asks r.kind ≡ false) c.args.id old rows (c.self.invariant.quiet e) there.0));
+      quiet = may-kept Quiet c.self.inside.may_ask rows new c.args.id old row c.self.invariant.quiet there.0 (λ q. q) done;
+      flat = may-kept Alone c.self.inside.may_nest rows new c.args.id old row c.self.invariant.flat there.0 (λ a. a) done;
       times = times_put rows new row c.self.invariant.times (found IsTime c.args.id old rows c.self.invariant.times there.0) done;
     }
 
