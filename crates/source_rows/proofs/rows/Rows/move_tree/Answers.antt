@@ -8,7 +8,7 @@ use Rattle.source_rows.specs.Band.{stands_between}
 use Rattle.source_rows.specs.InOrder.{rows_of}
 use Rattle.source_rows.proofs.TreeMoves.{none_twice, tree_picked, tree_moves, TreeMoves}
 use Rattle.source_rows.proofs.rows.Rows.move_tree.Goals as goal
-use Rattle.source_rows.proofs.rows.Rows.move_tree.Goals.{After-move_rows}
+use Rattle.source_rows.proofs.rows.Rows.move_tree.Goals.{After-move_rows, After-put, then-may_nest+in_ok-ids, else-may_nest}
 
 pub ids_between-requires : goal.ids_between-requires
 ids_between-requires c = c.self.invariant.apart
@@ -30,12 +30,13 @@ moves c =
     tree_moves c.args.root c.args.priority inside.table inside.next_id inside.next_order (level_count inside.levels) c.as_slice.result.now c.move_rows.new.table small c.self.invariant is c.requires.level
     (ap (rows_of inside.table) ids ∙ picked) made
 
+alone : (c : After-put) → TreeMoves c.args.root c.args.priority c.self.inside.table c.self.inside.next_id c.self.inside.next_order (level_count c.self.inside.levels) c.put.new.table
+alone c = ?
+
 pub invariant_of-self : goal.invariant_of-self
 invariant_of-self c =
     let inside = c.self.inside in
-    subst (λ (rows : List Row). IsSound rows inside.next_id (inside.next_order + 1) (level_count inside.levels)) (sym (moves c.before.before).table) (moves c.before.before).sound
-
-pub returns-clause-ok : goal.returns-clause-ok
-returns-clause-ok c =
-    ap (λ (rows : List Row). record { rows = rows; next_id = c.self.inside.next_id; next_order = c.self.inside.next_order + 1; levels = level_count c.self.inside.levels }) (moves c.before.before).table
-    ∙ ap (reprioritised c.args.root.id c.args.priority) c.self.view_is
+    elim c.if-may_nest.branch [
+      | then-may_nest+in_ok-ids w ↦ ?
+      | else-may_nest w ↦ ?
+    ]
