@@ -6,7 +6,7 @@ use Rattle.source_rows.specs.Moves.{moved_row}
 use Rattle.source_rows.specs.Rows.{has_id, is_under, moved, changed}
 use Rattle.source_rows.specs.Tree.{IsRoot, HasPlace, IsForest}
 use Rattle.source_rows.proofs.Lists.{all_both}
-use Rattle.source_rows.proofs.MayBe.{Alone}
+use Rattle.source_rows.proofs.MayBe.{NoParent}
 
 -- the row itself has the id, where any that it is under has
 abbrev pub IsOwn : ℕ → Row → Type 0
@@ -19,8 +19,8 @@ own id r p = ap (list_any (λ i. i == id)) p.lineage ∙ one (r.id == id)
     one true = refl
     one false = refl
 
-pub all_own : (id : ℕ) (rows : List Row) → IsForest rows → AllByRecursion Alone rows → AllByRecursion (IsOwn id) rows
-all_own id rows f h = all_both (λ r. HasPlace rows r.parent r) Alone (IsOwn id) (λ r p e. own id r (subst (λ (o : Option ℕ). HasPlace rows o r) e p)) rows f.placed h
+pub all_own : (id : ℕ) (rows : List Row) → IsForest rows → AllByRecursion NoParent rows → AllByRecursion (IsOwn id) rows
+all_own id rows f h = all_both (λ r. HasPlace rows r.parent r) NoParent (IsOwn id) (λ r p e. own id r (subst (λ (o : Option ℕ). HasPlace rows o r) e p)) rows f.placed h
 
 pub one_gone : (id : ℕ) (rows : List Row) → AllByRecursion (IsOwn id) rows → filter (λ r. not (has_id id r)) rows ≡ filter (λ r. not (is_under id r)) rows
 one_gone id [] h = refl

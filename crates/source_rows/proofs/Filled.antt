@@ -14,7 +14,7 @@ use Rattle.source_rows.specs.Tree.{IdsRise}
 use Rattle.source_rows.proofs.Compared.{some_same}
 use Rattle.source_rows.proofs.Lists.{all_of, all_filter}
 use Rattle.source_rows.proofs.Slots.{at_id, at_key, row_is, looked, put_done, Left, Pushed, id_of, named_by, back-put, back-same, same_get}
-use Rattle.source_rows.proofs.MayBe.{Quiet, Alone, may-same}
+use Rattle.source_rows.proofs.MayBe.{Quiet, NoParent, may-same}
 
 -- ---- rows in slots
 
@@ -131,6 +131,6 @@ held_same s t es ss may_ask may_nest e h = record {
   };
   seated = subst (λ (rows : List Row). IsSeated rows ss) (sym (rows_same s t es e)) h.seated;
   quiet = may-same Quiet may_ask (rows_at s es) (rows_at t es) h.quiet (rows_same s t es e);
-  flat = may-same Alone may_nest (rows_at s es) (rows_at t es) h.flat (rows_same s t es e);
+  flat = may-same NoParent may_nest (rows_at s es) (rows_at t es) h.flat (rows_same s t es e);
   times = times_same (rows_at s es) (rows_at t es) h.times (rows_same s t es e);
 }

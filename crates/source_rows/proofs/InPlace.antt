@@ -2,7 +2,6 @@
 use Rattle.std.proofs.Common.{◌≡◌, ℕ, Bool, Some, List, ap, sym, ◌∙◌, subst}
 use Rattle.std.specs.Map.{lookup}
 use Rattle.slab.specs.Slab.{Slab, get, with_value}
-use Rattle.loop_script.specs.declared.Kind.{Kind}
 use Rattle.source_rows.specs.declared.row.Row.{Row}
 use Rattle.source_rows.specs.declared.seats.Seat.{Seat}
 use Rattle.source_rows.specs.Rows.{row_of, changed}
@@ -11,7 +10,7 @@ use Rattle.source_rows.specs.Slots.{rows_at, asks, IsTable, IsTime, IsHeld}
 use Rattle.source_rows.proofs.Edits.{Stays}
 use Rattle.source_rows.proofs.Filled.{in_slot, put_filled, rises_rows_at, times_put}
 use Rattle.source_rows.proofs.Kept.{put_one}
-use Rattle.source_rows.proofs.MayBe.{Quiet, Alone, may-kept}
+use Rattle.source_rows.proofs.MayBe.{Quiet, NoParent, may-kept}
 use Rattle.source_rows.proofs.Seated.{kept_seated, set_seated}
 use Rattle.source_rows.proofs.Slots.{at_id, put_done}
 
@@ -54,6 +53,6 @@ held_in_place f k kind s es id key old ss us may_ask may_nest h g p time seated 
       filled = put_filled s key (f old) old es h.filled p.named g;
       seated = seated;
       quiet = may-kept Quiet may_ask (rows_at s es) new id old (f old) h.quiet p.there (λ q. ap asks (kind old) ∙ q) p.put;
-      flat = may-kept Alone may_nest (rows_at s es) new id old (f old) h.flat p.there (λ a. k.parent old ∙ a) p.put;
+      flat = may-kept NoParent may_nest (rows_at s es) new id old (f old) h.flat p.there (λ a. k.parent old ∙ a) p.put;
       times = times_put (rows_at s es) new (f old) h.times time p.put;
     }

@@ -1,4 +1,4 @@
--- What is known not to be of any row: what an edit leaves of it.
+-- What holds of all rows, unless a flag says that it may not: it still does after an edit.
 use Rattle.std.proofs.Common.{◌≡◌, ℕ, Bool, true, false, not, cond, is_some, ◌||◌, Option, Some, None, List, [], ◌∷◌, ◌++◌, filter, refl}
 use Rattle.std.specs.List.{AllByRecursion}
 use Rattle.source_rows.specs.declared.row.Row.{Row}
@@ -12,16 +12,16 @@ use Rattle.source_rows.proofs.Lists.{all_push, all_map, all_filter}
 abbrev pub Quiet : Row → Type 0
 Quiet r = asks r.kind ≡ false
 
--- under no other
-abbrev pub Alone : Row → Type 0
-Alone r = r.parent ≡ None
+-- no row above it
+abbrev pub NoParent : Row → Type 0
+NoParent r = r.parent ≡ None
 
--- it holds of all rows, unless another may be among them
+-- it holds of all rows, unless it may not
 abbrev pub Unless : Bool → (Row → Type 0) → List Row → Type 0
 Unless may P rows = may ≡ false → AllByRecursion P rows
 
-pub none_above : (row : Row) → is_some row.parent ≡ false → Alone row
-none_above row h = none row.parent h
+pub no_parent : (row : Row) → is_some row.parent ≡ false → NoParent row
+no_parent row h = none row.parent h
   where
     none : (o : Option ℕ) → is_some o ≡ false → o ≡ None
     none None h = refl

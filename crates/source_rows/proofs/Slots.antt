@@ -1,4 +1,4 @@
-use Rattle.std.proofs.Common.{◌≡◌, ◌≢◌, ℕ, ◌+◌, ◌<◌, ◌==◌, zero, suc, Bool, true, false, not, cond, ◌||◌, Option, Some, None, List, [], ◌∷◌, ◌++◌, length, length-append, filter, refl, ap, sym, ◌∙◌, arith, subst}
+use Rattle.std.proofs.Common.{◌≡◌, ◌≢◌, ℕ, ◌+◌, ◌<◌, ◌==◌, zero, suc, Bool, true, false, not, cond, Option, Some, None, List, [], ◌∷◌, ◌++◌, length, length-append, filter, refl, ap, sym, ◌∙◌, arith, subst}
 use Rattle.std.proofs.lemmas.Bool.Decides.{nat_tests}
 use Rattle.std.specs.Prelude.{slice_index_or, slice_set}
 use Rattle.std.specs.List.{AllByRecursion, cons_option}
@@ -9,9 +9,9 @@ use Rattle.std.specs.Map.{remove_entry, lookup}
 use Rattle.slab.specs.Slab.{Slab, get, Updates, with_value}
 use Rattle.source_rows.specs.declared.row.Row.{Row}
 use Rattle.source_rows.specs.Rows.{row_of, has_id, changed}
-use Rattle.source_rows.specs.Slots.{rows_at, Names, Rising, IsTable, AllNamed, MayAsk, asks}
-use Rattle.source_rows.proofs.Compared.{are_same, not_same, are_not, some_same, same_self, apart_above, or_parts}
-use Rattle.source_rows.proofs.Lists.{all_of, all_push, all_map, all_filter, pairs_push, cons_join}
+use Rattle.source_rows.specs.Slots.{rows_at, Names, Rising, IsTable, AllNamed}
+use Rattle.source_rows.proofs.Compared.{are_same, not_same, are_not, some_same, same_self, apart_above}
+use Rattle.source_rows.proofs.Lists.{all_of, all_push, pairs_push, cons_join}
 
 abbrev pub id_of : Row → ℕ
 id_of r = r.id

@@ -5,7 +5,7 @@ use Rattle.std.specs.List.{AllByRecursion}
 use Rattle.source_rows.specs.Rows.{Key, row_of, is_under, in_order, moved, changed}
 use Rattle.source_rows.proofs.Alone.{all_own, one_moved}
 use Rattle.source_rows.proofs.Kept.{one_changed}
-use Rattle.source_rows.proofs.MayBe.{Alone}
+use Rattle.source_rows.proofs.MayBe.{NoParent}
 use Rattle.source_rows.specs.Kept.{IsSound}
 use Rattle.source_rows.proofs.Kin.{kins}
 use Rattle.source_rows.specs.InOrder.{rows_of}
@@ -46,7 +46,7 @@ tree_moves x z rows i n l ids new f s is level t m = record {
 }
 
 -- where no row has a parent, the root alone is put in its place
-pub root_moves : (x : Row) (z : ℤ) (rows : List Row) (i n l : ℕ) (new : List Row) → n < 2 ^ 63 → IsSound rows i n l → row_of x.id rows ≡ Some x → x.level ≡ 1 → AllByRecursion Alone rows
+pub root_moves : (x : Row) (z : ℤ) (rows : List Row) (i n l : ℕ) (new : List Row) → n < 2 ^ 63 → IsSound rows i n l → row_of x.id rows ≡ Some x → x.level ≡ 1 → AllByRecursion NoParent rows
     → new ≡ changed x.id (λ _. moved_row x.id z n x) rows → TreeMoves x z rows i n l new
 root_moves x z rows i n l new f s is level h m = record {
   table = m ∙ (one_changed x.id x (moved_row x.id z n) rows s.rising is ∙ one_moved x.id z n rows (all_own x.id rows s.forest h));

@@ -1,4 +1,4 @@
-use Rattle.std.proofs.Common.{◌≡◌, ap, sym, ◌∙◌, Some, None, List, subst, not, filter, false}
+use Rattle.std.proofs.Common.{◌≡◌, ap, sym, ◌∙◌, Some, None, List, subst, not, filter}
 use Rattle.std.specs.List.{AllByRecursion}
 use Rattle.source_rows.specs.declared.row.Row.{Row}
 use Rattle.source_rows.specs.Rows.{RowSet, row_of, is_under, destroyed, level_count}

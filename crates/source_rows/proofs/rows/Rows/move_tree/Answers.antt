@@ -9,7 +9,7 @@ use Rattle.source_rows.specs.Rows.{RowSet, row_of, moved, changed, reprioritised
 use Rattle.source_rows.specs.Band.{stands_between}
 use Rattle.source_rows.specs.InOrder.{rows_of}
 use Rattle.source_rows.specs.Moves.{moved_row}
-use Rattle.source_rows.proofs.MayBe.{Alone}
+use Rattle.source_rows.proofs.MayBe.{NoParent}
 use Rattle.source_rows.proofs.TreeMoves.{none_twice, tree_picked, tree_moves, root_moves, TreeMoves}
 use Rattle.source_rows.proofs.rows.Rows.move_tree.Goals as goal
 use Rattle.source_rows.proofs.rows.Rows.move_tree.Goals.{After-may_nest, Joined-may_nest, then-may_nest+in_ok-ids, else-may_nest}
@@ -42,7 +42,7 @@ moves c =
           rw w.self-inside-is (tree_moves c.args.root c.args.priority inside.table inside.next_id inside.next_order (level_count inside.levels) w.as_slice.result.now w.move_rows.new.table (small before) c.self.invariant (root before) c.requires.level
           (ap (rows_of inside.table) ids ∙ picked) made)
       | else-may_nest w ↦
-          let flat : AllByRecursion Alone inside.table = c.may_nest.ensures w.if-may_nest.false in
+          let flat : AllByRecursion NoParent inside.table = c.may_nest.ensures w.if-may_nest.false in
           let made : w.put.new.self ≡ changed c.args.root.id (λ _. moved_row c.args.root.id c.args.priority inside.next_order c.args.root) inside.table = w.put.ensures ∙ ap (λ (r : Row). changed r.id (λ _. r) inside.table) (simp to_z-of_z at w.moved.ensures) in
           rw w.self-inside-is (root_moves c.args.root c.args.priority inside.table inside.next_id inside.next_order (level_count inside.levels) w.put.new.self (small before) c.self.invariant (root before) c.requires.level flat made)
     ]

@@ -1,17 +1,14 @@
-use Rattle.std.proofs.Common.{rules, ◌≡◌, ◌+◌, ◌<◌, ◌^◌, ℕ, ap, sym, ◌∙◌, refl, subst, Option, Some, None, List, false}
-use Rattle.std.specs.Map.{lookup}
+use Rattle.std.proofs.Common.{rules, ◌≡◌, ◌+◌, ◌<◌, ◌^◌, ap, sym, ◌∙◌, refl, subst, Option, Some, None, List}
 use Rattle.std.specs.Option.{option_map, IfSome}
-use Rattle.slab.specs.Slab.{get, with_value}
+use Rattle.slab.specs.Slab.{get}
 use Rattle.source_rows.specs.declared.row.Row.{Row}
 use Rattle.source_rows.specs.Rows.{row_of, changed}
 use Rattle.source_rows.specs.Slots.{rows_at, IsTime}
 use Rattle.source_rows.proofs.Edits.{Stays}
-use Rattle.source_rows.proofs.Filled.{in_slot, put_filled, rises_rows_at, times_put}
 use Rattle.source_rows.proofs.Forest.{found}
-use Rattle.source_rows.proofs.Kept.{put_one, none_changed}
+use Rattle.source_rows.proofs.Kept.{none_changed}
 use Rattle.source_rows.proofs.InPlace.{InPlace, in_place, kept_in_place, held_in_place}
-use Rattle.source_rows.proofs.Slots.{at_id, put_done, looked, none_there, id_of}
-use Rattle.source_rows.proofs.MayBe.{Quiet, Alone, may-kept}
+use Rattle.source_rows.proofs.Slots.{looked, none_there, id_of}
 use Rattle.source_rows.proofs.table.Table.count_one.Goals as goal
 use Rattle.source_rows.proofs.table.Table.count_one.Goals.{In-Some-get_mut}
 

@@ -30,7 +30,10 @@ set c =
     (sym c.slot_of.ensures ∙ c.in-Some.is) at
 
 set_else : (c : After-set) → InPlace (ready_at c.args.ready) c.self.inside.slots c.self.inside.keys c.args.id c.in-Some.key c.in-Some-get_mut.slot.now
-set_else c = set c.before.before.before.before.before.before.before.before.before.before
+set_else c =
+    let at : get c.self.inside.slots c.in-Some.key ≡ Some c.in-Some-get_mut.slot.now = search rules in
+    in_place (ready_at c.args.ready) (stays c.args.ready) c.self.inside.slots c.self.inside.keys c.args.id c.in-Some.key c.in-Some-get_mut.slot.now c.self.invariant.filled.table
+    (sym c.slot_of.ensures ∙ c.in-Some.is) at
 
 pub set-requires : goal.set-requires
 set-requires c = rises_seats c.self.inside.slots c.self.inside.keys c.self.inside.seats c.self.invariant.filled.table c.self.invariant.seated
