@@ -91,8 +91,9 @@ impl Frames {
         if self.chain.blocking() == 0 {
             return Ok(Vec::new(self.alloc));
         }
-        self.inwards()
-            .filter_map(|one| one.blocks(context))
+        self.chain
+            .layers()
+            .filter_map(|layer| layer.blocks(context))
             .collect(self.alloc)
     }
 
@@ -102,8 +103,9 @@ impl Frames {
     {
         self.chain.blocking() > 0
             && self
-                .inwards()
-                .filter_map(|one| one.blocks(context))
+                .chain
+                .layers()
+                .filter_map(|layer| layer.blocks(context))
                 .any(|blocked| blocked == id)
     }
 
@@ -119,7 +121,7 @@ impl Frames {
     pub fn owns(&self, context: u32) -> bool
         ensures { result ≡ list_any (owns context) self.now }
     {
-        self.inwards().any(|one| one.owns(context))
+        self.chain.layers().any(|layer| layer.owns(context))
     }
 
     /// What is in progress, from the outermost inwards.
