@@ -14,7 +14,8 @@ use Rattle.lane_turn.proofs.Delivered.{ready_weaker}
 use Rattle.tick_stepper.specs.Account.{Turning, Bringing, turned_on, moved}
 use Rattle.account.specs.declared.turns.Begun.{Begun}
 use Rattle.account.specs.Within.{MayTake, AllMayTake, polled}
-use Rattle.account.specs.Standing.{unspent, lanes_of, AreUnspent, turn_in, OwnsTurn, IsInTurn, turning_from, turning, turning_after, bringing}
+use Rattle.account.specs.Standing.{AreUnspent, turn_in, OwnsTurn, IsInTurn, turning_from, turning, turning_after, bringing}
+use Rattle.tick_stepper.specs.Share.{unspent, lanes_in as lanes_of}
 
 -- ---- one of them
 

@@ -5,7 +5,8 @@ ghost use Rattle.loop_script.specs.Bounds.{most_lanes, most_ticks};
 ghost use Rattle.lane_turn.specs.Tick.{lanes_at};
 ghost use Rattle.tick_stepper.specs.Account.{started, moved};
 ghost use Rattle.account.specs.Told.{trace_at, told, IsMoment, TellsNext, TellsNothing};
-ghost use Rattle.account.specs.Standing.{lanes_of, AreUnspent, AreLined, place_of, Stands};
+ghost use Rattle.account.specs.Standing.{AreUnspent, place_of, Stands};
+ghost use Rattle.tick_stepper.specs.Share.{lanes_in as lanes_of, AreLined};
 
 use crate::foreseen::{done, foreseen};
 use crate::hand::{gift_of, hand};

@@ -3,8 +3,7 @@ ghost use Rattle.std.specs.Prelude.{◌≡◌, map, is_some, IfOk, OnOk};
 ghost use Rattle.std.specs.Option.{option_and_then};
 ghost use Rattle.post_office.specs.declared.letter.Body.TheVariants.{Give as GiveBody};
 ghost use Rattle.lane_turn.specs.Handover.{handed_of, left_by, taken_over, lane_of_number, handing_by, moved};
-ghost use Rattle.tick_stepper.specs.Share.{at_number};
-ghost use Rattle.account.specs.Standing.{unspent, lanes_of, AreLined};
+ghost use Rattle.tick_stepper.specs.Share.{at_number, unspent, lanes_in as lanes_of, AreLined};
 ghost use Rattle.account.specs.Gifts.{gift_of};
 
 use lane_turn::{HandFault, Held, LaneState};

@@ -1,10 +1,8 @@
 use Rattle.std.proofs.Common.{◌≡◌, ap, sym, ◌∙◌, subst, List, map, is_some}
 use Rattle.lane_turn.specs.Lane.{Lane}
 use Rattle.lane_turn.specs.Handover.{left_by, taken_over, handing, moved}
-use Rattle.tick_stepper.specs.Share.{at_number}
-use Rattle.tick_stepper.proofs.Lined.{counted_left, over_none, over_some}
-use Rattle.account.specs.Standing.{unspent, lanes_of, AreLined}
-use Rattle.account.proofs.Lined.{lanes_unspent, lined, counted_in}
+use Rattle.tick_stepper.specs.Share.{at_number, unspent, lanes_in as lanes_of, AreLined}
+use Rattle.tick_stepper.proofs.Lined.{counted_left, over_none, over_some, lanes_unspent, lined, counted_in}
 use Rattle.account.proofs.hand.hand.Goals as goal
 
 pub take_over-requires : goal.take_over-requires

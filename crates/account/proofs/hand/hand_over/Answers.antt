@@ -3,10 +3,9 @@ use Rattle.std.specs.Option.{option_and_then}
 use Rattle.lane_turn.specs.Lane.{Lane, State}
 use Rattle.lane_turn.specs.Handover.{handed_of, left_by}
 use Rattle.tick_stepper.proofs.Ready.{kept_is}
-use Rattle.tick_stepper.proofs.Lined.{left_none, left_some}
-use Rattle.account.specs.Standing.{unspent}
+use Rattle.tick_stepper.proofs.Lined.{left_none, left_some, nowhere, none_there, found_there, steps_there}
+use Rattle.tick_stepper.specs.Share.{unspent}
 use Rattle.account.proofs.States.{unspent_at}
-use Rattle.account.proofs.Lined.{nowhere, none_there, found_there, steps_there}
 use Rattle.account.proofs.hand.hand_over.Goals as goal
 
 pub returns-then-sender-lanes-clause-held : goal.returns-then-sender-lanes-clause-held

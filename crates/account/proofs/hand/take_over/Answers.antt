@@ -2,8 +2,7 @@ use Rattle.std.proofs.Common.{get_or, arith}
 use Rattle.std.proofs.lemmas.Result.{on_ok_weaker}
 use Rattle.lane_turn.specs.Lane.{Lane, State}
 use Rattle.lane_turn.specs.Handover.{taken_over}
-use Rattle.tick_stepper.proofs.Lined.{took_there}
-use Rattle.account.proofs.Lined.{none_there, steps_there}
+use Rattle.tick_stepper.proofs.Lined.{took_there, none_there, steps_there}
 use Rattle.account.proofs.hand.take_over.Goals as goal
 
 pub returns-then-to-lanes : goal.returns-then-to-lanes

@@ -7,10 +7,13 @@ use Rattle.account.specs.declared.going.Going.{Going}
 use Rattle.account.specs.declared.going.Phase.TheVariants as phases
 use Rattle.account.specs.declared.moment.Deed.TheVariants as deeds
 use Rattle.account.specs.Gifts.{gift_of}
-use Rattle.account.specs.Standing.{lanes_of, place_of}
+use Rattle.account.specs.Standing.{place_of}
+use Rattle.tick_stepper.specs.Share.{lanes_in as lanes_of}
 use Rattle.account.specs.Told.{trace_at, IsMoment}
 use Rattle.account.proofs.Quiet.{hand_moment}
 use Rattle.account.proofs.Goings.{handed_place, handed_lanes, handed_unspent}
+use Rattle.account.proofs.Within.{stand_from}
+use Rattle.tick_stepper.proofs.Lined.{counted_in}
 use Rattle.account.proofs.going.Going.hand.Goals as goal
 
 pub returns-then-not-branch-clause-moved : goal.returns-then-not-branch-clause-moved
@@ -55,4 +58,4 @@ returns-clause-moment c script =
     let there = handed_lanes tick k g c.as_mut_slice.result.now states h.lanes.items one gift was c.in_ok-hand.ensures.gone gives same in
     let went = sym (c.in_ok-hand.ensures.went ∙ ap (λ (ss : List State). is_some (handing_by gift.from (mails.Give gift.context gift.to) (lanes_of ss))) was) ∙ c.if-not-branch.false in
     let found = c.moment.ensures ∙ (λ j. record { tick = tick; lane = gift.to; deed = deeds.HandedOver gift.context gift.from; from = c.lines_of-from.ensures j; to = length (trace_at gift.to (lanes_of h.lanes.items)) }) in
-    subst (IsMoment script tick (place_of g) (place_of h)) (sym found) (hand_moment script tick k g h one gift c.requires.phase c.requires.place gives went goes there c.requires.lined.places)
+    subst (IsMoment script tick (place_of g) (place_of h)) (sym found) (hand_moment script tick k g h one gift c.requires.phase c.requires.place gives went goes there (stand_from 0 (lanes_of g.lanes.items) (counted_in g.lanes.items c.requires.lined)))
