@@ -1,14 +1,14 @@
 -- What is known of a tree by what is known of its parts, whatever comes.
-use Rattle.std.proofs.Common.{◌≡◌, ℕ, ◌≤◌, ◌<◌, Bool, true, false, cond, Option, Some, None, nat_le, refl, ap, sym, ◌∙◌, arith}
+use Rattle.std.proofs.Common.{◌≡◌, ℕ, ◌≤◌, cond, Option, Some, None, sym, ◌∙◌, arith}
 use Rattle.loop_script.specs.Tree.{Tree, seq}
 use Rattle.loop_script.specs.declared.outcome.Outcome.{Outcome}
 use Rattle.task_steps.specs.declared.progress.Progress.{Progress}
 use Rattle.task_steps.specs.declared.progress.Progress.TheVariants.{Ended, Waits}
-use Rattle.task_steps.specs.End.{End, ending, is_ok, followed, end_of}
-use Rattle.task_steps.specs.Progress.{IsKnown, AgreeTo, AgreeFrom, Sleeps, ok_at}
+use Rattle.task_steps.specs.End.{ending, is_ok, followed, end_of}
+use Rattle.task_steps.specs.Progress.{IsKnown, ok_at}
 use Rattle.task_steps.proofs.Begins.{not_sooner}
 use Rattle.task_steps.proofs.Ends.{cond-tick, followed-same, from_on, same-tick}
-use Rattle.task_steps.proofs.Parts.{ends-it, seq-end, goes-on, same-at}
+use Rattle.task_steps.proofs.Parts.{ends-it, seq-end, goes-on}
 
 -- a sequence whose first part has not ended, or has failed
 pub stays_known : (us : ℕ) (a b : Tree) (f k n : ℕ) (c : Option ℕ) (p : Progress) → ok_at p ≡ None → IsKnown us a f c k n p → IsKnown us (seq a b) f c k n p

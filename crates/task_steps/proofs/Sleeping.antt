@@ -1,11 +1,11 @@
 -- A tree that goes on sleeps to the least tick at which a wait of it ends.
 use Rattle.std.proofs.Common.{◌≡◌, ℕ, ◌+◌, ◌≤◌, ◌<◌, Bool, true, false, cond, max, min, Option, nat_le, arith, refl, ap, sym, ◌∙◌}
 use Rattle.loop_script.specs.Tree.{Tree, value, fail, sleep, check, seq, both, first, within}
-use Rattle.task_steps.specs.End.{End, is_ok, followed, joined, earlier, limited, end_of, ticks_of}
+use Rattle.task_steps.specs.End.{End, is_ok, end_of, ticks_of}
 use Rattle.task_steps.specs.Wake.{wait_of}
 use Rattle.task_steps.specs.Progress.{AgreeTo}
 use Rattle.task_steps.proofs.Begins.{not_sooner}
-use Rattle.task_steps.proofs.Ends.{agree_back, le_by, lt_by, by_le, by_lt, same-tick, earlier_tick, limited_tick, cond-tick, cond-late, is-on, followed-same, from_on, causal}
+use Rattle.task_steps.proofs.Ends.{agree_back, le_by, lt_by, by_le, by_lt, same-tick, earlier_tick, limited_tick, cond-tick, cond-late, is-on, causal}
 
 -- ---- the wait of a tree that goes on is later than the tick, and not later than the end
 abbrev pub IsWait : (k wait end : ℕ) → Type 0

@@ -1,6 +1,6 @@
 //! The run of a task's body, which looks at its tree as seldom as it may.
 ghost use Rattle.std.specs.Prelude.{◌≡◌, ◌<◌, ◌≤◌, None, Some, is_some, IfOk, IsTrue, ◌↔◌};
-ghost use Rattle.task_steps.specs.Progress.{tick_of};
+ghost use Rattle.task_steps.specs.Progress.{IsPending, tick_of};
 ghost use Rattle.task_steps.specs.RunInside.{SeesTo};
 ghost use Rattle.task_steps.specs.declared.body.Look.TheVariants.{Now};
 
@@ -11,7 +11,7 @@ use std::alloc::AllocError;
 use std::marker::Model;
 
 /// How far a poll looks where it looks at the tree.
-#[derive(Clone, Copy, Debug, PartialEq, Eq)]
+#[derive(Clone, Copy)]
 pub(crate) enum Look {
     /// To its tick. A body that goes on wakes at the least tick at which a sleep or limit in progress ends.
     Now,
@@ -74,7 +74,7 @@ fn moment(look: Look, tick: u32, tick_us: u64, cancelled: Option<u32>) -> Moment
 impl Body {
     ghost use Rattle.loop_script.specs.Bounds.{longest_tick};
     ghost use Rattle.task_steps.specs.Run.{MaySet, StaysSet, IsSet, Answered, WakesLater, NoneBefore, MayPass, stage_to, clear_passed, set_to, seen_from, clear_to, stage_after};
-    ghost use Rattle.task_steps.specs.RunInside.{Holds, IsPending, KeepsLeast, IsLeastAfter, wake_in};
+    ghost use Rattle.task_steps.specs.RunInside.{Holds, KeepsLeast, IsLeastAfter, wake_in};
     ghost use Rattle.task_steps.specs.declared.stage.Stage.TheVariants.{Fresh, Set, Done};
 
     /// A body that no poll has begun; a tick is so many microseconds long. It is refused only where a part of the tree has

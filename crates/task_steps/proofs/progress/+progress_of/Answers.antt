@@ -1,7 +1,6 @@
 use Rattle.std.proofs.Common.{ap, sym, subst, ◌≡◌, ◌∙◌, rules}
 use Rattle.loop_script.specs.Tree.{Tree, both, first, within}
 use Rattle.loop_script.specs.TreeView.{tree_of}
-use Rattle.task_steps.specs.declared.progress.Moment.{Moment}
 use Rattle.task_steps.specs.declared.progress.Progress.{Progress}
 use Rattle.task_steps.specs.Progress.{IsKnown, IsProgress}
 use Rattle.task_steps.proofs.progress.+progress_of.Goals as goal
