@@ -1,12 +1,12 @@
--- How far a sequence is, by how far its first part is.
+-- How far a tree is, by how far its first part is.
 use Rattle.std.proofs.Common.{◌≡◌, ℕ, ◌≤◌, ◌<◌, Bool, true, false, cond, Option, Some, None, nat_le, refl, ap, sym, ◌∙◌, arith}
-use Rattle.loop_script.specs.Tree.{Tree, seq}
+use Rattle.loop_script.specs.Tree.{Tree, seq, first}
 use Rattle.loop_script.specs.declared.outcome.Outcome.{Outcome}
 use Rattle.task_steps.specs.declared.progress.Progress.{Progress}
 use Rattle.task_steps.specs.declared.progress.Progress.TheVariants.{Ended, Waits}
-use Rattle.task_steps.specs.End.{End, ending, is_ok, followed, end_of}
+use Rattle.task_steps.specs.End.{End, ending, is_ok, followed, earlier, end_of}
 use Rattle.task_steps.specs.Wake.{wait_of}
-use Rattle.task_steps.specs.Progress.{IsProgress, ok_at}
+use Rattle.task_steps.specs.Progress.{EndsIn, IsKnown, IsProgress, ok_at}
 use Rattle.task_steps.proofs.Begins.{not_sooner}
 use Rattle.task_steps.proofs.Ends.{by_le, by_lt, same-tick, cond-tick}
 
@@ -46,3 +46,17 @@ pub seq_goes : (us : ℕ) (a b : Tree) (f k t : ℕ) (c : Option ℕ) (p q : Pro
 seq_goes us a b f k t c (Ended at o) q s h g =
     followed-by us a b f k at t o c q h.1 (same-at (is_ok o) at t s) h.0 (seq-end us a b f c (ending at o) h.0 ∙ goes-on (is_ok o) at t (λ n. end_of us b n c) (ending at o) s) g
 seq_goes us a b f k t c (Waits w) q s h g = absurd (cc)
+
+-- ---- of two parts of which the earlier end counts, one that ends where both are begun
+not-later : (us : ℕ) (a b : Tree) (f at : ℕ) (o : Outcome) (c : Option ℕ) → at ≡ f → end_of us a f c ≡ ending at o → end_of us (first a b) f c ≡ ending at o
+not-later us a b f at o c e h =
+    let late : f ≤ (end_of us b f c).tick = not_sooner us b f c in
+    ap (λ (x : End). earlier x (end_of us b f c)) h ∙ rw (by_le at (end_of us b f c).tick (omega arith)) refl
+
+pub first_now : (us : ℕ) (a b : Tree) (f k : ℕ) (c : Option ℕ) (p : Progress) → EndsIn f p → IsProgress us a f c k p → IsProgress us (first a b) f c k p
+first_now us a b f k c (Ended at o) e h = (not-later us a b f at o c e h.0, h.1)
+first_now us a b f k c (Waits w) e h = absurd e
+
+pub first_known : (us : ℕ) (a b : Tree) (f k n : ℕ) (c : Option ℕ) (p : Progress) → EndsIn f p → IsKnown us a f c k n p → IsKnown us (first a b) f c k n p
+first_known us a b f k n c (Ended at o) e h = (λ d g. not-later us a b f at o d e (h.0 d g), h.1)
+first_known us a b f k n c (Waits w) e h = absurd e

@@ -52,3 +52,8 @@ tick_of (Waits wake) = wake
 abbrev pub IsPending : Tick → Progress → Type 0
 IsPending tick (Ended at outcome) = Unit {0}
 IsPending tick (Waits wake) = tick < wake
+
+-- it ends in this tick
+abbrev pub EndsIn : Tick → Progress → Type 0
+EndsIn tick (Ended at outcome) = at ≡ tick
+EndsIn tick (Waits wake) = ⊥

@@ -4,7 +4,7 @@ ghost use Rattle.loop_script.specs.Bounds.{longest_tick, longest_time};
 ghost use Rattle.loop_script.specs.Tree.{Tree, sleep, check, both, first, within};
 ghost use Rattle.loop_script.specs.Units.{Tick, Microseconds};
 ghost use Rattle.task_steps.specs.End.{both_of, checked, seen, ticks_of};
-ghost use Rattle.task_steps.specs.Progress.{IsKnown, IsPending, IsProgress, come_by, ok_at, tick_of};
+ghost use Rattle.task_steps.specs.Progress.{EndsIn, IsKnown, IsPending, IsProgress, come_by, ok_at, tick_of};
 
 use loop_script::{Node, Outcome, TaskTree};
 
@@ -39,6 +39,13 @@ impl Progress {
             Progress::Ended { tick: end, outcome } if end <= tick => Some(outcome),
             _ => None,
         }
+    }
+
+    /// Whether it ends in a tick.
+    fn ends_in(self, tick: u32) -> bool
+        ensures { result ≡ true → EndsIn tick self }
+    {
+        matches!(self, Progress::Ended { tick: end, .. } if end == tick)
     }
 
     /// Whether it holds on in a tick, as an end does, and a wait before it ends.
@@ -213,7 +220,7 @@ fn limited(limit: u64, tick: u32, body: Progress) -> Progress
 }
 
 /// How far a tree is that is begun in a tick, by the moment that is given.
-#[tactic(auto, using(crate::proofs::Parts::seq_stays, crate::proofs::Parts::seq_goes, crate::proofs::Known::stays_known, crate::proofs::Known::goes_known))]
+#[tactic(auto, using(crate::proofs::Parts::seq_stays, crate::proofs::Parts::seq_goes, crate::proofs::Known::stays_known, crate::proofs::Known::goes_known, crate::proofs::Parts::first_now, crate::proofs::Parts::first_known))]
 pub(crate) fn progress_of(tree: &TaskTree, begun: u32, at: Moment) -> Progress
     requires some { 0 < at.tick_us }
     requires short { at.tick_us ≤ longest_tick }
@@ -244,7 +251,11 @@ pub(crate) fn progress_of(tree: &TaskTree, begun: u32, at: Moment) -> Progress
             joined(progress_of(one, begun, at), progress_of(other, begun, at))
         }
         Node::First { one, other } => {
-            earlier(progress_of(one, begun, at), progress_of(other, begun, at))
+            let progress = progress_of(one, begun, at);
+            if progress.ends_in(begun) {
+                return progress;
+            }
+            earlier(progress, progress_of(other, begun, at))
         }
         Node::Within(us, body) => {
             let limit = u64::from(begun) + ticks_of(*us, at.tick_us);

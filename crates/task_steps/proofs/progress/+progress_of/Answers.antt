@@ -25,25 +25,25 @@ returns-in-Both-clause-ahead t c =
     (subst (λ (x : Tree). of x c.progress_of-in-Both.result) c.deref-in-Both.ensures c.progress_of-in-Both.ensures.ahead)
     (subst (λ (x : Tree). of x c.progress_of-in-Both-2.result) c.deref-in-Both-2.ensures c.progress_of-in-Both-2.ensures.ahead))
 
-pub returns-in-First-clause-now : goal.returns-in-First-clause-now
-returns-in-First-clause-now t c = λ le.
+pub returns-else-ends_in-clause-now : goal.returns-else-ends_in-clause-now
+returns-else-ends_in-clause-now t c = λ le.
     let m = c.args.at in
     let is : first c.in-First.one.value c.in-First.other.value ≡ c.args.tree.now = sym (ap tree_of c.in-First.is) ∙ c.tree.view_is in
     let of = λ (x : Tree) (p : Progress). IsProgress m.tick_us x c.args.begun m.cancelled m.tick p in
     subst (λ (x : Tree). of x c.earlier.result) is
     (c.earlier.ensures.now m.tick_us c.in-First.one.value c.in-First.other.value c.args.begun m.tick m.cancelled
-    (subst (λ (x : Tree). of x c.progress_of-in-First.result) c.deref-in-First.ensures (c.progress_of-in-First.ensures.now le))
-    (subst (λ (x : Tree). of x c.progress_of-in-First-2.result) c.deref-in-First-2.ensures (c.progress_of-in-First-2.ensures.now le)))
+    (subst (λ (x : Tree). of x c.progress_of-progress-in-First.result) c.deref-in-First.ensures (c.progress_of-progress-in-First.ensures.now le))
+    (subst (λ (x : Tree). of x c.progress_of-in-First.result) c.deref-in-First-2.ensures (c.progress_of-in-First.ensures.now le)))
 
-pub returns-in-First-clause-ahead : goal.returns-in-First-clause-ahead
-returns-in-First-clause-ahead t c =
+pub returns-else-ends_in-clause-ahead : goal.returns-else-ends_in-clause-ahead
+returns-else-ends_in-clause-ahead t c =
     let m = c.args.at in
     let is : first c.in-First.one.value c.in-First.other.value ≡ c.args.tree.now = sym (ap tree_of c.in-First.is) ∙ c.tree.view_is in
     let of = λ (x : Tree) (p : Progress). IsKnown m.tick_us x c.args.begun m.cancelled m.known m.tick p in
     subst (λ (x : Tree). of x c.earlier.result) is
     (c.earlier.ensures.ahead m.tick_us c.in-First.one.value c.in-First.other.value c.args.begun m.known m.tick m.cancelled
-    (subst (λ (x : Tree). of x c.progress_of-in-First.result) c.deref-in-First.ensures c.progress_of-in-First.ensures.ahead)
-    (subst (λ (x : Tree). of x c.progress_of-in-First-2.result) c.deref-in-First-2.ensures c.progress_of-in-First-2.ensures.ahead))
+    (subst (λ (x : Tree). of x c.progress_of-progress-in-First.result) c.deref-in-First.ensures c.progress_of-progress-in-First.ensures.ahead)
+    (subst (λ (x : Tree). of x c.progress_of-in-First.result) c.deref-in-First-2.ensures c.progress_of-in-First.ensures.ahead))
 
 pub returns-in-Within-clause-now : goal.returns-in-Within-clause-now
 returns-in-Within-clause-now t c = λ le.
