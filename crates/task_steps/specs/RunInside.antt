@@ -77,7 +77,7 @@ shown_run b = record b { wake = wake_in b.stage b.wake }
 
 -- ---- a look at the tree
 
--- It is known what polls see up to the tick of a look: no later one is seen as not cancelled, since what was seen stays.
+-- A look in a tick knows what polls see up to that tick; where one saw the cancellable as cancelled, up to a later one too, since that stays.
 abbrev pub SeesTo : Tick → Option Tick → Moment → Type 0
 SeesTo tick None m = m.known ≡ tick
 SeesTo tick (Some from) m = tick ≤ m.known
