@@ -150,7 +150,7 @@ impl Body {
             Some(noted) if noted.holds_on(tick) => noted,
             _ => {
                 let at = moment(look, tick, self.tick_us, self.cancelled);
-                progress_of(&self.tree, begun, at)
+                progress_of(&self.tree, begun, &at)
             }
         }
     }

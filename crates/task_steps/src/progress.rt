@@ -125,13 +125,13 @@ fn both_of(a: Outcome, b: Outcome) -> Outcome
 }
 
 /// How far a sleep is.
-fn slept(begun: u32, us: u64, at: Moment) -> Progress
+fn slept(begun: u32, us: u64, at: &Moment) -> Progress
     requires us { us ≤ longest_time }
-    requires some { 0 < at.tick_us }
-    requires short { at.tick_us ≤ longest_tick }
-    requires known { at.known ≤ at.tick }
-    ensures now { IsProgress at.tick_us (sleep us) begun at.cancelled at.tick result }
-    ensures ahead { IsKnown at.tick_us (sleep us) begun at.cancelled at.known at.tick result }
+    requires some { 0 < at.now.tick_us }
+    requires short { at.now.tick_us ≤ longest_tick }
+    requires known { at.now.known ≤ at.now.tick }
+    ensures now { IsProgress at.now.tick_us (sleep us) begun at.now.cancelled at.now.tick result }
+    ensures ahead { IsKnown at.now.tick_us (sleep us) begun at.now.cancelled at.now.known at.now.tick result }
 {
     let end = u64::from(begun) + ticks_of(us, at.tick_us);
     if end <= u64::from(at.tick) {
@@ -145,10 +145,10 @@ fn slept(begun: u32, us: u64, at: Moment) -> Progress
 }
 
 /// How far a check is.
-fn asked(begun: u32, at: Moment) -> Progress
-    requires begun { begun ≤ at.tick }
-    ensures now { at.tick ≤ at.known → IsProgress at.tick_us check begun at.cancelled at.tick result }
-    ensures ahead { IsKnown at.tick_us check begun at.cancelled at.known at.tick result }
+fn asked(begun: u32, at: &Moment) -> Progress
+    requires begun { begun ≤ at.now.tick }
+    ensures now { at.now.tick ≤ at.now.known → IsProgress at.now.tick_us check begun at.now.cancelled at.now.tick result }
+    ensures ahead { IsKnown at.now.tick_us check begun at.now.cancelled at.now.known at.now.tick result }
 {
     if begun <= at.known {
         Progress::Ended {
@@ -221,13 +221,13 @@ fn limited(limit: u64, tick: u32, body: Progress) -> Progress
 
 /// How far a tree is that is begun in a tick, by the moment that is given.
 #[tactic(auto, using(crate::proofs::Parts::seq_stays, crate::proofs::Parts::seq_goes, crate::proofs::Known::stays_known, crate::proofs::Known::goes_known, crate::proofs::Parts::first_now, crate::proofs::Parts::first_known))]
-pub(crate) fn progress_of(tree: &TaskTree, begun: u32, at: Moment) -> Progress
-    requires some { 0 < at.tick_us }
-    requires short { at.tick_us ≤ longest_tick }
-    requires begun { begun ≤ at.tick }
-    requires known { at.known ≤ at.tick }
-    ensures now { at.tick ≤ at.known → IsProgress at.tick_us tree.now begun at.cancelled at.tick result }
-    ensures ahead { IsKnown at.tick_us tree.now begun at.cancelled at.known at.tick result }
+pub(crate) fn progress_of(tree: &TaskTree, begun: u32, at: &Moment) -> Progress
+    requires some { 0 < at.now.tick_us }
+    requires short { at.now.tick_us ≤ longest_tick }
+    requires begun { begun ≤ at.now.tick }
+    requires known { at.now.known ≤ at.now.tick }
+    ensures now { at.now.tick ≤ at.now.known → IsProgress at.now.tick_us tree.now begun at.now.cancelled at.now.tick result }
+    ensures ahead { IsKnown at.now.tick_us tree.now begun at.now.cancelled at.now.known at.now.tick result }
 {
     match &tree.node {
         Node::Value(value) => Progress::Ended {

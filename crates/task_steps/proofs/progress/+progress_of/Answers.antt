@@ -7,7 +7,7 @@ use Rattle.task_steps.proofs.progress.+progress_of.Goals as goal
 
 pub returns-in-Both-clause-now : goal.returns-in-Both-clause-now
 returns-in-Both-clause-now t c = λ le.
-    let m = c.args.at in
+    let m = c.args.at.now in
     let is : both c.in-Both.one.value c.in-Both.other.value ≡ c.args.tree.now = sym (ap tree_of c.in-Both.is) ∙ c.tree.view_is in
     let of = λ (x : Tree) (p : Progress). IsProgress m.tick_us x c.args.begun m.cancelled m.tick p in
     subst (λ (x : Tree). of x c.joined.result) is
@@ -17,7 +17,7 @@ returns-in-Both-clause-now t c = λ le.
 
 pub returns-in-Both-clause-ahead : goal.returns-in-Both-clause-ahead
 returns-in-Both-clause-ahead t c =
-    let m = c.args.at in
+    let m = c.args.at.now in
     let is : both c.in-Both.one.value c.in-Both.other.value ≡ c.args.tree.now = sym (ap tree_of c.in-Both.is) ∙ c.tree.view_is in
     let of = λ (x : Tree) (p : Progress). IsKnown m.tick_us x c.args.begun m.cancelled m.known m.tick p in
     subst (λ (x : Tree). of x c.joined.result) is
@@ -27,7 +27,7 @@ returns-in-Both-clause-ahead t c =
 
 pub returns-else-ends_in-clause-now : goal.returns-else-ends_in-clause-now
 returns-else-ends_in-clause-now t c = λ le.
-    let m = c.args.at in
+    let m = c.args.at.now in
     let is : first c.in-First.one.value c.in-First.other.value ≡ c.args.tree.now = sym (ap tree_of c.in-First.is) ∙ c.tree.view_is in
     let of = λ (x : Tree) (p : Progress). IsProgress m.tick_us x c.args.begun m.cancelled m.tick p in
     subst (λ (x : Tree). of x c.earlier.result) is
@@ -37,7 +37,7 @@ returns-else-ends_in-clause-now t c = λ le.
 
 pub returns-else-ends_in-clause-ahead : goal.returns-else-ends_in-clause-ahead
 returns-else-ends_in-clause-ahead t c =
-    let m = c.args.at in
+    let m = c.args.at.now in
     let is : first c.in-First.one.value c.in-First.other.value ≡ c.args.tree.now = sym (ap tree_of c.in-First.is) ∙ c.tree.view_is in
     let of = λ (x : Tree) (p : Progress). IsKnown m.tick_us x c.args.begun m.cancelled m.known m.tick p in
     subst (λ (x : Tree). of x c.earlier.result) is
@@ -47,7 +47,7 @@ returns-else-ends_in-clause-ahead t c =
 
 pub returns-in-Within-clause-now : goal.returns-in-Within-clause-now
 returns-in-Within-clause-now t c = λ le.
-    let m = c.args.at in
+    let m = c.args.at.now in
     let is : within c.in-Within.us c.in-Within.body.value ≡ c.args.tree.now = sym (ap tree_of c.in-Within.is) ∙ c.tree.view_is in
     let of = λ (x : Tree) (p : Progress). IsProgress m.tick_us x c.args.begun m.cancelled m.tick p in
     subst (λ (x : Tree). of x c.limited.result) is
@@ -56,7 +56,7 @@ returns-in-Within-clause-now t c = λ le.
 
 pub returns-in-Within-clause-ahead : goal.returns-in-Within-clause-ahead
 returns-in-Within-clause-ahead t c =
-    let m = c.args.at in
+    let m = c.args.at.now in
     let is : within c.in-Within.us c.in-Within.body.value ≡ c.args.tree.now = sym (ap tree_of c.in-Within.is) ∙ c.tree.view_is in
     let of = λ (x : Tree) (p : Progress). IsKnown m.tick_us x c.args.begun m.cancelled m.known m.tick p in
     subst (λ (x : Tree). of x c.limited.result) is
