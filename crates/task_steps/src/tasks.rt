@@ -25,7 +25,7 @@ fn sooner(a: Option<u64>, b: Option<u64>) -> Option<u64>
 /// What is known of some tasks without a look at each.
 #[derive(Clone, Copy)]
 pub(crate) struct Mark {
-    /// The least tick in which one is begun or a wait of it ends.
+    /// The least tick in which one is begun, or to which its body sleeps.
     pub wake: Option<u64>,
     /// Whether one has a cancellable that no poll of it saw as cancelled.
     pub heeds: bool,
