@@ -88,13 +88,18 @@ impl Frames {
     pub fn busy(&self, context: u32) -> Result<Vec<u64>, AllocError>
         ensures { IfOk result (λ ids. ids.items ≡ busy context self.now) }
     {
-        if self.chain.blocking() == 0 {
+        let blocking = self.chain.blocking();
+        if blocking == 0 {
             return Ok(Vec::new(self.alloc));
         }
-        self.chain
-            .layers()
-            .filter_map(|layer| layer.blocks(context))
-            .collect(self.alloc)
+        // room for all, so that none is moved as the list grows
+        let mut ids = Vec::with_capacity(self.alloc, blocking as usize)?;
+        ids.extend(
+            self.chain
+                .layers()
+                .filter_map(|layer| layer.blocks(context)),
+        )?;
+        Ok(ids)
     }
 
     /// Whether a call in progress blocks a source of a context.
