@@ -184,6 +184,9 @@ impl Tasks {
         ensures marked { OnOk result (IsMarked self.new) }
         ensures none { entries_of self.old ≡ [] → IsOk result }
     {
+        if self.mark().is_quiet(round) {
+            return Ok(());
+        }
         match self {
             Tasks::Gone => {}
             Tasks::One(entry) => {
@@ -192,9 +195,6 @@ impl Tasks {
                 }
             }
             Tasks::Two { mark, left, right } => {
-                if mark.is_quiet(round) {
-                    return Ok(());
-                }
                 left.poll(round, view, replies, late)?;
                 right.poll(round, view, replies, late)?;
                 *mark = left.mark().join(right.mark());
