@@ -21,8 +21,8 @@ AgreeTo known c d = (tick : Tick) → tick ≤ known → seen c tick ≡ seen d 
 abbrev pub AgreeFrom : Tick → Option Tick → Option Tick → Type 0
 AgreeFrom from c d = (tick : Tick) → from ≤ tick → seen c tick ≡ seen d tick
 
--- A tree that is begun in the tick f sleeps to a wake, whatever of what may come: no end is before it, and it is the same for the end in which
--- of the ticks before it a cancellation came.
+-- A tree that is begun in the tick f sleeps to a wake under each cancellation that may come: no end is before the wake, and it is the same
+-- for the end in which of the ticks before it a cancellation came.
 pub record SleepsTo (tick_us : Microseconds) (tree : Tree) (f : Tick) (may : Option Tick → Type 0) (wake : Tick) : Type 0 where
   pub ends : (c : Option Tick) → may c → wake ≤ (end_of tick_us tree f c).tick
   pub same : (c d : Option Tick) → may c → may d → AgreeFrom wake c d → end_of tick_us tree f c ≡ end_of tick_us tree f d
