@@ -7,9 +7,9 @@ use Rattle.task_steps.specs.declared.progress.Progress.TheVariants.{Ended, Waits
 use Rattle.task_steps.specs.End.{ending, end_of}
 use Rattle.task_steps.specs.Wake.{wait_of}
 use Rattle.task_steps.specs.declared.progress.Progress.{Progress}
-use Rattle.task_steps.specs.Progress.{AgreeTo, tick_of}
+use Rattle.task_steps.specs.Progress.{AgreeTo, SleepsTo, tick_of}
 use Rattle.task_steps.specs.Run.{Run, MayCome, IsUpTo, IsLater, MaySet, StaysSet, set_to, seen_from, clear_to}
-use Rattle.task_steps.specs.RunInside.{IsBy, IsClearBefore, IsKnownAt, SleepsTo, Holds, HoldsAny, wake_noted, IsLeastAfter, KeepsLeast, IsStanding, IsHeld}
+use Rattle.task_steps.specs.RunInside.{IsBy, IsClearBefore, IsKnownAt, Holds, HoldsAny, wake_noted, IsLeastAfter, KeepsLeast, IsStanding, IsHeld}
 use Rattle.task_steps.proofs.Begins.{not_sooner}
 use Rattle.task_steps.proofs.Ends.{by_le, by_lt, same-tick, from_on, pending_too}
 use Rattle.task_steps.proofs.Sleeping.{same_wait, wait_on}
@@ -47,13 +47,13 @@ known-by last clear None h = rw h (omega arith)
 known-by last clear (Some from) h = by-before last from clear h.0 h.1
 
 -- ---- sleeping to a sooner tick, and when more is known of what may come
-sooner-sleep : (us : ℕ) (t : Tree) (b : ℕ) (clear cancelled : Option ℕ) (w v : ℕ) → v ≤ w → SleepsTo us t b clear cancelled w → SleepsTo us t b clear cancelled v
+sooner-sleep : (us : ℕ) (t : Tree) (b : ℕ) (clear cancelled : Option ℕ) (w v : ℕ) → v ≤ w → SleepsTo us t b (MayCome clear cancelled) w → SleepsTo us t b (MayCome clear cancelled) v
 sooner-sleep us t b clear cancelled w v le h = record {
   ends = λ c m. let late : w ≤ (end_of us t b c).tick = h.ends c m in omega arith;
   same = λ c d m n g. h.same c d m n (λ k from. g k (omega arith));
 }
 
-narrow : (us : ℕ) (t : Tree) (b : ℕ) (clear cancelled clear2 cancelled2 : Option ℕ) (w : ℕ) → ((c : Option ℕ) → MayCome clear2 cancelled2 c → MayCome clear cancelled c) → SleepsTo us t b clear cancelled w → SleepsTo us t b clear2 cancelled2 w
+narrow : (us : ℕ) (t : Tree) (b : ℕ) (clear cancelled clear2 cancelled2 : Option ℕ) (w : ℕ) → ((c : Option ℕ) → MayCome clear2 cancelled2 c → MayCome clear cancelled c) → SleepsTo us t b (MayCome clear cancelled) w → SleepsTo us t b (MayCome clear2 cancelled2) w
 narrow us t b clear cancelled clear2 cancelled2 w may h = record {
   ends = λ c m. h.ends c (may c m);
   same = λ c d m n g. h.same c d (may c m) (may d n) g;
@@ -65,14 +65,14 @@ narrow-noted us t b clear cancelled clear2 cancelled2 (Some (Ended at o)) may h 
 narrow-noted us t b clear cancelled clear2 cancelled2 (Some (Waits w)) may h = narrow us t b clear cancelled clear2 cancelled2 w may h
 
 -- an end that is known is slept to
-holds-sleeps : (us : ℕ) (t : Tree) (b : ℕ) (clear cancelled : Option ℕ) (noted : Progress) → Holds us t b clear cancelled noted → SleepsTo us t b clear cancelled (tick_of noted)
+holds-sleeps : (us : ℕ) (t : Tree) (b : ℕ) (clear cancelled : Option ℕ) (noted : Progress) → Holds us t b clear cancelled noted → SleepsTo us t b (MayCome clear cancelled) (tick_of noted)
 holds-sleeps us t b clear cancelled (Ended at o) h = record {
   ends = λ c m. let e : (end_of us t b c).tick ≡ at = same-tick (end_of us t b c) (ending at o) (h c m) in omega arith;
   same = λ c d m n g. h c m ∙ sym (h d n);
 }
 holds-sleeps us t b clear cancelled (Waits w) h = h
 
-sleeps-up-to : (us : ℕ) (t : Tree) (b : ℕ) (clear cancelled : Option ℕ) (noted : Option Progress) (at tick : ℕ) → IsLater at (wake_noted noted) → IsUpTo tick (wake_noted noted) → HoldsAny us t b clear cancelled noted → SleepsTo us t b clear cancelled tick
+sleeps-up-to : (us : ℕ) (t : Tree) (b : ℕ) (clear cancelled : Option ℕ) (noted : Option Progress) (at tick : ℕ) → IsLater at (wake_noted noted) → IsUpTo tick (wake_noted noted) → HoldsAny us t b clear cancelled noted → SleepsTo us t b (MayCome clear cancelled) tick
 sleeps-up-to us t b clear cancelled None at tick l u h = absurd l
 sleeps-up-to us t b clear cancelled (Some noted) at tick l u h = sooner-sleep us t b clear cancelled (tick_of noted) tick u (holds-sleeps us t b clear cancelled noted h)
 

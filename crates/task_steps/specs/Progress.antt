@@ -21,17 +21,17 @@ AgreeTo known c d = (tick : Tick) → tick ≤ known → seen c tick ≡ seen d 
 abbrev pub AgreeFrom : Tick → Option Tick → Option Tick → Type 0
 AgreeFrom from c d = (tick : Tick) → from ≤ tick → seen c tick ≡ seen d tick
 
--- A tree that is begun in the tick f sleeps to a wake, where polls up to the tick `known` see what they see of c: whatever comes after
--- that tick, no end is before the wake, and it is the same for the end in which of the ticks before the wake a cancellation came.
-pub record Sleeps (tick_us : Microseconds) (tree : Tree) (f : Tick) (c : Option Tick) (known wake : Tick) : Type 0 where
-  pub later : known < wake
-  pub ends : (d : Option Tick) → AgreeTo known c d → wake ≤ (end_of tick_us tree f d).tick
-  pub same : (d e : Option Tick) → AgreeTo known c d → AgreeTo known c e → AgreeFrom wake d e → end_of tick_us tree f d ≡ end_of tick_us tree f e
+-- A tree that is begun in the tick f sleeps to a wake under each cancellation that may come: no end is before the wake, and it is the same
+-- for the end in which of the ticks before it a cancellation came.
+pub record SleepsTo (tick_us : Microseconds) (tree : Tree) (f : Tick) (may : Option Tick → Type 0) (wake : Tick) : Type 0 where
+  pub ends : (c : Option Tick) → may c → wake ≤ (end_of tick_us tree f c).tick
+  pub same : (c d : Option Tick) → may c → may d → AgreeFrom wake c d → end_of tick_us tree f c ≡ end_of tick_us tree f d
 
--- what is known of a tree, whatever comes after the tick `known`: its end, which is told up to a tick, or a wake to which it sleeps
+-- what is known of a tree where polls up to the tick `known` see what they see of c, whatever comes after it: its end, which is told up to a
+-- tick, or a wake to which it sleeps
 abbrev pub IsKnown : Microseconds → Tree → Tick → Option Tick → Tick → Tick → Progress → Type 0
 IsKnown tick_us tree f c known tick (Ended at outcome) = ((d : Option Tick) → AgreeTo known c d → end_of tick_us tree f d ≡ ending at outcome) × (at ≤ tick)
-IsKnown tick_us tree f c known tick (Waits wake) = Sleeps tick_us tree f c known wake
+IsKnown tick_us tree f c known tick (Waits wake) = (known < wake) × SleepsTo tick_us tree f (AgreeTo known c) wake
 
 -- the tick in which it ended, if with ok
 abbrev pub ok_at : Progress → Option Tick

@@ -10,7 +10,7 @@ use Rattle.task_steps.specs.declared.progress.Progress.TheVariants.{Ended, Waits
 use Rattle.task_steps.specs.declared.progress.Moment.{Moment}
 use Rattle.task_steps.specs.End.{end_of, ending}
 use Rattle.task_steps.specs.Wake.{wait_of}
-use Rattle.task_steps.specs.Progress.{AgreeFrom, tick_of}
+use Rattle.task_steps.specs.Progress.{SleepsTo, tick_of}
 use Rattle.task_steps.specs.Run.{Run, MayCome, IsLater}
 
 -- a tick that there may be is this one at the latest
@@ -28,16 +28,10 @@ abbrev pub IsKnownAt : Tick → Option Tick → Option Tick → Type 0
 IsKnownAt tick clear None = clear ≡ Some tick
 IsKnownAt tick clear (Some from) = (from ≤ tick) × IsClearBefore from clear
 
--- Before a wake nothing happens, whatever may come: no end is before it, and it is the same for the end in which of the ticks before it
--- a cancellation came.
-pub record SleepsTo (tick_us : Microseconds) (tree : Tree) (begun : Tick) (clear cancelled : Option Tick) (wake : Tick) : Type 0 where
-  pub ends : (c : Option Tick) → MayCome clear cancelled c → wake ≤ (end_of tick_us tree begun c).tick
-  pub same : (c d : Option Tick) → MayCome clear cancelled c → MayCome clear cancelled d → AgreeFrom wake c d → end_of tick_us tree begun c ≡ end_of tick_us tree begun d
-
 -- what was noted of a body, for whatever may come: its end, or a wake to which it sleeps
 abbrev pub Holds : Microseconds → Tree → Tick → Option Tick → Option Tick → Progress → Type 0
 Holds tick_us tree begun clear cancelled (Ended at outcome) = (c : Option Tick) → MayCome clear cancelled c → end_of tick_us tree begun c ≡ ending at outcome
-Holds tick_us tree begun clear cancelled (Waits wake) = SleepsTo tick_us tree begun clear cancelled wake
+Holds tick_us tree begun clear cancelled (Waits wake) = SleepsTo tick_us tree begun (MayCome clear cancelled) wake
 
 -- the same of what was noted, where anything was
 abbrev pub HoldsAny : Microseconds → Tree → Tick → Option Tick → Option Tick → Option Progress → Type 0
@@ -53,7 +47,7 @@ wake_noted (Some noted) = Some (tick_of noted)
 abbrev pub IsStanding : Microseconds → Tree → Option Tick → Option Tick → Stage → Option Progress → Type 0
 IsStanding tick_us tree clear cancelled Fresh noted = (cancelled ≡ None) × (clear ≡ None) × (noted ≡ None)
 IsStanding tick_us tree clear cancelled (Set begun tick) noted =
-    IsKnownAt tick clear cancelled × (begun ≤ tick) × SleepsTo tick_us tree begun clear cancelled tick × HoldsAny tick_us tree begun clear cancelled noted
+    IsKnownAt tick clear cancelled × (begun ≤ tick) × SleepsTo tick_us tree begun (MayCome clear cancelled) tick × HoldsAny tick_us tree begun clear cancelled noted
 IsStanding tick_us tree clear cancelled (Polled begun tick) noted =
     IsKnownAt tick clear cancelled × (begun ≤ tick) × IsLater tick (wake_noted noted) × HoldsAny tick_us tree begun clear cancelled noted
 IsStanding tick_us tree clear cancelled Done noted = Unit {0}
