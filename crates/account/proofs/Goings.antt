@@ -16,7 +16,7 @@ use Rattle.account.specs.declared.going.Phase.{Phase}
 use Rattle.account.specs.declared.going.Phase.TheVariants as phases
 use Rattle.account.specs.Within.{IsWithin, AllMayTake, polled}
 use Rattle.post_office.specs.declared.letter.Body.TheVariants as mails
-use Rattle.account.specs.declared.hand.Gift.{Gift}
+use Rattle.account.specs.declared.gift.Gift.{Gift}
 use Rattle.account.specs.Gifts.{gift_of}
 use Rattle.account.proofs.Lined.{gift_goes}
 use Rattle.tick_stepper.proofs.Lined.{lanes_unspent, lined}

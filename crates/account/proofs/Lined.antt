@@ -5,7 +5,7 @@ use Rattle.post_office.specs.declared.letter.Body.{Body as Mail}
 use Rattle.post_office.specs.declared.letter.Body.TheVariants as mails
 use Rattle.lane_turn.specs.Lane.{Lane}
 use Rattle.lane_turn.specs.Handover.{handing_by, handing_of}
-use Rattle.account.specs.declared.hand.Gift.{Gift}
+use Rattle.account.specs.declared.gift.Gift.{Gift}
 use Rattle.account.specs.Gifts.{gift_by, gift_of}
 
 gives_none : (sender : ℕ) (body : Mail) (lanes : List Lane) → gift_by sender body ≡ None → handing_by sender body lanes ≡ None

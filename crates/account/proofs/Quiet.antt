@@ -11,7 +11,7 @@ use Rattle.lane_turn.specs.Handover.{Handing, handing, handing_by, handing_of, m
 use Rattle.tick_stepper.specs.Account.{Place, Giving, Bringing, started, moved, lanes_in}
 use Rattle.account.specs.declared.going.Going.{Going}
 use Rattle.account.specs.declared.going.Phase.TheVariants as phases
-use Rattle.account.specs.declared.hand.Gift.{Gift}
+use Rattle.account.specs.declared.gift.Gift.{Gift}
 use Rattle.account.specs.declared.moment.Deed.TheVariants as deeds
 use Rattle.account.specs.declared.moment.Moment.{Moment}
 use Rattle.account.specs.Gifts.{gift_of}

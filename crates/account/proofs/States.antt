@@ -56,11 +56,6 @@ rest_unspent x states u = cc
 pub first_unspent : (x : State) (states : List State) → AreUnspent (x ∷ states) → x ≡ unspent x.lane
 first_unspent x states u = cc
 
-pub unspent_at : (states : List State) (i : ℕ) (d : State) → AreUnspent states → i < length states → (get_or states i d).spent ≡ false
-unspent_at [] i d u h = absurd (omega (arith, h))
-unspent_at (x ∷ states) zero d u h = ap (λ (s : State). s.spent) (first_unspent x states u)
-unspent_at (x ∷ states) (suc i) d u h = unspent_at states i d (rest_unspent x states u) (omega (arith, h))
-
 pub unspent_put : (states : List State) (i : ℕ) (s : State) → AreUnspent states → s.spent ≡ false → AreUnspent (set states i s)
 unspent_put [] i s u f = u
 unspent_put (x ∷ states) zero s u f = let rest = rest_unspent x states u in λ j. (record { lane = s.lane; spent = f j }) ∷ rest j

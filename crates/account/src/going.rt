@@ -9,7 +9,7 @@ ghost use Rattle.account.specs.Standing.{AreUnspent, place_of, Stands};
 ghost use Rattle.tick_stepper.specs.Share.{lanes_in as lanes_of, AreLined};
 
 use crate::foreseen::{done, foreseen};
-use crate::hand::{gift_of, hand};
+use crate::gift::gift_of;
 use crate::letters::receive;
 use crate::moment::{Deed, Moment};
 use crate::turns::{Begun, begin, step};
@@ -17,7 +17,7 @@ use lane_turn::LaneState;
 use loop_script::Script;
 use post_office::Letter;
 use std::alloc::Global;
-use tick_stepper::OutOfMemory;
+use tick_stepper::{OutOfMemory, hand};
 
 /// How far a tick has come.
 #[derive(Clone, Copy)]
@@ -223,7 +223,13 @@ impl Going {
             return Ok(None);
         };
         let from = self.lines_of(gift.to as usize);
-        if !hand(tick, self.lanes.as_mut_slice(), gift)? {
+        if !hand(
+            tick,
+            self.lanes.as_mut_slice(),
+            gift.from,
+            gift.context,
+            gift.to,
+        )? {
             return Ok(None);
         }
         let deed = Deed::HandedOver {
