@@ -17,7 +17,7 @@ use lane_turn::LaneState;
 use loop_script::Script;
 use post_office::Letter;
 use std::alloc::Global;
-use tick_stepper::{OutOfMemory, hand};
+use tick_stepper::{OutOfMemory, move_context};
 
 /// How far a tick has come.
 #[derive(Clone, Copy)]
@@ -223,7 +223,7 @@ impl Going {
             return Ok(None);
         };
         let from = self.lines_of(gift.to as usize);
-        if !hand(
+        if !move_context(
             tick,
             self.lanes.as_mut_slice(),
             gift.from,

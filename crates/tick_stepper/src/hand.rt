@@ -43,7 +43,7 @@ fn take_over(tick: u32, lanes: &mut [LaneState], to: u32, held: Held) -> Result<
 
 /// Lets the context that a lane has given go over to the lane of a number, and answers whether one did: none does where that
 /// lane gave none of its number. An error is want of memory; after it one of the lanes may be spent.
-pub fn hand(
+pub fn move_context(
     tick: u32,
     lanes: &mut [LaneState],
     sender: u32,
@@ -70,7 +70,7 @@ fn hand_by(tick: u32, lanes: &mut [LaneState], letter: &Letter) -> Result<(), Ha
 {
     match letter.body {
         Body::Give(context, to) => {
-            hand(tick, lanes, letter.sender, context, to)?;
+            move_context(tick, lanes, letter.sender, context, to)?;
             Ok(())
         }
         Body::Attach(_, _) | Body::Complete(_) | Body::Cancelled(_) => Ok(()),

@@ -21,5 +21,5 @@ mod work;
 pub use crew::Sharing;
 pub use fault::{OutOfMemory, StepFault};
 pub use gate::{Gate, OpenGate};
-pub use hand::hand;
+pub use hand::move_context;
 pub use stepper::Stepper;

@@ -3,7 +3,7 @@ use Rattle.lane_turn.specs.Lane.{Lane}
 use Rattle.lane_turn.specs.Handover.{left_by, taken_over, handing, moved}
 use Rattle.tick_stepper.specs.Share.{unspent_all, lanes_in, at_number, AreLined}
 use Rattle.tick_stepper.proofs.Lined.{counted_left, over_none, over_some, lanes_unspent, lined, counted_in}
-use Rattle.tick_stepper.proofs.hand.hand.Goals as goal
+use Rattle.tick_stepper.proofs.hand.move_context.Goals as goal
 
 pub take_over-requires : goal.take_over-requires
 take_over-requires c =
