@@ -8,7 +8,6 @@ use loop_script::{Kind, SourceSpec};
 use source_rows::{Levels, RowsFault};
 use std::alloc::{AllocError, Global};
 use std::process::Abort;
-use std::test::Fail;
 
 // (a proof grows faster than the length of its function, so a test is short and what tests share is a function)
 
@@ -82,40 +81,84 @@ fn idle_and_descriptors(alloc: Global) -> Result<Context, RowsFault> {
     Ok(context)
 }
 
-#[test]
-fn asks_what_can_matter(rt: HostRuntime) -> Result<(), Fail> {
-    let view = View::new(rt.alloc(), 1)?;
-    let context = idle_and_descriptors(rt.alloc())?;
+/// What they are asked, with nothing cancelled.
+fn expect_asked(rt: &impl Abort, alloc: Global, view: &View) -> Result<(), RowsFault> {
+    let context = idle_and_descriptors(alloc)?;
     let asked = [Interest { fd: 0, bits: 1 }];
-    expect_phases(&rt, rt.alloc(), &context, &view, ready_at(200), &asked)?;
+    let phases = expect_phases(rt, alloc, &context, view, ready_at(200), &asked);
+    expect(rt, phases.is_ok());
     Ok(())
 }
 
 #[test]
-fn selects_by_what_is_shown(rt: HostRuntime) -> Result<(), Fail> {
+fn asks_what_can_matter(rt: HostRuntime) -> Result<(), OutOfMemory> {
     let view = View::new(rt.alloc(), 1)?;
-    let context = idle_and_descriptors(rt.alloc())?;
-    expect_selected(&rt, rt.alloc(), &context, &view, &[1], &[2])?;
-    expect_selected(&rt, rt.alloc(), &context, &view, &[0], &[1])?;
+    expect(&rt, expect_asked(&rt, rt.alloc(), &view).is_ok());
+    Ok(())
+}
+
+/// The urgent descriptor where it is shown, and else the idle source.
+fn expect_by_shown(
+    rt: &impl Abort,
+    alloc: Global,
+    context: &Context,
+    view: &View,
+) -> Result<(), AllocError> {
+    expect_selected(rt, alloc, context, view, &[1], &[2])?;
+    expect_selected(rt, alloc, context, view, &[0], &[1])
+}
+
+/// The same of new sources, with nothing cancelled.
+fn select_by_shown(rt: &impl Abort, alloc: Global, view: &View) -> Result<(), RowsFault> {
+    let context = idle_and_descriptors(alloc)?;
+    expect(rt, expect_by_shown(rt, alloc, &context, view).is_ok());
+    Ok(())
+}
+
+#[test]
+fn selects_by_what_is_shown(rt: HostRuntime) -> Result<(), OutOfMemory> {
+    let view = View::new(rt.alloc(), 1)?;
+    expect(&rt, select_by_shown(&rt, rt.alloc(), &view).is_ok());
     Ok(())
 }
 
 /// A ready time in the middle of a millisecond.
-#[test]
-fn waits_in_whole_milliseconds(rt: HostRuntime) -> Result<(), Fail> {
-    let view = View::new(rt.alloc(), 1)?;
-    let mut context = Context::new(rt.alloc(), Levels::Two);
+fn between_milliseconds(alloc: Global) -> Result<Context, RowsFault> {
+    let mut context = Context::new(alloc, Levels::Two);
     attach(&mut context, Kind::ReadyTime(1500), 0)?;
-    expect(&rt, context.prepare(0, &[], &view) == waiting(2));
+    Ok(context)
+}
+
+/// The wait for it, rounded up.
+fn expect_whole_wait(rt: &impl Abort, alloc: Global, view: &View) -> Result<(), RowsFault> {
+    let context = between_milliseconds(alloc)?;
+    expect(rt, context.prepare(0, &[], view) == waiting(2));
     Ok(())
 }
 
 #[test]
-fn empty(rt: HostRuntime) -> Result<(), Fail> {
+fn waits_in_whole_milliseconds(rt: HostRuntime) -> Result<(), OutOfMemory> {
+    let view = View::new(rt.alloc(), 1)?;
+    expect(&rt, expect_whole_wait(&rt, rt.alloc(), &view).is_ok());
+    Ok(())
+}
+
+/// A context without sources waits for ever, asks nothing and selects nothing.
+fn expect_empty(
+    rt: &impl Abort,
+    alloc: Global,
+    context: &Context,
+    view: &View,
+) -> Result<(), AllocError> {
+    expect_phases(rt, alloc, context, view, waiting(-1), &[])?;
+    expect_selected(rt, alloc, context, view, &[], &[])
+}
+
+#[test]
+fn empty(rt: HostRuntime) -> Result<(), OutOfMemory> {
     let view = View::new(rt.alloc(), 1)?;
     let context = Context::new(rt.alloc(), Levels::Two);
-    expect_phases(&rt, rt.alloc(), &context, &view, waiting(-1), &[])?;
-    expect_selected(&rt, rt.alloc(), &context, &view, &[], &[])?;
+    expect(&rt, expect_empty(&rt, rt.alloc(), &context, &view).is_ok());
     Ok(())
 }
 
@@ -145,24 +188,36 @@ fn expect_ready(
     expect_selected(rt, alloc, context, view, &[], ids)
 }
 
-/// Before the cancellable is cancelled, and after.
-fn expect_waits(rt: &impl Abort, alloc: Global, context: &Context) -> Result<(), Fail> {
-    let before = View::new(alloc, 1)?;
-    expect_ready(rt, alloc, context, &before, None, &[])?;
-    let after = cancelled(alloc)?;
-    expect_ready(rt, alloc, context, &after, Some(0), &[1])?;
+/// Before the cancellable is cancelled.
+fn expect_asleep(rt: &impl Abort, alloc: Global, context: &Context) -> Result<(), OutOfMemory> {
+    let view = View::new(alloc, 1)?;
+    expect_ready(rt, alloc, context, &view, None, &[])?;
     Ok(())
 }
 
+/// Once it is cancelled.
+fn expect_woken(rt: &impl Abort, alloc: Global, context: &Context) -> Result<(), OutOfMemory> {
+    let view = cancelled(alloc)?;
+    expect_ready(rt, alloc, context, &view, Some(0), &[1])?;
+    Ok(())
+}
+
+/// Before and after.
+fn expect_waits(rt: &impl Abort, alloc: Global, context: &Context) -> Result<(), OutOfMemory> {
+    expect_asleep(rt, alloc, context)?;
+    expect_woken(rt, alloc, context)
+}
+
 #[test]
-fn waits_for_a_cancellable(rt: HostRuntime) -> Result<(), Fail> {
+fn waits_for_a_cancellable(rt: HostRuntime) -> Result<(), RowsFault> {
     let context = of_a_cancellable(rt.alloc())?;
-    expect_waits(&rt, rt.alloc(), &context)
+    expect(&rt, expect_waits(&rt, rt.alloc(), &context).is_ok());
+    Ok(())
 }
 
 /// Two pushes: the one below can't be popped before the one on top.
 #[test]
-fn pops_what_is_on_top(rt: HostRuntime) -> Result<(), Fail> {
+fn pops_what_is_on_top(rt: HostRuntime) -> Result<(), AllocError> {
     let mut stack = DefaultStack::new(rt.alloc());
     stack.push(1)?;
     stack.push(2)?;
@@ -175,14 +230,13 @@ fn pops_what_is_on_top(rt: HostRuntime) -> Result<(), Fail> {
 
 /// An acquire that is taken back, and a release too many.
 #[test]
-fn releases_what_was_acquired(rt: HostRuntime) -> Result<(), Fail> {
+fn releases_what_was_acquired(rt: HostRuntime) {
     let mut context = Context::new(rt.alloc(), Levels::Two);
     context.acquire();
     expect(&rt, context.is_owned());
     expect(&rt, context.release());
     expect(&rt, !context.release());
     expect(&rt, !context.is_owned());
-    Ok(())
 }
 
 /// The phases of an idle source and descriptors, unless memory is refused; they only look at the context.
@@ -194,21 +248,28 @@ fn phases(
 ) -> Result<(), AllocError> {
     let asked = [Interest { fd: 0, bits: 1 }];
     expect_phases(rt, alloc, context, view, ready_at(200), &asked)?;
-    expect_selected(rt, alloc, context, view, &[1], &[2])?;
-    expect_selected(rt, alloc, context, view, &[0], &[1])
+    expect_by_shown(rt, alloc, context, view)
+}
+
+/// The phases are asked for again where memory is refused, and are right then.
+fn phases_again(rt: &impl Abort, alloc: Global, context: &Context, view: &View) {
+    if phases(rt, alloc, context, view).is_err() {
+        expect(rt, phases(rt, alloc, context, view).is_ok());
+    }
+}
+
+/// The same of new sources, where there is memory for them.
+fn new_phases_again(rt: &impl Abort, alloc: Global, view: &View) {
+    if let Ok(context) = idle_and_descriptors(alloc) {
+        phases_again(rt, alloc, &context, view);
+    }
 }
 
 /// Whatever request is refused, a phase answers what it has to, or is asked again and does.
 #[test]
 fn refused_phases(rt: HostRuntime) {
-    let Ok(view) = View::new(rt.alloc(), 1) else {
-        return;
-    };
-    let Ok(context) = idle_and_descriptors(rt.alloc()) else {
-        return;
-    };
-    if phases(&rt, rt.alloc(), &context, &view).is_err() {
-        expect(&rt, phases(&rt, rt.alloc(), &context, &view).is_ok());
+    if let Ok(view) = View::new(rt.alloc(), 1) {
+        new_phases_again(&rt, rt.alloc(), &view);
     }
 }
 

@@ -5,11 +5,10 @@ ghost use Rattle.lane_turn.specs.Sound.{IsReady};
 use crate::expected::expect;
 use crate::lane_tests::{expect_lines, expect_lines_or_spent};
 use lane_turn::{Event, HandFault, Held, LaneFault, LaneState, Line};
-use loop_script::Script;
+use loop_script::{Script, ScriptFault};
 use post_office::Tray;
 use std::alloc::Global;
 use std::process::Abort;
-use std::test::Fail;
 
 fn gives_script() -> &'static str {
     r#"{"version":2,"ticks":3,"tick_us":1000,"loops":[0,2],"procs":[{"do":[["log",5]],"keep":null},{"do":[["log",6]]},{"do":[["iterate",1]],"keep":null}],"lanes":[{"contexts":2,"start":[["attach",1,0,{"kind":["timeout",2],"call":0}],["give",1,1],["attach",1,1,{"kind":["idle"]}],["invoke",1,1],["run",0]]},{"contexts":1,"start":[["attach",2,0,{"kind":["timeout",1],"call":2}],["run",1]]}]}"#
@@ -44,18 +43,40 @@ fn expect_held(rt: &impl Abort, lane: &LaneState) {
     }
 }
 
+/// Context 1 of a lane that gave it, which is handed over once.
+fn hand_over_once(rt: &impl Abort, giver: &mut LaneState) -> Result<Held, HandFault> {
+    let held = giver.hand_over(1)?;
+    expect(rt, giver.hand_over(1).err() == Some(HandFault::NotGiven));
+    expect(rt, giver.sources(1).is_none());
+    Ok(held)
+}
+
+/// What lane 0 hands over after its first turn.
+fn given_once(rt: &impl Abort, alloc: Global, script: &Script) -> Option<Held> {
+    let mut giver = LaneState::new(alloc, script, 0).ok()?;
+    first_turn(alloc, script, &mut giver).ok()?;
+    hand_over_once(rt, &mut giver).ok()
+}
+
+/// Lane 1 takes a context over.
+fn take_by_new_lane(rt: &impl Abort, alloc: Global, script: &Script, held: Held) -> Option<()> {
+    let mut taker = LaneState::new(alloc, script, 1).ok()?;
+    taker.take_over(0, held).ok()?;
+    expect_held(rt, &taker);
+    Some(())
+}
+
+/// From lane 0 to lane 1.
+fn hand_to_new_lane(rt: &impl Abort, alloc: Global, script: &Script) -> Option<()> {
+    let held = given_once(rt, alloc, script)?;
+    take_by_new_lane(rt, alloc, script, held)
+}
+
 /// It is handed over once.
 #[test]
-fn hands_a_context_over(rt: HostRuntime) -> Result<(), Fail> {
+fn hands_a_context_over(rt: HostRuntime) -> Result<(), ScriptFault> {
     let script = Script::read(rt.alloc(), gives_script().as_bytes())?;
-    let mut giver = LaneState::new(rt.alloc(), &script, 0)?;
-    first_turn(rt.alloc(), &script, &mut giver)?;
-    let held = giver.hand_over(1)?;
-    expect(&rt, giver.hand_over(1).err() == Some(HandFault::NotGiven));
-    expect(&rt, giver.sources(1).is_none());
-    let mut taker = LaneState::new(rt.alloc(), &script, 1)?;
-    taker.take_over(0, held)?;
-    expect_held(&rt, &taker);
+    expect(&rt, hand_to_new_lane(&rt, rt.alloc(), &script).is_some());
     Ok(())
 }
 
@@ -81,22 +102,36 @@ fn expect_spent(rt: &impl Abort, alloc: Global, script: &Script, lane: &mut Lane
     }
 }
 
+/// Takes a context over, or is spent, and is so a second time too.
+fn take_over_or_spend(
+    rt: &impl Abort,
+    alloc: Global,
+    script: &Script,
+    taker: &mut LaneState,
+    held: Held,
+) {
+    let ended = take_over(taker, held);
+    if ended == Err(LaneFault::OutOfMemory) {
+        expect_spent(rt, alloc, script, taker);
+        expect_spent(rt, alloc, script, taker);
+    }
+    expect_lines_or_spent(rt, alloc, script, taker, ended, &HOLD);
+}
+
+/// The same by a new lane 1, where there is memory for it and for the context.
+fn new_lane_takes_over(rt: &impl Abort, alloc: Global, script: &Script) {
+    let Ok(mut taker) = LaneState::new(alloc, script, 1) else {
+        return;
+    };
+    if let Some(held) = given(alloc, script) {
+        take_over_or_spend(rt, alloc, script, &mut taker, held);
+    }
+}
+
 /// Whatever request is refused, the line is right or the lane is spent.
 #[test]
 fn refused_take_over(rt: HostRuntime) {
-    let Ok(script) = Script::read(rt.alloc(), gives_script().as_bytes()) else {
-        return;
-    };
-    let Ok(mut taker) = LaneState::new(rt.alloc(), &script, 1) else {
-        return;
-    };
-    let Some(held) = given(rt.alloc(), &script) else {
-        return;
-    };
-    let ended = take_over(&mut taker, held);
-    if ended == Err(LaneFault::OutOfMemory) {
-        expect_spent(&rt, rt.alloc(), &script, &mut taker);
-        expect_spent(&rt, rt.alloc(), &script, &mut taker);
+    if let Ok(script) = Script::read(rt.alloc(), gives_script().as_bytes()) {
+        new_lane_takes_over(&rt, rt.alloc(), &script);
     }
-    expect_lines_or_spent(&rt, rt.alloc(), &script, &mut taker, ended, &HOLD);
 }

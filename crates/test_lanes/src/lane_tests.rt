@@ -4,11 +4,10 @@ ghost use Rattle.lane_turn.specs.Sound.{IsReady};
 
 use crate::expected::expect;
 use lane_turn::{Event, HandFault, LaneFault, LaneState, Line};
-use loop_script::{Outcome, Script};
+use loop_script::{Outcome, Script, ScriptFault};
 use post_office::Tray;
 use std::alloc::Global;
 use std::process::Abort;
-use std::test::Fail;
 
 pub(crate) fn first_run_script() -> &'static str {
     r#"{"version":1,"ticks":2,"tick_us":1000,"loops":[0],"procs":[{"do":[["log",7]]}],"lanes":[{"contexts":1,"start":[["attach",0,0,{"kind":["idle"],"call":0}],["run",0]]}]}"#
@@ -41,23 +40,35 @@ fn two_turns(alloc: Global, script: &Script, lane: &mut LaneState) -> Result<(),
     lane.turn(script, 1, &mut tray)
 }
 
+/// What lane 0 writes in two turns.
+fn expect_first_run(rt: &impl Abort, alloc: Global, script: &Script) -> Result<(), LaneFault> {
+    let mut lane = LaneState::new(alloc, script, 0)?;
+    two_turns(alloc, script, &mut lane)?;
+    expect_lines(rt, &lane, &LINES);
+    expect(rt, !lane.halted());
+    Ok(())
+}
+
 #[test]
-fn first_run(rt: HostRuntime) -> Result<(), Fail> {
+fn first_run(rt: HostRuntime) -> Result<(), ScriptFault> {
     let script = Script::read(rt.alloc(), first_run_script().as_bytes())?;
-    let mut lane = LaneState::new(rt.alloc(), &script, 0)?;
-    two_turns(rt.alloc(), &script, &mut lane)?;
-    expect_lines(&rt, &lane, &LINES);
-    expect(&rt, !lane.halted());
+    expect(&rt, expect_first_run(&rt, rt.alloc(), &script).is_ok());
+    Ok(())
+}
+
+/// A new lane 0 hands over neither the context that it has nor one that it has not.
+fn expect_nothing_given(rt: &impl Abort, alloc: Global, script: &Script) -> Result<(), LaneFault> {
+    let mut lane = LaneState::new(alloc, script, 0)?;
+    expect(rt, lane.hand_over(0).err() == Some(HandFault::NotGiven));
+    expect(rt, lane.hand_over(1).err() == Some(HandFault::NotGiven));
     Ok(())
 }
 
 /// A lane that gave no context hands none over, whether it has it or not.
 #[test]
-fn hands_over_nothing_at_first(rt: HostRuntime) -> Result<(), Fail> {
+fn hands_over_nothing_at_first(rt: HostRuntime) -> Result<(), ScriptFault> {
     let script = Script::read(rt.alloc(), first_run_script().as_bytes())?;
-    let mut lane = LaneState::new(rt.alloc(), &script, 0)?;
-    expect(&rt, lane.hand_over(0).err() == Some(HandFault::NotGiven));
-    expect(&rt, lane.hand_over(1).err() == Some(HandFault::NotGiven));
+    expect(&rt, expect_nothing_given(&rt, rt.alloc(), &script).is_ok());
     Ok(())
 }
 
@@ -101,17 +112,20 @@ pub(crate) fn expect_lines_or_spent(
     }
 }
 
+/// The lines of a new lane's two turns, or it is spent; none where there is no memory for it.
+fn run_or_spend(rt: &impl Abort, alloc: Global, script: &Script) {
+    if let Ok(mut lane) = LaneState::new(alloc, script, 0) {
+        let ended = two_turns(alloc, script, &mut lane);
+        expect_lines_or_spent(rt, alloc, script, &mut lane, ended, &LINES);
+    }
+}
+
 /// Whatever request is refused, the lines are right or the lane is spent.
 #[test]
 fn refused_turn(rt: HostRuntime) {
-    let Ok(script) = Script::read(rt.alloc(), first_run_script().as_bytes()) else {
-        return;
-    };
-    let Ok(mut lane) = LaneState::new(rt.alloc(), &script, 0) else {
-        return;
-    };
-    let ended = two_turns(rt.alloc(), &script, &mut lane);
-    expect_lines_or_spent(&rt, rt.alloc(), &script, &mut lane, ended, &LINES);
+    if let Ok(script) = Script::read(rt.alloc(), first_run_script().as_bytes()) {
+        run_or_spend(&rt, rt.alloc(), &script);
+    }
 }
 
 fn reply_script() -> &'static str {
@@ -160,24 +174,33 @@ fn take_reply(alloc: Global, script: &Script, lane: &mut LaneState) -> Result<()
     lane.turn(script, 2, &mut Tray::new(alloc))
 }
 
-#[test]
-fn takes_a_reply(rt: HostRuntime) -> Result<(), Fail> {
-    let script = Script::read(rt.alloc(), reply_script().as_bytes())?;
-    let mut lane = LaneState::new(rt.alloc(), &script, 0)?;
-    take_reply(rt.alloc(), &script, &mut lane)?;
-    expect_lines(&rt, &lane, &REPLY_LINES);
+/// What lane 0 writes up to its task's reply.
+fn expect_reply(rt: &impl Abort, alloc: Global, script: &Script) -> Result<(), LaneFault> {
+    let mut lane = LaneState::new(alloc, script, 0)?;
+    take_reply(alloc, script, &mut lane)?;
+    expect_lines(rt, &lane, &REPLY_LINES);
     Ok(())
+}
+
+#[test]
+fn takes_a_reply(rt: HostRuntime) -> Result<(), ScriptFault> {
+    let script = Script::read(rt.alloc(), reply_script().as_bytes())?;
+    expect(&rt, expect_reply(&rt, rt.alloc(), &script).is_ok());
+    Ok(())
+}
+
+/// The same, or the lane is spent; nothing where there is no memory for it.
+fn take_reply_or_spend(rt: &impl Abort, alloc: Global, script: &Script) {
+    if let Ok(mut lane) = LaneState::new(alloc, script, 0) {
+        let ended = take_reply(alloc, script, &mut lane);
+        expect_lines_or_spent(rt, alloc, script, &mut lane, ended, &REPLY_LINES);
+    }
 }
 
 /// Whatever request is refused, the lines are right or the lane is spent.
 #[test]
 fn refused_reply(rt: HostRuntime) {
-    let Ok(script) = Script::read(rt.alloc(), reply_script().as_bytes()) else {
-        return;
-    };
-    let Ok(mut lane) = LaneState::new(rt.alloc(), &script, 0) else {
-        return;
-    };
-    let ended = take_reply(rt.alloc(), &script, &mut lane);
-    expect_lines_or_spent(&rt, rt.alloc(), &script, &mut lane, ended, &REPLY_LINES);
+    if let Ok(script) = Script::read(rt.alloc(), reply_script().as_bytes()) {
+        take_reply_or_spend(&rt, rt.alloc(), &script);
+    }
 }

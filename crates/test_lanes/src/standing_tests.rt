@@ -3,13 +3,12 @@ ghost use Rattle.std.specs.Prelude.{◌<◌};
 
 use crate::context_tests::{attach, cancelled};
 use crate::expected::expect;
-use cancel_view::View;
+use cancel_view::{OutOfMemory, View};
 use context_core::{Context, Standing};
 use loop_script::{Kind, SourceSpec};
 use source_rows::{Levels, RowsFault};
 use std::alloc::{AllocError, Global};
 use std::process::Abort;
-use std::test::Fail;
 
 fn add_child(context: &mut Context, parent: u64, kind: Kind) -> Result<(), RowsFault>
     requires id { context.old.rows.next_id < 1000 }
@@ -56,33 +55,59 @@ fn blocked(by: u64) -> Standing {
     Standing::Blocked { by }
 }
 
-#[test]
-fn own_call_blocks(rt: HostRuntime) -> Result<(), Fail> {
-    let mut context = Context::new(rt.alloc(), Levels::Two);
-    attach(&mut context, Kind::Idle, 200)?;
-    attach(&mut context, Kind::Idle, 200)?;
+/// Two idle sources, of which the first is in a call.
+fn expect_own_call(rt: &impl Abort, alloc: Global, context: &Context) -> Result<(), AllocError> {
     let wanted = [blocked(1), Standing::Selected];
-    expect_standings(&rt, rt.alloc(), &context, &[1], &[], &wanted)?;
+    expect_standings(rt, alloc, context, &[1], &[], &wanted)
+}
+
+fn two_idle(alloc: Global) -> Result<Context, RowsFault> {
+    let mut context = Context::new(alloc, Levels::Two);
+    attach(&mut context, Kind::Idle, 200)?;
+    attach(&mut context, Kind::Idle, 200)?;
+    Ok(context)
+}
+
+#[test]
+fn own_call_blocks(rt: HostRuntime) -> Result<(), RowsFault> {
+    let context = two_idle(rt.alloc())?;
+    expect(&rt, expect_own_call(&rt, rt.alloc(), &context).is_ok());
     Ok(())
+}
+
+fn expect_parents_call(
+    rt: &impl Abort,
+    alloc: Global,
+    context: &Context,
+) -> Result<(), AllocError> {
+    let wanted = [blocked(1), blocked(1)];
+    expect_standings(rt, alloc, context, &[1], &[], &wanted)
 }
 
 /// The child goes first in the order, and its nearest source in a call is its parent.
 #[test]
-fn parents_call_blocks(rt: HostRuntime) -> Result<(), Fail> {
+fn parents_call_blocks(rt: HostRuntime) -> Result<(), RowsFault> {
     let context = with_a_child(rt.alloc(), Kind::Idle)?;
-    let wanted = [blocked(1), blocked(1)];
-    expect_standings(&rt, rt.alloc(), &context, &[1], &[], &wanted)?;
+    expect(&rt, expect_parents_call(&rt, rt.alloc(), &context).is_ok());
     Ok(())
+}
+
+fn expect_lent(rt: &impl Abort, alloc: Global, context: &Context) -> Result<(), AllocError> {
+    let lent = [Standing::Selected, Standing::Selected];
+    expect_standings(rt, alloc, context, &[], &[], &lent)
+}
+
+fn expect_asleep(rt: &impl Abort, alloc: Global, context: &Context) -> Result<(), AllocError> {
+    let asleep = [blocked(2), Standing::Asleep { until: None }];
+    expect_standings(rt, alloc, context, &[2], &[], &asleep)
 }
 
 /// A parent that never wakes is ready by its child; where the child is in a call, it is asleep.
 #[test]
-fn child_lends(rt: HostRuntime) -> Result<(), Fail> {
+fn child_lends(rt: HostRuntime) -> Result<(), RowsFault> {
     let context = with_a_child(rt.alloc(), Kind::ReadyTime(-1))?;
-    let lent = [Standing::Selected, Standing::Selected];
-    expect_standings(&rt, rt.alloc(), &context, &[], &[], &lent)?;
-    let asleep = [blocked(2), Standing::Asleep { until: None }];
-    expect_standings(&rt, rt.alloc(), &context, &[2], &[], &asleep)?;
+    expect(&rt, expect_lent(&rt, rt.alloc(), &context).is_ok());
+    expect(&rt, expect_asleep(&rt, rt.alloc(), &context).is_ok());
     Ok(())
 }
 
@@ -105,38 +130,61 @@ fn idle() -> SourceSpec {
     }
 }
 
+fn expect_nearest(rt: &impl Abort, alloc: Global, context: &Context) -> Result<(), AllocError> {
+    let wanted = [blocked(3), blocked(3), blocked(1), blocked(1)];
+    expect_standings(rt, alloc, context, &[1, 3], &[], &wanted)
+}
+
 /// The innermost goes first. Each is blocked by the nearest above it that is in a call.
 #[test]
-fn nearest_blocks(rt: HostRuntime) -> Result<(), Fail> {
+fn nearest_blocks(rt: HostRuntime) -> Result<(), RowsFault> {
     let context = chain_of_four(rt.alloc())?;
-    let wanted = [blocked(3), blocked(3), blocked(1), blocked(1)];
-    expect_standings(&rt, rt.alloc(), &context, &[1, 3], &[], &wanted)?;
+    expect(&rt, expect_nearest(&rt, rt.alloc(), &context).is_ok());
     Ok(())
+}
+
+fn asks_for_out(alloc: Global) -> Result<Context, RowsFault> {
+    let mut context = Context::new(alloc, Levels::Two);
+    attach(&mut context, Kind::Fd(0, 4), 0)?;
+    Ok(context)
+}
+
+const NOT_SHOWN: Standing = Standing::NotShown {
+    fd: 0,
+    shown: 1,
+    asked: 4,
+    until: None,
+};
+
+fn expect_bits(rt: &impl Abort, alloc: Global, context: &Context) -> Result<(), AllocError> {
+    expect_standings(rt, alloc, context, &[], &[1], &[NOT_SHOWN])?;
+    expect_standings(rt, alloc, context, &[], &[5], &[Standing::Selected])
 }
 
 /// A descriptor that shows `in` to a source that asks for `out`, and then both.
 #[test]
-fn wrong_bit(rt: HostRuntime) -> Result<(), Fail> {
-    let mut context = Context::new(rt.alloc(), Levels::Two);
-    attach(&mut context, Kind::Fd(0, 4), 0)?;
-    let not_shown = Standing::NotShown {
-        fd: 0,
-        shown: 1,
-        asked: 4,
-        until: None,
-    };
-    expect_standings(&rt, rt.alloc(), &context, &[], &[1], &[not_shown])?;
-    expect_standings(&rt, rt.alloc(), &context, &[], &[5], &[Standing::Selected])?;
+fn wrong_bit(rt: HostRuntime) -> Result<(), RowsFault> {
+    let context = asks_for_out(rt.alloc())?;
+    expect(&rt, expect_bits(&rt, rt.alloc(), &context).is_ok());
     Ok(())
 }
 
-#[test]
-fn urgent_goes_first(rt: HostRuntime) -> Result<(), Fail> {
-    let mut context = Context::new(rt.alloc(), Levels::Two);
+fn idle_and_urgent(alloc: Global) -> Result<Context, RowsFault> {
+    let mut context = Context::new(alloc, Levels::Two);
     attach(&mut context, Kind::Idle, 200)?;
     attach(&mut context, Kind::ReadyTime(0), 0)?;
+    Ok(context)
+}
+
+fn expect_urgent(rt: &impl Abort, alloc: Global, context: &Context) -> Result<(), AllocError> {
     let wanted = [Standing::Selected, less_urgent(2, 0)];
-    expect_standings(&rt, rt.alloc(), &context, &[], &[], &wanted)?;
+    expect_standings(rt, alloc, context, &[], &[], &wanted)
+}
+
+#[test]
+fn urgent_goes_first(rt: HostRuntime) -> Result<(), RowsFault> {
+    let context = idle_and_urgent(rt.alloc())?;
+    expect(&rt, expect_urgent(&rt, rt.alloc(), &context).is_ok());
     Ok(())
 }
 
@@ -155,28 +203,49 @@ const UNCANCELLED: Standing = Standing::NotCancelled {
     until: None,
 };
 
-#[test]
-fn waits_for_time_and_cancellable(rt: HostRuntime) -> Result<(), Fail> {
-    let context = asleep_and_uncancelled(rt.alloc())?;
-    expect_standings(&rt, rt.alloc(), &context, &[], &[], &[SLEEPS, UNCANCELLED])?;
-    let view = cancelled(rt.alloc())?;
-    let found = context.standings(rt.alloc(), 0, &[], &view, &[])?;
-    expect(
-        &rt,
-        found.as_slice() == [SLEEPS, Standing::Selected].as_slice(),
-    );
+/// Before the cancellable is cancelled.
+fn expect_waiting(rt: &impl Abort, alloc: Global, context: &Context) -> Result<(), AllocError> {
+    expect_standings(rt, alloc, context, &[], &[], &[SLEEPS, UNCANCELLED])
+}
+
+/// Once it is cancelled.
+fn expect_woken(
+    rt: &impl Abort,
+    alloc: Global,
+    context: &Context,
+    view: &View,
+) -> Result<(), AllocError> {
+    let found = context.standings(alloc, 0, &[], view, &[])?;
+    let wanted = [SLEEPS, Standing::Selected];
+    expect(rt, found.as_slice() == wanted.as_slice());
     Ok(())
+}
+
+fn expect_cancelled(rt: &impl Abort, alloc: Global, context: &Context) -> Result<(), OutOfMemory> {
+    let view = cancelled(alloc)?;
+    expect_woken(rt, alloc, context, &view)?;
+    Ok(())
+}
+
+#[test]
+fn waits_for_time_and_cancellable(rt: HostRuntime) -> Result<(), RowsFault> {
+    let context = asleep_and_uncancelled(rt.alloc())?;
+    expect(&rt, expect_waiting(&rt, rt.alloc(), &context).is_ok());
+    expect(&rt, expect_cancelled(&rt, rt.alloc(), &context).is_ok());
+    Ok(())
+}
+
+/// The standings are right, or are asked for again where memory is refused, and are.
+fn ask_again(rt: &impl Abort, alloc: Global, context: &Context) {
+    if expect_waiting(rt, alloc, context).is_err() {
+        expect(rt, expect_waiting(rt, alloc, context).is_ok());
+    }
 }
 
 /// Whatever request is refused, the standings are right, or are asked for again and are.
 #[test]
 fn refused_standings(rt: HostRuntime) {
-    let Ok(context) = asleep_and_uncancelled(rt.alloc()) else {
-        return;
-    };
-    let wanted = [SLEEPS, UNCANCELLED];
-    if expect_standings(&rt, rt.alloc(), &context, &[], &[], &wanted).is_err() {
-        let again = expect_standings(&rt, rt.alloc(), &context, &[], &[], &wanted);
-        expect(&rt, again.is_ok());
+    if let Ok(context) = asleep_and_uncancelled(rt.alloc()) {
+        ask_again(&rt, rt.alloc(), &context);
     }
 }

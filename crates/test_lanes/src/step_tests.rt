@@ -6,11 +6,10 @@ use crate::expected::expect;
 use crate::lane_tests::{LINES, expect_lines, expect_lines_or_spent, first_run_script};
 use context_core::Standing;
 use lane_turn::{Activity, LaneFault, LaneState, Origin};
-use loop_script::{Body, Script};
+use loop_script::{Body, Script, ScriptFault};
 use post_office::Tray;
 use std::alloc::Global;
 use std::process::Abort;
-use std::test::Fail;
 
 /// Something in progress, as the table draws it.
 #[derive(Clone, Copy)]
@@ -95,21 +94,37 @@ fn take_steps(
     Ok(())
 }
 
+/// A new lane 0 after so many steps of its first turn.
+fn stepped(
+    rt: &impl Abort,
+    alloc: Global,
+    script: &Script,
+    steps: u32,
+) -> Result<LaneState, LaneFault> {
+    let mut lane = LaneState::new(alloc, script, 0)?;
+    take_steps(rt, alloc, script, &mut lane, steps)?;
+    Ok(lane)
+}
+
 #[test]
-fn stacks_are_as_drawn(rt: HostRuntime) -> Result<(), Fail> {
+fn stacks_are_as_drawn(rt: HostRuntime) -> Result<(), ScriptFault> {
     let script = Script::read(rt.alloc(), takeover_script().as_bytes())?;
-    let mut lane = LaneState::new(rt.alloc(), &script, 0)?;
-    take_steps(&rt, rt.alloc(), &script, &mut lane, 17)?;
+    expect(&rt, stepped(&rt, rt.alloc(), &script, 17).is_ok());
+    Ok(())
+}
+
+/// What its sources stand at once the nested iteration is begun.
+fn expect_standings(rt: &impl Abort, alloc: Global, script: &Script) -> Result<(), LaneFault> {
+    let lane = stepped(rt, alloc, script, 7)?;
+    expect_takeover(rt, script, &lane)?;
     Ok(())
 }
 
 /// Right after the nested iteration is begun: source 1 is in its call, and the others are what it selected.
 #[test]
-fn standings_in_a_turn(rt: HostRuntime) -> Result<(), Fail> {
+fn standings_in_a_turn(rt: HostRuntime) -> Result<(), ScriptFault> {
     let script = Script::read(rt.alloc(), takeover_script().as_bytes())?;
-    let mut lane = LaneState::new(rt.alloc(), &script, 0)?;
-    take_steps(&rt, rt.alloc(), &script, &mut lane, 7)?;
-    expect_takeover(&rt, &script, &lane)?;
+    expect(&rt, expect_standings(&rt, rt.alloc(), &script).is_ok());
     Ok(())
 }
 
@@ -129,18 +144,28 @@ fn expect_takeover(
     Ok(())
 }
 
+/// The sources of a context of its own and no other, and its view.
+fn expect_lent(rt: &impl Abort, lane: &LaneState) {
+    match lane.sources(0) {
+        Some(rows) => expect(rt, rows.ordered().copied().eq([1, 2, 3])),
+        None => expect(rt, false),
+    }
+    expect(rt, lane.sources(1).is_none());
+    expect(rt, !lane.view().is_cancelled(0));
+}
+
+/// What a lane lends as its loop begins.
+fn expect_lent_in_a_turn(rt: &impl Abort, alloc: Global, script: &Script) -> Result<(), LaneFault> {
+    let lane = stepped(rt, alloc, script, 4)?;
+    expect_lent(rt, &lane);
+    Ok(())
+}
+
 /// What a lane lends: the sources of a context of its own, and its view.
 #[test]
-fn lends_sources_and_view(rt: HostRuntime) -> Result<(), Fail> {
+fn lends_sources_and_view(rt: HostRuntime) -> Result<(), ScriptFault> {
     let script = Script::read(rt.alloc(), takeover_script().as_bytes())?;
-    let mut lane = LaneState::new(rt.alloc(), &script, 0)?;
-    take_steps(&rt, rt.alloc(), &script, &mut lane, 4)?;
-    match lane.sources(0) {
-        Some(rows) => expect(&rt, rows.ordered().copied().eq([1, 2, 3])),
-        None => expect(&rt, false),
-    }
-    expect(&rt, lane.sources(1).is_none());
-    expect(&rt, !lane.view().is_cancelled(0));
+    expect(&rt, expect_lent_in_a_turn(&rt, rt.alloc(), &script).is_ok());
     Ok(())
 }
 
@@ -170,18 +195,29 @@ fn run_by_steps(alloc: Global, script: &Script, lane: &mut LaneState) -> Result<
     Ok(())
 }
 
+/// The first run's lines, or the lane is spent.
+fn step_or_spend(rt: &impl Abort, alloc: Global, script: &Script, lane: &mut LaneState)
+    requires fresh { lane.old.spent ≡ false }
+    requires ready { IsReady script.now 0 1 lane.old.lane }
+{
+    let ended = run_by_steps(alloc, script, lane);
+    if ended == Err(LaneFault::OutOfMemory) {
+        expect_spent(rt, alloc, script, lane);
+    }
+    expect_lines_or_spent(rt, alloc, script, lane, ended, &LINES);
+}
+
+/// The same of a new lane, where there is memory for it.
+fn new_lane_steps(rt: &impl Abort, alloc: Global, script: &Script) {
+    if let Ok(mut lane) = LaneState::new(alloc, script, 0) {
+        step_or_spend(rt, alloc, script, &mut lane);
+    }
+}
+
 /// Whatever request is refused, the lines are right or the lane is spent.
 #[test]
 fn refused_steps(rt: HostRuntime) {
-    let Ok(script) = Script::read(rt.alloc(), first_run_script().as_bytes()) else {
-        return;
-    };
-    let Ok(mut lane) = LaneState::new(rt.alloc(), &script, 0) else {
-        return;
-    };
-    let ended = run_by_steps(rt.alloc(), &script, &mut lane);
-    if ended == Err(LaneFault::OutOfMemory) {
-        expect_spent(&rt, rt.alloc(), &script, &mut lane);
+    if let Ok(script) = Script::read(rt.alloc(), first_run_script().as_bytes()) {
+        new_lane_steps(&rt, rt.alloc(), &script);
     }
-    expect_lines_or_spent(&rt, rt.alloc(), &script, &mut lane, ended, &LINES);
 }

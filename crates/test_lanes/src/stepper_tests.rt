@@ -3,11 +3,10 @@ ghost use Rattle.std.specs.Prelude.{◌≡◌, ◌<◌, length, IfOk, IfSome};
 
 use crate::expected::expect;
 use lane_turn::{Event, Line};
-use loop_script::Script;
+use loop_script::{Script, ScriptFault};
 use std::alloc::{AllocError, Global};
 use std::process::Abort;
 use std::sync::Wait;
-use std::test::Fail;
 use std::thread::Threads;
 use tick_stepper::{OpenGate, Sharing, StepFault, Stepper};
 
@@ -19,7 +18,7 @@ fn stepper(
     alloc: Global,
     workers: u32,
     sharing: Sharing,
-) -> Result<Result<Stepper, StepFault>, Fail> {
+) -> Result<Result<Stepper, StepFault>, ScriptFault> {
     let script = Script::read(alloc, two_lanes().as_bytes())?;
     Ok(Stepper::new(alloc, script, workers, sharing))
 }
@@ -32,20 +31,48 @@ fn expect_fault(rt: &impl Abort, found: Option<StepFault>, wanted: Option<StepFa
     assert_eq!(rt; found, wanted);
 }
 
-#[test]
-fn workers_share_lanes(rt: HostRuntime) -> Result<(), Fail> {
-    let alloc = rt.alloc();
-    for workers in [0, 65] {
-        let refused = stepper(alloc, workers, Sharing::Round)?.err();
-        expect_fault(&rt, refused, Some(StepFault::Workers));
-    }
-    for short_or_far in [[0].as_slice(), [0, 2].as_slice()] {
-        let refused = stepper(alloc, 2, table(alloc, short_or_far)?)?.err();
-        expect_fault(&rt, refused, Some(StepFault::Table));
-    }
-    expect_fault(&rt, stepper(alloc, 2, table(alloc, &[1, 0])?)?.err(), None);
-    expect_fault(&rt, stepper(alloc, 4, Sharing::Round)?.err(), None);
+/// So many workers are refused with a fault, or with none.
+fn expect_refusal(
+    rt: &impl Abort,
+    alloc: Global,
+    workers: u32,
+    sharing: Sharing,
+    wanted: Option<StepFault>,
+) -> Result<(), ScriptFault> {
+    let refused = stepper(alloc, workers, sharing)?.err();
+    expect_fault(rt, refused, wanted);
     Ok(())
+}
+
+/// The same of two workers by a table of theirs.
+fn expect_of_table(
+    rt: &impl Abort,
+    alloc: Global,
+    workers: &[u32],
+    wanted: Option<StepFault>,
+) -> Result<(), ScriptFault> {
+    let sharing = table(alloc, workers)?;
+    expect_refusal(rt, alloc, 2, sharing, wanted)
+}
+
+/// None and too many, and more than there are lanes.
+fn expect_by_number(rt: &impl Abort, alloc: Global) -> Result<(), ScriptFault> {
+    expect_refusal(rt, alloc, 0, Sharing::Round, Some(StepFault::Workers))?;
+    expect_refusal(rt, alloc, 65, Sharing::Round, Some(StepFault::Workers))?;
+    expect_refusal(rt, alloc, 4, Sharing::Round, None)
+}
+
+/// Tables that are short or name a worker too far, and a right one.
+fn expect_by_table(rt: &impl Abort, alloc: Global) -> Result<(), ScriptFault> {
+    expect_of_table(rt, alloc, &[0], Some(StepFault::Table))?;
+    expect_of_table(rt, alloc, &[0, 2], Some(StepFault::Table))?;
+    expect_of_table(rt, alloc, &[1, 0], None)
+}
+
+#[test]
+fn workers_share_lanes(rt: HostRuntime) -> Result<(), ScriptFault> {
+    expect_by_number(&rt, rt.alloc())?;
+    expect_by_table(&rt, rt.alloc())
 }
 
 /// Steps both ticks, and asks for a third.
@@ -63,16 +90,24 @@ fn expect_ticks<T: Threads + Wait + Sync + Abort>(rt: &T, stepper: Result<Steppe
         Ok(mut stepper) => {
             expect(rt, step_all(rt, &mut stepper) == Ok([true, true, false]));
         }
-        Err(fault) => assert!(rt; false, "{fault}"),
+        Err(fault) => expect_fault(rt, Some(fault), None),
     }
 }
 
-#[test]
-fn ticks_to_the_last(rt: HostRuntime) -> Result<(), Fail> {
-    for sharing in [Sharing::Round, Sharing::Queue] {
-        expect_ticks(&rt, stepper(rt.alloc(), 2, sharing)?);
-    }
+/// The ticks of two workers.
+fn expect_ticks_by<T: Threads + Wait + Sync + Abort>(
+    rt: &T,
+    alloc: Global,
+    sharing: Sharing,
+) -> Result<(), ScriptFault> {
+    expect_ticks(rt, stepper(alloc, 2, sharing)?);
     Ok(())
+}
+
+#[test]
+fn ticks_to_the_last(rt: HostRuntime) -> Result<(), ScriptFault> {
+    expect_ticks_by(&rt, rt.alloc(), Sharing::Round)?;
+    expect_ticks_by(&rt, rt.alloc(), Sharing::Queue)
 }
 
 /// A stepper, or its refusal; none where the script finds no memory.
@@ -174,16 +209,20 @@ fn step_alone_or_spend<T: Threads + Wait + Sync + Abort>(rt: &T, stepper: &mut S
     }
 }
 
+/// All ticks, by the caller alone.
+fn expect_alone(rt: &impl Abort, stepper: &mut Stepper)
+    requires { 1 < length stepper.old.script.lanes }
+{
+    expect_fault(rt, stepper.run_alone().err(), None);
+    expect_traces(rt, stepper);
+}
+
 #[test]
-fn steps_alone(rt: HostRuntime) -> Result<(), Fail> {
+fn steps_alone(rt: HostRuntime) {
     match made(rt.alloc(), 1, Sharing::Round) {
-        Some(Ok(mut stepper)) => {
-            expect_fault(&rt, stepper.run_alone().err(), None);
-            expect_traces(&rt, &stepper);
-        }
+        Some(Ok(mut stepper)) => expect_alone(&rt, &mut stepper),
         _ => expect(&rt, false),
     }
-    Ok(())
 }
 
 /// Whatever request is refused.
@@ -194,14 +233,18 @@ fn refused_alone(rt: HostRuntime) {
     }
 }
 
+/// A table of the two lanes' workers.
+fn expect_stepped_by_table<T: Threads + Wait + Sync + Abort>(rt: &T, alloc: Global) {
+    if let Ok(table) = table(alloc, &[1, 0]) {
+        expect_stepped(rt, alloc, 2, table);
+    }
+}
+
 #[test]
 fn refused_stepper(rt: HostRuntime) {
-    let alloc = rt.alloc();
-    expect_stepped(&rt, alloc, 4, Sharing::Round);
-    expect_stepped(&rt, alloc, 2, Sharing::Queue);
-    if let Ok(table) = table(alloc, &[1, 0]) {
-        expect_stepped(&rt, alloc, 2, table);
-    }
+    expect_stepped(&rt, rt.alloc(), 4, Sharing::Round);
+    expect_stepped(&rt, rt.alloc(), 2, Sharing::Queue);
+    expect_stepped_by_table(&rt, rt.alloc());
 }
 
 /// A refusal with another cause is looked at first, and takes no memory.
@@ -211,15 +254,18 @@ fn expect_cause(rt: &impl Abort, alloc: Global, workers: u32, sharing: Sharing, 
     }
 }
 
+/// The same of a wrong table, where there is memory for it.
+fn expect_wrong_table(rt: &impl Abort, alloc: Global, workers: &[u32]) {
+    if let Ok(table) = table(alloc, workers) {
+        expect_cause(rt, alloc, 2, table, StepFault::Table);
+    }
+}
+
 #[test]
 fn refused_sharing(rt: HostRuntime) {
     let alloc = rt.alloc();
     expect_cause(&rt, alloc, 0, Sharing::Round, StepFault::Workers);
     expect_cause(&rt, alloc, 65, Sharing::Queue, StepFault::Workers);
-    if let Ok(table) = table(alloc, &[0]) {
-        expect_cause(&rt, alloc, 2, table, StepFault::Table);
-    }
-    if let Ok(table) = table(alloc, &[0, 2]) {
-        expect_cause(&rt, alloc, 2, table, StepFault::Table);
-    }
+    expect_wrong_table(&rt, alloc, &[0]);
+    expect_wrong_table(&rt, alloc, &[0, 2]);
 }

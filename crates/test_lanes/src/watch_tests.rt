@@ -1,5 +1,5 @@
 //! What a lane watches: a task that is cancelled, one that runs, handlers, and refused memory.
-ghost use Rattle.std.specs.Prelude.{◌≡◌, ◌≤◌, ◌<◌, ◌+◌, IfOk, OnOk, OnErr, Some};
+ghost use Rattle.std.specs.Prelude.{◌≡◌, ◌≤◌, ◌<◌, ◌+◌, length, IfOk, OnOk, OnErr, Some};
 
 use crate::expected::expect;
 use cancel_view::{Connected, Fired, OutOfMemory};
@@ -7,7 +7,6 @@ use lane_watch::Watch;
 use loop_script::{Node, Outcome, TaskSpec, TaskTree};
 use std::alloc::{AllocError, Global};
 use std::process::Abort;
-use std::test::Fail;
 use task_steps::{Polled, TaskShown};
 
 /// A task that sleeps so long, with cancellable 0, and returns where that is cancelled.
@@ -75,12 +74,20 @@ fn expect_reply(rt: &impl Abort, polled: &Polled, outcome: Outcome) {
     expect(rt, polled.late.as_slice().is_empty());
 }
 
+/// The cancellable is in the view, and the next poll has the reply.
+fn expect_cancelled(rt: &impl Abort, alloc: Global, watch: &mut Watch) -> Result<(), OutOfMemory>
+    requires { watch.old.tasks.tick ≡ 2 }
+{
+    expect(rt, watch.view().is_cancelled(0));
+    let polled = poll(watch, alloc, 2)?;
+    expect_reply(rt, &polled, Outcome::Cancelled);
+    Ok(())
+}
+
 #[test]
-fn task_replies_where_it_is_cancelled(rt: HostRuntime) -> Result<(), Fail> {
+fn task_replies_where_it_is_cancelled(rt: HostRuntime) -> Result<(), OutOfMemory> {
     let mut watch = cancelled(&rt, rt.alloc())?;
-    expect(&rt, watch.view().is_cancelled(0));
-    let polled = poll(&mut watch, rt.alloc(), 2)?;
-    expect_reply(&rt, &polled, Outcome::Cancelled);
+    expect(&rt, expect_cancelled(&rt, rt.alloc(), &mut watch).is_ok());
     Ok(())
 }
 
@@ -92,11 +99,16 @@ fn polled_to_end(rt: &impl Abort, alloc: Global) -> Result<Polled, OutOfMemory> 
     poll(&mut watch, alloc, 4)
 }
 
+/// No reply, and task 0 late.
+fn expect_late(rt: &impl Abort, polled: &Polled) {
+    expect(rt, polled.replies.as_slice().is_empty());
+    expect(rt, polled.late.as_slice() == [0].as_slice());
+}
+
 #[test]
-fn cancelled_task_ends_late(rt: HostRuntime) -> Result<(), Fail> {
+fn cancelled_task_ends_late(rt: HostRuntime) -> Result<(), OutOfMemory> {
     let polled = polled_to_end(&rt, rt.alloc())?;
-    expect(&rt, polled.replies.as_slice().is_empty());
-    expect(&rt, polled.late.as_slice() == [0].as_slice());
+    expect_late(&rt, &polled);
     Ok(())
 }
 
@@ -121,15 +133,28 @@ fn expect_shown(
     Ok(())
 }
 
-/// It waits for its first poll in tick 1; it is begun there and sleeps up to tick 4; it replies in tick 2.
+/// It waits for its first poll in tick 1.
+fn expect_waiting(rt: &impl Abort, alloc: Global) -> Result<(), OutOfMemory> {
+    let watch = begun(alloc)?;
+    expect_shown(rt, &watch, alloc, false, 1)?;
+    Ok(())
+}
+
+/// It is begun there and sleeps up to tick 4; it replies in tick 2.
+fn expect_asleep(rt: &impl Abort, alloc: Global, watch: &mut Watch) -> Result<(), OutOfMemory>
+    requires { watch.old.tasks.tick ≡ 2 }
+{
+    expect_shown(rt, watch, alloc, false, 4)?;
+    poll(watch, alloc, 2)?;
+    expect_shown(rt, watch, alloc, true, 4)?;
+    Ok(())
+}
+
 #[test]
-fn task_is_shown(rt: HostRuntime) -> Result<(), Fail> {
-    let watch = begun(rt.alloc())?;
-    expect_shown(&rt, &watch, rt.alloc(), false, 1)?;
+fn task_is_shown(rt: HostRuntime) -> Result<(), OutOfMemory> {
+    expect_waiting(&rt, rt.alloc())?;
     let mut watch = cancelled(&rt, rt.alloc())?;
-    expect_shown(&rt, &watch, rt.alloc(), false, 4)?;
-    poll(&mut watch, rt.alloc(), 2)?;
-    expect_shown(&rt, &watch, rt.alloc(), true, 4)?;
+    expect(&rt, expect_asleep(&rt, rt.alloc(), &mut watch).is_ok());
     Ok(())
 }
 
@@ -156,11 +181,21 @@ fn with_handlers(rt: &impl Abort, alloc: Global) -> Result<Watch, OutOfMemory>
     Ok(watch)
 }
 
+/// A first cancel, which is to call handler 2.
+fn expect_fired(rt: &impl Abort, alloc: Global, watch: &mut Watch) -> Result<(), OutOfMemory>
+    requires { watch.old.tasks.tick ≡ 1 }
+{
+    match watch.cancel(alloc, 0, 0)? {
+        Some(fired) => assert_eq!(rt; fired.as_slice(), [Fired { id: 2, proc: 6 }].as_slice()),
+        None => expect(rt, false),
+    }
+    Ok(())
+}
+
 #[test]
-fn handlers_of_a_watch(rt: HostRuntime) -> Result<(), Fail> {
+fn handlers_of_a_watch(rt: HostRuntime) -> Result<(), OutOfMemory> {
     let mut watch = with_handlers(&rt, rt.alloc())?;
-    let fired = watch.cancel(rt.alloc(), 0, 0)?.ok_or("a first cancel")?;
-    assert_eq!(rt; fired.as_slice(), [Fired { id: 2, proc: 6 }].as_slice());
+    expect(&rt, expect_fired(&rt, rt.alloc(), &mut watch).is_ok());
     Ok(())
 }
 
@@ -177,18 +212,33 @@ fn expect_its_end(rt: &impl Abort, polled: Result<Polled, OutOfMemory>) {
 }
 
 /// A watch that was refused memory has forgotten its tasks, and goes on.
+fn start_or_forget(rt: &impl Abort, alloc: Global, watch: &mut Watch)
+    requires tick { watch.old.tasks.tick ≡ 1 }
+    requires room { watch.old.tasks.next < 1000 }
+    requires known { 0 < length watch.old.view.members }
+{
+    match watch.start(&sleeper(0), 0, 0) {
+        Err(OutOfMemory) => expect_no_reply(rt, watch.poll(alloc, 1)),
+        Ok(()) => expect_its_end(rt, watch.poll(alloc, 1)),
+    }
+}
+
+/// A watch whose first polls are over.
+fn polled_once(alloc: Global) -> Result<Watch, OutOfMemory>
+    ensures tick { IfOk result (λ w. w.tasks.tick ≡ 1) }
+    ensures room { IfOk result (λ w. w.tasks.next < 1000) }
+    ensures known { IfOk result (λ w. 0 < length w.view.members) }
+{
+    let mut watch = Watch::new(alloc, 1, 1000)?;
+    watch.poll(alloc, 0)?;
+    Ok(watch)
+}
+
+/// Whatever request is refused.
 #[test]
 fn refused_watch(rt: HostRuntime) {
-    let alloc = rt.alloc();
-    let Ok(mut watch) = Watch::new(alloc, 1, 1000) else {
-        return;
-    };
-    let Ok(_) = watch.poll(alloc, 0) else {
-        return;
-    };
-    match watch.start(&sleeper(0), 0, 0) {
-        Err(OutOfMemory) => expect_no_reply(&rt, watch.poll(alloc, 1)),
-        Ok(()) => expect_its_end(&rt, watch.poll(alloc, 1)),
+    if let Ok(mut watch) = polled_once(rt.alloc()) {
+        start_or_forget(&rt, rt.alloc(), &mut watch);
     }
 }
 
@@ -210,16 +260,22 @@ fn cancel_again(rt: &impl Abort, alloc: Global, watch: &mut Watch)
     expect(rt, watch.view().is_cancelled(0));
 }
 
+/// Connects a handler. Where memory is refused there is none, and a second call connects it.
+fn connect_again(rt: &impl Abort, watch: &mut Watch)
+    requires { watch.old.view.next_id < 1000 }
+    ensures { watch.new.tasks.tick ≡ watch.old.tasks.tick }
+{
+    if connect(rt, watch, 5, 1).is_err() {
+        expect(rt, !watch.disconnect(1));
+        expect(rt, connect(rt, watch, 5, 1).is_ok());
+    }
+}
+
 /// Whatever request is refused, what the view has and its handlers are as they were or as the call leaves them.
 #[test]
 fn refused_handlers(rt: HostRuntime) {
-    let alloc = rt.alloc();
-    let Ok(mut watch) = begun(alloc) else {
-        return;
-    };
-    if connect(&rt, &mut watch, 5, 1).is_err() {
-        expect(&rt, !watch.disconnect(1));
-        expect(&rt, connect(&rt, &mut watch, 5, 1).is_ok());
+    if let Ok(mut watch) = begun(rt.alloc()) {
+        connect_again(&rt, &mut watch);
+        cancel_again(&rt, rt.alloc(), &mut watch);
     }
-    cancel_again(&rt, alloc, &mut watch);
 }
