@@ -47,16 +47,26 @@ fn job_of<J: Run>(round: u32, counters: Vec<Counter>) -> Job<J>
     }
 }
 
-/// The turns of a job, by the worker; where it takes none, by the caller.
-fn hand_over<J: Run, R: Wait>(rt: &R, worker: &Worker<J>, job: Job<J>) -> Result<(), Job<J>> {
+/// Hands a job to the first worker; it comes back where there is none.
+fn hand_over<J: Run, R: Wait>(
+    rt: &R,
+    workers: &[Worker<J>],
+    job: Job<J>,
+) -> Result<(), Job<J>> {
+    let Some(worker) = workers.first() else {
+        return Err(job);
+    };
     match worker.jobs.send(rt, job) {
         Ok(()) => Ok(()),
         Err(SendError::Disconnected(job) | SendError::OutOfMemory(job)) => Err(job),
     }
 }
 
-/// What the worker hands back.
-fn take_back<J: Run, R: Wait>(rt: &R, worker: &Worker<J>) -> Result<Done<J>, AllocError> {
+/// What the first worker hands back.
+fn take_back<J: Run, R: Wait>(rt: &R, workers: &[Worker<J>]) -> Result<Done<J>, AllocError> {
+    let Some(worker) = workers.first() else {
+        return Err(AllocError);
+    };
     match worker.done.recv(rt) {
         Ok(done) => Ok(done),
         Err(_) => Err(AllocError),
@@ -95,7 +105,7 @@ fn round<J: Run, R: Wait>(
     plan: u32,
     count: u32,
     round: u32,
-    worker: &Worker<J>,
+    workers: &[Worker<J>],
     mut counters: Vec<Counter>,
 ) -> Result<Vec<Counter>, AllocError>
     requires plan { plan ≡ J.plan }
@@ -104,10 +114,10 @@ fn round<J: Run, R: Wait>(
     ensures { IfOk result (λ v. AreTurned J.plan J.count round v.items) }
 {
     let theirs = counters.split_off(counters.len() / 2)?;
-    let sent = hand_over(rt, worker, job_of::<J>(round, theirs));
+    let sent = hand_over(rt, workers, job_of::<J>(round, theirs));
     let ours = turn_job(plan, job_of::<J>(round, counters));
     let theirs = match sent {
-        Ok(()) => take_back(rt, worker)?,
+        Ok(()) => take_back(rt, workers)?,
         Err(job) => turn_job(plan, job),
     };
     put_together(round, count, ours, theirs)
@@ -119,7 +129,7 @@ fn all_rounds<J: Run, R: Wait>(
     plan: u32,
     count: u32,
     rounds: u32,
-    worker: Worker<J>,
+    workers: Vec<Worker<J>>,
     mut counters: Vec<Counter>,
 ) -> Result<Vec<Counter>, AllocError>
     requires plan { plan ≡ J.plan }
@@ -128,42 +138,56 @@ fn all_rounds<J: Run, R: Wait>(
     ensures { IfOk result (λ v. AreAt J.plan J.count rounds v.items) }
 {
     for number in 0..rounds {
-        counters = round(rt, plan, count, number, &worker, counters)?;
+        counters = round(rt, plan, count, number, workers.as_slice(), counters)?;
     }
     Ok(counters)
 }
 
-/// All rounds, with a worker that stays.
+/// All rounds, with workers that stay.
 fn run_with<J: Run + Send + Sync, R: Threads + Wait + Sync>(
     rt: &R,
     alloc: Global,
-    plan: u32,
+    plan: &u32,
     count: u32,
     rounds: u32,
+    others: u32,
     counters: Vec<Counter>,
 ) -> Result<Vec<Counter>, AllocError>
-    requires plan { plan ≡ J.plan }
+    requires plan { plan.now ≡ J.plan }
     requires count { count ≡ J.count }
     requires at { AreAt J.plan J.count 0 counters.items }
     ensures { IfOk result (λ v. AreAt J.plan J.count rounds v.items) }
 {
-    let (to, jobs) = bounded::<Job<J>, Global>(alloc, 1)?;
-    let (done, from) = bounded::<Done<J>, Global>(alloc, 1)?;
-    let worker = Worker {
-        jobs: to,
-        done: from,
-    };
     thread::scope(
         thread::scope_env(),
         rt,
         move |scope| -> Result<Vec<Counter>, AllocError>
-            requires { (plan ≡ J.plan) × (count ≡ J.count) × AreAt J.plan J.count 0 counters.items }
+            requires { (plan.now ≡ J.plan) × (count ≡ J.count) × AreAt J.plan J.count 0 counters.items }
             ensures { IfOk result (λ v. AreAt J.plan J.count rounds v.items) }
         {
-            let _ = scope.spawn(move || work::<J, R>(rt, plan, jobs, done));
-            all_rounds(rt, plan, count, rounds, worker, counters)
+            let mut workers = Vec::new(alloc);
+            for _ in 0..others {
+                let (to, jobs) = bounded::<Job<J>, Global>(alloc, 1)?;
+                let (done, from) = bounded::<Done<J>, Global>(alloc, 1)?;
+                let started = scope.spawn(move || work::<J, R>(rt, plan, jobs, done));
+                let both = Worker {
+                    jobs: to,
+                    done: from,
+                };
+                if started.is_ok() {
+                    keep(&mut workers, both)?;
+                }
+            }
+            all_rounds(rt, *plan, count, rounds, workers, counters)
         },
     )
+}
+
+fn keep<J: Run>(workers: &mut Vec<Worker<J>>, one: Worker<J>) -> Result<(), AllocError> {
+    match workers.push(one) {
+        Ok(()) => Ok(()),
+        Err(_) => Err(AllocError),
+    }
 }
 
 /// The counters at first.
@@ -184,9 +208,10 @@ pub fn run<R: Threads + Wait + Sync>(
     plan: u32,
     count: u32,
     rounds: u32,
+    others: u32,
 ) -> Result<Vec<Counter>, AllocError>
     ensures { IfOk result (λ v. map (λ (c : Counter). c.value) v.items ≡ values_at plan count rounds) }
 {
     let counters = open(alloc, count)?;
-    run_with::<Brand, R>(rt, alloc, plan, count, rounds, counters)
+    run_with::<Brand, R>(rt, alloc, &plan, count, rounds, others, counters)
 }

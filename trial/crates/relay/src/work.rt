@@ -35,14 +35,14 @@ pub fn turn_job<J: Run>(plan: u32, job: Job<J>) -> Done<J>
 }
 
 /// Does the jobs that come, until none comes any more.
-pub fn work<J: Run, R: Wait>(rt: &R, plan: u32, jobs: Receiver<Job<J>>, done: Sender<Done<J>>)
-    requires plan { plan ≡ J.plan }
+pub fn work<J: Run, R: Wait>(rt: &R, plan: &u32, jobs: Receiver<Job<J>>, done: Sender<Done<J>>)
+    requires plan { plan.now ≡ J.plan }
 {
     for _ in rt.forever() {
         let Ok(job) = jobs.recv(rt) else {
             return;
         };
-        if done.send(rt, turn_job(plan, job)).is_err() {
+        if done.send(rt, turn_job(*plan, job)).is_err() {
             return;
         }
     }
