@@ -1,12 +1,12 @@
 -- What is known of counters after their turns.
-use Rattle.std.proofs.Common.{◌≡◌, ◌∙◌, ℕ, zero, suc, ◌+◌, ◌<◌, ◌++◌, ◌∷◌, [], List, map, length, slice_index_or, replicate, refl, ◌⊎◌, inl, inr, ◌≤◌, ap, sym, subst, arith, rules}
+use Rattle.std.proofs.Common.{◌≡◌, ◌∙◌, ℕ, zero, suc, ◌+◌, ◌<◌, ◌++◌, ◌∷◌, [], List, map, length, slice_index_or, replicate, refl, ◌⊎◌, inl, inr, ◌≤◌, ap, sym, subst, arith}
 use Rattle.std.proofs.lemmas.List.{get_or-map, length-map, length-replicate, get_or_default, get_or_append_left, get_or_at, length_push, same_lists}
 use Rattle.std.proofs.lemmas.Bool.{cases_lt}
 use Rattle.std.specs.List.{All}
 use Rattle.std.proofs.lemmas.List.Elements.{All-map, All-weaker, All-push}
 use Rattle.relay.specs.declared.counter.Counter.{Counter}
 use Rattle.relay.specs.Run.{turned, values_at}
-use Rattle.relay.specs.Known.{IsAt, IsTurned, AreNumbered, AreAt, AreTurned, turned_one}
+use Rattle.relay.specs.Known.{IsAt, IsTurned, AreAt, AreTurned, turned_one}
 
 pub turned_known : (own plan count round : ℕ) (xs : List Counter) → own ≡ plan → All (IsAt plan count round) xs → All (IsTurned plan count round) (map (turned_one own round) xs)
 turned_known own plan count round xs same at =

@@ -1,4 +1,3 @@
-use Rattle.std.proofs.Common.{◌≡◌}
 use Rattle.relay.specs.Known.{AreAt}
 use Rattle.relay.proofs.rounds.all_rounds.Given as goal
 

@@ -1,4 +1,4 @@
-use Rattle.std.proofs.Common.{◌≡◌, ℕ, vec_len}
+use Rattle.std.proofs.Common.{ℕ}
 use Rattle.relay.specs.Known.{AreAt}
 use Rattle.relay.proofs.rounds.open.Given as goal
 

@@ -1,4 +1,4 @@
-use Rattle.std.proofs.Common.{◌≡◌, ◌∙◌, arith}
+use Rattle.std.proofs.Common.{◌∙◌, arith}
 use Rattle.relay.specs.Known.{turned_one}
 use Rattle.relay.proofs.Along.{one_more, stepped_all}
 use Rattle.relay.proofs.work.turn_all.Goals as goal
