@@ -149,7 +149,7 @@ own_row all a (lane ∷ lanes) c h =
 pub own_parted : (script : Plan) (tick : ℕ) (ones : List Resting) (due : List State) (resting : List Resting) → AreAt script tick ones → IsParted tick ones due resting → AreOwn script tick due
 own_parted script tick ones due resting at parted =
     let P : State → Type 0 = λ s. own_of script tick s.lane.number ≡ Some s in
-    let all : AllByRecursion P (unspent_all (lanes_at script tick)) = own_row (lanes_at script tick) 0 (lanes_at script tick) (counted_at script tick) (λ i. refl) in
+    let all : AllByRecursion P (unspent_all (lanes_at script tick)) = own_row (lanes_at script tick) 0 (lanes_at script tick) (counted_at script tick) (λ i. ap (slice_get (lanes_at script tick)) (let same : 0 + i ≡ i = omega arith in same)) in
     let woke : AllByRecursion P (all_woken tick ones) = subst (AllByRecursion P) (sym (woken_at script tick ones at)) all in
     subst (AreOwn script tick) (sym parted.due) (of_rec P _ (all_passing (is_due tick) (woken tick) P ones woke))
 
