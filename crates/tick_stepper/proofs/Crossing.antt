@@ -146,5 +146,5 @@ share_field_send = search (state_send, sendable, crosses) depth 60 fits 10000
 pub call_send : (T : RattleType) (g : Ghosts T.Denot) → IsSend (Call.the_row T g)
 call_send T g = search (share_field_send, marker.the_field_send, sendable, crosses) depth 60 fits 10000
 
-pub reply_send : (T : RattleType) (g : Ghosts T.Denot) → IsSend T → IsSend (Reply.the_row T g)
-reply_send T g t = search (share_field_send, marker.the_field_send, sendable, crosses) depth 60 fits 10000
+pub reply_send : (T : RattleType) (g : Ghosts T.Denot) → IsSend (Reply.the_row T g)
+reply_send T g = search (share_field_send, marker.the_field_send, sendable, crosses) depth 60 fits 10000

@@ -164,6 +164,7 @@ fn others(crew: &Crew, lanes: usize) -> u32 {
 }
 
 /// All ticks of a run from one on. Workers are started once, and stay until the last.
+#[tactic(auto, using(crate::proofs::Crossing::call_send, crate::proofs::Crossing::reply_send, crate::proofs::Crossing::script_sync))]
 pub(crate) fn run_ticks<
     J: Planned + Send + Sync,
     R: Threads + Wait + Sync,
@@ -196,7 +197,7 @@ pub(crate) fn run_ticks<
             for _ in 0..others {
                 let (to, calls) = bounded::<Call<J>, Global>(alloc, 1)?;
                 let (replies, from) = bounded::<Result<Reply<J>, LaneFault>, Global>(alloc, 1)?;
-                let started = scope.spawn(move || work(rt, gate, script, calls, replies));
+                let started = scope.spawn(move || work::<J, R, G>(rt, gate, script, calls, replies));
                 let both = Ends {
                     calls: to,
                     replies: from,
