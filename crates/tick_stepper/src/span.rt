@@ -6,6 +6,7 @@ ghost use Rattle.tick_stepper.specs.Call.{AreOwn};
 ghost use Rattle.tick_stepper.specs.Crew.{refusal_of};
 ghost use Rattle.tick_stepper.specs.Rest.{AreAt};
 ghost use Rattle.tick_stepper.specs.Share.{turned_one, out_of_one, IsRound};
+ghost use denote.Param.Send.{IsSync};
 
 use crate::calls::{Call, Planned, Reply};
 use crate::crew::{Crew, Sharing};
@@ -190,14 +191,18 @@ pub(crate) fn run_ticks<
         thread::scope_env(),
         rt,
         move |scope| -> Result<Vec<Resting>, OutOfMemory>
-            requires { (script.now ≡ J.plan) × (length script.now.lanes ≤ most_lanes) × (first ≤ script.now.ticks) × (refusal_of script.now crew.now.workers crew.now.sharing ≡ None) × AreAt script.now first lanes.items }
+            requires { IsSync R.row × IsSync G.row × (script.now ≡ J.plan) × (length script.now.lanes ≤ most_lanes) × (first ≤ script.now.ticks) × (refusal_of script.now crew.now.workers crew.now.sharing ≡ None) × AreAt script.now first lanes.items }
             ensures { IfOk result (λ lanes. AreAt script.entry.now script.entry.now.ticks lanes.items) }
         {
             let mut ends = Vec::new(alloc);
             for _ in 0..others {
                 let (to, calls) = bounded::<Call<J>, Global>(alloc, 1)?;
                 let (replies, from) = bounded::<Result<Reply<J>, LaneFault>, Global>(alloc, 1)?;
-                let started = scope.spawn(move || work::<J, R, G>(rt, gate, script, calls, replies));
+                let started = scope.spawn(
+                    move ||
+                        requires { IsSync G.row × (script.now ≡ J.plan) }
+                    { work::<J, R, G>(rt, gate, script, calls, replies) },
+                );
                 let both = Ends {
                     calls: to,
                     replies: from,
