@@ -4,8 +4,6 @@ ghost use Rattle.std.specs.List.{All};
 ghost use Rattle.relay.specs.Run.{values_at};
 ghost use Rattle.relay.specs.Known.{IsAt, IsTurned, AreNumbered, AreAt, AreTurned};
 
-ghost use denote.Param.Send.{IsSync};
-
 use crate::counter::Counter;
 use crate::job::{Done, Job, Run};
 use crate::work::{turn_job, work};
@@ -164,7 +162,7 @@ fn run_with<J: Run + Send + Sync, R: Threads + Wait + Sync>(
         thread::scope_env(),
         rt,
         move |scope| -> Result<Vec<Counter>, AllocError>
-            requires { IsSync R.row × (plan.now ≡ J.plan) × (count ≡ J.count) × AreAt J.plan J.count 0 counters.items }
+            requires { (plan.now ≡ J.plan) × (count ≡ J.count) × AreAt J.plan J.count 0 counters.items }
             ensures { IfOk result (λ v. AreAt J.plan J.count rounds v.items) }
         {
             let mut workers = Vec::new(alloc);
