@@ -208,6 +208,14 @@ def waking_trees(n):
     return longer(it, 1, 4 + (256 << n)), 20 << 9 + n
 
 
+def checking_trees(n):
+    """Trees whose parts end in different ticks, each with a check behind it that may be cancelled."""
+    times = iter(range(1, 1 << 20))
+    tree = full(7 + n, lambda: ["seq", ["sleep", 1000 * next(times)], ["check"]])
+    it = phases((1, 20, [["task", {"tree": tree, "cancel": 0, "call": 3}]]), cancellables=1, procs=[{"do": []}])
+    return longer(it, 1, 4 + (64 << n)), 60 << 7 + n
+
+
 def frames(n):
     """Each tick nests to the limit of calls."""
     start = attaches(32, {"kind": ["idle"], "call": 0}) + [["run", 0]]
@@ -315,6 +323,7 @@ GROWTHS = {
     "tasks that sleep beside one that ends": (tasks_beside_one, 1, 4),
     "tasks of a large tree": (trees, 4, 16),
     "parts of a tree that end one by one": (waking_trees, 1, 3),
+    "checks of a tree that are begun one by one": (checking_trees, 1, 3),
     "frames": (frames, 512, 2048),
     "runs of a loop": (runs_of_loops, 1024, 4096),
     "lines": (lines, 64, 256),
@@ -341,7 +350,7 @@ KNOWN = {
     "ticks beside sources that wait for others": "each tick with a turn, the idle sources of a context that has had a descriptor's",
     "letters beside lanes that rest": "each tick with a letter, the sources of descriptors and cancellables of all lanes",
     "letters of more lanes": "each letter, the lanes: 64 at most",
-    "parts of a tree that end one by one": "each tick in which a task wakes, all its parts",
+    "checks of a tree that are begun one by one": "each tick in which a check of a task may see a cancellation, all parts of the task",
 }
 
 

@@ -16,11 +16,13 @@ use Rattle.account.specs.declared.going.Phase.{Phase}
 use Rattle.account.specs.declared.going.Phase.TheVariants as phases
 use Rattle.account.specs.Within.{IsWithin, AllMayTake, polled}
 use Rattle.post_office.specs.declared.letter.Body.TheVariants as mails
-use Rattle.account.specs.declared.hand.Gift.{Gift}
+use Rattle.account.specs.declared.gift.Gift.{Gift}
 use Rattle.account.specs.Gifts.{gift_of}
-use Rattle.account.proofs.Lined.{lanes_unspent, gift_goes}
-use Rattle.account.specs.Standing.{unspent, lanes_of, AreUnspent, AreLined, OwnsTurn, turning_from, turning, turning_after, bringing, place_at, place_of, OwnsBegun, Stands}
-use Rattle.account.proofs.Within.{polls_within, moves_within, over_within, begins_within}
+use Rattle.account.proofs.Lined.{gift_goes}
+use Rattle.tick_stepper.proofs.Lined.{lanes_unspent, lined}
+use Rattle.account.specs.Standing.{AreUnspent, OwnsTurn, turning_from, turning, turning_after, bringing, place_at, place_of, OwnsBegun, Stands}
+use Rattle.tick_stepper.specs.Share.{unspent, lanes_in as lanes_of, AreLined}
+use Rattle.account.proofs.Within.{counted_from, polls_within, moves_within, over_within, begins_within}
 use Rattle.tick_stepper.proofs.Counted.{lane_count}
 use Rattle.account.proofs.States.{turning_none, lanes_length, first_unspent, rest_unspent}
 
@@ -123,7 +125,9 @@ stands_turned script tick n g h few low s gp all hp hs hl =
 -- ---- contexts go over
 
 pub lined_at : (script : Plan) (tick k : ℕ) (g : Going) → Stands script tick g → g.phase ≡ phases.Giving k → AreLined g.lanes.items
-lined_at script tick k g s e = let w = within_at script tick g (phases.Giving k) s e in record { unspent = s.unspent; places = w.places }
+lined_at script tick k g s e =
+    let w = within_at script tick g (phases.Giving k) s e in
+    subst AreLined (sym s.unspent) (lined (lanes_of g.lanes.items) (counted_from 0 (lanes_of g.lanes.items) w.places))
 
 pub gives_at : (script : Plan) (tick k : ℕ) (lanes now : List Lane) (letters : List Letter) (one : Letter) → k < length letters → now ≡ gone_over tick (handing_of (get_or letters k one) lanes) lanes
     → moved script tick (Giving lanes (drop k letters) letters) ≡ Some (Giving now (drop (k + 1) letters) letters)

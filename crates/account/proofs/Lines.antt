@@ -8,7 +8,7 @@ use Rattle.lane_turn.specs.Lane.{Lane, State}
 use Rattle.lane_turn.specs.Handover.{Handing, let_go, handed, moved as gone_over, without_context, taken_over}
 use Rattle.lane_turn.specs.Traces.{Grows, IsOf}
 use Rattle.account.specs.Within.{StandFrom}
-use Rattle.account.specs.Standing.{lanes_of}
+use Rattle.tick_stepper.specs.Share.{lanes_in as lanes_of}
 use Rattle.account.specs.Told.{trace_at, GrowsAt}
 use Rattle.account.proofs.States.{lanes_set}
 

@@ -18,7 +18,8 @@ use Rattle.account.specs.declared.moment.Deed.{Deed}
 use Rattle.account.specs.declared.moment.Deed.TheVariants as deeds
 use Rattle.account.specs.declared.moment.Moment.{Moment}
 use Rattle.account.specs.Within.{polled}
-use Rattle.account.specs.Standing.{lanes_of, turn_in, turning_from, place_of}
+use Rattle.account.specs.Standing.{turn_in, turning_from, place_of}
+use Rattle.tick_stepper.specs.Share.{lanes_in as lanes_of}
 use Rattle.account.specs.Told.{did_step, told, told_move, trace_at, GrowsAt, TellsLines, IsMoment}
 use Rattle.account.proofs.States.{drop_here, lanes_length}
 use Rattle.account.proofs.Goings.{place_same, lanes_in_place}

@@ -11,12 +11,13 @@ use Rattle.lane_turn.specs.Handover.{Handing, handing, handing_by, handing_of, m
 use Rattle.tick_stepper.specs.Account.{Place, Giving, Bringing, started, moved, lanes_in}
 use Rattle.account.specs.declared.going.Going.{Going}
 use Rattle.account.specs.declared.going.Phase.TheVariants as phases
-use Rattle.account.specs.declared.hand.Gift.{Gift}
+use Rattle.account.specs.declared.gift.Gift.{Gift}
 use Rattle.account.specs.declared.moment.Deed.TheVariants as deeds
 use Rattle.account.specs.declared.moment.Moment.{Moment}
 use Rattle.account.specs.Gifts.{gift_of}
 use Rattle.account.specs.Within.{StandFrom}
-use Rattle.account.specs.Standing.{lanes_of, turning_from, place_of}
+use Rattle.account.specs.Standing.{turning_from, place_of}
+use Rattle.tick_stepper.specs.Share.{lanes_in as lanes_of}
 use Rattle.account.specs.Told.{told, told_gift, told_move, Spot, goes_on, quiet_by, quiet, quiet_moves, IsQuietTo, GrowsAt, TellsNext, TellsNothing, IsMoment, spot_of, HasPassed, HasGone}
 use Rattle.account.specs.Course.{Course}
 use Rattle.account.proofs.Lined.{gift_goes}

@@ -14,7 +14,8 @@ use Rattle.lane_turn.proofs.Delivered.{ready_weaker}
 use Rattle.tick_stepper.specs.Account.{Turning, Bringing, turned_on, moved}
 use Rattle.account.specs.declared.turns.Begun.{Begun}
 use Rattle.account.specs.Within.{MayTake, AllMayTake, polled}
-use Rattle.account.specs.Standing.{unspent, lanes_of, AreUnspent, turn_in, OwnsTurn, IsInTurn, turning_from, turning, turning_after, bringing}
+use Rattle.account.specs.Standing.{AreUnspent, turn_in, OwnsTurn, IsInTurn, turning_from, turning, turning_after, bringing}
+use Rattle.tick_stepper.specs.Share.{unspent, lanes_in as lanes_of}
 
 -- ---- one of them
 
@@ -54,11 +55,6 @@ rest_unspent x states u = cc
 
 pub first_unspent : (x : State) (states : List State) → AreUnspent (x ∷ states) → x ≡ unspent x.lane
 first_unspent x states u = cc
-
-pub unspent_at : (states : List State) (i : ℕ) (d : State) → AreUnspent states → i < length states → (get_or states i d).spent ≡ false
-unspent_at [] i d u h = absurd (omega (arith, h))
-unspent_at (x ∷ states) zero d u h = ap (λ (s : State). s.spent) (first_unspent x states u)
-unspent_at (x ∷ states) (suc i) d u h = unspent_at states i d (rest_unspent x states u) (omega (arith, h))
 
 pub unspent_put : (states : List State) (i : ℕ) (s : State) → AreUnspent states → s.spent ≡ false → AreUnspent (set states i s)
 unspent_put [] i s u f = u

@@ -4,7 +4,7 @@ use Rattle.loop_script.specs.Units.{LaneNumber}
 use Rattle.post_office.specs.declared.letter.Letter.{Letter}
 use Rattle.post_office.specs.declared.letter.Body.{Body as Mail}
 use Rattle.post_office.specs.declared.letter.Body.TheVariants as mails
-use Rattle.account.specs.declared.hand.Gift.{Gift}
+use Rattle.account.specs.declared.gift.Gift.{Gift}
 
 -- the context that a lane's letter gives, if it gives one
 abbrev pub gift_by : LaneNumber → Mail → Option Gift

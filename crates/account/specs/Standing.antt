@@ -7,28 +7,16 @@ use Rattle.lane_turn.specs.Lane.{Lane, State, Turn}
 use Rattle.lane_turn.specs.Tick.{lanes_at}
 use Rattle.lane_turn.specs.Meaning.{turn_at, IsTurnOf}
 use Rattle.tick_stepper.specs.Account.{Place, Turning, Giving, Bringing, started}
+use Rattle.tick_stepper.specs.Share.{unspent, lanes_in as lanes_of}
 use Rattle.account.specs.declared.turns.Begun.{Begun}
 use Rattle.account.specs.declared.going.Going.{Going}
 use Rattle.account.specs.declared.going.Phase.{Phase}
 use Rattle.account.specs.declared.going.Phase.TheVariants as phases
-use Rattle.account.specs.Within.{IsHeld, IsWithin, StandFrom}
-
--- a lane of which no call was refused memory
-abbrev pub unspent : Lane → State
-unspent lane = record { lane = lane; spent = false }
-
--- the lanes of their states
-abbrev pub lanes_of : List State → List Lane
-lanes_of states = map (λ (s : State). s.lane) states
+use Rattle.account.specs.Within.{IsHeld, IsWithin}
 
 -- no call of these lanes was refused memory
 abbrev pub AreUnspent : List State → Type 0
 AreUnspent states = states ≡ map unspent (lanes_of states)
-
--- no call of them was refused memory, and each stands in the place of its number
-pub record AreLined (states : List State) : Type 0 where
-  pub unspent : AreUnspent states
-  pub places : StandFrom 0 (lanes_of states)
 
 -- the turn that was begun, of a lane as it is now
 abbrev pub turn_in : Lane → Begun → Turn

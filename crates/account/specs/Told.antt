@@ -19,7 +19,7 @@ use Rattle.tick_stepper.specs.Account.{Place, Turning, Giving, Bringing, started
 use Rattle.account.specs.declared.moment.Deed.{Deed}
 use Rattle.account.specs.declared.moment.Deed.TheVariants as deeds
 use Rattle.account.specs.declared.moment.Moment.{Moment}
-use Rattle.account.specs.declared.hand.Gift.{Gift}
+use Rattle.account.specs.declared.gift.Gift.{Gift}
 use Rattle.account.specs.Gifts.{gift_of}
 use Rattle.account.specs.Course.{Course}
 use Rattle.account.specs.Within.{polled}

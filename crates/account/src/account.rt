@@ -5,7 +5,8 @@ ghost use Rattle.loop_script.specs.Bounds.{most_lanes};
 ghost use Rattle.lane_turn.specs.Tick.{opened, lanes_at};
 ghost use Rattle.tick_stepper.specs.Account.{started, lanes_in, end_of};
 ghost use Rattle.account.specs.Told.{HasGone, HasPassed};
-ghost use Rattle.account.specs.Standing.{lanes_of, place_of, AreUnspent};
+ghost use Rattle.account.specs.Standing.{place_of, AreUnspent};
+ghost use Rattle.tick_stepper.specs.Share.{lanes_in as lanes_of};
 
 use crate::fault::AccountFault;
 use crate::going::{Going, Phase};

@@ -5,10 +5,11 @@ ghost use Rattle.loop_script.specs.Bounds.{most_lanes, most_ticks};
 ghost use Rattle.lane_turn.specs.Tick.{lanes_at};
 ghost use Rattle.tick_stepper.specs.Account.{started, moved};
 ghost use Rattle.account.specs.Told.{trace_at, told, IsMoment, TellsNext, TellsNothing};
-ghost use Rattle.account.specs.Standing.{lanes_of, AreUnspent, AreLined, place_of, Stands};
+ghost use Rattle.account.specs.Standing.{AreUnspent, place_of, Stands};
+ghost use Rattle.tick_stepper.specs.Share.{lanes_in as lanes_of, AreLined};
 
 use crate::foreseen::{done, foreseen};
-use crate::hand::{gift_of, hand};
+use crate::gift::gift_of;
 use crate::letters::receive;
 use crate::moment::{Deed, Moment};
 use crate::turns::{Begun, begin, step};
@@ -16,7 +17,7 @@ use lane_turn::LaneState;
 use loop_script::Script;
 use post_office::Letter;
 use std::alloc::Global;
-use tick_stepper::OutOfMemory;
+use tick_stepper::{OutOfMemory, move_context};
 
 /// How far a tick has come.
 #[derive(Clone, Copy)]
@@ -222,7 +223,13 @@ impl Going {
             return Ok(None);
         };
         let from = self.lines_of(gift.to as usize);
-        if !hand(tick, self.lanes.as_mut_slice(), gift)? {
+        if !move_context(
+            tick,
+            self.lanes.as_mut_slice(),
+            gift.from,
+            gift.context,
+            gift.to,
+        )? {
             return Ok(None);
         }
         let deed = Deed::HandedOver {

@@ -4,7 +4,8 @@ ghost use Rattle.loop_script.specs.Bounds.{most_ticks};
 ghost use Rattle.tick_stepper.specs.Account.{moved};
 ghost use Rattle.account.specs.Within.{AllMayTake};
 ghost use Rattle.account.specs.Told.{GrowsAt};
-ghost use Rattle.account.specs.Standing.{lanes_of, AreUnspent, bringing};
+ghost use Rattle.account.specs.Standing.{AreUnspent, bringing};
+ghost use Rattle.tick_stepper.specs.Share.{lanes_in as lanes_of};
 
 use lane_turn::LaneState;
 use loop_script::Script;

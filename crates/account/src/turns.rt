@@ -11,7 +11,8 @@ ghost use Rattle.lane_turn.specs.Limits.{half_count};
 ghost use Rattle.tick_stepper.specs.Account.{moved};
 ghost use Rattle.account.specs.Within.{polled};
 ghost use Rattle.account.specs.Told.{trace_at, GrowsAt};
-ghost use Rattle.account.specs.Standing.{lanes_of, AreUnspent, OwnsTurn, turn_in, IsInTurn, turning, turning_after};
+ghost use Rattle.account.specs.Standing.{AreUnspent, OwnsTurn, turn_in, IsInTurn, turning, turning_after};
+ghost use Rattle.tick_stepper.specs.Share.{lanes_in as lanes_of};
 
 use lane_turn::{LaneState, Turn};
 use loop_script::Script;

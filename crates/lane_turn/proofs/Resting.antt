@@ -2,13 +2,14 @@
 use Rattle.std.proofs.Common.{◌≡◌, ℕ, suc, ◌+◌, ◌-◌, ◌≤◌, ◌==◌, ◌&&◌, ◌||◌, Bool, true, false, cond, Option, Some, None, List, [], ◌∷◌, ◌++◌, length, reverse, refl, ap, sym, ◌∙◌, arith, append-nil}
 use Rattle.std.specs.Prelude.{filter_map}
 use Rattle.std.specs.List.{list_any, cons_option}
-use Rattle.std.proofs.lemmas.List.{reverse-append}
+use Rattle.std.proofs.lemmas.List.{reverse-append, length-reverse}
 use Rattle.std.proofs.lemmas.List.Elements.{filter_map-append}
 use Rattle.std.proofs.lemmas.List.Folds.{list_any-append}
 use Rattle.lane_turn.specs.declared.layer.Layer.{Layer}
-use Rattle.lane_turn.specs.Frames.{Frame, CallOf, IterOf, LoopOf, emptied}
+use Rattle.lane_turn.specs.declared.layer.Layer.TheVariants as layers
+use Rattle.lane_turn.specs.Frames.{Frame, CallOf, IterOf, LoopOf, emptied, blocked_in, busy, owns}
 use Rattle.lane_turn.specs.Lane.{is_any}
-use Rattle.lane_turn.specs.Nest.{frame_of, frames_of, frames_from}
+use Rattle.lane_turn.specs.Nest.{frame_of, frames_of, frames_from, blocked_by_layer, layer_owns}
 use Rattle.lane_turn.specs.Quiet.{has_rest}
 
 -- either end may be asked first
@@ -33,6 +34,28 @@ filter_map-reverse {X} {Y} h (x ∷ xs) =
     last : (o : Option Y) (ys : List Y) → reverse ys ++ cons_option o [] ≡ reverse (cons_option o ys)
     last None ys = append-nil (reverse ys)
     last (Some y) ys = sym (reverse-append (y ∷ []) ys)
+
+-- what is asked of all frames is asked of their layers
+blocked_same : (context height : ℕ) (live : List (Option ℕ)) (l : Layer) → blocked_in context (frame_of live height l) ≡ blocked_by_layer context l
+blocked_same context height live (layers.Call call) = refl
+blocked_same context height live (layers.Iteration i) = refl
+blocked_same context height live (layers.Loop number c) = refl
+
+blocked_layers : (context : ℕ) (live : List (Option ℕ)) (ls : List Layer) → filter_map (blocked_by_layer context) ls ≡ filter_map (blocked_in context) (frames_of live ls)
+blocked_layers context live [] = refl
+blocked_layers context live (l ∷ ls) = rw (blocked_same context (length ls) live l, blocked_layers context live ls) refl
+
+pub busy_layers : (context : ℕ) (live : List (Option ℕ)) (ls : List Layer) → filter_map (blocked_by_layer context) (reverse ls) ≡ busy context (frames_of live ls)
+busy_layers context live ls = filter_map-reverse (blocked_by_layer context) ls ∙ ap reverse (blocked_layers context live ls)
+
+owns_same : (context height : ℕ) (live : List (Option ℕ)) (l : Layer) → owns context (frame_of live height l) ≡ layer_owns context l
+owns_same context height live (layers.Call call) = refl
+owns_same context height live (layers.Iteration i) = refl
+owns_same context height live (layers.Loop number c) = refl
+
+pub owns_layers : (context : ℕ) (live : List (Option ℕ)) (ls : List Layer) → list_any (layer_owns context) ls ≡ list_any (owns context) (frames_of live ls)
+owns_layers context live [] = refl
+owns_layers context live (l ∷ ls) = rw (owns_same context (length ls) live l, owns_layers context live ls) refl
 
 -- where none is left, a newer iteration takes none from older ones
 or_left : (a b : Bool) → (a || b) ≡ false → a ≡ false
@@ -80,6 +103,16 @@ first_inwards all left live xs x e h =
 frames_are : (live : List (Option ℕ)) (ls : List Layer) → frames_from 0 live ls ≡ frames_of live ls
 frames_are live [] = refl
 frames_are live (l ∷ ls) = let at : 0 + length ls ≡ length ls = omega arith in λ i. frame_of live (at i) l ∷ frames_are live ls i
+
+pub first_layer : (xs : List Layer) (x : Layer) → reverse (xs ++ x ∷ []) ≡ x ∷ reverse xs
+first_layer xs x = reverse-append xs (x ∷ [])
+
+pub first_shown : (all left : ℕ) (live : List (Option ℕ)) (x : Layer) (xs : List Layer) → length (x ∷ xs) ≡ left → left ≤ all
+    → reverse (frames_from (all - left) live (reverse (x ∷ xs))) ≡ frame_of live (all - left) x ∷ reverse (frames_from (all - (left - 1)) live (reverse xs))
+first_shown all left live x xs e h =
+    let split = reverse-append (x ∷ []) xs in
+    ap (λ (ls : List Layer). reverse (frames_from (all - left) live ls)) split
+    ∙ first_inwards all left live (reverse xs) x (ap length (sym split) ∙ (length-reverse (x ∷ xs) ∙ e)) h
 
 pub all_inwards : (live : List (Option ℕ)) (ls : List Layer) → reverse (frames_from 0 live ls) ≡ reverse (frames_of live ls)
 all_inwards live ls = ap reverse (frames_are live ls)

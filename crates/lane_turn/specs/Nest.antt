@@ -8,7 +8,7 @@ use Rattle.lane_turn.specs.declared.layer.Origin.{Origin}
 use Rattle.lane_turn.specs.declared.layer.Origin.TheVariants.{Start, Source, Invoke}
 use Rattle.lane_turn.specs.declared.layer.Top.{Top}
 use Rattle.lane_turn.specs.declared.layer.Top.TheVariants as tops
-use Rattle.lane_turn.specs.Frames.{Frame, CallOf, IterOf, LoopOf, is_source, is_dispatch_or_invoke, top_of}
+use Rattle.lane_turn.specs.Frames.{Frame, CallOf, IterOf, LoopOf, is_source, is_dispatch_or_invoke, is_acquired_by, blocked_by, top_of}
 use Rattle.loop_script.specs.Bounds.{count_end}
 use Rattle.loop_script.specs.Units.{ContextNumber, SourceId}
 
@@ -87,6 +87,18 @@ abbrev pub is_blocking_layer : Layer → Bool
 is_blocking_layer (layers.Call call) = is_blocking call.origin
 is_blocking_layer (layers.Iteration i) = false
 is_blocking_layer (layers.Loop number context) = false
+
+-- the source of a context that a layer blocks
+abbrev pub blocked_by_layer : ContextNumber → Layer → Option SourceId
+blocked_by_layer context (layers.Call call) = blocked_by context call.origin
+blocked_by_layer context (layers.Iteration i) = None
+blocked_by_layer context (layers.Loop number c) = None
+
+-- whether a layer owns a context
+abbrev pub layer_owns : ContextNumber → Layer → Bool
+layer_owns context (layers.Call call) = is_acquired_by context call.origin
+layer_owns context (layers.Iteration i) = i.context == context
+layer_owns context (layers.Loop number c) = c == context
 
 -- a layer that has taken its next action or id
 abbrev pub advanced_layer : Layer → Layer

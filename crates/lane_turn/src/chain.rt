@@ -3,6 +3,7 @@ ghost use Rattle.std.specs.Prelude.{◌≡◌, ◌∷◌, ◌≤◌, ◌-◌, []
 ghost use Rattle.lane_turn.specs.Nest.{layers_of, frames_of, is_dispatch_layer, is_call_layer, is_blocking_layer, taken_layers, top_of_layers};
 
 use crate::in_progress::InProgress;
+use crate::inwards::Inwards;
 use crate::layer::{Layer, Top};
 use crate::nest::{Nest, Shell};
 use crate::tally::Tally;
@@ -85,6 +86,13 @@ impl Chain {
         ensures { result ≡ count_by is_blocking_layer self.now }
     {
         self.tally.blocking
+    }
+
+    /// The layers, from the outermost inwards.
+    pub(crate) fn layers(&self) -> Inwards<'_>
+        ensures { result ≡ reverse self.now }
+    {
+        Inwards::new(&self.nest)
     }
 
     /// What is in progress, from the outermost inwards.

@@ -88,12 +88,18 @@ impl Frames {
     pub fn busy(&self, context: u32) -> Result<Vec<u64>, AllocError>
         ensures { IfOk result (λ ids. ids.items ≡ busy context self.now) }
     {
-        if self.chain.blocking() == 0 {
+        let blocking = self.chain.blocking();
+        if blocking == 0 {
             return Ok(Vec::new(self.alloc));
         }
-        self.inwards()
-            .filter_map(|one| one.blocks(context))
-            .collect(self.alloc)
+        // room for all, so that none is moved as the list grows
+        let mut ids = Vec::with_capacity(self.alloc, blocking as usize)?;
+        ids.extend(
+            self.chain
+                .layers()
+                .filter_map(|layer| layer.blocks(context)),
+        )?;
+        Ok(ids)
     }
 
     /// Whether a call in progress blocks a source of a context.
@@ -102,8 +108,9 @@ impl Frames {
     {
         self.chain.blocking() > 0
             && self
-                .inwards()
-                .filter_map(|one| one.blocks(context))
+                .chain
+                .layers()
+                .filter_map(|layer| layer.blocks(context))
                 .any(|blocked| blocked == id)
     }
 
@@ -119,7 +126,7 @@ impl Frames {
     pub fn owns(&self, context: u32) -> bool
         ensures { result ≡ list_any (owns context) self.now }
     {
-        self.inwards().any(|one| one.owns(context))
+        self.chain.layers().any(|layer| layer.owns(context))
     }
 
     /// What is in progress, from the outermost inwards.

@@ -3,11 +3,11 @@ ghost use Rattle.std.specs.Prelude.{◌≡◌, length, reverse};
 ghost use Rattle.std.specs.Iterator.{at_most};
 ghost use Rattle.std.specs.Map.Iter.{TakesFirst};
 ghost use Rattle.lane_turn.specs.Nest.{layers_of, frames_from, ids_left, frame_of};
-ghost use Rattle.lane_turn.specs.Frames.{blocked_in, owns};
 ghost use Rattle.lane_turn.specs.Quiet.{has_rest};
 ghost use Rattle.lane_turn.specs.InProgress.{frame_shown};
 
-use crate::layer::{Asker, Call, Iteration, Layer, Origin, is_live};
+use crate::inwards::Inwards;
+use crate::layer::{Asker, Call, Iteration, Layer, is_live};
 use crate::nest::Nest;
 use std::iter::Iterator;
 use std::marker::Model;
@@ -31,47 +31,6 @@ pub enum Activity<'a> {
 }
 
 impl Activity<'_> {
-    /// The source of a context that it blocks.
-    pub(crate) fn blocks(&self, context: u32) -> Option<u64>
-        ensures { result ≡ blocked_in context (frame_shown self.now) }
-    {
-        match self {
-            Activity::Call(call) => match call.origin {
-                Origin::Source(caller) => {
-                    if caller.recurse {
-                        None
-                    } else if caller.context == context {
-                        Some(caller.id)
-                    } else {
-                        None
-                    }
-                }
-                _ => None,
-            },
-            _ => None,
-        }
-    }
-
-    /// Whether it owns a context.
-    pub(crate) fn owns(&self, context: u32) -> bool
-        ensures { result ≡ owns context (frame_shown self.now) }
-    {
-        match self {
-            Activity::Call(call) => match call.origin {
-                Origin::Invoke(Some(acquired)) => acquired == context,
-                _ => false,
-            },
-            Activity::Iteration {
-                context: iterated,
-                ..
-            } => *iterated == context,
-            Activity::Loop {
-                context: iterated,
-                ..
-            } => *iterated == context,
-        }
-    }
-
     /// Whether it is an iteration of a context that has ids left.
     pub(crate) fn has_rest(&self, context: u32) -> bool
         ensures { result ≡ has_rest context (frame_shown self.now) }
@@ -121,7 +80,7 @@ fn shown<'a>(layer: &'a Layer, live: &[Option<usize>], height: usize) -> Activit
 /// What is in progress, from the outermost inwards. Contracts see the frames that are still to come.
 #[derive(Drop)]
 pub struct InProgress<'a> {
-    nest: &'a Nest,
+    layers: Inwards<'a>,
     live: &'a [Option<usize>],
     /// How many there are in all, and how many of them are to come.
     all: usize,
@@ -131,13 +90,13 @@ pub struct InProgress<'a> {
 impl<'a> Model for InProgress<'a> {
     ghost use Rattle.std.specs.Prelude.{◌≡◌, ◌≤◌, ◌-◌, List, length, reverse};
     ghost use Rattle.lane_turn.specs.Frames.{Frame};
-    ghost use Rattle.lane_turn.specs.Nest.{layers_of, frames_from};
+    ghost use Rattle.lane_turn.specs.Nest.{frames_from};
 
     ghost Value = { List Frame };
 
-    ghost view = { λ s. reverse (frames_from (s.all - s.left) s.live.now (layers_of s.nest.now)) };
+    ghost view = { λ s. reverse (frames_from (s.all - s.left) s.live.now (reverse s.layers)) };
 
-    ghost invariant = { λ s. (length (layers_of s.nest.now) ≡ s.left) × (s.left ≤ s.all) };
+    ghost invariant = { λ s. (length s.layers ≡ s.left) × (s.left ≤ s.all) };
 }
 
 impl<'a> InProgress<'a> {
@@ -147,7 +106,7 @@ impl<'a> InProgress<'a> {
         ensures { result ≡ reverse (frames_from 0 live.now (layers_of nest.now)) }
     {
         InProgress {
-            nest,
+            layers: Inwards::new(nest),
             live,
             all: count,
             left: count,
@@ -163,15 +122,9 @@ impl<'a> Iterator for InProgress<'a> {
     ghost remaining = { λ s. at_most (length s) };
 
     fn next(&mut self) -> Option<Activity<'a>> {
-        match self.nest {
-            Nest::Nothing => None,
-            Nest::Begun(shell) => {
-                let shell = &**shell;
-                let one = shown(&shell.layer, self.live, self.all - self.left);
-                self.nest = &shell.inner;
-                self.left -= 1;
-                Some(one)
-            }
-        }
+        let layer = self.layers.next()?;
+        let one = shown(layer, self.live, self.all - self.left);
+        self.left -= 1;
+        Some(one)
     }
 }

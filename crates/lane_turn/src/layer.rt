@@ -1,7 +1,7 @@
 //! The things that a lane can be in the middle of: a call, an iteration, a run of a loop.
 ghost use Rattle.std.specs.Prelude.{◌≡◌, [], ◌∷◌, slice_get};
 ghost use Rattle.lane_turn.specs.Frames.{top_of};
-ghost use Rattle.lane_turn.specs.Nest.{frame_of, ids_left, is_live, is_dispatch_layer, is_call_layer, is_blocking_layer, taken_layer};
+ghost use Rattle.lane_turn.specs.Nest.{frame_of, ids_left, is_live, is_dispatch_layer, is_call_layer, is_blocking_layer, blocked_by_layer, layer_owns, taken_layer};
 
 use loop_script::Body;
 
@@ -143,6 +143,44 @@ impl Layer {
                 _ => false,
             },
             _ => false,
+        }
+    }
+
+    /// The source of a context that it blocks.
+    pub(crate) fn blocks(&self, context: u32) -> Option<u64>
+        ensures { result ≡ blocked_by_layer context self.now }
+    {
+        match self {
+            Layer::Call(call) => match call.origin {
+                Origin::Source(caller) => {
+                    if caller.recurse {
+                        None
+                    } else if caller.context == context {
+                        Some(caller.id)
+                    } else {
+                        None
+                    }
+                }
+                _ => None,
+            },
+            _ => None,
+        }
+    }
+
+    /// Whether it owns a context.
+    pub(crate) fn owns(&self, context: u32) -> bool
+        ensures { result ≡ layer_owns context self.now }
+    {
+        match self {
+            Layer::Call(call) => match call.origin {
+                Origin::Invoke(Some(acquired)) => acquired == context,
+                _ => false,
+            },
+            Layer::Iteration(iteration) => iteration.context == context,
+            Layer::Loop {
+                context: iterated,
+                ..
+            } => *iterated == context,
         }
     }
 

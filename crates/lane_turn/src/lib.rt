@@ -11,6 +11,7 @@ mod frames;
 mod handlers;
 mod handover;
 mod in_progress;
+mod inwards;
 mod lane;
 pub mod laws;
 mod layer;

@@ -124,9 +124,11 @@ pub record Read (id : ℕ) (shown : List (ℕ × ℕ)) (es : List Entry) (at : �
   pub rises : IdsRise (slice_set es at (ended e))
   pub same : living (slice_set es at (ended e)) ≡ remove_entry (at_id id) shown
 
-pub read : (id : ℕ) (shown : List (ℕ × ℕ)) (es : List Entry) (at : ℕ) (e : Entry) → living es ≡ shown → IdsRise es → IsAt id es at → (at < length es) × HoldsAt (λ y. e ≡ y) es at → Read id shown es at e
-read id shown es at e is h there r =
-    let p = placed id es at e there r in
+-- lent is the list in which the place was found
+pub read : (id : ℕ) (shown : List (ℕ × ℕ)) (lent es : List Entry) (at : ℕ) (e : Entry) → living es ≡ shown → IdsRise es → lent ≡ es → IsAt id lent at → (at < length es) × HoldsAt (λ y. e ≡ y) es at
+    → Read id shown es at e
+read id shown lent es at e is h l there r =
+    let p = placed id es at e (subst (λ (xs : List Entry). IsAt id xs at) l there) r in
     record {
       slot = ap (lookup (at_id id)) (sym is) ∙ slot_at id es at e h p.0 p.1;
       rises = rises_set es at e h p.0;

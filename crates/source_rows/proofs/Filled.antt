@@ -13,7 +13,8 @@ use Rattle.source_rows.specs.Seats.{IsSeated}
 use Rattle.source_rows.specs.Tree.{IdsRise}
 use Rattle.source_rows.proofs.Compared.{some_same}
 use Rattle.source_rows.proofs.Lists.{all_of, all_filter}
-use Rattle.source_rows.proofs.Slots.{at_id, at_key, row_is, looked, put_done, Left, Pushed, id_of, named_by, back-put, back-same, same_get, may-same}
+use Rattle.source_rows.proofs.Slots.{at_id, at_key, row_is, looked, put_done, Left, Pushed, id_of, named_by, back-put, back-same, same_get}
+use Rattle.source_rows.proofs.MayBe.{Quiet, NoParent, may-same}
 
 -- ---- rows in slots
 
@@ -121,14 +122,15 @@ times_same rows new h e = subst (AllByRecursion IsTime) (sym e) h
 rows_same : (s t : Slab Row) (es : List (ℕ × ℕ)) → t.slots ≡ s.slots → rows_at t es ≡ rows_at s es
 rows_same s t es e = ap (λ (xs : List (Option Row)). filter_map (λ (p : ℕ × ℕ). slice_index_or xs p.1 None) es) e
 
-pub held_same : (s t : Slab Row) (es : List (ℕ × ℕ)) (ss : List Seat × ℕ) (may : Bool) → t.slots ≡ s.slots → IsHeld s es ss may → IsHeld t es ss may
-held_same s t es ss may e h = record {
+pub held_same : (s t : Slab Row) (es : List (ℕ × ℕ)) (ss : List Seat × ℕ) (may_ask may_nest : Bool) → t.slots ≡ s.slots → IsHeld s es ss may_ask may_nest → IsHeld t es ss may_ask may_nest
+held_same s t es ss may_ask may_nest e h = record {
   filled = record {
     table = record { named = all_of (Names s) (Names t) (λ p n. ap (option_map id_of) (same_get s t e p.1) ∙ n) es h.filled.table.named; rising = h.filled.table.rising };
     back = back-same s t es es h.filled.back (same_get s t e) refl;
     full = ap (λ (xs : List (Option Row)). count_by is_some xs) e ∙ h.filled.full;
   };
   seated = subst (λ (rows : List Row). IsSeated rows ss) (sym (rows_same s t es e)) h.seated;
-  quiet = may-same may (rows_at s es) (rows_at t es) h.quiet (rows_same s t es e);
+  quiet = may-same Quiet may_ask (rows_at s es) (rows_at t es) h.quiet (rows_same s t es e);
+  flat = may-same NoParent may_nest (rows_at s es) (rows_at t es) h.flat (rows_same s t es e);
   times = times_same (rows_at s es) (rows_at t es) h.times (rows_same s t es e);
 }

@@ -11,6 +11,8 @@ pub mod Gone
 pub mod Kept
 pub mod Slots
 pub mod Entries
+pub mod MayBe
+pub mod Alone
 pub mod Tree
 pub mod Placing
 pub mod Named
@@ -31,6 +33,7 @@ pub mod Soonest
 pub mod Ahead
 pub mod InSeats
 pub mod Seated
+pub mod InPlace
 pub mod NextDue
 pub mod Steps
 pub mod AwakeRows

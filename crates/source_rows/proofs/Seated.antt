@@ -1,10 +1,11 @@
 -- The seats of rows beside the rows: what an edit of both leaves.
-use Rattle.std.proofs.Common.{◌≡◌, ◌≤◌, ◌<◌, ◌^◌, ◌+◌, ℕ, Bool, true, false, not, cond, Some, List, [], ◌∷◌, ◌++◌, length, filter, refl, ap, sym, ◌∙◌, subst, arith}
+use Rattle.std.proofs.Common.{◌≡◌, ◌≤◌, ◌<◌, ◌^◌, ◌+◌, ℕ, ℤ, Bool, true, false, not, cond, Some, List, [], ◌∷◌, ◌++◌, length, filter, refl, ap, sym, ◌∙◌, subst, arith}
 use Rattle.std.specs.List.{AllByRecursion, list_any}
 use Rattle.std.specs.Ordering.{is_eq}
 use Rattle.slab.specs.Slab.{Slab}
 use Rattle.loop_script.specs.Bounds.{count_end}
 use Rattle.source_rows.specs.declared.row.Row.{Row}
+use Rattle.source_rows.specs.Candidates.{is_open, due_at}
 use Rattle.source_rows.specs.Inserted.{inserted, Rises}
 use Rattle.source_rows.specs.Rows.{key_of, row_of, has_id, changed}
 use Rattle.source_rows.specs.Slots.{rows_at, IsTable}
@@ -87,6 +88,17 @@ set_seated rows new row old ss us h rising f n k e height =
   where
     low_of : (us ss : List Seat × ℕ) → length us.0 ≡ length ss.0 → us.1 ≡ ss.1 → IsLow ss → IsLow us
     low_of us ss same height low = (subst (λ (n : ℕ). n ≤ length us.0) (sym height) (subst (λ (n : ℕ). ss.1 ≤ n) (sym same) low.0), subst (λ (n : ℕ). fewest n ≤ length us.0) (sym height) (subst (λ (n : ℕ). fewest ss.1 ≤ n) (sym same) low.1))
+
+-- a row that keeps its seat leaves the seats as they are
+pub kept_seated : (rows new : List Row) (row old : Row) (ss : List Seat × ℕ) → IsSeated rows ss → IdsRise rows → row_of row.id rows ≡ Some old → new ≡ changed row.id (λ _. row) rows → seat_of old ≡ seat_of row → IsSeated new ss
+kept_seated rows new row old ss h rising f n e = record { are = h.are ∙ (sym (in_seats-same row old rows rising f e) ∙ ap in_seats (sym n)); few = h.few; low = h.low }
+
+abbrev due_from : Row → ℕ → Seat
+due_from r n = record { key = key_of r; id = r.id; wake = cond (is_open r.kind) 0 n; due = n }
+
+-- a row that is due when it was keeps its seat
+pub seat_kept : (r : Row) (t : ℤ) → due_at r.ready ≡ due_at t → seat_of r ≡ seat_of (record r { ready = t })
+seat_kept r t e = ap (due_from r) e
 
 pub there_seated : (rows : List Row) (id : ℕ) (old : Row) (ss : List Seat × ℕ) → IsSeated rows ss → row_of id rows ≡ Some old → list_any (λ u. is_eq (seat_cmp (seat_of old) u)) ss.0 ≡ true
 there_seated rows id old ss h f = ap (list_any (λ u. is_eq (seat_cmp (seat_of old) u))) h.are ∙ seated id old rows f

@@ -1,4 +1,4 @@
-use Rattle.std.proofs.Common.{◌≡◌, ◌≢◌, ℕ, ◌+◌, ◌<◌, ◌==◌, zero, suc, Bool, true, false, not, cond, ◌||◌, Option, Some, None, List, [], ◌∷◌, ◌++◌, length, length-append, filter, refl, ap, sym, ◌∙◌, arith, subst}
+use Rattle.std.proofs.Common.{◌≡◌, ◌≢◌, ℕ, ◌+◌, ◌<◌, ◌==◌, zero, suc, Bool, true, false, not, cond, Option, Some, None, List, [], ◌∷◌, ◌++◌, length, length-append, filter, refl, ap, sym, ◌∙◌, arith, subst}
 use Rattle.std.proofs.lemmas.Bool.Decides.{nat_tests}
 use Rattle.std.specs.Prelude.{slice_index_or, slice_set}
 use Rattle.std.specs.List.{AllByRecursion, cons_option}
@@ -9,9 +9,9 @@ use Rattle.std.specs.Map.{remove_entry, lookup}
 use Rattle.slab.specs.Slab.{Slab, get, Updates, with_value}
 use Rattle.source_rows.specs.declared.row.Row.{Row}
 use Rattle.source_rows.specs.Rows.{row_of, has_id, changed}
-use Rattle.source_rows.specs.Slots.{rows_at, Names, Rising, IsTable, AllNamed, MayAsk, asks}
-use Rattle.source_rows.proofs.Compared.{are_same, not_same, are_not, some_same, same_self, apart_above, or_parts}
-use Rattle.source_rows.proofs.Lists.{all_of, all_push, all_map, all_filter, pairs_push, cons_join}
+use Rattle.source_rows.specs.Slots.{rows_at, Names, Rising, IsTable, AllNamed}
+use Rattle.source_rows.proofs.Compared.{are_same, not_same, are_not, some_same, same_self, apart_above}
+use Rattle.source_rows.proofs.Lists.{all_of, all_push, pairs_push, cons_join}
 
 abbrev pub id_of : Row → ℕ
 id_of r = r.id
@@ -365,29 +365,3 @@ back-left s t id key es fs b u l gone k r g = by_test (k == key) refl
     by_test false f =
         let apart = are_not k key f in
         gone r.id ∙ by_id (b k r (sym (u.others k apart) ∙ g)) apart (at_id id r.id) refl
-
--- ---- whether a row may be one of a descriptor
-
-abbrev Quiet : Row → Type 0
-Quiet r = asks r.kind ≡ false
-
-pub neither : (a b : Bool) → a ≡ false → b ≡ false → (a || b) ≡ false
-neither a b h k = rw (h, k) refl
-
-pub may-same : (may : Bool) (rows new : List Row) → MayAsk may rows → new ≡ rows → MayAsk may new
-may-same may rows new h e f = rw e (h f)
-
-pub may-pushed : (may : Bool) (rows new : List Row) (row : Row) → MayAsk may rows → new ≡ rows ++ row ∷ [] → MayAsk (may || asks row.kind) new
-may-pushed may rows new row h e f = let t = or_parts may (asks row.kind) f in rw e (all_push Quiet rows row (h t.0) t.1)
-
-quiet_put : (row r : Row) (b : Bool) → Quiet row → Quiet r → Quiet (cond b row r)
-quiet_put row r true h k = h
-quiet_put row r false h k = k
-
-pub may-put : (may : Bool) (rows new : List Row) (row : Row) → MayAsk may rows → new ≡ changed row.id (λ _. row) rows → MayAsk (may || asks row.kind) new
-may-put may rows new row h e f =
-    let t = or_parts may (asks row.kind) f in
-    rw e (all_map Quiet Quiet (λ r. cond (has_id row.id r) row r) (λ r k. quiet_put row r (has_id row.id r) t.1 k) rows (h t.0))
-
-pub may-left : (may : Bool) (rows new : List Row) (id : ℕ) → MayAsk may rows → new ≡ filter (λ r. not (has_id id r)) rows → MayAsk may new
-may-left may rows new id h e f = rw e (all_filter Quiet (λ r. not (has_id id r)) rows (h f))

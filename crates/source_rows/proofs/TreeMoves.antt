@@ -1,7 +1,11 @@
 -- What the steps of a move of a tree come to.
 use Rattle.std.proofs.Common.{◌≡◌, ◌≢◌, ℕ, ℤ, ◌<◌, ◌+◌, ◌^◌, Bool, Some, List, map, filter, ap, sym, ◌∙◌, arith}
 use Rattle.source_rows.specs.declared.row.Row.{Row}
-use Rattle.source_rows.specs.Rows.{Key, row_of, is_under, in_order, moved}
+use Rattle.std.specs.List.{AllByRecursion}
+use Rattle.source_rows.specs.Rows.{Key, row_of, is_under, in_order, moved, changed}
+use Rattle.source_rows.proofs.Alone.{all_own, one_moved}
+use Rattle.source_rows.proofs.Kept.{one_changed}
+use Rattle.source_rows.proofs.MayBe.{NoParent}
 use Rattle.source_rows.specs.Kept.{IsSound}
 use Rattle.source_rows.proofs.Kin.{kins}
 use Rattle.source_rows.specs.InOrder.{rows_of}
@@ -38,5 +42,13 @@ tree_moves x z rows i n l ids new f s is level t m = record {
   table =
       let made : map (moved_row x.id z n) (rows_of rows ids) ≡ map (moved x.id z n) (filter (is_under x.id) (in_order rows)) = ap (map (moved_row x.id z n)) t ∙ moved_tree x.id z n rows in
       m ∙ (ap (λ (ms : List Row). with_each ms rows) made ∙ all_changed (is_under x.id) (moved x.id z n) (moved_id x.id z n) (not_moved x.id z n) rows s.rising);
+  sound = sound_moved x z rows i n l f (kins x n rows s.forest is level s.below) is level s;
+}
+
+-- where no row has a parent, the root alone is put in its place
+pub root_moves : (x : Row) (z : ℤ) (rows : List Row) (i n l : ℕ) (new : List Row) → n < 2 ^ 63 → IsSound rows i n l → row_of x.id rows ≡ Some x → x.level ≡ 1 → AllByRecursion NoParent rows
+    → new ≡ changed x.id (λ _. moved_row x.id z n x) rows → TreeMoves x z rows i n l new
+root_moves x z rows i n l new f s is level h m = record {
+  table = m ∙ (one_changed x.id x (moved_row x.id z n) rows s.rising is ∙ one_moved x.id z n rows (all_own x.id rows s.forest h));
   sound = sound_moved x z rows i n l f (kins x n rows s.forest is level s.below) is level s;
 }

@@ -1,5 +1,5 @@
 //! What is kept of a source.
-ghost use Rattle.std.specs.Prelude.{◌≡◌, ◌<◌, ◌≤◌, length};
+ghost use Rattle.std.specs.Prelude.{◌≡◌, ◌<◌, ◌≤◌, ◌==◌, length};
 ghost use Rattle.loop_script.specs.Bounds.{latest};
 ghost use Rattle.source_rows.specs.Rows.{key_of, stands_before};
 ghost use Rattle.source_rows.specs.Band.{first_key, last_key};
@@ -84,6 +84,13 @@ impl Row {
             wake: wakes_at(self.kind, self.ready),
             due: due_at(self.ready),
         }
+    }
+
+    /// Whether the row keeps the times of its seat with another ready time: when it is due, and so from when on it may be ready.
+    pub(crate) fn keeps_times(&self, ready: i64) -> bool
+        ensures { result ≡ (due_at self.now.ready == due_at ready) }
+    {
+        due_at(self.ready) == due_at(ready)
     }
 
     /// Whether the source may be ready at a time, as far as its kind and its ready time tell.

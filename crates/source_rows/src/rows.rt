@@ -190,15 +190,15 @@ impl Rows {
         ensures ok { OnOk result (self.new ≡ reprioritised root.id priority self.old) }
         ensures err { OnErr result (self.new ≡ self.old) }
     {
-        let (first, last) = root.tree_keys();
-        let ids = self.table.ids_between(first, last)?;
-        move_rows(
-            &mut self.table,
-            ids.as_slice(),
-            root.id,
-            priority,
-            self.next_order,
-        );
+        let order = self.next_order;
+        if self.table.may_nest() {
+            let (first, last) = root.tree_keys();
+            let ids = self.table.ids_between(first, last)?;
+            move_rows(&mut self.table, ids.as_slice(), root.id, priority, order);
+        } else {
+            // the root stands alone
+            self.table.put(root.moved(root.id, priority, order));
+        }
         self.next_order += 1;
         Ok(())
     }
@@ -228,7 +228,12 @@ impl Rows {
         match self.table.row(id) {
             None => false,
             Some(found) => {
-                remove_under(&mut self.table, found.key(), id);
+                if self.table.may_nest() {
+                    remove_under(&mut self.table, found.key(), id);
+                } else {
+                    // no row is under another
+                    self.table.remove(id);
+                }
                 true
             }
         }

@@ -11,7 +11,7 @@ ghost use Rattle.source_rows.specs.Kept.{AllApart};
 ghost use Rattle.source_rows.specs.LastTo.{IsLastRow};
 ghost use Rattle.source_rows.specs.Rows.{key_cmp, key_of, row_of, has_id, in_order, changed, next_ready};
 ghost use Rattle.source_rows.specs.Seats.{first_awake, in_seats, seat_of};
-ghost use Rattle.source_rows.specs.Slots.{AllNamed, MayAsk, asks};
+ghost use Rattle.source_rows.specs.Slots.{AllNamed, MayAsk, MayNest, asks};
 ghost use Rattle.source_rows.specs.Walk.{rows_behind};
 
 use crate::guesses::Guesses;
@@ -33,6 +33,8 @@ pub(crate) struct Table {
     seats: Seats,
     /// Whether a row may be one of a descriptor.
     may_ask: bool,
+    /// Whether a row may have a parent.
+    may_nest: bool,
     alloc: Global,
 }
 
@@ -46,7 +48,7 @@ impl Model for Table {
 
     ghost view = { λ t. rows_at t.slots t.keys };
 
-    ghost invariant = { λ t. IsHeld t.slots t.keys t.seats t.may_ask };
+    ghost invariant = { λ t. IsHeld t.slots t.keys t.seats t.may_ask t.may_nest };
 }
 
 /// The slot of an id, from a guess where that is right.
@@ -71,6 +73,13 @@ fn may_ask_with(may: bool, row: &Row) -> bool
     may || row.asks()
 }
 
+/// Whether a row may have a parent, once there is this row too.
+fn may_nest_with(may: bool, row: &Row) -> bool
+    ensures { result ≡ (may || is_some row.now.parent) }
+{
+    may || row.parent.is_some()
+}
+
 impl Table {
     pub fn new(alloc: Global) -> Self
         ensures { result ≡ [] }
@@ -81,6 +90,7 @@ impl Table {
             guesses: Guesses::new(alloc),
             seats: Seats::new(),
             may_ask: false,
+            may_nest: false,
             alloc,
         }
     }
@@ -113,6 +123,13 @@ impl Table {
         ensures { MayAsk result self.now }
     {
         self.may_ask
+    }
+
+    /// Whether a row may have a parent; false only where none has.
+    pub fn may_nest(&self) -> bool
+        ensures { MayNest result self.now }
+    {
+        self.may_nest
     }
 
     /// The least ready time above `now`.
@@ -173,7 +190,9 @@ impl Table {
             Ok(()) => {
                 self.guesses.note(&self.slots, row.id, key);
                 let may_ask = may_ask_with(self.may_ask, &row);
+                let may_nest = may_nest_with(self.may_nest, &row);
                 self.may_ask = may_ask;
+                self.may_nest = may_nest;
                 let _ = self.seats.insert(room, &row.seat());
                 Ok(())
             }
@@ -192,10 +211,12 @@ impl Table {
         if let Some(key) = slot_of(&self.slots, &self.keys, &self.guesses, row.id) {
             if let Some(slot) = self.slots.get_mut(key) {
                 let may_ask = may_ask_with(self.may_ask, &row);
+                let may_nest = may_nest_with(self.may_nest, &row);
                 let seat = slot.seat();
                 *slot = row;
                 self.seats.replace(&seat, &row.seat());
                 self.may_ask = may_ask;
+                self.may_nest = may_nest;
             }
         }
     }
@@ -216,17 +237,21 @@ impl Table {
         None
     }
 
-    /// Gives the row of an id another ready time; false where there is no such row.
+    /// Gives the row of an id another ready time; false where there is no such row. Where the times of its seat stay, so does its seat.
     pub fn set_ready(&mut self, id: u64, ready: i64) -> bool
         ensures there { result ≡ is_some (row_of id self.old) }
         ensures set { self.new ≡ changed id (λ r. record r { ready = ready }) self.old }
     {
         if let Some(key) = slot_of(&self.slots, &self.keys, &self.guesses, id) {
             if let Some(slot) = self.slots.get_mut(key) {
-                let before = slot.seat();
-                slot.ready = ready;
-                let after = slot.seat();
-                let _ = self.seats.set(&before, &after);
+                if slot.keeps_times(ready) {
+                    slot.ready = ready;
+                } else {
+                    let before = slot.seat();
+                    slot.ready = ready;
+                    let after = slot.seat();
+                    let _ = self.seats.set(&before, &after);
+                }
                 return true;
             }
         }

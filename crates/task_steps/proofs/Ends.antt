@@ -3,13 +3,9 @@ use Rattle.std.proofs.Common.{◌≡◌, ℕ, ◌+◌, ◌≤◌, ◌<◌, Bool,
 use Rattle.std.proofs.lemmas.Bool.Decides.{nat_tests}
 use Rattle.loop_script.specs.Tree.{Tree, value, fail, sleep, check, seq, both, first, within}
 use Rattle.loop_script.specs.declared.outcome.Outcome.TheVariants.{TimedOut}
-use Rattle.task_steps.specs.End.{End, ending, seen, checked, is_ok, followed, joined, earlier, limited, end_of, ticks_of}
-use Rattle.task_steps.specs.RunInside.{AgreeFrom}
+use Rattle.task_steps.specs.End.{End, ending, checked, is_ok, followed, joined, earlier, limited, end_of, ticks_of}
+use Rattle.task_steps.specs.Progress.{AgreeTo, AgreeFrom}
 use Rattle.task_steps.proofs.Begins.{not_sooner}
-
--- no poll up to a tick tells two cancellations apart
-abbrev pub AgreeTo : ℕ → Option ℕ → Option ℕ → Type 0
-AgreeTo k c d = (t : ℕ) → t ≤ k → seen c t ≡ seen d t
 
 pub agree_back : (k : ℕ) (c d : Option ℕ) → AgreeTo k c d → AgreeTo k d c
 agree_back k c d h = λ t le. sym (h t le)

@@ -2,6 +2,7 @@ pub mod Begins
 pub mod Ends
 pub mod Sleeping
 pub mod Parts
+pub mod Known
 pub mod Runs
 pub mod Wakes
 pub mod Replies

@@ -72,7 +72,7 @@ done-after (Polled begun tick) None h = refl
 done-after Done None h = absurd (cc)
 
 abbrev pub set_run : ℕ → Bool → Run → Run
-set_run tick flag r = record r { stage = set_to tick r.stage; clear = clear_to tick flag r.clear; cancelled = seen_from tick flag r.cancelled; wake = None }
+set_run tick flag r = record r { stage = set_to tick r.stage; clear = clear_to tick flag r.clear; cancelled = seen_from tick flag r.cancelled }
 
 abbrev pub polled_run : Run → Option Outcome → Option ℕ → Run
 polled_run r end wake = record r { stage = stage_after r.stage end; wake = wake }

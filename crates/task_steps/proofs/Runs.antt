@@ -1,18 +1,18 @@
--- A run between two calls, and what a poll of it may answer.
+-- A body whose tick is set.
 use Rattle.std.proofs.Common.{◌≡◌, ℕ, ◌≤◌, ◌<◌, Bool, true, false, Option, Some, None, arith, refl, sym, subst, ◌∙◌}
 use Rattle.loop_script.specs.Tree.{Tree}
-use Rattle.loop_script.specs.declared.outcome.Outcome.{Outcome}
 use Rattle.task_steps.specs.declared.stage.Stage.{Stage}
 use Rattle.task_steps.specs.declared.stage.Stage.TheVariants.{Fresh, Set, Polled, Done}
 use Rattle.task_steps.specs.declared.progress.Progress.TheVariants.{Ended, Waits}
-use Rattle.task_steps.specs.End.{End, ending, end_of}
+use Rattle.task_steps.specs.End.{ending, end_of}
 use Rattle.task_steps.specs.Wake.{wait_of}
-use Rattle.task_steps.specs.Progress.{IsProgress}
-use Rattle.task_steps.specs.Run.{Answered, MayCome, due, IsUpTo, IsLater, MaySet, StaysSet, set_to, seen_from, clear_to}
-use Rattle.task_steps.specs.RunInside.{IsBy, IsClearBefore, IsKnownAt, AgreeFrom, SleepsTo, SleepsToAny, IsLeastAfter, IsStanding, IsNoted, IsHeld, wake_in}
+use Rattle.task_steps.specs.declared.progress.Progress.{Progress}
+use Rattle.task_steps.specs.Progress.{AgreeTo, SleepsTo, tick_of}
+use Rattle.task_steps.specs.Run.{Run, MayCome, IsUpTo, IsLater, MaySet, StaysSet, set_to, seen_from, clear_to}
+use Rattle.task_steps.specs.RunInside.{IsBy, IsClearBefore, IsKnownAt, Holds, HoldsAny, wake_noted, IsLeastAfter, KeepsLeast, IsStanding, IsHeld}
 use Rattle.task_steps.proofs.Begins.{not_sooner}
-use Rattle.task_steps.proofs.Ends.{AgreeTo, by_le, by_lt, same-tick, from_on, causal, pending_too}
-use Rattle.task_steps.proofs.Sleeping.{waits, same_wait, still, wait_on}
+use Rattle.task_steps.proofs.Ends.{by_le, by_lt, same-tick, from_on, pending_too}
+use Rattle.task_steps.proofs.Sleeping.{same_wait, wait_on}
 
 -- ---- what may come from a tick on might have come before
 pub may_before : (last tick : ℕ) (flag : Bool) (clear cancelled c : Option ℕ) → last < tick → IsBy last clear → MayCome (clear_to tick flag clear) (seen_from tick flag cancelled) c → MayCome clear cancelled c
@@ -47,25 +47,34 @@ known-by last clear None h = rw h (omega arith)
 known-by last clear (Some from) h = by-before last from clear h.0 h.1
 
 -- ---- sleeping to a sooner tick, and when more is known of what may come
-sooner-sleep : (us : ℕ) (t : Tree) (b : ℕ) (clear cancelled : Option ℕ) (w v : ℕ) → v ≤ w → SleepsTo us t b clear cancelled w → SleepsTo us t b clear cancelled v
+sooner-sleep : (us : ℕ) (t : Tree) (b : ℕ) (clear cancelled : Option ℕ) (w v : ℕ) → v ≤ w → SleepsTo us t b (MayCome clear cancelled) w → SleepsTo us t b (MayCome clear cancelled) v
 sooner-sleep us t b clear cancelled w v le h = record {
   ends = λ c m. let late : w ≤ (end_of us t b c).tick = h.ends c m in omega arith;
   same = λ c d m n g. h.same c d m n (λ k from. g k (omega arith));
 }
 
-narrow : (us : ℕ) (t : Tree) (b : ℕ) (clear cancelled clear2 cancelled2 : Option ℕ) (w : ℕ) → ((c : Option ℕ) → MayCome clear2 cancelled2 c → MayCome clear cancelled c) → SleepsTo us t b clear cancelled w → SleepsTo us t b clear2 cancelled2 w
+narrow : (us : ℕ) (t : Tree) (b : ℕ) (clear cancelled clear2 cancelled2 : Option ℕ) (w : ℕ) → ((c : Option ℕ) → MayCome clear2 cancelled2 c → MayCome clear cancelled c) → SleepsTo us t b (MayCome clear cancelled) w → SleepsTo us t b (MayCome clear2 cancelled2) w
 narrow us t b clear cancelled clear2 cancelled2 w may h = record {
   ends = λ c m. h.ends c (may c m);
   same = λ c d m n g. h.same c d (may c m) (may d n) g;
 }
 
-narrow-any : (us : ℕ) (t : Tree) (b : ℕ) (clear cancelled clear2 cancelled2 w : Option ℕ) → ((c : Option ℕ) → MayCome clear2 cancelled2 c → MayCome clear cancelled c) → SleepsToAny us t b clear cancelled w → SleepsToAny us t b clear2 cancelled2 w
-narrow-any us t b clear cancelled clear2 cancelled2 None may h = tt
-narrow-any us t b clear cancelled clear2 cancelled2 (Some w) may h = narrow us t b clear cancelled clear2 cancelled2 w may h
+narrow-noted : (us : ℕ) (t : Tree) (b : ℕ) (clear cancelled clear2 cancelled2 : Option ℕ) (noted : Option Progress) → ((c : Option ℕ) → MayCome clear2 cancelled2 c → MayCome clear cancelled c) → HoldsAny us t b clear cancelled noted → HoldsAny us t b clear2 cancelled2 noted
+narrow-noted us t b clear cancelled clear2 cancelled2 None may h = tt
+narrow-noted us t b clear cancelled clear2 cancelled2 (Some (Ended at o)) may h = λ c m. h c (may c m)
+narrow-noted us t b clear cancelled clear2 cancelled2 (Some (Waits w)) may h = narrow us t b clear cancelled clear2 cancelled2 w may h
 
-sleeps-up-to : (us : ℕ) (t : Tree) (b : ℕ) (clear cancelled wake : Option ℕ) (at tick : ℕ) → IsLater at wake → IsUpTo tick wake → SleepsToAny us t b clear cancelled wake → SleepsTo us t b clear cancelled tick
+-- an end that is known is slept to
+holds-sleeps : (us : ℕ) (t : Tree) (b : ℕ) (clear cancelled : Option ℕ) (noted : Progress) → Holds us t b clear cancelled noted → SleepsTo us t b (MayCome clear cancelled) (tick_of noted)
+holds-sleeps us t b clear cancelled (Ended at o) h = record {
+  ends = λ c m. let e : (end_of us t b c).tick ≡ at = same-tick (end_of us t b c) (ending at o) (h c m) in omega arith;
+  same = λ c d m n g. h c m ∙ sym (h d n);
+}
+holds-sleeps us t b clear cancelled (Waits w) h = h
+
+sleeps-up-to : (us : ℕ) (t : Tree) (b : ℕ) (clear cancelled : Option ℕ) (noted : Option Progress) (at tick : ℕ) → IsLater at (wake_noted noted) → IsUpTo tick (wake_noted noted) → HoldsAny us t b clear cancelled noted → SleepsTo us t b (MayCome clear cancelled) tick
 sleeps-up-to us t b clear cancelled None at tick l u h = absurd l
-sleeps-up-to us t b clear cancelled (Some w) at tick l u h = sooner-sleep us t b clear cancelled w tick u h
+sleeps-up-to us t b clear cancelled (Some noted) at tick l u h = sooner-sleep us t b clear cancelled (tick_of noted) tick u (holds-sleeps us t b clear cancelled noted h)
 
 -- ---- the least wait stays the least
 unseen-before : (from : ℕ) (clear : Option ℕ) → IsClearBefore from clear → MayCome clear (Some from) (Some from)
@@ -86,162 +95,52 @@ agree-on at tick true None lt = λ t le. sym (by_lt tick t (omega arith))
 agree-on at tick false None lt = λ t le. refl
 agree-on at tick flag (Some from) lt = λ t le. refl
 
-least-on : (us : ℕ) (t : Tree) (begun at tick : ℕ) (flag : Bool) (clear cancelled wake : Option ℕ) → begun ≤ at → at < tick → IsKnownAt at clear cancelled → IsLater at wake → IsNoted us t begun clear cancelled at wake → IsLeastAfter us t begun (seen_from tick flag cancelled) tick wake
-least-on us t begun at tick flag clear cancelled None b lt k l n = tt
-least-on us t begun at tick flag clear cancelled (Some w) b lt k l n = λ before.
-    let least : w ≡ wait_of us t begun cancelled at = n.least l in
-    let by : w ≤ (end_of us t begun cancelled).tick = n.sleeps.ends cancelled (may-stay at clear cancelled k) in
+some-wake : (v w : ℕ) → Some v ≡ Some w → v ≡ w
+some-wake v w e = cc
+
+least-noted : (us : ℕ) (t : Tree) (begun at tick : ℕ) (flag : Bool) (clear cancelled : Option ℕ) (noted : Option Progress) → begun ≤ at → at < tick → IsKnownAt at clear cancelled → IsLater at (wake_noted noted) → HoldsAny us t begun clear cancelled noted → wake_noted noted ≡ Some (wait_of us t begun cancelled at)
+    → IsLeastAfter us t begun (seen_from tick flag cancelled) tick (wake_noted noted)
+least-noted us t begun at tick flag clear cancelled None b lt k l h e = tt
+least-noted us t begun at tick flag clear cancelled (Some noted) b lt k l h e = λ before.
+    let least : tick_of noted ≡ wait_of us t begun cancelled at = some-wake (tick_of noted) (wait_of us t begun cancelled at) e in
+    let by : tick_of noted ≤ (end_of us t begun cancelled).tick = (holds-sleeps us t begun clear cancelled noted h).ends cancelled (may-stay at clear cancelled k) in
     let late : at < (end_of us t begun cancelled).tick = omega arith in
     let d = seen_from tick flag cancelled in
     let agree = agree-on at tick flag cancelled lt in
     let same = same_wait us t begun at cancelled d b agree late in
     least ∙ same ∙ sym (wait_on us t begun at tick d b (omega arith) (pending_too us t begun at cancelled d agree late) (omega arith))
 
+abbrev body_run : ℕ → Tree → Option ℕ → Option ℕ → Stage → Option Progress → Run
+body_run us t clear cancelled stage noted = record { tree = t; tick_us = us; stage = stage; clear = clear; cancelled = cancelled; wake = wake_noted noted }
+
+pub least_on : (tick us : ℕ) (flag : Bool) (t : Tree) (clear cancelled : Option ℕ) (stage : Stage) (noted : Option Progress) → IsHeld us t clear cancelled stage noted → MaySet tick stage (wake_noted noted) → KeepsLeast (body_run us t clear cancelled stage noted)
+    → KeepsLeast (body_run us t (clear_to tick flag clear) (seen_from tick flag cancelled) (set_to tick stage) noted)
+least_on tick us flag t clear cancelled Fresh noted h k l = subst (λ (n : Option Progress). IsLeastAfter us t tick (seen_from tick flag cancelled) tick (wake_noted n)) (sym h.standing.2) tt
+least_on tick us flag t clear cancelled (Set begun at) noted h k l = absurd k
+least_on tick us flag t clear cancelled (Polled begun at) noted h k l =
+    let s = h.standing in
+    least-noted us t begun at tick flag clear cancelled noted s.1 k.0 s.0 s.2 s.3 l
+least_on tick us flag t clear cancelled Done noted h k l = absurd k
+
 -- ---- a tick that is set
-standing-on : (tick us : ℕ) (flag : Bool) (t : Tree) (clear cancelled : Option ℕ) (stage : Stage) (wake : Option ℕ) → IsStanding us t clear cancelled stage wake → MaySet tick stage (wake_in stage wake) → StaysSet cancelled flag
-    → IsStanding us t (clear_to tick flag clear) (seen_from tick flag cancelled) (set_to tick stage) wake
-standing-on tick us flag t clear cancelled Fresh wake h k stays = (
+standing-on : (tick us : ℕ) (flag : Bool) (t : Tree) (clear cancelled : Option ℕ) (stage : Stage) (noted : Option Progress) → IsStanding us t clear cancelled stage noted → MaySet tick stage (wake_noted noted) → StaysSet cancelled flag
+    → IsStanding us t (clear_to tick flag clear) (seen_from tick flag cancelled) (set_to tick stage) noted
+standing-on tick us flag t clear cancelled Fresh noted h k stays = (
   rw (h.0, h.1) (known-first tick flag),
   omega arith,
   record { ends = λ c m. not_sooner us t tick c; same = λ c d m n g. from_on us t tick c d g },
-  rw h.2 (record { sleeps = tt; least = tt }),
+  rw h.2 tt,
 )
-standing-on tick us flag t clear cancelled (Set begun at) wake h k stays = absurd k
-standing-on tick us flag t clear cancelled (Polled begun at) wake h k stays =
+standing-on tick us flag t clear cancelled (Set begun at) noted h k stays = absurd k
+standing-on tick us flag t clear cancelled (Polled begun at) noted h k stays =
     let may = λ (c : Option ℕ) (m : MayCome (clear_to tick flag clear) (seen_from tick flag cancelled) c). may_before at tick flag clear cancelled c k.0 (known-by at clear cancelled h.0) m in (
       known-next at tick flag clear cancelled k.0 h.0 stays,
       (let later : at < tick = k.0 in omega (arith, h.1)),
-      narrow us t begun clear cancelled (clear_to tick flag clear) (seen_from tick flag cancelled) tick may (sleeps-up-to us t begun clear cancelled wake at tick h.2 k.1 h.3.sleeps),
-      record {
-        sleeps = narrow-any us t begun clear cancelled (clear_to tick flag clear) (seen_from tick flag cancelled) wake may h.3.sleeps;
-        least = least-on us t begun at tick flag clear cancelled wake h.1 k.0 h.0 h.2 h.3;
-      },
+      narrow us t begun clear cancelled (clear_to tick flag clear) (seen_from tick flag cancelled) tick may (sleeps-up-to us t begun clear cancelled noted at tick h.2 k.1 h.3),
+      narrow-noted us t begun clear cancelled (clear_to tick flag clear) (seen_from tick flag cancelled) noted may h.3,
     )
-standing-on tick us flag t clear cancelled Done wake h k stays = absurd k
+standing-on tick us flag t clear cancelled Done noted h k stays = absurd k
 
-pub held_on : (tick us : ℕ) (flag : Bool) (t : Tree) (clear cancelled : Option ℕ) (stage : Stage) (wake : Option ℕ) → IsHeld us t clear cancelled stage wake → MaySet tick stage (wake_in stage wake) → StaysSet cancelled flag
-    → IsHeld us t (clear_to tick flag clear) (seen_from tick flag cancelled) (set_to tick stage) wake
-held_on tick us flag t clear cancelled stage wake h k stays = record { some = h.some; short = h.short; standing = standing-on tick us flag t clear cancelled stage wake h.standing k stays }
-
--- ---- a tick that passes in place of a poll
-clear-on : (at tick : ℕ) (clear c : Option ℕ) → clear ≡ Some at → at ≤ tick → MayCome (Some tick) None c → MayCome clear None c
-clear-on at tick clear c e le m = rw e ((λ t below. m.0 t (omega arith)), tt)
-
-later-back : (at tick : ℕ) (wake : Option ℕ) → at ≤ tick → IsLater tick wake → IsLater at wake
-later-back at tick None le l = absurd l
-later-back at tick (Some w) le l = omega arith
-
-passed-least : (us : ℕ) (t : Tree) (begun at tick : ℕ) (clear wake : Option ℕ) → begun ≤ at → at ≤ tick → IsKnownAt at clear None → IsLater at wake → IsNoted us t begun clear None at wake → IsLeastAfter us t begun None tick wake
-passed-least us t begun at tick clear None b le k l n = tt
-passed-least us t begun at tick clear (Some w) b le k l n = λ before.
-    let least : w ≡ wait_of us t begun None at = n.least l in
-    let by : w ≤ (end_of us t begun None).tick = n.sleeps.ends None (may-stay at clear None k) in
-    least ∙ sym (wait_on us t begun at tick None b le (omega arith) (omega arith))
-
-pub held_passed : (us : ℕ) (t : Tree) (clear cancelled : Option ℕ) (begun at tick : ℕ) (wake : Option ℕ) → IsHeld us t clear cancelled (Polled begun at) wake → at ≤ tick → IsLater tick wake → cancelled ≡ None → IsHeld us t (Some tick) cancelled (Polled begun tick) wake
-held_passed us t clear None begun at tick wake h le l n = record {
-  some = h.some;
-  short = h.short;
-  standing = (
-    refl,
-    (let begins : begun ≤ at = h.standing.1 in omega arith),
-    l,
-    record {
-      sleeps = narrow-any us t begun clear None (Some tick) None wake (λ c m. clear-on at tick clear c h.standing.0 le m) h.standing.3.sleeps;
-      least = passed-least us t begun at tick clear wake h.standing.1 le h.standing.0 (later-back at tick wake le l) h.standing.3;
-    },
-  );
-}
-held_passed us t clear (Some from) begun at tick wake h le l n = absurd (cc)
-
--- ---- what a poll may answer
-none_due : (tick : ℕ) (e : End) → tick < e.tick → None ≡ due tick e
-none_due tick e h = rw (by_lt e.tick tick h) refl
-
-some_due : (tick at : ℕ) (o : Outcome) (e : End) → e ≡ ending at o → at ≤ tick → Some o ≡ due tick e
-some_due tick at o e h le = rw (h, by_le at tick le) refl
-
--- what a poll in the tick that is set answers, for whatever may come
-abbrev pub AnswersNow : ℕ → Tree → ℕ → ℕ → Option ℕ → Option ℕ → Option Outcome → Type 0
-AnswersNow us t begun tick clear cancelled answer = (c : Option ℕ) → MayCome clear cancelled c → (answer ≡ due tick (end_of us t begun c)) × (tick ≤ (end_of us t begun c).tick)
-
-pub answered : (us : ℕ) (t : Tree) (clear cancelled : Option ℕ) (stage : Stage) (begun tick : ℕ) (wake : Option ℕ) (answer : Option Outcome) → stage ≡ Set begun tick → AnswersNow us t begun tick clear cancelled answer
-    → Answered (record { tree = t; tick_us = us; stage = stage; clear = clear; cancelled = cancelled; wake = wake_in stage wake }) answer
-answered us t clear cancelled stage begun tick wake answer e h =
-    subst (λ (x : Stage). Answered (record { tree = t; tick_us = us; stage = x; clear = clear; cancelled = cancelled; wake = wake_in x wake }) answer) (sym e) h
-
--- what a poll leaves, and what it answers
-pub record Leaves (us : ℕ) (t : Tree) (clear cancelled : Option ℕ) (begun tick : ℕ) (wake : Option ℕ) : Type 0 where
-  pub held : IsHeld us t clear cancelled (Polled begun tick) wake
-  pub later : IsLater tick wake
-  pub answers : AnswersNow us t begun tick clear cancelled None
-
--- ---- a poll that looks at the tree
-unseen-to : (tick : ℕ) (clear c : Option ℕ) → clear ≡ Some tick → MayCome clear None c → AgreeTo tick None c
-unseen-to tick clear c e m = λ t le. sym ((rw e at m).0 t le)
-
-from-known : (from tick : ℕ) (clear c : Option ℕ) → from ≤ tick → MayCome clear (Some from) c → AgreeFrom tick c (Some from)
-from-known from tick clear c le m = λ t late. m.1 t (omega arith) ∙ sym (by_le from t (omega arith))
-
--- a cancellation that was seen fixes the end
-one-end : (us : ℕ) (t : Tree) (begun tick from : ℕ) (clear c : Option ℕ) → IsKnownAt tick clear (Some from) → SleepsTo us t begun clear (Some from) tick → MayCome clear (Some from) c → end_of us t begun c ≡ end_of us t begun (Some from)
-one-end us t begun tick from clear c k h m = h.same c (Some from) m (unseen-before from clear k.1) (from-known from tick clear c k.0 m)
-
-ends-now : (us : ℕ) (t : Tree) (begun tick : ℕ) (clear cancelled c : Option ℕ) → IsKnownAt tick clear cancelled → SleepsTo us t begun clear cancelled tick → MayCome clear cancelled c → (end_of us t begun cancelled).tick ≤ tick → end_of us t begun c ≡ end_of us t begun cancelled
-ends-now us t begun tick clear None c k h m le = sym (causal us t begun tick None c (unseen-to tick clear c k m) le)
-ends-now us t begun tick clear (Some from) c k h m le = one-end us t begun tick from clear c k h m
-
-over : (us : ℕ) (t : Tree) (clear cancelled : Option ℕ) (begun tick at : ℕ) (o : Outcome) (wake : Option ℕ) → IsHeld us t clear cancelled (Set begun tick) wake → IsProgress us t begun cancelled tick (Ended at o) → AnswersNow us t begun tick clear cancelled (Some o)
-over us t clear cancelled begun tick at o wake h p = λ c m.
-    let come : (end_of us t begun cancelled).tick ≤ tick = rw p.0 p.1 in (
-      some_due tick at o (end_of us t begun c) (ends-now us t begun tick clear cancelled c h.standing.0 h.standing.2 m come ∙ p.0) p.1,
-      h.standing.2.ends c m,
-    )
-
-pub is_over : (us : ℕ) (t : Tree) (clear cancelled : Option ℕ) (stage : Stage) (begun tick at : ℕ) (o : Outcome) (wake : Option ℕ) → stage ≡ Set begun tick → IsHeld us t clear cancelled stage wake → IsProgress us t begun cancelled tick (Ended at o) → AnswersNow us t begun tick clear cancelled (Some o)
-is_over us t clear cancelled stage begun tick at o wake e h p = over us t clear cancelled begun tick at o wake (subst (λ (x : Stage). IsHeld us t clear cancelled x wake) e h) p
-
-goes : (us : ℕ) (t : Tree) (clear cancelled : Option ℕ) (begun tick w : ℕ) → begun ≤ tick → IsKnownAt tick clear cancelled → SleepsTo us t begun clear cancelled tick → tick < (end_of us t begun cancelled).tick → w ≡ wait_of us t begun cancelled tick
-    → SleepsTo us t begun clear cancelled w × ((c : Option ℕ) → MayCome clear cancelled c → tick < (end_of us t begun c).tick)
-goes us t clear None begun tick w b k h late e = (
-  record {
-    ends = λ c m.
-        let agree = unseen-to tick clear c k m in
-        let wait = waits us t begun tick c b (pending_too us t begun tick None c agree late) in
-        let same : wait_of us t begun None tick ≡ wait_of us t begun c tick = same_wait us t begun tick None c b agree late in
-        let by : wait_of us t begun c tick ≤ (end_of us t begun c).tick = wait.1 in
-        omega arith;
-    same = λ c d m n g.
-        let agree = unseen-to tick clear c k m in
-        let other = unseen-to tick clear d k n in
-        let same : wait_of us t begun None tick ≡ wait_of us t begun c tick = same_wait us t begun tick None c b agree late in
-        still us t begun tick w c d b (λ x le. sym (agree x le) ∙ other x le) g (pending_too us t begun tick None c agree late) (omega arith);
-  },
-  λ c m. pending_too us t begun tick None c (unseen-to tick clear c k m) late,
-)
-goes us t clear (Some from) begun tick w b k h late e = (
-  record {
-    ends = λ c m.
-        let wait = waits us t begun tick (Some from) b late in
-        let by : wait_of us t begun (Some from) tick ≤ (end_of us t begun (Some from)).tick = wait.1 in
-        let same : (end_of us t begun c).tick ≡ (end_of us t begun (Some from)).tick = same-tick (end_of us t begun c) (end_of us t begun (Some from)) (one-end us t begun tick from clear c k h m) in
-        omega arith;
-    same = λ c d m n g. one-end us t begun tick from clear c k h m ∙ sym (one-end us t begun tick from clear d k h n);
-  },
-  λ c m. rw (one-end us t begun tick from clear c k h m) late,
-)
-
-waiting-on : (us : ℕ) (t : Tree) (clear cancelled : Option ℕ) (begun tick w : ℕ) (wake : Option ℕ) → IsHeld us t clear cancelled (Set begun tick) wake → IsProgress us t begun cancelled tick (Waits w) → Leaves us t clear cancelled begun tick (Some w)
-waiting-on us t clear cancelled begun tick w wake h p =
-    let s = h.standing in
-    let g = goes us t clear cancelled begun tick w s.1 s.0 s.2 p.0 p.1 in
-    let wait = waits us t begun tick cancelled s.1 p.0 in
-    let later : tick < w = let l : tick < wait_of us t begun cancelled tick = wait.0 in omega (arith, p.1) in
-    record {
-      held = record { some = h.some; short = h.short; standing = (s.0, s.1, later, record { sleeps = g.0; least = λ l. p.1 }) };
-      later = later;
-      answers = λ c m. let late : tick < (end_of us t begun c).tick = g.1 c m in (none_due tick (end_of us t begun c) late, omega arith);
-    }
-
-pub waits_on : (us : ℕ) (t : Tree) (clear cancelled : Option ℕ) (stage : Stage) (begun tick w : ℕ) (wake : Option ℕ) → stage ≡ Set begun tick → IsHeld us t clear cancelled stage wake → IsProgress us t begun cancelled tick (Waits w) → Leaves us t clear cancelled begun tick (Some w)
-waits_on us t clear cancelled stage begun tick w wake e h p = waiting-on us t clear cancelled begun tick w wake (subst (λ (x : Stage). IsHeld us t clear cancelled x wake) e h) p
+pub held_on : (tick us : ℕ) (flag : Bool) (t : Tree) (clear cancelled : Option ℕ) (stage : Stage) (noted : Option Progress) → IsHeld us t clear cancelled stage noted → MaySet tick stage (wake_noted noted) → StaysSet cancelled flag
+    → IsHeld us t (clear_to tick flag clear) (seen_from tick flag cancelled) (set_to tick stage) noted
+held_on tick us flag t clear cancelled stage noted h k stays = record { some = h.some; short = h.short; standing = standing-on tick us flag t clear cancelled stage noted h.standing k stays }

@@ -1,11 +1,11 @@
 -- A tree that goes on sleeps to the least tick at which a wait of it ends.
 use Rattle.std.proofs.Common.{◌≡◌, ℕ, ◌+◌, ◌≤◌, ◌<◌, Bool, true, false, cond, max, min, Option, nat_le, arith, refl, ap, sym, ◌∙◌}
 use Rattle.loop_script.specs.Tree.{Tree, value, fail, sleep, check, seq, both, first, within}
-use Rattle.task_steps.specs.End.{End, is_ok, followed, joined, earlier, limited, end_of, ticks_of}
+use Rattle.task_steps.specs.End.{End, is_ok, end_of, ticks_of}
 use Rattle.task_steps.specs.Wake.{wait_of}
-use Rattle.task_steps.specs.RunInside.{AgreeFrom}
+use Rattle.task_steps.specs.Progress.{AgreeTo}
 use Rattle.task_steps.proofs.Begins.{not_sooner}
-use Rattle.task_steps.proofs.Ends.{AgreeTo, agree_back, le_by, lt_by, by_le, by_lt, same-tick, earlier_tick, limited_tick, cond-tick, cond-late, is-on, followed-same, from_on, causal}
+use Rattle.task_steps.proofs.Ends.{agree_back, le_by, lt_by, by_le, by_lt, same-tick, earlier_tick, limited_tick, cond-tick, cond-late, is-on, causal}
 
 -- ---- the wait of a tree that goes on is later than the tick, and not later than the end
 abbrev pub IsWait : (k wait end : ℕ) → Type 0
@@ -100,62 +100,6 @@ same_wait us (within n a) f k c d le h late =
     let e = limited_tick (f + ticks_of us n) (end_of us a f c) in
     let r = same_wait us a f k c d le h (omega arith) in
     λ i. min (f + ticks_of us n) (r i)
-
--- ---- what comes before it makes no difference to the end
-lesser-a : (p q : Bool) (k x v w wake : ℕ) → nat_le x k ≡ p → k < x → wake ≤ cond p w (cond q v (min v w)) → wake ≤ v
-lesser-a true q k x v w wake hp late h = let a : x ≤ k = le_by x k hp in absurd (omega arith)
-lesser-a false true k x v w wake hp late h = h
-lesser-a false false k x v w wake hp late h = omega arith
-
-lesser-b : (p q : Bool) (k y v w wake : ℕ) → nat_le y k ≡ q → k < y → wake ≤ cond p w (cond q v (min v w)) → wake ≤ w
-lesser-b true q k y v w wake hq late h = h
-lesser-b false true k y v w wake hq late h = let a : y ≤ k = le_by y k hq in absurd (omega arith)
-lesser-b false false k y v w wake hq late h = omega arith
-
-either-way : (k : ℕ) (x y : End) → (x.tick ≤ k → x ≡ y) → (k < x.tick → x ≡ y) → x ≡ y
-either-way k x y f g = split (nat_le x.tick k) refl
-  where
-    split : (p : Bool) → nat_le x.tick k ≡ p → x ≡ y
-    split true hp = f (le_by x.tick k hp)
-    split false hp = g (lt_by x.tick k hp)
-
-seq-still : (p : Bool) (k wake : ℕ) (x y : End) (v w : ℕ) (m n : ℕ → End) → nat_le x.tick k ≡ p → k < (cond (is_ok x.outcome) (m x.tick) x).tick → wake ≤ cond p w v → (x.tick ≤ k → x ≡ y) → (k < x.tick → wake ≤ v → x ≡ y) → (k < x.tick → v ≤ x.tick)
-    → (x.tick ≤ k → k < (m x.tick).tick → wake ≤ w → m x.tick ≡ n x.tick) → (wake ≤ x.tick → m x.tick ≡ n x.tick) → followed x m ≡ followed y n
-seq-still true k wake x y v w m n hp late by over pends waits on from =
-    let le : x.tick ≤ k = le_by x.tick k hp in
-    followed-same x y m n (over le) (λ ok. on le (cond-late (is_ok x.outcome) k (m x.tick) x late ok) by)
-seq-still false k wake x y v w m n hp late by over pends waits on from =
-    let lt : k < x.tick = lt_by x.tick k hp in
-    let ends : v ≤ x.tick = waits lt in
-    followed-same x y m n (pends lt by) (λ ok. from (omega arith))
-
-pub still : (us : ℕ) (t : Tree) (f k wake : ℕ) (c d : Option ℕ) → f ≤ k → AgreeTo k c d → AgreeFrom wake c d → k < (end_of us t f c).tick → wake ≤ wait_of us t f c k → end_of us t f c ≡ end_of us t f d
-still us (value v) f k wake c d le h g late by = refl
-still us fail f k wake c d le h g late by = refl
-still us (sleep n) f k wake c d le h g late by = refl
-still us check f k wake c d le h g late by = absurd (omega arith)
-still us (seq a b) f k wake c d le h g late by =
-    let x : End = end_of us a f c in
-    seq-still (nat_le x.tick k) k wake x (end_of us a f d) (wait_of us a f c k) (wait_of us b x.tick c k) (λ t. end_of us b t c) (λ t. end_of us b t d) refl late by
-    (causal us a f k c d h) (λ lt. still us a f k wake c d le h g lt) (λ lt. (waits us a f k c le lt).1)
-    (λ on lt. still us b x.tick k wake c d on h g lt) (λ from. from_on us b x.tick c d (λ t later. g t (omega arith)))
-still us (both a b) f k wake c d le h g late by =
-    let p = nat_le (end_of us a f c).tick k in
-    let q = nat_le (end_of us b f c).tick k in
-    let v = wait_of us a f c k in
-    let w = wait_of us b f c k in
-    let one = either-way k (end_of us a f c) (end_of us a f d) (causal us a f k c d h) (λ l. still us a f k wake c d le h g l (lesser-a p q k (end_of us a f c).tick v w wake refl l by)) in
-    let other = either-way k (end_of us b f c) (end_of us b f d) (causal us b f k c d h) (λ l. still us b f k wake c d le h g l (lesser-b p q k (end_of us b f c).tick v w wake refl l by)) in
-    λ i. joined (one i) (other i)
-still us (first a b) f k wake c d le h g late by =
-    let e = earlier_tick (end_of us a f c) (end_of us b f c) in
-    let r = still us a f k wake c d le h g (omega arith) (omega arith) in
-    let s = still us b f k wake c d le h g (omega arith) (omega arith) in
-    λ i. earlier (r i) (s i)
-still us (within n a) f k wake c d le h g late by =
-    let e = limited_tick (f + ticks_of us n) (end_of us a f c) in
-    let r = still us a f k wake c d le h g (omega arith) (omega arith) in
-    λ i. limited (f + ticks_of us n) (r i)
 
 -- ---- until it ends it stays the least
 seq-on : (p : Bool) (k m : ℕ) (x u : End) (v v2 w w2 : ℕ) → nat_le x.tick k ≡ p → k ≤ m → k < (cond (is_ok x.outcome) u x).tick → m < cond p w v → (k < x.tick → IsWait k v x.tick) → (k < x.tick → m < v → v2 ≡ v) → (x.tick ≤ k → k < u.tick → m < w → w2 ≡ w)

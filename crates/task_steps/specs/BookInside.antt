@@ -79,9 +79,9 @@ AreWaitingAfter (Some last) polled es = AreWaiting (last + 1) polled es
 -- when a run in a stage may give something next
 abbrev pub wake_of_stage : Tick → Run → Stage → Option Tick
 wake_of_stage first run Fresh = Some first
-wake_of_stage first run (Set begun at) = run.wake
+wake_of_stage first run (Set begun at) = None
 wake_of_stage first run (Polled begun at) = run.wake
-wake_of_stage first run Done = run.wake
+wake_of_stage first run Done = None
 
 -- the same of an entry
 abbrev pub wake_of_entry : Entry → Option Tick

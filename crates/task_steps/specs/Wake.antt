@@ -1,4 +1,4 @@
--- When a task that goes on is looked at next.
+-- When a wait of a tree that goes on ends, and the sooner of two ticks.
 use Rattle.std.specs.Prelude.{◌+◌, Option, None, Some, min, nat_le, if◌then◌else◌}
 use Rattle.loop_script.specs.Units.{Tick, Microseconds}
 use Rattle.loop_script.specs.Tree.{Tree, value, fail, sleep, check, seq, both, first, within}

@@ -5,14 +5,13 @@ ghost use Rattle.task_steps.specs.Task.{task_of};
 ghost use Rattle.task_steps.specs.Book.{started};
 ghost use Rattle.task_steps.specs.declared.stage.Stage.TheVariants.{Fresh};
 
+use crate::body::Body;
 use crate::entry::Entry;
-use crate::run::TaskRun;
 use loop_script::TaskSpec;
-use std::alloc::{AllocError, Global};
+use std::alloc::AllocError;
 
 /// A task that is first polled in the tick after the given one.
 pub(crate) fn new_entry(
-    alloc: Global,
     spec: &TaskSpec,
     ctx: u32,
     tick: u32,
@@ -25,7 +24,7 @@ pub(crate) fn new_entry(
     ensures task { IfOk result (λ e. task_of e ≡ started tick_us number spec.now ctx tick) }
     ensures stage { IfOk result (λ e. e.run.stage ≡ Fresh) }
 {
-    let run = TaskRun::new(alloc, &spec.tree, tick_us)?;
+    let run = Body::new(&spec.tree, tick_us)?;
     Ok(Entry {
         number,
         ctx,

@@ -2,7 +2,7 @@
 ghost use Rattle.std.specs.Prelude.{◌≡◌, ◌&&◌};
 ghost use Rattle.task_steps.specs.Task.{answer_as};
 
-use crate::run::TaskRun;
+use crate::body::{Body, Look};
 use loop_script::Outcome;
 
 /// The reply of a task, which is posted once.
@@ -43,7 +43,7 @@ pub(crate) struct Entry {
     pub cancel: Option<u32>,
     pub check: bool,
     pub return_on_cancel: bool,
-    pub run: TaskRun,
+    pub run: Body,
 }
 
 /// What a poll gives, where `end` is the outcome of a body that ends in it. A task that returns on cancel replies where
@@ -105,7 +105,7 @@ impl Entry {
     {
         let before = self.run.was_cancelled();
         self.run.set_tick(tick, cancelled);
-        let end = self.run.poll();
+        let end = self.run.poll(Look::Ahead);
         given(self.return_on_cancel, cancelled, before, end)
     }
 
@@ -127,7 +127,7 @@ impl Entry {
         }
     }
 
-    /// The tick in which the task is begun, or the least one in which a wait ends.
+    /// The tick in which the task is begun, or the one to which its body sleeps.
     pub(crate) fn wake(&self) -> Option<u64>
         ensures { result ≡ wake_of_entry self.now }
     {

@@ -1,6 +1,7 @@
 //! Tasks as trees that are asked tick by tick how far they are: the run of one task, and the book of a lane's tasks.
 #![tactic(auto)]
 
+mod body;
 mod book;
 mod entries;
 mod entry;

@@ -20,7 +20,8 @@ pub struct TaskShown {
     pub cancel: Option<u32>,
     /// Whether it has replied already: it returns on cancel, and a poll saw it as cancelled.
     pub replied: bool,
-    /// The tick of its first poll, where that has not come, and else the least one in which a wait of its body ends.
+    /// The tick of its first poll, where that has not come, and else one before which its body does not end, whatever may
+    /// come: its end, or where a check of it is begun before that may still be seen as cancelled, the first of these.
     pub wake: Option<u64>,
 }
 

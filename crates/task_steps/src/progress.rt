@@ -1,10 +1,10 @@
-//! How far a task's tree is by a tick: its end, or until when it waits. Nothing is kept of it between two looks.
-ghost use Rattle.std.specs.Prelude.{◌≡◌, ◌+◌, ◌<◌, ◌≤◌, Option};
+//! How far a task's tree is by a tick, now or ahead: its end, or until when it waits.
+ghost use Rattle.std.specs.Prelude.{◌≡◌, ◌+◌, ◌<◌, ◌≤◌, true, Option};
 ghost use Rattle.loop_script.specs.Bounds.{longest_tick, longest_time};
-ghost use Rattle.loop_script.specs.Tree.{Tree, sleep, both, first, within};
+ghost use Rattle.loop_script.specs.Tree.{Tree, sleep, check, both, first, within};
 ghost use Rattle.loop_script.specs.Units.{Tick, Microseconds};
 ghost use Rattle.task_steps.specs.End.{both_of, checked, seen, ticks_of};
-ghost use Rattle.task_steps.specs.Progress.{IsProgress, ok_at};
+ghost use Rattle.task_steps.specs.Progress.{EndsIn, IsKnown, IsPending, IsProgress, come_by, ok_at, tick_of};
 
 use loop_script::{Node, Outcome, TaskTree};
 
@@ -13,7 +13,7 @@ use loop_script::{Node, Outcome, TaskTree};
 pub(crate) enum Progress {
     /// It ended in this tick, with this outcome.
     Ended { tick: u32, outcome: Outcome },
-    /// It goes on; the least tick at which a sleep or limit in progress ends.
+    /// It goes on, and nothing happens before this tick: asked up to now, the least at which a sleep or limit in progress ends.
     Waits(u64),
 }
 
@@ -30,12 +30,52 @@ impl Progress {
             _ => None,
         }
     }
+
+    /// The outcome, where it ends by a tick.
+    pub(crate) fn come_by(self, tick: u32) -> Option<Outcome>
+        ensures { result ≡ come_by tick self }
+    {
+        match self {
+            Progress::Ended { tick: end, outcome } if end <= tick => Some(outcome),
+            _ => None,
+        }
+    }
+
+    /// Whether it ends in a tick.
+    fn ends_in(self, tick: u32) -> bool
+        ensures { result ≡ true → EndsIn tick self }
+    {
+        matches!(self, Progress::Ended { tick: end, .. } if end == tick)
+    }
+
+    /// Whether it holds on in a tick, as an end does, and a wait before it ends.
+    pub(crate) fn holds_on(self, tick: u32) -> bool
+        ensures { result ≡ true → IsPending tick self }
+    {
+        match self {
+            Progress::Ended { .. } => true,
+            Progress::Waits(wake) => u64::from(tick) < wake,
+        }
+    }
+
+    /// The tick of its end, or the one to which it waits.
+    pub(crate) fn tick(self) -> u64
+        ensures { result ≡ tick_of self }
+    {
+        match self {
+            Progress::Ended { tick, .. } => u64::from(tick),
+            Progress::Waits(wake) => wake,
+        }
+    }
 }
 
-/// When a tree is looked at, and what is known then.
+/// What is asked of a tree, and what is known of its cancellable.
 #[derive(Clone, Copy)]
 pub(crate) struct Moment {
+    /// The tick by which it is asked how far the tree is, now or ahead.
     pub tick: u32,
+    /// Up to which tick it is known what polls see, no later one. A check that is begun later is waited for.
+    pub known: u32,
     /// How many microseconds a tick has.
     pub tick_us: u64,
     /// From which tick on its cancellable was seen as cancelled.
@@ -85,11 +125,13 @@ fn both_of(a: Outcome, b: Outcome) -> Outcome
 }
 
 /// How far a sleep is.
-fn slept(begun: u32, us: u64, at: Moment) -> Progress
+fn slept(begun: u32, us: u64, at: &Moment) -> Progress
     requires us { us ≤ longest_time }
-    requires some { 0 < at.tick_us }
-    requires short { at.tick_us ≤ longest_tick }
-    ensures { IsProgress at.tick_us (sleep us) begun at.cancelled at.tick result }
+    requires some { 0 < at.now.tick_us }
+    requires short { at.now.tick_us ≤ longest_tick }
+    requires known { at.now.known ≤ at.now.tick }
+    ensures now { IsProgress at.now.tick_us (sleep us) begun at.now.cancelled at.now.tick result }
+    ensures ahead { IsKnown at.now.tick_us (sleep us) begun at.now.cancelled at.now.known at.now.tick result }
 {
     let end = u64::from(begun) + ticks_of(us, at.tick_us);
     if end <= u64::from(at.tick) {
@@ -102,9 +144,26 @@ fn slept(begun: u32, us: u64, at: Moment) -> Progress
     }
 }
 
+/// How far a check is.
+fn asked(begun: u32, at: &Moment) -> Progress
+    requires begun { begun ≤ at.now.tick }
+    ensures now { at.now.tick ≤ at.now.known → IsProgress at.now.tick_us check begun at.now.cancelled at.now.tick result }
+    ensures ahead { IsKnown at.now.tick_us check begun at.now.cancelled at.now.known at.now.tick result }
+{
+    if begun <= at.known {
+        Progress::Ended {
+            tick: begun,
+            outcome: checked(is_seen(at.cancelled, begun)),
+        }
+    } else {
+        Progress::Waits(u64::from(begun))
+    }
+}
+
 /// How far two parts are that are both waited for.
 fn joined(one: Progress, other: Progress) -> Progress
-    ensures { (tick_us : Microseconds) (a b : Tree) (f tick : Tick) (c : Option Tick) → IsProgress tick_us a f c tick one → IsProgress tick_us b f c tick other → IsProgress tick_us (both a b) f c tick result }
+    ensures now { (tick_us : Microseconds) (a b : Tree) (f tick : Tick) (c : Option Tick) → IsProgress tick_us a f c tick one → IsProgress tick_us b f c tick other → IsProgress tick_us (both a b) f c tick result }
+    ensures ahead { (tick_us : Microseconds) (a b : Tree) (f known tick : Tick) (c : Option Tick) → IsKnown tick_us a f c known tick one → IsKnown tick_us b f c known tick other → IsKnown tick_us (both a b) f c known tick result }
 {
     match (one, other) {
         (
@@ -127,25 +186,31 @@ fn joined(one: Progress, other: Progress) -> Progress
 
 /// How far two parts are of which the earlier end counts, the first where both end in a tick.
 fn earlier(one: Progress, other: Progress) -> Progress
-    ensures { (tick_us : Microseconds) (a b : Tree) (f tick : Tick) (c : Option Tick) → IsProgress tick_us a f c tick one → IsProgress tick_us b f c tick other → IsProgress tick_us (first a b) f c tick result }
+    ensures now { (tick_us : Microseconds) (a b : Tree) (f tick : Tick) (c : Option Tick) → IsProgress tick_us a f c tick one → IsProgress tick_us b f c tick other → IsProgress tick_us (first a b) f c tick result }
+    ensures ahead { (tick_us : Microseconds) (a b : Tree) (f known tick : Tick) (c : Option Tick) → IsKnown tick_us a f c known tick one → IsKnown tick_us b f c known tick other → IsKnown tick_us (first a b) f c known tick result }
 {
     match (one, other) {
         (Progress::Ended { tick: a, .. }, Progress::Ended { tick: b, .. }) => {
             if a <= b { one } else { other }
         }
-        (Progress::Ended { .. }, Progress::Waits(_)) => one,
-        (Progress::Waits(_), Progress::Ended { .. }) => other,
+        (Progress::Ended { tick: a, .. }, Progress::Waits(b)) => {
+            if u64::from(a) <= b { one } else { other }
+        }
+        (Progress::Waits(a), Progress::Ended { tick: b, .. }) => {
+            if u64::from(b) < a { other } else { one }
+        }
         (Progress::Waits(a), Progress::Waits(b)) => Progress::Waits(a.min(b)),
     }
 }
 
 /// How far a part is that has a limit.
 fn limited(limit: u64, tick: u32, body: Progress) -> Progress
-    ensures { (tick_us us : Microseconds) (a : Tree) (f : Tick) (c : Option Tick) → limit ≡ f + ticks_of tick_us us → IsProgress tick_us a f c tick body → IsProgress tick_us (within us a) f c tick result }
+    ensures now { (tick_us us : Microseconds) (a : Tree) (f : Tick) (c : Option Tick) → limit ≡ f + ticks_of tick_us us → IsProgress tick_us a f c tick body → IsProgress tick_us (within us a) f c tick result }
+    ensures ahead { (tick_us us : Microseconds) (a : Tree) (f known : Tick) (c : Option Tick) → limit ≡ f + ticks_of tick_us us → known ≤ tick → IsKnown tick_us a f c known tick body → IsKnown tick_us (within us a) f c known tick result }
 {
     match body {
         Progress::Ended { tick: end, .. } if u64::from(end) <= limit => body,
-        _ if limit <= u64::from(tick) => Progress::Ended {
+        _ if limit <= u64::from(tick) && limit < body.tick() => Progress::Ended {
             tick: limit as u32,
             outcome: Outcome::TimedOut,
         },
@@ -155,12 +220,14 @@ fn limited(limit: u64, tick: u32, body: Progress) -> Progress
 }
 
 /// How far a tree is that is begun in a tick, by the moment that is given.
-#[tactic(auto, using(crate::proofs::Parts::seq_stays, crate::proofs::Parts::seq_goes))]
-pub(crate) fn progress_of(tree: &TaskTree, begun: u32, at: Moment) -> Progress
-    requires some { 0 < at.tick_us }
-    requires short { at.tick_us ≤ longest_tick }
-    requires begun { begun ≤ at.tick }
-    ensures { IsProgress at.tick_us tree.now begun at.cancelled at.tick result }
+#[tactic(auto, using(crate::proofs::Parts::seq_stays, crate::proofs::Parts::seq_goes, crate::proofs::Known::stays_known, crate::proofs::Known::goes_known, crate::proofs::Parts::first_now, crate::proofs::Parts::first_known))]
+pub(crate) fn progress_of(tree: &TaskTree, begun: u32, at: &Moment) -> Progress
+    requires some { 0 < at.now.tick_us }
+    requires short { at.now.tick_us ≤ longest_tick }
+    requires begun { begun ≤ at.now.tick }
+    requires known { at.now.known ≤ at.now.tick }
+    ensures now { at.now.tick ≤ at.now.known → IsProgress at.now.tick_us tree.now begun at.now.cancelled at.now.tick result }
+    ensures ahead { IsKnown at.now.tick_us tree.now begun at.now.cancelled at.now.known at.now.tick result }
 {
     match &tree.node {
         Node::Value(value) => Progress::Ended {
@@ -172,10 +239,7 @@ pub(crate) fn progress_of(tree: &TaskTree, begun: u32, at: Moment) -> Progress
             outcome: Outcome::Failed,
         },
         Node::Sleep(us) => slept(begun, *us, at),
-        Node::Check => Progress::Ended {
-            tick: begun,
-            outcome: checked(is_seen(at.cancelled, begun)),
-        },
+        Node::Check => asked(begun, at),
         Node::Seq { first, next } => {
             let progress = progress_of(first, begun, at);
             match progress.ok_at() {
@@ -187,7 +251,11 @@ pub(crate) fn progress_of(tree: &TaskTree, begun: u32, at: Moment) -> Progress
             joined(progress_of(one, begun, at), progress_of(other, begun, at))
         }
         Node::First { one, other } => {
-            earlier(progress_of(one, begun, at), progress_of(other, begun, at))
+            let progress = progress_of(one, begun, at);
+            if progress.ends_in(begun) {
+                return progress;
+            }
+            earlier(progress, progress_of(other, begun, at))
         }
         Node::Within(us, body) => {
             let limit = u64::from(begun) + ticks_of(*us, at.tick_us);

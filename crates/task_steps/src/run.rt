@@ -1,8 +1,7 @@
 //! The run of one task.
-ghost use Rattle.std.specs.Prelude.{◌≡◌, ℕ, ◌+◌, ◌<◌, ◌≤◌, None, is_some, IfOk, IsTrue, ◌↔◌};
+ghost use Rattle.std.specs.Prelude.{◌≡◌, ℕ, ◌+◌, ◌<◌, ◌≤◌, None, IfOk, IsTrue, ◌↔◌};
 
-use crate::progress::{Moment, Progress, progress_of};
-use crate::stage::{Stage, clear_to, is_asleep, seen_from, set_to};
+use crate::body::{Body, Look};
 use loop_script::{Outcome, TaskTree};
 use std::alloc::{AllocError, Global};
 use std::marker::Model;
@@ -13,13 +12,7 @@ use std::marker::Model;
 /// Ticks may be passed over, but none at which a wait ends (`next_wake`).
 #[derive(Drop)]
 pub struct TaskRun {
-    tree: TaskTree,
-    tick_us: u64,
-    stage: Stage,
-    clear: Option<u32>,
-    cancelled: Option<u32>,
-    /// What the last poll that found it pending left: the least tick at which a wait in progress ends.
-    wake: Option<u64>,
+    body: Body,
 }
 
 impl Model for TaskRun {
@@ -33,16 +26,16 @@ impl Model for TaskRun {
 
     ghost coded = { Prim.hlevel (codes, tree_code, stages.the_row.coded) };
 
-    ghost use Rattle.task_steps.specs.RunInside.{IsHeld, wake_in};
+    ghost use Rattle.task_steps.specs.RunInside.{KeepsLeast, shown_run};
 
-    ghost view = { λ r. record { tree = r.tree; tick_us = r.tick_us; stage = r.stage; clear = r.clear; cancelled = r.cancelled; wake = wake_in r.stage r.wake } };
+    ghost view = { λ r. shown_run r.body };
 
-    ghost invariant = { λ r. IsHeld r.tick_us r.tree r.clear r.cancelled r.stage r.wake };
+    ghost invariant = { λ r. KeepsLeast r.body };
 }
 
 impl TaskRun {
     ghost use Rattle.loop_script.specs.Bounds.{longest_tick};
-    ghost use Rattle.task_steps.specs.Run.{MaySet, StaysSet, IsSet, Answered, WakesLater, NoneBefore, IsLeastWait, MayPass, stage_to, clear_passed, set_to, seen_from, clear_to, stage_after};
+    ghost use Rattle.task_steps.specs.Run.{MaySet, StaysSet, IsSet, Answered, WakesLater, NoneBefore, IsLeastWait, set_to, seen_from, clear_to, stage_after};
     ghost use Rattle.task_steps.specs.declared.stage.Stage.TheVariants.{Fresh, Done};
 
     /// A task that no poll has begun; a tick is so many microseconds long. It takes no memory of the allocator, and is refused
@@ -53,12 +46,7 @@ impl TaskRun {
         ensures { IfOk result (λ r. r ≡ record { tree = tree.now; tick_us = tick_us; stage = Fresh; clear = None; cancelled = None; wake = None }) }
     {
         Ok(TaskRun {
-            tree: tree.share()?,
-            tick_us,
-            stage: Stage::Fresh,
-            clear: None,
-            cancelled: None,
-            wake: None,
+            body: Body::new(tree, tick_us)?,
         })
     }
 
@@ -68,42 +56,14 @@ impl TaskRun {
         requires stays { StaysSet self.old.cancelled cancelled }
         ensures { self.new ≡ record self.old { stage = set_to tick self.old.stage; clear = clear_to tick cancelled self.old.clear; cancelled = seen_from tick cancelled self.old.cancelled; wake = None } }
     {
-        self.stage = set_to(self.stage, tick);
-        self.clear = clear_to(tick, cancelled, self.clear);
-        self.cancelled = seen_from(tick, cancelled, self.cancelled);
-    }
-
-    /// Notes a tick before its wake as one in which a poll would have seen it as not cancelled and found it pending, in place
-    /// of that poll. One that no poll has begun stays as it is.
-    pub(crate) fn pass_to(&mut self, tick: u32)
-        requires { MayPass tick self.old.cancelled self.old.wake self.old.stage }
-        ensures { self.new ≡ record self.old { stage = stage_to tick self.old.stage; clear = clear_passed tick self.old.stage self.old.clear } }
-    {
-        if let Stage::Polled { begun, .. } = self.stage {
-            self.stage = Stage::Polled { begun, tick };
-            self.clear = Some(tick);
-        }
-    }
-
-    /// Whether a tick was set as cancelled.
-    pub(crate) fn was_cancelled(&self) -> bool
-        ensures { result ≡ is_some self.now.cancelled }
-    {
-        self.cancelled.is_some()
-    }
-
-    /// Whether no tick was set.
-    pub(crate) fn is_fresh(&self) -> bool
-        ensures { IsTrue result ↔ (self.now.stage ≡ Fresh) }
-    {
-        matches!(self.stage, Stage::Fresh)
+        self.body.set_tick(tick, cancelled);
     }
 
     /// Whether the task has ended.
     pub fn is_done(&self) -> bool
         ensures { IsTrue result ↔ (self.now.stage ≡ Done) }
     {
-        matches!(self.stage, Stage::Done)
+        self.body.is_done()
     }
 
     /// The outcome, where the task ends in the tick that was set; none where it is pending. Before its wake that costs the
@@ -115,31 +75,7 @@ impl TaskRun {
         ensures wakes { WakesLater self.new }
         ensures end { NoneBefore self.new self.new.wake }
     {
-        match self.stage {
-            Stage::Set { begun, tick } => {
-                if is_asleep(tick, self.wake) {
-                    self.stage = Stage::Polled { begun, tick };
-                    return None;
-                }
-                let moment = Moment {
-                    tick,
-                    tick_us: self.tick_us,
-                    cancelled: self.cancelled,
-                };
-                match progress_of(&self.tree, begun, moment) {
-                    Progress::Ended { outcome, .. } => {
-                        self.stage = Stage::Done;
-                        Some(outcome)
-                    }
-                    Progress::Waits(wake) => {
-                        self.stage = Stage::Polled { begun, tick };
-                        self.wake = Some(wake);
-                        None
-                    }
-                }
-            }
-            _ => None,
-        }
+        self.body.poll(Look::Now)
     }
 
     /// The least tick at which a sleep or limit in progress ends; none for a done one. The task ends in none before it.
@@ -148,9 +84,6 @@ impl TaskRun {
         ensures least { IsLeastWait self.now result }
         ensures end { NoneBefore self.now self.now.wake }
     {
-        match self.stage {
-            Stage::Polled { .. } => self.wake,
-            _ => None,
-        }
+        self.body.next_wake()
     }
 }

@@ -1,6 +1,6 @@
 //! Where a run stands.
-ghost use Rattle.std.specs.Prelude.{◌≡◌, IsTrue, ◌↔◌};
-ghost use Rattle.task_steps.specs.Run.{set_to, seen_from, clear_to, IsLater};
+ghost use Rattle.std.specs.Prelude.{◌≡◌};
+ghost use Rattle.task_steps.specs.Run.{set_to, seen_from, clear_to};
 
 /// Where a run stands between its calls; a run is begun in the tick that is set first.
 #[derive(Clone, Copy, Debug, PartialEq, Eq)]
@@ -42,14 +42,4 @@ pub(crate) fn clear_to(tick: u32, cancelled: bool, before: Option<u32>) -> Optio
     ensures { result ≡ clear_to tick cancelled before }
 {
     if cancelled { before } else { Some(tick) }
-}
-
-/// Whether there is a wake, and a tick is before it.
-pub(crate) fn is_asleep(tick: u32, wake: Option<u64>) -> bool
-    ensures { IsTrue result ↔ IsLater tick wake }
-{
-    match wake {
-        None => false,
-        Some(wake) => u64::from(tick) < wake,
-    }
 }

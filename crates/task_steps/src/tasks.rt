@@ -25,7 +25,7 @@ fn sooner(a: Option<u64>, b: Option<u64>) -> Option<u64>
 /// What is known of some tasks without a look at each.
 #[derive(Clone, Copy)]
 pub(crate) struct Mark {
-    /// The least tick in which one is begun or a wait of it ends.
+    /// The least tick in which one is begun, or to which its body sleeps.
     pub wake: Option<u64>,
     /// Whether one has a cancellable that no poll of it saw as cancelled.
     pub heeds: bool,
@@ -91,20 +91,19 @@ fn two(alloc: Global, left: Tasks, right: Tasks) -> Result<Tasks, AllocError>
     Ok(Tasks::Two { mark, left, right })
 }
 
-/// The same, with no node where one of them has no task.
-fn pair(alloc: Global, left: Tasks, right: Tasks) -> Result<Tasks, AllocError>
-    requires left { IsMarked left }
-    requires right { IsMarked right }
-    ensures entries { IfOk result (λ t. entries_of t ≡ entries_of left ++ entries_of right) }
-    ensures marked { IfOk result (λ t. IsMarked t) }
+/// The same in the boxes that are given, with no node where the first has no task. It takes no memory.
+#[tactic(auto, using(crate::proofs::Marks::mark_joined))]
+fn pair(left: Box<Tasks>, right: Box<Tasks>) -> Tasks
+    requires left { IsMarked left.value }
+    requires right { IsMarked right.value }
+    ensures entries { entries_of result ≡ entries_of left.value ++ entries_of right.value }
+    ensures marked { IsMarked result }
 {
     if left.is_gone() {
-        Ok(right)
-    } else if right.is_gone() {
-        Ok(left)
-    } else {
-        two(alloc, left, right)
+        return Box::into_inner(right);
     }
+    let mark = left.mark().join(right.mark());
+    Tasks::Two { mark, left, right }
 }
 
 /// Whether neither has a task, as far as that is known without a look below.
@@ -155,18 +154,17 @@ impl Tasks {
         ensures entries { OnOk result (entries_of self.new ≡ entries_of self.old ++ entries_of tasks) }
         ensures marked { OnOk result (IsMarked self.new) }
     {
-        match self {
-            Tasks::Two { left, right, .. } if trees > 0 => {
-                let last = mem::replace(&mut **right, Tasks::Gone);
-                let tasks = pair(alloc, last, tasks)?;
-                left.append(alloc, trees - 1, tasks)?;
-                let all = mem::replace(&mut **left, Tasks::Gone);
-                *self = all;
+        match mem::replace(self, Tasks::Gone) {
+            Tasks::Two {
+                mut left,
+                right,
+                ..
+            } if trees > 0 => {
+                let mut before = mem::replace(&mut *left, tasks);
+                before.append(alloc, trees - 1, pair(right, left))?;
+                *self = before;
             }
-            _ => {
-                let before = mem::replace(self, Tasks::Gone);
-                *self = two(alloc, before, tasks)?;
-            }
+            before => *self = two(alloc, before, tasks)?,
         }
         Ok(())
     }
@@ -186,6 +184,9 @@ impl Tasks {
         ensures marked { OnOk result (IsMarked self.new) }
         ensures none { entries_of self.old ≡ [] → IsOk result }
     {
+        if self.mark().is_quiet(round) {
+            return Ok(());
+        }
         match self {
             Tasks::Gone => {}
             Tasks::One(entry) => {
@@ -194,9 +195,6 @@ impl Tasks {
                 }
             }
             Tasks::Two { mark, left, right } => {
-                if mark.is_quiet(round) {
-                    return Ok(());
-                }
                 left.poll(round, view, replies, late)?;
                 right.poll(round, view, replies, late)?;
                 *mark = left.mark().join(right.mark());

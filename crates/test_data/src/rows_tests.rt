@@ -75,6 +75,24 @@ fn steps_of_two_levels() -> [Known; 16] {
     ]
 }
 
+/// Roots that are moved and destroyed while no row has a child, and then beside one that has.
+fn steps_of_roots() -> [Known; 12] {
+    [
+        (Step::Attach(idle()), Ok(1), &[1]),
+        (Step::Attach(timeout()), Ok(2), &[2, 1]),
+        (Step::Attach(timeout()), Ok(3), &[2, 3, 1]),
+        (Step::Priority(2, 0), Ok(0), &[3, 2, 1]),
+        (Step::Priority(1, -1), Ok(0), &[1, 3, 2]),
+        (Step::Destroy(3), Ok(1), &[1, 2]),
+        (Step::Priority(3, 0), Err(RowsFault::NoSource), &[1, 2]),
+        (Step::Attach(timeout()), Ok(4), &[1, 2, 4]),
+        (Step::Child(1, idle()), Ok(5), &[5, 1, 2, 4]),
+        (Step::Priority(1, 0), Ok(0), &[2, 4, 5, 1]),
+        (Step::Destroy(4), Ok(1), &[2, 5, 1]),
+        (Step::Destroy(1), Ok(1), &[2]),
+    ]
+}
+
 /// A chain of four, and then a root with two branches and one that is more urgent until the first has its priority.
 fn steps_of_four_levels() -> [Known; 14] {
     [
@@ -117,6 +135,12 @@ fn expect_steps(
 #[test]
 fn two_levels(rt: HostRuntime) -> Result<(), Fail> {
     expect_steps(&rt, rt.alloc(), Levels::Two, &steps_of_two_levels())
+}
+
+#[test]
+fn roots(rt: HostRuntime) -> Result<(), Fail> {
+    expect_steps(&rt, rt.alloc(), Levels::Two, &steps_of_roots())?;
+    expect_steps(&rt, rt.alloc(), Levels::Four, &steps_of_roots())
 }
 
 #[test]
@@ -164,16 +188,22 @@ fn refused_rows_of_two_levels(rt: HostRuntime) {
 }
 
 #[test]
+fn refused_rows_of_roots(rt: HostRuntime) {
+    expect_refused(&rt, rt.alloc(), Levels::Two, &steps_of_roots());
+}
+
+#[test]
 fn refused_rows_of_four_levels(rt: HostRuntime) {
     expect_refused(&rt, rt.alloc(), Levels::Four, &steps_of_four_levels());
 }
 
-/// One random edit of the rows and of the plain ones; both then have the same rows in the same order.
+/// One random edit of the rows and of the plain ones, none of which is given a child where they do not nest; both then have the same rows in the same order.
 fn edit(
     alloc: Global,
     random: &mut Random,
     rows: &mut Tried,
     plain: &mut Plain,
+    nests: bool,
 ) -> Result<(), Fail> {
     let choice = if plain.len() > 24 {
         12
@@ -187,8 +217,8 @@ fn edit(
         ..idle()
     };
     let same = match choice {
-        0..=3 => rows.attach(spec, 0) == Ok(plain.attach(spec.priority)?),
-        4..=9 => rows.add_child(id, spec, 0) == plain.add_child(id)?,
+        4..=9 if nests => rows.add_child(id, spec, 0) == plain.add_child(id)?,
+        0..=9 => rows.attach(spec, 0) == Ok(plain.attach(spec.priority)?),
         10..=13 => rows.destroy(id) == plain.destroy(id),
         14..=15 => rows.set_ready(id, ready) == plain.set_ready(id, ready),
         16..=17 => rows.set_priority(id, spec.priority) == plain.set_priority(id, spec.priority),
@@ -212,8 +242,9 @@ fn random_edits(rt: HostRuntime) -> Result<(), Fail> {
         let mut random = Random::new(20);
         let mut rows = Tried::new(rt.alloc(), levels);
         let mut plain = Plain::new(rt.alloc(), levels);
-        for _ in 0..2_000_u64 {
-            edit(rt.alloc(), &mut random, &mut rows, &mut plain)?;
+        for step in 0..2_500_u64 {
+            let nests = step >= 500;
+            edit(rt.alloc(), &mut random, &mut rows, &mut plain, nests)?;
             for row in rows.rows.in_order() {
                 assert!(rt; plain.has(&row), "a row as it was made and edited");
             }

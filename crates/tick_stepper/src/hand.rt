@@ -1,5 +1,5 @@
 //! Contexts go from lane to lane at the end of a tick, and then letters are delivered.
-ghost use Rattle.std.specs.Prelude.{◌≡◌, ◌+◌, ◌<◌, ◌≤◌, Some, map, length, OnOk, IfOk};
+ghost use Rattle.std.specs.Prelude.{◌≡◌, ◌+◌, ◌<◌, ◌≤◌, Some, is_some, map, length, OnOk, IfOk};
 ghost use Rattle.std.specs.Option.{option_and_then};
 ghost use Rattle.loop_script.specs.Bounds.{most_lanes, most_ticks};
 ghost use Rattle.post_office.specs.declared.letter.Body.TheVariants.{Give as GiveBody};
@@ -41,20 +41,25 @@ fn take_over(tick: u32, lanes: &mut [LaneState], to: u32, held: Held) -> Result<
     lanes[to as usize].take_over(tick, held)
 }
 
-/// A context goes from the lane that gave it to another; nothing does where that lane gave none of its number.
-fn hand(
+/// Lets the context that a lane has given go over to the lane of a number, and answers whether one did: none does where that
+/// lane gave none of its number. An error is want of memory; after it one of the lanes may be spent.
+pub fn move_context(
     tick: u32,
     lanes: &mut [LaneState],
     sender: u32,
     context: u32,
     to: u32,
-) -> Result<(), HandFault>
+) -> Result<bool, HandFault>
     requires lined { AreLined lanes.old }
-    ensures { OnOk result (lanes.new ≡ unspent_all (moved tick (handing_by sender (GiveBody context to) (lanes_in lanes.old)) (lanes_in lanes.old))) }
+    ensures went { IfOk result (λ went. went ≡ is_some (handing_by sender (GiveBody context to) (lanes_in lanes.old))) }
+    ensures gone { OnOk result (lanes.new ≡ unspent_all (moved tick (handing_by sender (GiveBody context to) (lanes_in lanes.old)) (lanes_in lanes.old))) }
 {
     match hand_over(lanes, sender, context)? {
-        None => Ok(()),
-        Some(held) => take_over(tick, lanes, to, held),
+        None => Ok(false),
+        Some(held) => {
+            take_over(tick, lanes, to, held)?;
+            Ok(true)
+        }
     }
 }
 
@@ -64,7 +69,10 @@ fn hand_by(tick: u32, lanes: &mut [LaneState], letter: &Letter) -> Result<(), Ha
     ensures { OnOk result (HasGone tick letter.now lanes.old lanes.new) }
 {
     match letter.body {
-        Body::Give(context, to) => hand(tick, lanes, letter.sender, context, to),
+        Body::Give(context, to) => {
+            move_context(tick, lanes, letter.sender, context, to)?;
+            Ok(())
+        }
         Body::Attach(_, _) | Body::Complete(_) | Body::Cancelled(_) => Ok(()),
     }
 }

@@ -24,4 +24,5 @@ mod work;
 pub use crew::Sharing;
 pub use fault::{OutOfMemory, StepFault};
 pub use gate::{Gate, OpenGate};
+pub use hand::move_context;
 pub use stepper::Stepper;

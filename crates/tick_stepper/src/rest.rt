@@ -1,5 +1,5 @@
 //! Lanes that are left alone until their next turn.
-ghost use Rattle.std.specs.Prelude.{◌≡◌, ◌+◌, ◌<◌, ◌++◌, not, IfOk, IsPermutation};
+ghost use Rattle.std.specs.Prelude.{◌≡◌, ◌+◌, ◌<◌, ◌≤◌, ◌++◌, not, IfOk, IsPermutation};
 ghost use Rattle.std.specs.List.{All, filter, list_any};
 ghost use Rattle.std.specs.List.Sorted.{IsNonDecreasingBy};
 ghost use Rattle.loop_script.specs.Bounds.{most_ticks};
@@ -34,7 +34,7 @@ impl Resting {
 
     /// The lane, brought to a tick.
     fn wake(self, tick: u32) -> Result<LaneState, LaneFault>
-        requires tick { tick < 4097 }
+        requires tick { tick ≤ most_ticks }
         requires passed { HasPassed tick self }
         ensures { IfOk result (λ lane. lane ≡ woken tick self) }
     {
@@ -71,7 +71,7 @@ pub(crate) fn wake_all(
     mut lanes: Vec<LaneState>,
     resting: Vec<Resting>,
 ) -> Result<Vec<LaneState>, OutOfMemory>
-    requires tick { tick < 4097 }
+    requires tick { tick ≤ most_ticks }
     requires passed { All (HasPassed tick) resting.items }
     ensures { IfOk result (λ all. all.items ≡ lanes.items ++ all_woken tick resting.items) }
 {

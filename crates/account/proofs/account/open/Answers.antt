@@ -6,8 +6,8 @@ use Rattle.loop_script.specs.declared.plan.Plan.{Plan}
 use Rattle.lane_turn.specs.Lane.{State}
 use Rattle.lane_turn.specs.Turn.{opening}
 use Rattle.lane_turn.specs.Tick.{opened}
-use Rattle.account.specs.Standing.{unspent, lanes_of}
-use Rattle.account.proofs.Lined.{lanes_unspent}
+use Rattle.tick_stepper.specs.Share.{unspent, lanes_in as lanes_of}
+use Rattle.tick_stepper.proofs.Lined.{lanes_unspent}
 use Rattle.account.proofs.account.open.Goals as goal
 
 -- when the loop is over, there are all lanes

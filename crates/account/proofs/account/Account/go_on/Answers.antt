@@ -5,7 +5,8 @@ use Rattle.tick_stepper.specs.Account.{Place, started, lanes_in}
 use Rattle.account.specs.Course.{Course}
 use Rattle.account.specs.declared.going.Going.{Going}
 use Rattle.account.specs.Told.{IsQuietTo, HasPassed}
-use Rattle.account.specs.Standing.{lanes_of, place_of, AreUnspent}
+use Rattle.account.specs.Standing.{place_of, AreUnspent}
+use Rattle.tick_stepper.specs.Share.{lanes_in as lanes_of}
 use Rattle.account.proofs.Within.{ends_within}
 use Rattle.account.proofs.Goings.{stands_started, lanes_in_place, still}
 use Rattle.account.proofs.Quiet.{one_more, quiet_end}

@@ -4,7 +4,8 @@ use Rattle.lane_turn.specs.Lane.{State}
 use Rattle.account.specs.declared.going.Going.{Going}
 use Rattle.account.specs.declared.moment.Deed.TheVariants as deeds
 use Rattle.account.specs.Within.{polled}
-use Rattle.account.specs.Standing.{lanes_of, turning, place_of}
+use Rattle.account.specs.Standing.{turning, place_of}
+use Rattle.tick_stepper.specs.Share.{lanes_in as lanes_of}
 use Rattle.account.specs.Told.{trace_at, IsMoment}
 use Rattle.account.proofs.Goings.{stands_begun, begun_place}
 use Rattle.account.proofs.Moments.{begin_moment, grows_between}

@@ -1,7 +1,8 @@
 use Rattle.std.proofs.Common.{◌+◌, ◌<◌, ◌≤◌, length, ap, ◌∙◌, refl, arith}
 use Rattle.account.specs.declared.going.Going.{Going}
 use Rattle.account.specs.declared.going.Phase.TheVariants as phases
-use Rattle.account.specs.Standing.{lanes_of, place_of}
+use Rattle.account.specs.Standing.{place_of}
+use Rattle.tick_stepper.specs.Share.{lanes_in as lanes_of}
 use Rattle.account.proofs.States.{lanes_length}
 use Rattle.account.proofs.Goings.{stands_passed, passed_place, still}
 use Rattle.account.proofs.Quiet.{not_yet, one_more, quiet_step, passed_quiet, nothing_later, brought_end}

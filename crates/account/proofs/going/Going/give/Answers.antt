@@ -5,12 +5,15 @@ use Rattle.account.specs.declared.going.Going.{Going}
 use Rattle.account.specs.declared.going.Phase.TheVariants as phases
 use Rattle.account.specs.Standing.{place_of}
 use Rattle.account.specs.Told.{IsMoment}
-use Rattle.account.proofs.Goings.{stands_given, stands_gone, gone_place, still}
+use Rattle.account.proofs.Goings.{lined_at, stands_given, stands_gone, gone_place, still}
 use Rattle.account.proofs.Quiet.{not_yet, one_more, quiet_step, gone_quiet, tells_later, nothing_later, ok_some_weaker}
 use Rattle.account.proofs.going.Going.give.Goals as goal
 
 pub loop-place-init : goal.loop-place-init
 loop-place-init c = record { stands = c.requires.stands; phase = c.requires.phase; letters = refl; quiet = not_yet _ _; still = refl }
+
+pub hand-requires-clause-lined : goal.hand-requires-clause-lined
+hand-requires-clause-lined c = lined_at c.args.script.now c.args.tick c.loop-place.place c.loop-place.self c.loop-place.invariant.stands c.loop-place.invariant.phase
 
 pub returns-in-Some-clause-stands : goal.returns-in-Some-clause-stands
 returns-in-Some-clause-stands c =

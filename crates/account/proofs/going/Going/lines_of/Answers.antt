@@ -1,6 +1,6 @@
 use Rattle.std.proofs.Common.{length, ap, sym, ◌∙◌, List}
 use Rattle.lane_turn.specs.Lane.{State}
-use Rattle.account.specs.Standing.{lanes_of}
+use Rattle.tick_stepper.specs.Share.{lanes_in as lanes_of}
 use Rattle.account.specs.Told.{trace_at}
 use Rattle.account.proofs.Lines.{lines_none, lines_some}
 use Rattle.account.proofs.going.Going.lines_of.Goals as goal

@@ -6,7 +6,8 @@ use Rattle.tick_stepper.specs.Account.{moved}
 use Rattle.account.specs.declared.going.Going.{Going}
 use Rattle.account.specs.declared.going.Phase.TheVariants as phases
 use Rattle.account.specs.declared.moment.Deed.TheVariants as deeds
-use Rattle.account.specs.Standing.{lanes_of, bringing, place_of}
+use Rattle.account.specs.Standing.{bringing, place_of}
+use Rattle.tick_stepper.specs.Share.{lanes_in as lanes_of}
 use Rattle.account.specs.Told.{trace_at, IsMoment}
 use Rattle.account.proofs.Goings.{stands_received, received_place}
 use Rattle.account.proofs.Moments.{receive_moment, grows_between}

@@ -6,7 +6,8 @@ use Rattle.lane_turn.specs.Step.{step}
 use Rattle.lane_turn.specs.Turn.{stepped}
 use Rattle.tick_stepper.specs.Account.{moved}
 use Rattle.account.specs.declared.going.Going.{Going}
-use Rattle.account.specs.Standing.{lanes_of, turn_in, turning, turning_after, place_of, Stands}
+use Rattle.account.specs.Standing.{turn_in, turning, turning_after, place_of, Stands}
+use Rattle.tick_stepper.specs.Share.{lanes_in as lanes_of}
 use Rattle.std.specs.Prelude.{if◌then◌else◌}
 use Rattle.account.specs.declared.moment.Deed.TheVariants as deeds
 use Rattle.account.specs.Told.{trace_at, did_step, did_top, IsMoment}

@@ -2,17 +2,18 @@ use Rattle.std.proofs.Common.{◌==◌, rules, tests, sym, ap, ◌∙◌, List, 
 use Rattle.std.specs.List.{list_any}
 use Rattle.std.proofs.lemmas.Iterator.Consumers.{YieldsList-from_rest, YieldsList-from_filter_map}
 use Rattle.std.proofs.lemmas.Iterator.Search.{any_from_yields_List}
-use Rattle.lane_turn.specs.Frames.{Frame, blocked_in, busy}
-use Rattle.lane_turn.proofs.Resting.{filter_map-reverse}
+use Rattle.lane_turn.specs.Frames.{Frame, busy}
+use Rattle.lane_turn.specs.Nest.{blocked_by_layer}
+use Rattle.lane_turn.proofs.Resting.{busy_layers}
 use Rattle.lane_turn.proofs.Tallies.{none_busy}
 use Rattle.lane_turn.proofs.frames.Frames.blocks.Goals as goal
 
 pub returns-then-blocking-gt0 : goal.returns-then-blocking-gt0
 returns-then-blocking-gt0 c =
     any_from_yields_List (λ b. b == c.args.id) _ _ _ c.any.ensures.ran
-    (YieldsList-from_filter_map _ (blocked_in c.args.context) (YieldsList-from_rest (reverse c.args.self.now) cc) c.filter_map.ensures.closure (λ x r q k. search (rules, tests)))
+    (YieldsList-from_filter_map _ (blocked_by_layer c.args.context) (YieldsList-from_rest (reverse c.self.inside.chain) cc) c.filter_map.ensures.closure (λ x r q k. search (rules, tests)))
     (λ x b q k. search (rules, tests))
-    ∙ ap (list_any (λ b. b == c.args.id)) (filter_map-reverse (blocked_in c.args.context) c.args.self.now)
+    ∙ ap (list_any (λ b. b == c.args.id)) (busy_layers c.args.context c.self.inside.live.items c.self.inside.chain ∙ ap (busy c.args.context) c.self.view_is)
 
 pub returns-else-blocking-gt0 : goal.returns-else-blocking-gt0
 returns-else-blocking-gt0 c =

@@ -29,20 +29,13 @@ returns-in_err-entry-clause-entries c =
 
 pub returns-then-slot-clause-value : goal.returns-then-slot-clause-value
 returns-then-slot-clause-value c =
-    let items = c.self.inside.entries.items in
-    let at = c.in_ok-at.at in
     let e = c.in_ok-entry.entry.now in
-    let there = subst (λ (es : List Entry). IsAt c.args.id es at) c.deref.ensures.value c.in_ok-at.ensures.some in
-    let k = read c.args.id c.args.self.now items at e c.self.view_is c.self.invariant there c.in_ok-entry.ensures.item.3 in
+    let k = read c.args.id c.args.self.now _ _ _ _ c.self.view_is c.self.invariant c.deref.ensures.value c.in_ok-at.ensures.some c.in_ok-entry.ensures.item.3 in
     sym (k.slot ∙ ap (λ b. cond b (Some e.slot) None) (dead_by e c.if-slot.true))
 
 pub returns-then-slot-clause-entries : goal.returns-then-slot-clause-entries
 returns-then-slot-clause-entries c =
-    let items = c.self.inside.entries.items in
-    let at = c.in_ok-at.at in
-    let e = c.in_ok-entry.entry.now in
-    let there = subst (λ (es : List Entry). IsAt c.args.id es at) c.deref.ensures.value c.in_ok-at.ensures.some in
-    let k = read c.args.id c.args.self.now items at e c.self.view_is c.self.invariant there c.in_ok-entry.ensures.item.3 in
+    let k = read c.args.id c.args.self.now _ _ _ _ c.self.view_is c.self.invariant c.deref.ensures.value c.in_ok-at.ensures.some c.in_ok-entry.ensures.item.3 in
     k.same
 
 pub invariant_of-self-then-self-len : goal.invariant_of-self-then-self-len
@@ -50,26 +43,18 @@ invariant_of-self-then-self-len c =
     let items = c.self.inside.entries.items in
     let at = c.in_ok-at.at in
     let e = c.in_ok-entry.entry.now in
-    let there = subst (λ (es : List Entry). IsAt c.args.id es at) c.deref.ensures.value c.in_ok-at.ensures.some in
-    let k = read c.args.id c.args.self.now items at e c.self.view_is c.self.invariant there c.in_ok-entry.ensures.item.3 in
+    let k = read c.args.id c.args.self.now _ _ _ _ c.self.view_is c.self.invariant c.deref.ensures.value c.in_ok-at.ensures.some c.in_ok-entry.ensures.item.3 in
     subst IdsRise (sym c.leave_out_gone.ensures) (rises_left (slice_set items at (ended e)) k.rises)
 
 pub invariant_of-self-else-self-len : goal.invariant_of-self-else-self-len
 invariant_of-self-else-self-len c =
-    let items = c.self.inside.entries.items in
-    let at = c.in_ok-at.at in
-    let e = c.in_ok-entry.entry.now in
-    let there = subst (λ (es : List Entry). IsAt c.args.id es at) c.deref.ensures.value c.in_ok-at.ensures.some in
-    let k = read c.args.id c.args.self.now items at e c.self.view_is c.self.invariant there c.in_ok-entry.ensures.item.3 in
+    let k = read c.args.id c.args.self.now _ _ _ _ c.self.view_is c.self.invariant c.deref.ensures.value c.in_ok-at.ensures.some c.in_ok-entry.ensures.item.3 in
     k.rises
 
 pub returns-then-self-len-clause-value : goal.returns-then-self-len-clause-value
 returns-then-self-len-clause-value c =
-    let items = c.self.inside.entries.items in
-    let at = c.in_ok-at.at in
     let e = c.in_ok-entry.entry.now in
-    let there = subst (λ (es : List Entry). IsAt c.args.id es at) c.deref.ensures.value c.in_ok-at.ensures.some in
-    let k = read c.args.id c.args.self.now items at e c.self.view_is c.self.invariant there c.in_ok-entry.ensures.item.3 in
+    let k = read c.args.id c.args.self.now _ _ _ _ c.self.view_is c.self.invariant c.deref.ensures.value c.in_ok-at.ensures.some c.in_ok-entry.ensures.item.3 in
     sym (k.slot ∙ ap (λ b. cond b (Some e.slot) None) (alive_by e c.if-slot.false))
 
 pub returns-then-self-len-clause-entries : goal.returns-then-self-len-clause-entries
@@ -77,24 +62,16 @@ returns-then-self-len-clause-entries c =
     let items = c.self.inside.entries.items in
     let at = c.in_ok-at.at in
     let e = c.in_ok-entry.entry.now in
-    let there = subst (λ (es : List Entry). IsAt c.args.id es at) c.deref.ensures.value c.in_ok-at.ensures.some in
-    let k = read c.args.id c.args.self.now items at e c.self.view_is c.self.invariant there c.in_ok-entry.ensures.item.3 in
+    let k = read c.args.id c.args.self.now _ _ _ _ c.self.view_is c.self.invariant c.deref.ensures.value c.in_ok-at.ensures.some c.in_ok-entry.ensures.item.3 in
     ap living c.leave_out_gone.ensures ∙ (same_left (slice_set items at (ended e)) ∙ k.same)
 
 pub returns-else-self-len-clause-value : goal.returns-else-self-len-clause-value
 returns-else-self-len-clause-value c =
-    let items = c.self.inside.entries.items in
-    let at = c.in_ok-at.at in
     let e = c.in_ok-entry.entry.now in
-    let there = subst (λ (es : List Entry). IsAt c.args.id es at) c.deref.ensures.value c.in_ok-at.ensures.some in
-    let k = read c.args.id c.args.self.now items at e c.self.view_is c.self.invariant there c.in_ok-entry.ensures.item.3 in
+    let k = read c.args.id c.args.self.now _ _ _ _ c.self.view_is c.self.invariant c.deref.ensures.value c.in_ok-at.ensures.some c.in_ok-entry.ensures.item.3 in
     sym (k.slot ∙ ap (λ b. cond b (Some e.slot) None) (alive_by e c.if-slot.false))
 
 pub returns-else-self-len-clause-entries : goal.returns-else-self-len-clause-entries
 returns-else-self-len-clause-entries c =
-    let items = c.self.inside.entries.items in
-    let at = c.in_ok-at.at in
-    let e = c.in_ok-entry.entry.now in
-    let there = subst (λ (es : List Entry). IsAt c.args.id es at) c.deref.ensures.value c.in_ok-at.ensures.some in
-    let k = read c.args.id c.args.self.now items at e c.self.view_is c.self.invariant there c.in_ok-entry.ensures.item.3 in
+    let k = read c.args.id c.args.self.now _ _ _ _ c.self.view_is c.self.invariant c.deref.ensures.value c.in_ok-at.ensures.some c.in_ok-entry.ensures.item.3 in
     k.same

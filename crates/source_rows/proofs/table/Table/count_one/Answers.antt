@@ -1,67 +1,44 @@
-use Rattle.std.proofs.Common.{rules, ◌≡◌, ◌+◌, ◌<◌, ◌^◌, ℕ, ap, sym, ◌∙◌, refl, subst, Option, Some, None, List, false}
-use Rattle.std.specs.Map.{lookup}
+use Rattle.std.proofs.Common.{rules, ◌≡◌, ◌+◌, ◌<◌, ◌^◌, ap, sym, ◌∙◌, refl, subst, Option, Some, None, List}
 use Rattle.std.specs.Option.{option_map, IfSome}
-use Rattle.slab.specs.Slab.{get, with_value}
+use Rattle.slab.specs.Slab.{get}
 use Rattle.source_rows.specs.declared.row.Row.{Row}
 use Rattle.source_rows.specs.Rows.{row_of, changed}
-use Rattle.source_rows.specs.Seats.{in_seats}
-use Rattle.source_rows.specs.Slots.{rows_at, asks, IsTime}
+use Rattle.source_rows.specs.Slots.{rows_at, IsTime}
 use Rattle.source_rows.proofs.Edits.{Stays}
-use Rattle.source_rows.proofs.Filled.{in_slot, put_filled, rises_rows_at, times_put}
 use Rattle.source_rows.proofs.Forest.{found}
-use Rattle.source_rows.proofs.InSeats.{in_seats-same}
-use Rattle.source_rows.proofs.Kept.{put_one, none_changed}
-use Rattle.source_rows.proofs.Slots.{at_id, put_done, looked, none_there, id_of, may-put, neither}
+use Rattle.source_rows.proofs.Kept.{none_changed}
+use Rattle.source_rows.proofs.InPlace.{InPlace, in_place, kept_in_place, held_in_place}
+use Rattle.source_rows.proofs.Slots.{looked, none_there, id_of}
 use Rattle.source_rows.proofs.table.Table.count_one.Goals as goal
+use Rattle.source_rows.proofs.table.Table.count_one.Goals.{In-Some-get_mut}
 
-stays : Stays (λ r. record r { count = r.count + 1 })
+abbrev count_one : Row → Row
+count_one r = record r { count = r.count + 1 }
+
+stays : Stays count_one
 stays = record { key = λ r. refl; id = λ r. refl; level = λ r. refl; order = λ r. refl; parent = λ r. refl; lineage = λ r. refl }
+
+counts : (c : In-Some-get_mut) → InPlace count_one c.self.inside.slots c.self.inside.keys c.args.id c.in-Some.key c.in-Some-get_mut.slot.now
+counts c =
+    let at : get c.self.inside.slots c.in-Some.key ≡ Some c.in-Some-get_mut.slot.now = search rules in
+    in_place count_one stays c.self.inside.slots c.self.inside.keys c.args.id c.in-Some.key c.in-Some-get_mut.slot.now c.self.invariant.filled.table (sym c.slot_of.ensures ∙ c.in-Some.is) at
 
 pub invariant_of-self : goal.invariant_of-self
 invariant_of-self c =
-    let slots = c.self.inside.slots in
-    let entries = c.self.inside.keys in
+    let i = c.self.inside in
     let old = c.in-Some-get_mut.slot.now in
-    let row : Row = record old { count = old.count + 1 } in
-    let rows = rows_at slots entries in
-    let new = rows_at (with_value slots c.in-Some.key row) entries in
-    let at : get slots c.in-Some.key ≡ Some old = search rules in
-    let named = sym c.slot_of.ensures ∙ c.in-Some.is in
-    let there = in_slot slots c.args.id c.in-Some.key old entries c.self.invariant.filled.table named at in
-    let by_id : lookup (at_id row.id) entries ≡ Some c.in-Some.key = subst (λ (n : ℕ). lookup (at_id n) entries ≡ Some c.in-Some.key) (sym there.1) named in
-    let is : row_of row.id rows ≡ Some old = subst (λ (n : ℕ). row_of n rows ≡ Some old) (sym there.1) there.0 in
-    let done = (put_done slots c.in-Some.key row entries c.self.invariant.filled.table by_id).rows_are in
-    record {
-      filled = put_filled slots c.in-Some.key row old entries c.self.invariant.filled by_id at;
-      seated = record {
-        are = c.self.invariant.seated.are ∙ (sym (in_seats-same row old rows (rises_rows_at slots entries c.self.invariant.filled.table) is refl) ∙ ap in_seats (sym done));
-        few = c.self.invariant.seated.few;
-        low = c.self.invariant.seated.low;
-      };
-      quiet = λ e. may-put c.self.inside.may_ask rows new row c.self.invariant.quiet done (neither c.self.inside.may_ask (asks row.kind) e (found (λ r. asks r.kind ≡ false) c.args.id old rows (c.self.invariant.quiet e) there.0));
-      times = times_put rows new row c.self.invariant.times (found IsTime c.args.id old rows c.self.invariant.times there.0) done;
-    }
+    let at : get i.slots c.in-Some.key ≡ Some old = search rules in
+    let p = counts c.before.before in
+    held_in_place count_one stays (λ r. refl) i.slots i.keys c.args.id c.in-Some.key old i.seats i.seats i.may_ask i.may_nest c.self.invariant at p
+    (found IsTime c.args.id old (rows_at i.slots i.keys) c.self.invariant.times p.there)
+    (kept_in_place count_one i.slots i.keys c.args.id c.in-Some.key old i.seats c.self.invariant.filled.table c.self.invariant.seated p refl)
 
 pub returns-in-Some-get_mut-clause-count : goal.returns-in-Some-get_mut-clause-count
 returns-in-Some-get_mut-clause-count c =
-    let at : get c.self.inside.slots c.in-Some.key ≡ Some c.in-Some-get_mut.slot.now = search rules in
-    let there = in_slot c.self.inside.slots c.args.id c.in-Some.key c.in-Some-get_mut.slot.now c.self.inside.keys c.self.invariant.filled.table (sym c.slot_of.ensures ∙ c.in-Some.is) at in
-    sym (ap (λ (rows : List Row). option_map (λ (r : Row). r.count + 1) (row_of c.args.id rows)) (sym c.self.view_is) ∙ ap (option_map (λ (r : Row). r.count + 1)) there.0)
+    sym (ap (λ (rows : List Row). option_map (λ (r : Row). r.count + 1) (row_of c.args.id rows)) (sym c.self.view_is) ∙ ap (option_map (λ (r : Row). r.count + 1)) (counts c.before.before).there)
 
 pub returns-in-Some-get_mut-clause-rows : goal.returns-in-Some-get_mut-clause-rows
-returns-in-Some-get_mut-clause-rows c =
-    let slots = c.self.inside.slots in
-    let entries = c.self.inside.keys in
-    let old = c.in-Some-get_mut.slot.now in
-    let row : Row = record old { count = old.count + 1 } in
-    let rows = rows_at slots entries in
-    let at : get slots c.in-Some.key ≡ Some old = search rules in
-    let named = sym c.slot_of.ensures ∙ c.in-Some.is in
-    let there = in_slot slots c.args.id c.in-Some.key old entries c.self.invariant.filled.table named at in
-    let by_id : lookup (at_id row.id) entries ≡ Some c.in-Some.key = subst (λ (n : ℕ). lookup (at_id n) entries ≡ Some c.in-Some.key) (sym there.1) named in
-    let done = (put_done slots c.in-Some.key row entries c.self.invariant.filled.table by_id).rows_are in
-    put_one c.args.id old (λ r. record r { count = r.count + 1 }) stays rows _ (rises_rows_at slots entries c.self.invariant.filled.table) there.0 done
-    ∙ ap (changed c.args.id (λ r. record r { count = r.count + 1 })) c.self.view_is
+returns-in-Some-get_mut-clause-rows c = (counts c.before.before).changes ∙ ap (changed c.args.id count_one) c.self.view_is
 
 pub returns-in_default-get_mut-clause-count : goal.returns-in_default-get_mut-clause-count
 returns-in_default-get_mut-clause-count c =
@@ -91,8 +68,6 @@ returns-in_default-clause-rows c =
 
 pub overflow_add-count : goal.overflow_add-count
 overflow_add-count c =
-    let at : get c.self.inside.slots c.in-Some.key ≡ Some c.in-Some-get_mut.slot.now = search rules in
-    let there = in_slot c.self.inside.slots c.args.id c.in-Some.key c.in-Some-get_mut.slot.now c.self.inside.keys c.self.invariant.filled.table (sym c.slot_of.ensures ∙ c.in-Some.is) at in
-    let is = ap (row_of c.args.id) (sym c.self.view_is) ∙ there.0 in
+    let is = ap (row_of c.args.id) (sym c.self.view_is) ∙ (counts c).there in
     let few : c.in-Some-get_mut.slot.now.count < 2 ^ 63 = subst (λ (o : Option Row). IfSome o (λ r. r.count < 2 ^ 63)) is c.requires in
     search (rules, few)

@@ -8,9 +8,9 @@ use Rattle.task_steps.proofs.entry.Entry.poll.Goals as goal
 pub returns-clause-answer : goal.returns-clause-answer
 returns-clause-answer c =
     let e = c.args.self.now in
-    let answer : Answered (set_run c.args.tick c.args.cancelled e.run) c.poll-end.result = rw c.set_tick.ensures at c.poll-end.ensures.answer in
+    let answer : Answered (set_run c.args.tick c.args.cancelled e.run) c.poll-end.result = rw c.set_tick.ensures.set at c.poll-end.ensures.answer in
     let run : c.poll-end.new.self ≡ polled_run (set_run c.args.tick c.args.cancelled e.run) c.poll-end.result c.poll-end.new.self.wake =
-    c.poll-end.ensures.stays ∙ ap (λ (r : Run). polled_run r c.poll-end.result c.poll-end.new.self.wake) c.set_tick.ensures in
+    c.poll-end.ensures.stays ∙ ap (λ (r : Run). polled_run r c.poll-end.result c.poll-end.new.self.wake) c.set_tick.ensures.set in
     let given : c.given.result ≡ answer_as (e.return_on_cancel && c.args.cancelled) (is_some e.run.cancelled) c.poll-end.result =
     c.given.ensures ∙ ap (λ (b : Bool). answer_as (e.return_on_cancel && c.args.cancelled) b c.poll-end.result) c.was_cancelled-before.ensures in
     let from = answered c.args.tick c.args.cancelled e c.poll-end.result c.poll-end.new.self.wake c.requires answer in

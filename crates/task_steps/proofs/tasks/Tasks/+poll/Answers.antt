@@ -11,13 +11,7 @@ use Rattle.task_steps.proofs.tasks.Tasks.+poll.Goals as goal
 
 pub returns-then-is_quiet-clause-polled : goal.returns-then-is_quiet-clause-polled
 returns-then-is_quiet-clause-polled t c =
-    let es = entries_of c.in-Two.left.value ++ entries_of c.in-Two.right.value in
-    let is : entries_of c.args.self.now ≡ es = ap entries_of c.in-Two.is in
-    let marked = subst (λ (x : Tasks). IsMarked x) c.in-Two.is c.requires.marked in
-    let can = subst (λ (l : List Entry). CanPollAll c.args.round.tick c.args.round.polled c.args.view.now l) is c.requires.can in
-    let came = subst (λ (l : List Entry). NoneComes c.args.round.came c.args.view.now l) is c.requires.came in
-    subst (λ (l : List Entry). HasPolledAll c.args.round.tick c.args.round.polled c.args.view.now l es c.args.replies.now.items c.args.replies.now.items c.args.late.now.items c.args.late.now.items) (sym is)
-    (passed_quiet c.args.round c.args.view.now c.in-Two.mark es c.args.replies.now.items c.args.late.now.items marked.0 (c.is_quiet.ensures.0 c.if-is_quiet.true) can came)
+    passed_quiet c.args.round c.args.view.now c.mark.result (entries_of c.args.self.now) c.args.replies.now.items c.args.late.now.items c.mark.ensures (c.is_quiet.ensures.0 c.if-is_quiet.true) c.requires.can c.requires.came
 
 pub poll-requires : goal.poll-requires
 poll-requires t c =
@@ -83,8 +77,8 @@ pub returns-else-are_gone-clause-marked : goal.returns-else-are_gone-clause-mark
 returns-else-are_gone-clause-marked t c =
     let d : c.deref.result.now ≡ c.poll.new.self = search rules in
     let e : c.deref-in-Two.result.now ≡ c.poll-in-Two.new.self = search rules in
-    let m : c.mark.result ≡ mark_of (entries_of c.deref.result.now) = c.mark.ensures in
-    let n : c.mark-in-Two.result ≡ mark_of (entries_of c.deref-in-Two.result.now) = c.mark-in-Two.ensures in
-    let j : c.join.result ≡ joined_mark c.mark.result c.mark-in-Two.result = c.join.ensures in
+    let m : c.mark-in-Two.result ≡ mark_of (entries_of c.deref.result.now) = c.mark-in-Two.ensures in
+    let n : c.mark-in-Two-2.result ≡ mark_of (entries_of c.deref-in-Two.result.now) = c.mark-in-Two-2.ensures in
+    let j : c.join.result ≡ joined_mark c.mark-in-Two.result c.mark-in-Two-2.result = c.join.ensures in
     let mark : c.join.result ≡ joined_mark (mark_of (entries_of c.poll.new.self)) (mark_of (entries_of c.poll-in-Two.new.self)) = cc in
     (mark ∙ sym (mark_joined (entries_of c.poll.new.self) (entries_of c.poll-in-Two.new.self)), c.in_ok-poll-in-Two.ensures.marked, c.in_ok-poll-in-Two-2.ensures.marked)

@@ -1,0 +1,198 @@
+//! The run of a task's body, which looks at its tree as seldom as it may.
+ghost use Rattle.std.specs.Prelude.{◌≡◌, ◌<◌, ◌≤◌, None, Some, is_some, IfOk, IsTrue, ◌↔◌};
+ghost use Rattle.task_steps.specs.Progress.{IsPending, tick_of};
+ghost use Rattle.task_steps.specs.RunInside.{SeesTo};
+ghost use Rattle.task_steps.specs.declared.body.Look.TheVariants.{Now};
+
+use crate::progress::{Moment, Progress, progress_of};
+use crate::stage::{Stage, clear_to, seen_from, set_to};
+use loop_script::{Outcome, TaskTree};
+use std::alloc::AllocError;
+use std::marker::Model;
+
+/// How far a poll looks where it looks at the tree.
+#[derive(Clone, Copy)]
+pub(crate) enum Look {
+    /// To its tick. A body that goes on wakes at the least tick at which a sleep or limit in progress ends.
+    Now,
+    /// As far as it is known what polls will see. A body that goes on wakes at its end, or where a check of it is begun
+    /// before that may still be seen as cancelled, at the first of these.
+    Ahead,
+}
+
+/// A body in progress. It shares its tree with the script, and keeps nothing else that grows with it.
+#[derive(Drop)]
+pub(crate) struct Body {
+    tree: TaskTree,
+    tick_us: u64,
+    stage: Stage,
+    clear: Option<u32>,
+    cancelled: Option<u32>,
+    /// What the last look at the tree found, of a body that went on.
+    noted: Option<Progress>,
+}
+
+impl Model for Body {
+    ghost use Rattle.task_steps.specs.Run.{Run};
+
+    ghost Value = { Run };
+
+    ghost use Rattle.std.specs.Coded.{codes};
+    ghost use Rattle.loop_script.specs.Tree.{tree_code};
+    ghost use Rattle.task_steps.specs.contracts.stage.Stage as stages;
+
+    ghost coded = { Prim.hlevel (codes, tree_code, stages.the_row.coded) };
+
+    ghost use Rattle.task_steps.specs.RunInside.{IsHeld, wake_noted};
+
+    ghost view = { λ b. record { tree = b.tree; tick_us = b.tick_us; stage = b.stage; clear = b.clear; cancelled = b.cancelled; wake = wake_noted b.noted } };
+
+    ghost invariant = { λ b. IsHeld b.tick_us b.tree b.clear b.cancelled b.stage b.noted };
+}
+
+/// What a poll in a tick asks of a tree that is begun.
+fn moment(look: Look, tick: u32, tick_us: u64, cancelled: Option<u32>) -> Moment
+    ensures told { tick ≤ result.tick }
+    ensures known { result.known ≤ result.tick }
+    ensures sees { SeesTo tick cancelled result }
+    ensures now { look ≡ Now → (result.tick ≡ tick) × (result.known ≡ tick) }
+    ensures rest { (result.tick_us ≡ tick_us) × (result.cancelled ≡ cancelled) }
+{
+    let to = match look {
+        Look::Now => tick,
+        Look::Ahead => u32::MAX,
+    };
+    let known = if cancelled.is_some() { to } else { tick };
+    Moment {
+        tick: to,
+        known,
+        tick_us,
+        cancelled,
+    }
+}
+
+impl Body {
+    ghost use Rattle.loop_script.specs.Bounds.{longest_tick};
+    ghost use Rattle.task_steps.specs.Run.{MaySet, StaysSet, IsSet, Answered, WakesLater, NoneBefore, MayPass, stage_to, clear_passed, set_to, seen_from, clear_to, stage_after};
+    ghost use Rattle.task_steps.specs.RunInside.{Holds, KeepsLeast, IsLeastAfter, wake_in};
+    ghost use Rattle.task_steps.specs.declared.stage.Stage.TheVariants.{Fresh, Set, Done};
+
+    /// A body that no poll has begun; a tick is so many microseconds long. It is refused only where a part of the tree has
+    /// more sharers than can be counted.
+    pub(crate) fn new(tree: &TaskTree, tick_us: u64) -> Result<Body, AllocError>
+        requires some { 0 < tick_us }
+        requires short { tick_us ≤ longest_tick }
+        ensures { IfOk result (λ b. b ≡ record { tree = tree.now; tick_us = tick_us; stage = Fresh; clear = None; cancelled = None; wake = None }) }
+    {
+        Ok(Body {
+            tree: tree.share()?,
+            tick_us,
+            stage: Stage::Fresh,
+            clear: None,
+            cancelled: None,
+            noted: None,
+        })
+    }
+
+    /// Says in which tick the next poll is, and whether the task's cancellable is seen as cancelled in it.
+    pub(crate) fn set_tick(&mut self, tick: u32, cancelled: bool)
+        requires rising { MaySet tick self.old.stage self.old.wake }
+        requires stays { StaysSet self.old.cancelled cancelled }
+        ensures set { self.new ≡ record self.old { stage = set_to tick self.old.stage; clear = clear_to tick cancelled self.old.clear; cancelled = seen_from tick cancelled self.old.cancelled } }
+        ensures least { KeepsLeast self.old → KeepsLeast self.new }
+    {
+        self.stage = set_to(self.stage, tick);
+        self.clear = clear_to(tick, cancelled, self.clear);
+        self.cancelled = seen_from(tick, cancelled, self.cancelled);
+    }
+
+    /// Notes a tick before its wake as one in which a poll would have seen it as not cancelled and found it pending, in place
+    /// of that poll. One that no poll has begun stays as it is.
+    pub(crate) fn pass_to(&mut self, tick: u32)
+        requires { MayPass tick self.old.cancelled self.old.wake self.old.stage }
+        ensures { self.new ≡ record self.old { stage = stage_to tick self.old.stage; clear = clear_passed tick self.old.stage self.old.clear } }
+    {
+        if let Stage::Polled { begun, .. } = self.stage {
+            self.stage = Stage::Polled { begun, tick };
+            self.clear = Some(tick);
+        }
+    }
+
+    /// Whether a tick was set as cancelled.
+    pub(crate) fn was_cancelled(&self) -> bool
+        ensures { result ≡ is_some self.now.cancelled }
+    {
+        self.cancelled.is_some()
+    }
+
+    /// Whether no tick was set.
+    pub(crate) fn is_fresh(&self) -> bool
+        ensures { IsTrue result ↔ (self.now.stage ≡ Fresh) }
+    {
+        matches!(self.stage, Stage::Fresh)
+    }
+
+    /// Whether the body has ended.
+    pub(crate) fn is_done(&self) -> bool
+        ensures { IsTrue result ↔ (self.now.stage ≡ Done) }
+    {
+        matches!(self.stage, Stage::Done)
+    }
+
+    /// How far it is in the tick that is set: what was noted, where that holds on, or what a look at the tree finds.
+    fn progress(&self, begun: u32, tick: u32, look: Look) -> Progress
+        requires { self.now.stage ≡ Set begun tick }
+        ensures holds { Holds self.now.tick_us self.now.tree begun self.now.clear self.now.cancelled result }
+        ensures pending { IsPending tick result }
+        ensures least { look ≡ Now → KeepsLeast self.now → IsLeastAfter self.now.tick_us self.now.tree begun self.now.cancelled tick (Some (tick_of result)) }
+    {
+        match self.noted {
+            Some(noted) if noted.holds_on(tick) => noted,
+            _ => {
+                let at = moment(look, tick, self.tick_us, self.cancelled);
+                progress_of(&self.tree, begun, &at)
+            }
+        }
+    }
+
+    /// The outcome, where the body ends in the tick that was set; none where it is pending. Before its wake, and at an end
+    /// that was known before, that costs the same however large the tree is.
+    pub(crate) fn poll(&mut self, look: Look) -> Option<Outcome>
+        requires { IsSet self.old.stage }
+        ensures answer { Answered self.old result }
+        ensures stays { self.new ≡ record self.old { stage = stage_after self.old.stage result; wake = self.new.wake } }
+        ensures wakes { WakesLater self.new }
+        ensures end { NoneBefore self.new self.new.wake }
+        ensures least { look ≡ Now → KeepsLeast self.old → KeepsLeast self.new }
+    {
+        match self.stage {
+            Stage::Set { begun, tick } => {
+                let progress = self.progress(begun, tick, look);
+                match progress.come_by(tick) {
+                    Some(outcome) => {
+                        self.stage = Stage::Done;
+                        self.noted = None;
+                        Some(outcome)
+                    }
+                    None => {
+                        self.stage = Stage::Polled { begun, tick };
+                        self.noted = Some(progress);
+                        None
+                    }
+                }
+            }
+            _ => None,
+        }
+    }
+
+    /// The wake of a body that is pending after a poll: no end that may still come is before it.
+    pub(crate) fn next_wake(&self) -> Option<u64>
+        ensures wake { result ≡ wake_in self.now.stage self.now.wake }
+        ensures end { NoneBefore self.now self.now.wake }
+    {
+        match (self.stage, self.noted) {
+            (Stage::Polled { .. }, Some(noted)) => Some(noted.tick()),
+            _ => None,
+        }
+    }
+}
