@@ -1,5 +1,0 @@
-use Rattle.relay.proofs.Knows.{next_at}
-use Rattle.relay.proofs.rounds.all_rounds.Goals as goal
-
-pub loop-number-preserved : goal.loop-number-preserved
-loop-number-preserved g c = next_at g.J.Run.plan g.J.Run.count c.loop-number.number c.in_ok-counters.counters.items c.in_ok-counters.ensures

@@ -1,7 +1,0 @@
-use Rattle.std.proofs.Common.{◌≡◌}
-use Rattle.relay.specs.Known.{turned_one}
-use Rattle.relay.proofs.Along.{stepped_to}
-use Rattle.relay.proofs.work.turn_all.Given as goal
-
-abbrev pub invariant-loop-counter : goal.invariant-loop-counter
-invariant-loop-counter l = l.counters ≡ stepped_to (turned_one l.plan l.round) l.counter-index l.fn.counters
