@@ -1,14 +1,13 @@
 -- What is known of lanes by their numbers.
-use Rattle.std.proofs.Common.{◌≡◌, ◌∙◌, ℕ, zero, suc, ◌+◌, ◌<◌, ◌≤◌, Option, Some, None, List, [], ◌∷◌, ◌++◌, map, length, get_or, slice_get, option_map, refl, sym, ap, subst, arith}
+use Rattle.std.proofs.Common.{◌≡◌, ◌∙◌, ℕ, zero, suc, ◌+◌, ◌<◌, ◌≤◌, Some, List, [], ◌∷◌, ◌++◌, map, length, slice_get, option_map, refl, sym, ap, subst, arith}
 use Rattle.std.specs.Prelude.{IsPermutation}
-use Rattle.std.specs.List.{All, AllByRecursion, flat_map, filter}
+use Rattle.std.specs.List.{All, AllByRecursion, flat_map}
 use Rattle.std.proofs.lemmas.List.Elements.{All-map, All-weaker, All-append, All-head, All-tail, All-nil}
 use Rattle.std.proofs.lemmas.List.Sorted.{All-permutation}
 use Rattle.std.proofs.lemmas.Grind.{flat_map-append}
 use Rattle.loop_script.specs.declared.plan.Plan.{Plan}
 use Rattle.post_office.specs.declared.letter.Letter.{Letter}
 use Rattle.lane_turn.specs.Lane.{Lane, State}
-use Rattle.lane_turn.specs.Turn.{turned}
 use Rattle.lane_turn.specs.Tick.{lanes_at}
 use Rattle.lane_turn.proofs.Turns.{turned_number}
 use Rattle.tick_stepper.specs.declared.share.Share.{Share}

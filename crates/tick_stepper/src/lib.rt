@@ -19,6 +19,7 @@ mod side_by_side;
 mod span;
 mod stay;
 mod stepper;
+mod wait;
 mod work;
 
 pub use crew::Sharing;

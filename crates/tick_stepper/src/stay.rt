@@ -9,6 +9,7 @@ use crate::calls::{Call, Planned, Reply};
 use crate::fault::OutOfMemory;
 use crate::gate::Gate;
 use crate::share::{Share, turn_share};
+use crate::wait::next;
 use crossbeam_channel::{Receiver, Sender};
 use lane_turn::{LaneFault, LaneState};
 use loop_script::Script;
@@ -70,7 +71,7 @@ pub(crate) fn work<J: Planned, R: Wait, G: Gate>(
     requires plan { script.now ≡ J.plan }
 {
     for _ in rt.forever() {
-        let Ok(call) = calls.recv(rt) else {
+        let Some(call) = next(rt, &calls) else {
             return;
         };
         if replies.send(rt, answer(gate, script, call)).is_err() {
@@ -113,9 +114,9 @@ fn send<J: Planned, R: Wait>(rt: &R, ends: &Ends<J>, call: Call<J>) -> Result<()
 
 /// What a worker answers to a call that it was handed.
 fn receive<J: Planned, R: Wait>(rt: &R, ends: &Ends<J>) -> Result<Reply<J>, OutOfMemory> {
-    match ends.replies.recv(rt) {
-        Ok(Ok(reply)) => Ok(reply),
-        Ok(Err(_)) | Err(_) => Err(OutOfMemory),
+    match next(rt, &ends.replies) {
+        Some(Ok(reply)) => Ok(reply),
+        Some(Err(_)) | None => Err(OutOfMemory),
     }
 }
 

@@ -1,4 +1,4 @@
-use Rattle.std.proofs.Common.{◌≡◌, subst, sym}
+use Rattle.std.proofs.Common.{subst, sym}
 use Rattle.loop_script.specs.declared.plan.Plan.{Plan}
 use Rattle.tick_stepper.specs.Call.{IsCall, IsReply}
 use Rattle.tick_stepper.proofs.Answering.{call_fresh, call_answered}
