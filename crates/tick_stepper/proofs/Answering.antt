@@ -37,7 +37,7 @@ call_fresh script tick share call =
     let P : State → Type 0 = IsReadyOne script tick in
     record {
       lanes = rec_of P share.lanes.items
-        (All-weaker (λ (s : State). own_of script tick s.lane.number ≡ Some s) P (λ s e. found_ready P (lanes_at script tick) s.lane.number s (ready_turns script tick call.few call.low) e) share.lanes.items call.own);
+          (All-weaker (λ (s : State). own_of script tick s.lane.number ≡ Some s) P (λ s e. found_ready P (lanes_at script tick) s.lane.number s (ready_turns script tick call.few call.low) e) share.lanes.items call.own);
       tray = call.tray;
     }
 
@@ -63,7 +63,7 @@ call_answered script tick old new call turns =
     let P : State → Type 0 = λ s. turned_of script tick s.lane.number ≡ Some s in
     record {
       turns = subst (All P) (sym turns.lanes)
-        (All-map P (turned_one script tick) old.lanes.items (All-weaker (λ (s : State). own_of script tick s.lane.number ≡ Some s) (λ s. P (turned_one script tick s)) (own_turned script tick) old.lanes.items call.own));
+          (All-map P (turned_one script tick) old.lanes.items (All-weaker (λ (s : State). own_of script tick s.lane.number ≡ Some s) (λ s. P (turned_one script tick s)) (own_turned script tick) old.lanes.items call.own));
       posted = turns.letters ∙ all_posted script tick old.lanes.items call.own ∙ ap (flat_map (λ (s : State). posted_of script tick s.lane.number)) (sym turns.lanes);
     }
 

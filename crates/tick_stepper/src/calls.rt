@@ -6,7 +6,7 @@ ghost use Rattle.tick_stepper.specs.Call.{IsCall, IsReply};
 use crate::share::Share;
 use std::marker::{Brand, PhantomData};
 
-/// The script of a run. Each run picks it.
+/// A run, of which proofs name the script. Each run picks its own.
 pub(crate) trait Planned {
     ghost use Rattle.loop_script.specs.declared.plan.Plan.{Plan};
 
@@ -19,7 +19,7 @@ impl Planned for Brand {
     ghost plan = { no_plan };
 }
 
-/// Lanes of a run before their turns at a tick: each is the one that one thread would have.
+/// Lanes of a run before their turns at a tick: each is what it would be if one thread took all turns.
 #[derive(Drop)]
 pub(crate) struct Call<J: Planned> {
     pub(crate) tick: u32,
@@ -28,7 +28,7 @@ pub(crate) struct Call<J: Planned> {
     pub(crate) ghost is: { IsCall J.plan tick share } by { Prim.hlevel (codes, task_tree.the_row.coded) },
 }
 
-/// The same after their turns, with what they posted.
+/// The lanes of a call after their turns, with what they posted.
 #[derive(Drop)]
 pub(crate) struct Reply<J: Planned> {
     pub(crate) tick: u32,

@@ -13,7 +13,7 @@ use crate::crew::{Crew, Sharing};
 use crate::deal::deal;
 use crate::fault::OutOfMemory;
 use crate::gate::Gate;
-use crate::queue::turn_by_queue;
+use crate::queue::{least, turn_by_queue};
 use crate::rest::{Resting, any_due};
 use crate::round::{Parted, begin_tick, end_tick};
 use crate::share::in_order;
@@ -29,6 +29,7 @@ use std::thread::Threads;
 
 /// Lanes after their turns at a tick, by number, and what they posted, by sender and number. Each lane is dealt to
 /// its worker; the caller turns those of the first worker that has some, and workers that stay those of the others.
+/// `OutOfMemory` stands for lanes of other numbers, too: each worker gives back the lanes that it got, which no clause says.
 fn turn_by_call<J: Planned, R: Wait, G: Gate>(
     rt: &R,
     alloc: Global,
@@ -61,7 +62,8 @@ fn turn_by_call<J: Planned, R: Wait, G: Gate>(
     Ok((lanes, letters))
 }
 
-/// Lanes after their turns at a tick, by number, and what they posted, by sender and number.
+/// Lanes after their turns at a tick, by number, and what they posted, by sender and number. Workers that stay are called for
+/// them, or some that are started for this tick take them from a queue.
 fn turn_each<J: Planned, R: Threads + Wait + Sync, G: Gate>(
     rt: &R,
     alloc: Global,
@@ -116,7 +118,7 @@ fn step_tick<J: Planned, R: Threads + Wait + Sync, G: Gate>(
     end_tick(alloc, script, tick, done, letters.as_slice(), resting)
 }
 
-/// All ticks from one on.
+/// All ticks of a run from one on, with workers that stay.
 fn step_ticks<J: Planned, R: Threads + Wait + Sync, G: Gate>(
     rt: &R,
     alloc: Global,
@@ -135,42 +137,23 @@ fn step_ticks<J: Planned, R: Threads + Wait + Sync, G: Gate>(
     ensures { IfOk result (λ lanes. AreAt script.now script.now.ticks lanes.items) }
 {
     for tick in first..script.ticks() {
-        lanes = step_tick(
-            rt,
-            alloc,
-            gate,
-            script,
-            tick,
-            crew,
-            ends.as_slice(),
-            lanes,
-        )?;
+        lanes = step_tick(rt, alloc, gate, script, tick, crew, ends.as_slice(), lanes)?;
     }
     Ok(lanes)
 }
 
-/// How many workers stay beside the caller.
+/// How many workers stay for a run, beside the caller.
 fn others(crew: &Crew, lanes: usize) -> u32 {
     match crew.sharing {
         Sharing::Queue => 0,
-        Sharing::Round | Sharing::Fixed(_) => {
-            let most = if lanes < crew.workers as usize {
-                lanes as u32
-            } else {
-                crew.workers
-            };
-            most.saturating_sub(1)
-        }
+        Sharing::Round | Sharing::Fixed(_) => least(crew.workers, lanes).saturating_sub(1),
     }
 }
 
-/// All ticks of a run from one on. Workers are started once, and stay until the last.
+/// All ticks of a run from one on. Workers are started once, and stay until the last; where one can't be started, there are
+/// fewer.
 #[tactic(auto, using(crate::proofs::Crossing::call_send, crate::proofs::Crossing::reply_send, crate::proofs::Crossing::script_sync))]
-pub(crate) fn run_ticks<
-    J: Planned + Send + Sync,
-    R: Threads + Wait + Sync,
-    G: Gate,
->(
+pub(crate) fn run_ticks<J: Planned + Send + Sync, R: Threads + Wait + Sync, G: Gate>(
     rt: &R,
     alloc: Global,
     gate: &G,

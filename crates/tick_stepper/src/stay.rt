@@ -25,7 +25,7 @@ pub(crate) struct Ends<J: Planned> {
     pub(crate) replies: Receiver<Result<Reply<J>, LaneFault>>,
 }
 
-/// A call of a worker.
+/// A call for the turns of a share.
 fn call_with<J: Planned>(tick: u32, share: Share) -> Call<J>
     requires { IsCall J.plan tick share }
 {
@@ -36,7 +36,7 @@ fn call_with<J: Planned>(tick: u32, share: Share) -> Call<J>
     }
 }
 
-/// What a worker answers.
+/// The answer to a call.
 fn reply_with<J: Planned>(tick: u32, share: Share) -> Reply<J>
     requires { IsReply J.plan tick share.lanes.items share.tray }
 {
@@ -47,7 +47,7 @@ fn reply_with<J: Planned>(tick: u32, share: Share) -> Reply<J>
     }
 }
 
-/// The turns of a call.
+/// Takes the turns of a call, and answers it.
 fn answer<J: Planned, G: Gate>(
     gate: &G,
     script: &Script,
@@ -80,7 +80,7 @@ pub(crate) fn work<J: Planned, R: Wait, G: Gate>(
     }
 }
 
-/// Calls for shares of a run.
+/// A call for each share.
 pub(crate) fn calls_of<J: Planned>(
     alloc: Global,
     tick: u32,
@@ -95,16 +95,17 @@ pub(crate) fn calls_of<J: Planned>(
     Ok(calls)
 }
 
-/// Calls of which each but the first went to a worker, as far as there are workers.
+/// The calls of a tick, when those for workers went out.
 #[derive(Drop)]
 struct Sent<J: Planned> {
     /// Those that the caller answers.
     kept: Vec<Call<J>>,
-    /// How many workers have one.
+    /// How many workers have one, the first of all workers.
     sent: usize,
 }
 
-/// Hands a call to a worker.
+/// Hands a call to a worker. `OutOfMemory` stands for a worker that is gone: each stays until the last tick, which no clause
+/// says.
 fn send<J: Planned, R: Wait>(rt: &R, ends: &Ends<J>, call: Call<J>) -> Result<(), OutOfMemory> {
     match ends.calls.send(rt, call) {
         Ok(()) => Ok(()),
@@ -112,7 +113,8 @@ fn send<J: Planned, R: Wait>(rt: &R, ends: &Ends<J>, call: Call<J>) -> Result<()
     }
 }
 
-/// What a worker answers to a call that it was handed.
+/// What a worker answers to the call that it was handed. `OutOfMemory` stands for a worker that is gone, too: each stays until
+/// the last tick, which no clause says.
 fn receive<J: Planned, R: Wait>(rt: &R, ends: &Ends<J>) -> Result<Reply<J>, OutOfMemory> {
     match next(rt, &ends.replies) {
         Some(Ok(reply)) => Ok(reply),
@@ -120,7 +122,7 @@ fn receive<J: Planned, R: Wait>(rt: &R, ends: &Ends<J>) -> Result<Reply<J>, OutO
     }
 }
 
-/// Hands out each call but the first, as far as there are workers.
+/// Hands each call but the first to a worker, as long as there is one.
 fn send_each<J: Planned, R: Wait>(
     rt: &R,
     alloc: Global,
@@ -142,7 +144,7 @@ fn send_each<J: Planned, R: Wait>(
     Ok(Sent { kept, sent })
 }
 
-/// The answers to all calls: the caller answers the first, and the workers the others.
+/// The answers to all calls. The caller answers the first, and those that are too many for the workers; these answer the others.
 pub(crate) fn answer_all<J: Planned, R: Wait, G: Gate>(
     rt: &R,
     alloc: Global,
@@ -170,7 +172,7 @@ pub(crate) fn answer_all<J: Planned, R: Wait, G: Gate>(
     Ok(replies)
 }
 
-/// All lanes and letters of the answers of a tick.
+/// The lanes and letters of all answers of a tick.
 pub(crate) fn collect<J: Planned>(
     alloc: Global,
     tick: u32,
@@ -186,7 +188,8 @@ pub(crate) fn collect<J: Planned>(
     Ok((lanes, letters))
 }
 
-/// Adds the lanes and letters of an answer, where it is one of the tick.
+/// Adds the lanes and letters of an answer. `OutOfMemory` stands for one of another tick: none is, since a worker has answered
+/// each call before it gets the next, which no clause says.
 fn take_in<J: Planned>(
     tick: u32,
     lanes: &mut Vec<LaneState>,
@@ -210,7 +213,7 @@ fn take_in<J: Planned>(
     Ok(())
 }
 
-/// The numbers of lanes.
+/// The numbers of lanes, in their order.
 pub(crate) fn numbers_of(alloc: Global, lanes: &[LaneState]) -> Result<Vec<u32>, AllocError>
     ensures { IfOk result (λ v. v.items ≡ map (λ (s : State). s.lane.number) lanes.now) }
 {
@@ -221,7 +224,7 @@ pub(crate) fn numbers_of(alloc: Global, lanes: &[LaneState]) -> Result<Vec<u32>,
     Ok(numbers)
 }
 
-/// Whether lanes have these numbers.
+/// Whether lanes have these numbers, in this order.
 pub(crate) fn have_numbers(lanes: &[LaneState], numbers: &[u32]) -> bool
     ensures { result ≡ true → map (λ (s : State). s.lane.number) lanes.now ≡ numbers.now }
 {

@@ -46,5 +46,5 @@ spawn-started-requires-send-F g c κs _ =
     let A : RattleType = Result.the_row (Reply.the_row J g.J.Planned) LaneFault.the_row in
     param_send 1 (arg-10-1 g.row.J g.row.R g.row.G g.J.laws g.R.laws g.G.laws g.J.Planned g.J.Planned-dict g.R.Threads g.R.Threads-dict g.R.Wait g.R.Wait-dict g.G.Gate g.G.Gate-dict κs)
     (arg_send _ no _ (captured_send _ T₀ T₁ T₂ (Receiver.the_row C Heap.the_row ghosts) (Sender.the_row A Heap.the_row ghosts)
-      (search (c.requires.0, sendable) depth 20) (search (c.requires.1, sendable) depth 20) (search (script_sync, sendable) depth 20)
-      (receiver_send C (call_send J g.J.Planned)) (sender_send A (answer_send (Reply.the_row J g.J.Planned) (reply_send J g.J.Planned)))))
+    (search (c.requires.0, sendable) depth 20) (search (c.requires.1, sendable) depth 20) (search (script_sync, sendable) depth 20)
+    (receiver_send C (call_send J g.J.Planned)) (sender_send A (answer_send (Reply.the_row J g.J.Planned) (reply_send J g.J.Planned)))))
