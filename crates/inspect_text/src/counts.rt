@@ -1,4 +1,4 @@
-//! What is counted of a run.
+//! Counting what happens in a run, loop by loop and source by source. `summary` tells of it.
 use crate::record::Record;
 use account::{Account, Deed, Moment};
 use inspect_words::{Span, begun_by};

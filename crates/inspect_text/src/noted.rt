@@ -1,4 +1,4 @@
-//! Where GLib does otherwise, told at the move at which it does.
+//! Where GLib does otherwise, told at the move at which it does: each way once for each thread and context.
 use account::{Account, Moment};
 use context_core::Standing;
 use glib_notes::{Difference, Note, Notes};

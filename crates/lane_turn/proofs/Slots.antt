@@ -233,11 +233,3 @@ pub past_delivered : (most : ℕ → ℕ) (script : Plan) (tick : ℕ) (letters 
 past_delivered most script tick letters lane h =
     let after : Lane = received_all script tick letters lane in
     names_same lane after (follow_all lane.contexts after.contexts (brings_all script tick letters lane).adds.rows) (slots_delivered script tick letters lane) most h
-
--- at first slots name nothing
-pub past_open : (most : ℕ → ℕ) (contexts : List (Option Context)) → ArePast most contexts (open_slots slot_count)
-past_open most contexts = all_open slot_count
-  where
-    all_open : (n : ℕ) → ArePast most contexts (open_slots n)
-    all_open zero = tt
-    all_open (suc n) = each-push (IsPast most contexts) (open_slots n) None (all_open n) tt

@@ -1,4 +1,4 @@
-//! What should stand at a place of a script with names.
+//! The types of what may stand at a place of a script with names. What a report calls them stands in `script_report`.
 
 /// What a name is the name of.
 #[derive(Clone, Copy, Debug, PartialEq, Eq)]

@@ -1,4 +1,4 @@
-//! The queue of a work list, from which workers take.
+//! The queue of a work list, which it shares with workers, and how each value is taken from it once.
 ghost use Rattle.std.specs.Prelude.{◌≡◌, Contains, IfNone, IfSome, MatchOption};
 ghost use Rattle.post_office.specs.Passes.{takes};
 ghost use Rattle.post_office.specs.WorkQueue.{WasEmpty};

@@ -1,4 +1,5 @@
-//! The keys of the objects of a script with names, and which one a misspelled key may be.
+//! The keys of the objects of a script with names, and which one a misspelled key may be: the nearest by its letters, or one
+//! that begins as it does.
 use crate::nearest::nearest;
 use json::Value;
 use named::{Choice, Object, Sort, Word, beside, chosen, keys, words};

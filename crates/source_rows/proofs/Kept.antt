@@ -56,14 +56,6 @@ pub equal_not : (r q : Row) → key_cmp (key_of r) (key_of q) ≡ Equal → Apar
 equal_not r q e (inl h) = let never = sym h ∙ ap is_lt e in cc
 equal_not r q e (inr h) = let never = sym h ∙ ap is_lt (key_total.antisymm (key_of q) (key_of r) ∙ ap ordering_reverse e) in cc
 
-not_equal_by : (r q : Row) (o : Ordering) → key_cmp (key_of r) (key_of q) ≡ o → Apart r q → is_eq o ≡ false
-not_equal_by r q Less e h = refl
-not_equal_by r q Equal e h = absurd (equal_not r q e h)
-not_equal_by r q Greater e h = refl
-
-pub not_equal : (r q : Row) → Apart r q → is_eq (key_cmp (key_of r) (key_of q)) ≡ false
-not_equal r q h = not_equal_by r q (key_cmp (key_of r) (key_of q)) refl h
-
 -- ---- a new row
 
 pub sound-push : (rows : List Row) (i n : ℕ) (r : Row) (levels : ℕ) → n < 2 ^ 63 → IsSound rows i n levels → IsNew r n → r.id ≡ i → r.level ≤ levels → r.order ≡ n → HasPlace rows r.parent r → IsSound (rows ++ r ∷ []) (i + 1) (n + 1) levels

@@ -210,12 +210,13 @@ fn limited(limit: u64, tick: u32, body: Progress) -> Progress
 {
     match body {
         Progress::Ended { tick: end, .. } if u64::from(end) <= limit => body,
-        _ if limit <= u64::from(tick) && limit < body.tick() => Progress::Ended {
+        Progress::Waits(wake) if wake <= limit || u64::from(tick) < limit => {
+            Progress::Waits(limit.min(wake))
+        }
+        _ => Progress::Ended {
             tick: limit as u32,
             outcome: Outcome::TimedOut,
         },
-        Progress::Waits(wake) => Progress::Waits(limit.min(wake)),
-        _ => body,
     }
 }
 

@@ -1,5 +1,5 @@
 //! What an iteration would do with each source of a context, worked out by hand.
-ghost use Rattle.std.specs.Prelude.{◌<◌};
+ghost use Rattle.std.specs.Prelude.{◌≡◌, ◌<◌, ◌+◌, OnOk};
 
 use crate::context_tests::{attach, cancelled};
 use crate::expected::expect;
@@ -13,6 +13,8 @@ use std::process::Abort;
 fn add_child(context: &mut Context, parent: u64, kind: Kind) -> Result<(), RowsFault>
     requires id { context.old.rows.next_id < 1000 }
     requires order { context.old.rows.next_order < 1000 }
+    ensures id { OnOk result (context.new.rows.next_id ≡ context.old.rows.next_id + 1) }
+    ensures order { OnOk result (context.new.rows.next_order ≡ context.old.rows.next_order + 1) }
 {
     let spec = SourceSpec {
         kind,
@@ -111,23 +113,22 @@ fn child_lends(rt: HostRuntime) -> Result<(), RowsFault> {
     Ok(())
 }
 
+/// Sources 2 to 4, each below the one before.
+fn add_three_below(context: &mut Context) -> Result<(), RowsFault>
+    requires id { context.old.rows.next_id < 100 }
+    requires order { context.old.rows.next_order < 100 }
+{
+    add_child(context, 1, Kind::Idle)?;
+    add_child(context, 2, Kind::Idle)?;
+    add_child(context, 3, Kind::Idle)
+}
+
 /// Sources 1 to 4, each below the one before.
 fn chain_of_four(alloc: Global) -> Result<Context, RowsFault> {
     let mut context = Context::new(alloc, Levels::Four);
     attach(&mut context, Kind::Idle, 0)?;
-    context.rows_mut().add_child(1, idle(), 0)?;
-    context.rows_mut().add_child(2, idle(), 0)?;
-    context.rows_mut().add_child(3, idle(), 0)?;
+    add_three_below(&mut context)?;
     Ok(context)
-}
-
-fn idle() -> SourceSpec {
-    SourceSpec {
-        kind: Kind::Idle,
-        priority: 0,
-        recurse: false,
-        call: None,
-    }
 }
 
 fn expect_nearest(rt: &impl Abort, alloc: Global, context: &Context) -> Result<(), AllocError> {

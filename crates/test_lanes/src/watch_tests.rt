@@ -26,13 +26,24 @@ fn sleeper(us: u64) -> TaskSpec
     }
 }
 
+/// A watch whose first polls are over.
+fn polled_once(alloc: Global) -> Result<Watch, OutOfMemory>
+    ensures id { IfOk result (λ w. w.view.next_id ≡ 1) }
+    ensures tick { IfOk result (λ w. w.tasks.tick ≡ 1) }
+    ensures room { IfOk result (λ w. w.tasks.next < 1000) }
+    ensures known { IfOk result (λ w. 0 < length w.view.members) }
+{
+    let mut watch = Watch::new(alloc, 1, 1000)?;
+    watch.poll(alloc, 0)?;
+    Ok(watch)
+}
+
 /// A watch whose first polls are over, with a task of three ticks.
 fn begun(alloc: Global) -> Result<Watch, OutOfMemory>
     ensures tick { IfOk result (λ w. w.tasks.tick ≡ 1) }
     ensures id { IfOk result (λ w. w.view.next_id ≡ 1) }
 {
-    let mut watch = Watch::new(alloc, 1, 1000)?;
-    watch.poll(alloc, 0)?;
+    let mut watch = polled_once(alloc)?;
     watch.start(&sleeper(3000), 0, 0)?;
     Ok(watch)
 }
@@ -91,12 +102,19 @@ fn task_replies_where_it_is_cancelled(rt: HostRuntime) -> Result<(), OutOfMemory
     Ok(())
 }
 
+/// Polls up to tick 4.
+fn poll_to_end(watch: &mut Watch, alloc: Global) -> Result<Polled, OutOfMemory>
+    requires { watch.old.tasks.tick ≡ 2 }
+{
+    poll(watch, alloc, 2)?;
+    poll(watch, alloc, 3)?;
+    poll(watch, alloc, 4)
+}
+
 /// A task that is cancelled in tick 1, polled to its end in tick 4.
 fn polled_to_end(rt: &impl Abort, alloc: Global) -> Result<Polled, OutOfMemory> {
     let mut watch = cancelled(rt, alloc)?;
-    poll(&mut watch, alloc, 2)?;
-    poll(&mut watch, alloc, 3)?;
-    poll(&mut watch, alloc, 4)
+    poll_to_end(&mut watch, alloc)
 }
 
 /// No reply, and task 0 late.
@@ -221,17 +239,6 @@ fn start_or_forget(rt: &impl Abort, alloc: Global, watch: &mut Watch)
         Err(OutOfMemory) => expect_no_reply(rt, watch.poll(alloc, 1)),
         Ok(()) => expect_its_end(rt, watch.poll(alloc, 1)),
     }
-}
-
-/// A watch whose first polls are over.
-fn polled_once(alloc: Global) -> Result<Watch, OutOfMemory>
-    ensures tick { IfOk result (λ w. w.tasks.tick ≡ 1) }
-    ensures room { IfOk result (λ w. w.tasks.next < 1000) }
-    ensures known { IfOk result (λ w. 0 < length w.view.members) }
-{
-    let mut watch = Watch::new(alloc, 1, 1000)?;
-    watch.poll(alloc, 0)?;
-    Ok(watch)
 }
 
 /// Whatever request is refused.

@@ -42,6 +42,10 @@ use Rattle.post_office.proofs.letter_queue.LetterQueue.TheSendSync as letter_que
 use Rattle.post_office.specs.contracts.work_queue.WorkQueue as WorkQueue
 use Rattle.post_office.specs.contracts.letter_queue.LetterQueue as LetterQueue
 use Rattle.tick_stepper.specs.contracts.share.Share as Share
+use Rattle.tick_stepper.specs.contracts.calls.Call as Call
+use Rattle.std.proofs.marker.PhantomData.TheSendSync as marker
+use Rattle.tick_stepper.specs.contracts.calls.Reply as Reply
+use Rattle.tick_stepper.specs.declared.calls.Planned.{Ghosts}
 use Rattle.tick_stepper.specs.contracts.work.Hired as Hired
 use Rattle.tick_stepper.specs.contracts.work.Haul as Haul
 
@@ -133,3 +137,14 @@ action_sync = search (tree_sync, sendable, crosses) depth 60 fits 10000
 
 pub script_sync : IsSync Script.the_row
 script_sync = search (action_sync, sendable, crosses) depth 60 fits 10000
+
+-- ---- calls
+
+share_field_send : IsSend (Share.the_field).row
+share_field_send = search (state_send, sendable, crosses) depth 60 fits 10000
+
+pub call_send : (T : RattleType) (g : Ghosts T.Denot) → IsSend (Call.the_row T g)
+call_send T g = search (share_field_send, marker.the_field_send, sendable, crosses) depth 60 fits 10000
+
+pub reply_send : (T : RattleType) (g : Ghosts T.Denot) → IsSend (Reply.the_row T g)
+reply_send T g = search (share_field_send, marker.the_field_send, sendable, crosses) depth 60 fits 10000

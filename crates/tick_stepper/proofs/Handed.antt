@@ -55,7 +55,7 @@ module _ {X : Type 0} (P : X → Type 0) where
   back_of [] ys a = a
   back_of (x ∷ xs) ys a = back_of xs ys a.1
 
-  each_of : {S : Type 0} (f : S → List X) (ss : List S) → AllByRecursion P (flat_map f ss) → All (λ s. AllByRecursion P (f s)) ss
+  pub each_of : {S : Type 0} (f : S → List X) (ss : List S) → AllByRecursion P (flat_map f ss) → All (λ s. AllByRecursion P (f s)) ss
   each_of f [] a k d h = absurd (omega arith)
   each_of f (s ∷ ss) a zero d h = front_of (f s) (flat_map f ss) a
   each_of f (s ∷ ss) a (suc k) d h = each_of f ss (back_of (f s) (flat_map f ss) a) k d (omega arith)

@@ -23,3 +23,4 @@ pub mod Changes
 pub mod Happens
 pub mod Accounts
 pub mod Tied
+pub mod Answering

@@ -75,7 +75,7 @@ round_at script tick few low = record {
 }
 
 module _ (script : Plan) (tick : ℕ) (ones : List Resting) (h : AreAt script tick ones) where
-  woken_at : all_woken tick ones ≡ unspent_all (lanes_at script tick)
+  pub woken_at : all_woken tick ones ≡ unspent_all (lanes_at script tick)
   woken_at = woken_unspent tick ones ∙ ap unspent_all h.lanes
 
   pub round_due : length script.lanes ≤ 64 → tick < 4096 → IsRound script tick (all_woken tick (filter (is_due tick) ones))

@@ -9,3 +9,5 @@ pub mod Sparse
 pub mod Stepper
 pub mod Account
 pub mod Tie
+pub mod Call
+pub mod Plain

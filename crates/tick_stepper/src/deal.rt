@@ -31,7 +31,7 @@ fn empty_shares(alloc: Global, workers: u32) -> Result<Vec<Share>, AllocError>
     Ok(shares)
 }
 
-/// Leaves out the shares without a lane, whose workers are not started.
+/// Leaves out the shares without a lane, whose workers have nothing to do.
 fn leave_out_idle(shares: &mut Vec<Share>)
     ensures { shares.new.items ≡ filter has_lanes shares.old.items }
 {

@@ -2,6 +2,7 @@
 //! they leave does not depend on the order of their steps.
 #![tactic(auto)]
 
+mod calls;
 mod crew;
 mod deal;
 mod deliver;
@@ -15,7 +16,10 @@ mod rest;
 mod round;
 mod share;
 mod side_by_side;
+mod span;
+mod stay;
 mod stepper;
+mod wait;
 mod work;
 
 pub use crew::Sharing;

@@ -157,7 +157,7 @@ fn finish<R: Wait, G: Gate>(
 }
 
 /// So many workers, or as many as there are lanes where these are fewer.
-fn least(workers: u32, lanes: usize) -> u32 {
+pub(crate) fn least(workers: u32, lanes: usize) -> u32 {
     if lanes < workers as usize {
         lanes as u32
     } else {

@@ -141,13 +141,13 @@ fn put_back(
 }
 
 /// The lanes whose turn comes at a tick, by number, and those that rest.
-struct Parted {
-    due: Vec<LaneState>,
-    resting: Vec<Resting>,
+pub(crate) struct Parted {
+    pub(crate) due: Vec<LaneState>,
+    pub(crate) resting: Vec<Resting>,
 }
 
 /// Parts the lanes of a run at a tick, and brings those to it whose turn comes.
-fn begin_tick(
+pub(crate) fn begin_tick(
     alloc: Global,
     script: &Script,
     tick: u32,
@@ -166,7 +166,7 @@ fn begin_tick(
 
 /// Lanes after a tick in which some took their turns and posted letters: these are delivered. Without a letter no lane that
 /// rests is looked at.
-fn end_tick(
+pub(crate) fn end_tick(
     alloc: Global,
     script: &Script,
     tick: u32,

@@ -11,10 +11,11 @@ use crate::gate::Gate;
 use crate::open::open_lanes;
 use crate::rest::{Resting, any_due};
 use crate::round::{run_tick, run_tick_alone};
+use crate::span::run_ticks;
 use lane_turn::Line;
 use loop_script::Script;
 use std::alloc::Global;
-use std::marker::Model;
+use std::marker::{Brand, Model};
 use std::mem;
 use std::sync::Wait;
 use std::thread::Threads;
@@ -110,7 +111,8 @@ impl Stepper {
         Ok(true)
     }
 
-    /// Steps all ticks that are left. After `OutOfMemory` the stepper is spent, as after `tick`.
+    /// Steps all ticks that are left. Workers that lanes are dealt out to start once, and stay until the last tick. After
+    /// `OutOfMemory` the stepper is spent, as after `tick`.
     pub fn run<R: Threads + Wait + Sync, G: Gate>(
         &mut self,
         rt: &R,
@@ -126,10 +128,54 @@ impl Stepper {
         if self.spent {
             return Err(StepFault::Spent);
         }
-        for _tick in self.tick..self.script.ticks() {
-            self.step(rt, gate)?;
-        }
+        self.run_left(rt, gate)?;
         Ok(())
+    }
+
+    /// Steps all ticks that are left, with workers that stay for all of them, and is spent where memory was refused.
+    fn run_left<R: Threads + Wait + Sync, G: Gate>(
+        &mut self,
+        rt: &R,
+        gate: &G,
+    ) -> Result<(), OutOfMemory>
+        requires unspent { self.old.spent ≡ false }
+        ensures ran { OnOk result (self.new ≡ record { script = self.old.script; lanes = lanes_at self.old.script self.old.script.ticks; tick = self.old.script.ticks; spent = false }) }
+        ensures script { self.new.script ≡ self.old.script }
+        ensures memory { OnErr result (IsTrue self.new.spent) }
+    {
+        let lanes = self.hand_out();
+        let lanes = run_ticks::<Brand, R, G>(
+            rt,
+            self.alloc,
+            gate,
+            &self.script,
+            &self.crew,
+            self.tick,
+            lanes,
+        )?;
+        self.take_back(lanes);
+        Ok(())
+    }
+
+    /// The lanes, handed out; the stepper is spent while they are out.
+    fn hand_out(&mut self) -> Vec<Resting>
+        requires unspent { self.old.spent ≡ false }
+        ensures lanes { AreAt self.old.script self.old.tick result.items }
+        ensures out { (self.new.script ≡ self.old.script) × (self.new.tick ≡ self.old.tick) × (self.new.spent ≡ true) }
+    {
+        self.spent = true;
+        mem::replace(&mut self.lanes, Vec::new(self.alloc))
+    }
+
+    /// Takes the lanes back after the last tick.
+    fn take_back(&mut self, lanes: Vec<Resting>)
+        requires lanes { AreAt self.old.script self.old.script.ticks lanes.items }
+        ensures { self.new ≡ record { script = self.old.script; lanes = lanes_at self.old.script self.old.script.ticks; tick = self.old.script.ticks; spent = false } }
+    {
+        let last = self.script.ticks();
+        self.lanes = lanes;
+        self.tick = last;
+        self.spent = false;
     }
 
     /// Steps one tick of those that are left, and is spent where memory was refused.

@@ -1,0 +1,240 @@
+//! Workers that stay for a run, and the turns that they take.
+ghost use Rattle.std.specs.Prelude.{◌≡◌, ◌<◌, true, map, IfOk, OnOk, length};
+ghost use Rattle.std.specs.List.{All};
+ghost use Rattle.loop_script.specs.Bounds.{most_ticks};
+ghost use Rattle.lane_turn.specs.Lane.{State};
+ghost use Rattle.tick_stepper.specs.Call.{IsCall, IsReply};
+
+use crate::calls::{Call, Planned, Reply};
+use crate::fault::OutOfMemory;
+use crate::gate::Gate;
+use crate::share::{Share, turn_share};
+use crate::wait::next;
+use crossbeam_channel::{Receiver, Sender};
+use lane_turn::{LaneFault, LaneState};
+use loop_script::Script;
+use post_office::{Letter, Numbered};
+use std::alloc::{AllocError, Global};
+use std::marker::PhantomData;
+use std::sync::Wait;
+
+/// The caller's ends of the channels of a worker.
+#[derive(Drop)]
+pub(crate) struct Ends<J: Planned> {
+    pub(crate) calls: Sender<Call<J>>,
+    pub(crate) replies: Receiver<Result<Reply<J>, LaneFault>>,
+}
+
+/// A call for the turns of a share.
+fn call_with<J: Planned>(tick: u32, share: Share) -> Call<J>
+    requires { IsCall J.plan tick share }
+{
+    Call {
+        tick,
+        share,
+        of: PhantomData,
+    }
+}
+
+/// The answer to a call.
+fn reply_with<J: Planned>(tick: u32, share: Share) -> Reply<J>
+    requires { IsReply J.plan tick share.lanes.items share.tray }
+{
+    Reply {
+        tick,
+        share,
+        of: PhantomData,
+    }
+}
+
+/// Takes the turns of a call, and answers it.
+fn answer<J: Planned, G: Gate>(
+    gate: &G,
+    script: &Script,
+    call: Call<J>,
+) -> Result<Reply<J>, LaneFault>
+    requires plan { script.now ≡ J.plan }
+{
+    let Call { tick, share, of: _ } = call;
+    let share = turn_share(gate, script, tick, share)?;
+    Ok(reply_with(tick, share))
+}
+
+/// Answers the calls that come, until none comes any more.
+pub(crate) fn work<J: Planned, R: Wait, G: Gate>(
+    rt: &R,
+    gate: &G,
+    script: &Script,
+    calls: Receiver<Call<J>>,
+    replies: Sender<Result<Reply<J>, LaneFault>>,
+)
+    requires plan { script.now ≡ J.plan }
+{
+    for _ in rt.forever() {
+        let Some(call) = next(rt, &calls) else {
+            return;
+        };
+        if replies.send(rt, answer(gate, script, call)).is_err() {
+            return;
+        }
+    }
+}
+
+/// A call for each share.
+pub(crate) fn calls_of<J: Planned>(
+    alloc: Global,
+    tick: u32,
+    shares: Vec<Share>,
+) -> Result<Vec<Call<J>>, AllocError>
+    requires { All (IsCall J.plan tick) shares.items }
+{
+    let mut calls = Vec::new(alloc);
+    for share in shares {
+        calls.push(call_with(tick, share))?;
+    }
+    Ok(calls)
+}
+
+/// The calls of a tick, when those for workers went out.
+#[derive(Drop)]
+struct Sent<J: Planned> {
+    /// Those that the caller answers.
+    kept: Vec<Call<J>>,
+    /// How many workers have one, the first of all workers.
+    sent: usize,
+}
+
+/// Hands a call to a worker. `OutOfMemory` stands for a worker that is gone: each stays until the last tick, which no clause
+/// says.
+fn send<J: Planned, R: Wait>(rt: &R, ends: &Ends<J>, call: Call<J>) -> Result<(), OutOfMemory> {
+    match ends.calls.send(rt, call) {
+        Ok(()) => Ok(()),
+        Err(_) => Err(OutOfMemory),
+    }
+}
+
+/// What a worker answers to the call that it was handed. `OutOfMemory` stands for a worker that is gone, too: each stays until
+/// the last tick, which no clause says.
+fn receive<J: Planned, R: Wait>(rt: &R, ends: &Ends<J>) -> Result<Reply<J>, OutOfMemory> {
+    match next(rt, &ends.replies) {
+        Some(Ok(reply)) => Ok(reply),
+        Some(Err(_)) | None => Err(OutOfMemory),
+    }
+}
+
+/// Hands each call but the first to a worker, as long as there is one.
+fn send_each<J: Planned, R: Wait>(
+    rt: &R,
+    alloc: Global,
+    ends: &[Ends<J>],
+    calls: Vec<Call<J>>,
+) -> Result<Sent<J>, OutOfMemory> {
+    let mut kept = Vec::new(alloc);
+    let mut sent = 0;
+    for call in calls {
+        if kept.is_empty() || sent >= ends.len() {
+            if kept.push(call).is_err() {
+                return Err(OutOfMemory);
+            }
+        } else {
+            send(rt, &ends[sent], call)?;
+            sent += 1;
+        }
+    }
+    Ok(Sent { kept, sent })
+}
+
+/// The answers to all calls. The caller answers the first, and those that are too many for the workers; these answer the others.
+pub(crate) fn answer_all<J: Planned, R: Wait, G: Gate>(
+    rt: &R,
+    alloc: Global,
+    gate: &G,
+    script: &Script,
+    ends: &[Ends<J>],
+    calls: Vec<Call<J>>,
+) -> Result<Vec<Reply<J>>, OutOfMemory>
+    requires plan { script.now ≡ J.plan }
+{
+    let Sent { kept, sent } = send_each(rt, alloc, ends, calls)?;
+    let mut replies = Vec::new(alloc);
+    for call in kept {
+        let reply = answer(gate, script, call)?;
+        if replies.push(reply).is_err() {
+            return Err(OutOfMemory);
+        }
+    }
+    for one in ends.iter().take(sent) {
+        let reply = receive(rt, one)?;
+        if replies.push(reply).is_err() {
+            return Err(OutOfMemory);
+        }
+    }
+    Ok(replies)
+}
+
+/// The lanes and letters of all answers of a tick.
+pub(crate) fn collect<J: Planned>(
+    alloc: Global,
+    tick: u32,
+    replies: Vec<Reply<J>>,
+) -> Result<(Vec<LaneState>, Vec<Letter>), OutOfMemory>
+    ensures { IfOk result (λ r. IsReply J.plan tick r.0.items r.1.items) }
+{
+    let mut lanes = Vec::new(alloc);
+    let mut letters = Vec::new(alloc);
+    for reply in replies {
+        take_in(tick, &mut lanes, &mut letters, reply)?;
+    }
+    Ok((lanes, letters))
+}
+
+/// Adds the lanes and letters of an answer. `OutOfMemory` stands for one of another tick: none is, since a worker has answered
+/// each call before it gets the next, which no clause says.
+fn take_in<J: Planned>(
+    tick: u32,
+    lanes: &mut Vec<LaneState>,
+    letters: &mut Vec<Letter>,
+    reply: Reply<J>,
+) -> Result<(), OutOfMemory>
+    requires { IsReply J.plan tick lanes.old.items letters.old.items }
+    ensures { OnOk result (IsReply J.plan tick lanes.new.items letters.new.items) }
+{
+    if reply.tick != tick {
+        return Err(OutOfMemory);
+    }
+    let Reply { share, .. } = reply;
+    let Share {
+        lanes: mut more,
+        tray,
+        ..
+    } = share;
+    lanes.append(&mut more)?;
+    letters.append(&mut tray.into_letters())?;
+    Ok(())
+}
+
+/// The numbers of lanes, in their order.
+pub(crate) fn numbers_of(alloc: Global, lanes: &[LaneState]) -> Result<Vec<u32>, AllocError>
+    ensures { IfOk result (λ v. v.items ≡ map (λ (s : State). s.lane.number) lanes.now) }
+{
+    let mut numbers = Vec::new(alloc);
+    for lane in lanes {
+        numbers.push(lane.number())?;
+    }
+    Ok(numbers)
+}
+
+/// Whether lanes have these numbers, in this order.
+pub(crate) fn have_numbers(lanes: &[LaneState], numbers: &[u32]) -> bool
+    ensures { result ≡ true → map (λ (s : State). s.lane.number) lanes.now ≡ numbers.now }
+{
+    if lanes.len() != numbers.len() {
+        return false;
+    }
+    for i in 0..lanes.len() {
+        if lanes[i].number() != numbers[i] {
+            return false;
+        }
+    }
+    true
+}
