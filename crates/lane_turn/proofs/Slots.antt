@@ -30,13 +30,11 @@ use Rattle.lane_turn.specs.Frames.{Frame, CallOf, IterOf, LoopOf, calls_in_progr
 use Rattle.lane_turn.specs.Lane.{Lane, Turn, present, is_own, context_at, with_rows, with_context, next_id, source_of, held, row_of, written, stopped, popped, taken, iterating, is_running}
 use Rattle.lane_turn.specs.Acted.{cancel, acted, sends}
 use Rattle.lane_turn.specs.Step.{step, step_polling, step_call, step_id, limited_by, with_lane, dispatched, dispatching, returned, answered, polled}
-use Rattle.lane_turn.specs.Turn.{begun, turned, open_slots}
+use Rattle.lane_turn.specs.Turn.{begun, turned}
 use Rattle.lane_turn.specs.Deliver.{received_body, received, received_all}
-use Rattle.lane_turn.specs.Limits.{slot_count}
 use Rattle.lane_turn.proofs.Follows.{FollowsIn, AllFollow}
 use Rattle.lane_turn.proofs.Counts.{Edits, edits_destroyed, edits_ready_set, all_changed, follow_all}
 use Rattle.lane_turn.proofs.Adds.{edits_by}
-use Rattle.lane_turn.proofs.Lists.{each-push}
 use Rattle.lane_turn.proofs.Added.{does}
 use Rattle.lane_turn.proofs.Traced.{brings_all}
 use Rattle.lane_turn.proofs.Turns.{kept_finished}
