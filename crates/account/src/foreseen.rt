@@ -1,4 +1,4 @@
-//! What a lane's next step does.
+//! What a lane's next step will do, told before it is taken: a call's next action or its return, an iteration's next id, what a loop does.
 ghost use Rattle.std.specs.Prelude.{◌≡◌, slice_get, if◌then◌else◌};
 ghost use Rattle.loop_script.specs.Parts.{actions_of};
 ghost use Rattle.lane_turn.specs.Frames.{top_of};

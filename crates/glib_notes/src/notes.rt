@@ -1,4 +1,4 @@
-//! The notes of a run.
+//! The notes of a run: each move comes in here and goes to the file of its kind; iterations are followed here, as they begin, take ids and end.
 use crate::acted::acted;
 use crate::called::{arrived, begun_call, polled, returned, settle};
 use crate::cancelled::handlers_called;

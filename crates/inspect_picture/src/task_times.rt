@@ -1,4 +1,4 @@
-//! When tasks start, reply and end.
+//! When a task started, replied and ended late, as far as the run tells it, and the marks of its row by that.
 use crate::mark::Mark;
 use crate::track::Track;
 use inspect_words::Window;

@@ -1,4 +1,4 @@
-//! A picture of a run in text: what each source, loop, task and cancellable did, with time going right.
+//! Follows a run move by move, for its picture: gathers the marks of each source, loop, task and cancellable. `picture` draws them in the end.
 use crate::mark::Mark;
 use crate::picture::Picture;
 use crate::row_name::{RowName, RowOf};

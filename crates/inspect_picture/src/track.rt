@@ -1,4 +1,4 @@
-//! What something did in each tick of a run.
+//! The marks of one row of a picture, tick by tick, before they are drawn.
 use crate::mark::Mark;
 use std::alloc::{AllocError, Global};
 

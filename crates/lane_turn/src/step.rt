@@ -1,4 +1,4 @@
-//! One step of what is innermost.
+//! One step of a lane, by what is innermost of its calls, iterations and runs of loops: dispatches begin here, and what is over ends.
 ghost use Rattle.std.specs.Prelude.{◌≡◌, ◌≢◌, ◌+◌, ◌^◌, ◌≤◌, ◌<◌, None, List, length, IsTrue, IsOk, OnOk, IfOk, is_some, nat_lt, unwrap_or};
 ghost use Rattle.loop_script.specs.Parts.{time_of};
 ghost use Rattle.lane_turn.specs.Frames.{top_of, calls_in_progress};

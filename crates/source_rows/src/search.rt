@@ -1,4 +1,4 @@
-//! What is found in the tree of seats by one path down.
+//! Single searches in the tree of seats: for the next one that is awake, the next time, the last one up to a key, and those between two keys.
 ghost use Rattle.std.specs.Prelude.{◌≡◌, ◌++◌, false, map, filter, IfSome, IfNone, OnOk};
 ghost use Rattle.std.specs.List.{AllByRecursion};
 ghost use Rattle.std.specs.Ordering.{is_lt};
