@@ -6,11 +6,11 @@ ghost use Rattle.lane_turn.specs.Lane.{State};
 ghost use Rattle.tick_stepper.specs.Call.{IsCall, IsReply};
 
 use crate::calls::{Call, Planned, Reply};
+use crate::channels::{Channels, Ends, Place, Shared};
 use crate::fault::OutOfMemory;
 use crate::gate::Gate;
 use crate::share::{Share, turn_share};
 use crate::wait::next;
-use crossbeam_channel::{Receiver, Sender};
 use lane_turn::{LaneFault, LaneState};
 use loop_script::Script;
 use post_office::{Letter, Numbered};
@@ -18,12 +18,8 @@ use std::alloc::{AllocError, Global};
 use std::marker::PhantomData;
 use std::sync::Wait;
 
-/// The caller's ends of the channels of a worker.
-#[derive(Drop)]
-pub(crate) struct Ends<J: Planned> {
-    pub(crate) calls: Sender<Call<J>>,
-    pub(crate) replies: Receiver<Result<Reply<J>, LaneFault>>,
-}
+/// The number of the worker that the caller is.
+const CALLER: u32 = 0;
 
 /// A call for the turns of a share.
 fn call_with<J: Planned>(tick: u32, share: Share) -> Call<J>
@@ -47,6 +43,18 @@ fn reply_with<J: Planned>(tick: u32, share: Share) -> Reply<J>
     }
 }
 
+/// A call with the number of the worker that takes its turns, where it comes by a queue. Where lanes are dealt out it has that
+/// number, and stays as it is.
+fn taken_by<J: Planned>(worker: Option<u32>, call: Call<J>) -> Call<J> {
+    let Call {
+        tick,
+        mut share,
+        of: _,
+    } = call;
+    share.worker = worker.unwrap_or(share.worker);
+    call_with(tick, share)
+}
+
 /// Takes the turns of a call, and answers it.
 fn answer<J: Planned, G: Gate>(
     gate: &G,
@@ -61,20 +69,15 @@ fn answer<J: Planned, G: Gate>(
 }
 
 /// Answers the calls that come, until none comes any more.
-pub(crate) fn work<J: Planned, R: Wait, G: Gate>(
-    rt: &R,
-    gate: &G,
-    script: &Script,
-    calls: Receiver<Call<J>>,
-    replies: Sender<Result<Reply<J>, LaneFault>>,
-)
+pub(crate) fn work<J: Planned, R: Wait, G: Gate>(rt: &R, gate: &G, script: &Script, place: Place<J>)
     requires plan { script.now ≡ J.plan }
 {
     for _ in rt.forever() {
-        let Some(call) = next(rt, &calls) else {
+        let Some(call) = next(rt, &place.calls) else {
             return;
         };
-        if replies.send(rt, answer(gate, script, call)).is_err() {
+        let reply = answer(gate, script, taken_by(place.worker, call));
+        if place.replies.send(rt, reply).is_err() {
             return;
         }
     }
@@ -95,17 +98,8 @@ pub(crate) fn calls_of<J: Planned>(
     Ok(calls)
 }
 
-/// The calls of a tick, when those for workers went out.
-#[derive(Drop)]
-struct Sent<J: Planned> {
-    /// Those that the caller answers.
-    kept: Vec<Call<J>>,
-    /// How many workers have one, the first of all workers.
-    sent: usize,
-}
-
-/// Hands a call to a worker. `OutOfMemory` stands for a worker that is gone: each stays until the last tick, which no clause
-/// says.
+/// Hands a call to a worker, or to whichever takes it. `OutOfMemory` stands for workers that are gone: each stays until the last
+/// tick, which no clause says.
 fn send<J: Planned, R: Wait>(rt: &R, ends: &Ends<J>, call: Call<J>) -> Result<(), OutOfMemory> {
     match ends.calls.send(rt, call) {
         Ok(()) => Ok(()),
@@ -113,13 +107,22 @@ fn send<J: Planned, R: Wait>(rt: &R, ends: &Ends<J>, call: Call<J>) -> Result<()
     }
 }
 
-/// What a worker answers to the call that it was handed. `OutOfMemory` stands for a worker that is gone, too: each stays until
-/// the last tick, which no clause says.
+/// What a worker answers to a call. `OutOfMemory` stands for workers that are gone, too: each stays until the last tick, which no
+/// clause says.
 fn receive<J: Planned, R: Wait>(rt: &R, ends: &Ends<J>) -> Result<Reply<J>, OutOfMemory> {
     match next(rt, &ends.replies) {
         Some(Ok(reply)) => Ok(reply),
         Some(Err(_)) | None => Err(OutOfMemory),
     }
+}
+
+/// The calls of a tick, when those for workers went out.
+#[derive(Drop)]
+struct Sent<J: Planned> {
+    /// Those that the caller answers.
+    kept: Vec<Call<J>>,
+    /// How many workers have one, the first of all workers.
+    sent: usize,
 }
 
 /// Hands each call but the first to a worker, as long as there is one.
@@ -144,8 +147,9 @@ fn send_each<J: Planned, R: Wait>(
     Ok(Sent { kept, sent })
 }
 
-/// The answers to all calls. The caller answers the first, and those that are too many for the workers; these answer the others.
-pub(crate) fn answer_all<J: Planned, R: Wait, G: Gate>(
+/// The answers to calls that are dealt out. The caller answers the first, and those that are too many for the workers; these
+/// answer the others.
+fn answer_dealt<J: Planned, R: Wait, G: Gate>(
     rt: &R,
     alloc: Global,
     gate: &G,
@@ -170,6 +174,72 @@ pub(crate) fn answer_all<J: Planned, R: Wait, G: Gate>(
         }
     }
     Ok(replies)
+}
+
+/// The caller's answers to calls that wait in a queue, until none does: it takes so many at most.
+fn answer_waiting<J: Planned, R: Wait, G: Gate>(
+    rt: &R,
+    alloc: Global,
+    gate: &G,
+    script: &Script,
+    shared: &Shared<J>,
+    most: usize,
+) -> Result<Vec<Reply<J>>, OutOfMemory>
+    requires plan { script.now ≡ J.plan }
+{
+    let mut replies = Vec::new(alloc);
+    for _ in 0..most {
+        let Ok(call) = shared.waiting.try_recv(rt) else {
+            return Ok(replies);
+        };
+        let reply = answer(gate, script, taken_by(Some(CALLER), call))?;
+        if replies.push(reply).is_err() {
+            return Err(OutOfMemory);
+        }
+    }
+    Ok(replies)
+}
+
+/// The answers to calls that go into a queue. The caller takes some as the workers do, and these answer the others.
+fn answer_queued<J: Planned, R: Wait, G: Gate>(
+    rt: &R,
+    alloc: Global,
+    gate: &G,
+    script: &Script,
+    shared: &Shared<J>,
+    calls: Vec<Call<J>>,
+) -> Result<Vec<Reply<J>>, OutOfMemory>
+    requires plan { script.now ≡ J.plan }
+{
+    let all = calls.len();
+    for call in calls {
+        send(rt, &shared.ends, call)?;
+    }
+    let mut replies = answer_waiting(rt, alloc, gate, script, shared, all)?;
+    for _ in replies.len()..all {
+        let reply = receive(rt, &shared.ends)?;
+        if replies.push(reply).is_err() {
+            return Err(OutOfMemory);
+        }
+    }
+    Ok(replies)
+}
+
+/// The answers to all calls of a tick, of the caller and of the workers.
+pub(crate) fn answer_all<J: Planned, R: Wait, G: Gate>(
+    rt: &R,
+    alloc: Global,
+    gate: &G,
+    script: &Script,
+    channels: &Channels<J>,
+    calls: Vec<Call<J>>,
+) -> Result<Vec<Reply<J>>, OutOfMemory>
+    requires plan { script.now ≡ J.plan }
+{
+    match channels {
+        Channels::Own(ends) => answer_dealt(rt, alloc, gate, script, ends.as_slice(), calls),
+        Channels::Queue(shared) => answer_queued(rt, alloc, gate, script, shared, calls),
+    }
 }
 
 /// The lanes and letters of all answers of a tick.
