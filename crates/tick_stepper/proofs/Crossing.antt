@@ -161,10 +161,10 @@ reply_send T g = search (share_field_send, marker.the_field_send, sendable, cros
 -- ---- a worker's ends of its channels
 
 calls_send : (T : RattleType) → IsSend T → IsSend (Receiver.the_field T Heap.the_row ghosts).row
-calls_send T s = search (receiver.the_send, receiver.the_field_send, sendable, crosses) depth 40
+calls_send T s = search (receiver.the_send, sendable, crosses) depth 40
 
 replies_send : (T : RattleType) → IsSend T → IsSend (Sender.the_field T Heap.the_row ghosts).row
-replies_send T s = search (sender.the_send, sender.the_field_send, sendable, crosses) depth 40
+replies_send T s = search (sender.the_send, sendable, crosses) depth 40
 
 answer_send : (T : RattleType) → IsSend T → IsSend (Result.the_row T LaneFault.the_row)
 answer_send T s = search (sendable, crosses) depth 40
