@@ -43,8 +43,8 @@ fn reply_with<J: Planned>(tick: u32, share: Share) -> Reply<J>
     }
 }
 
-/// A call with the number of the worker that takes its turns, where it comes by a queue. Where lanes are dealt out it has that
-/// number, and stays as it is.
+/// A call with the number of the worker that takes it from a queue. None is given where lanes are dealt out: then it has that of
+/// the worker to which they are dealt.
 fn taken_by<J: Planned>(worker: Option<u32>, call: Call<J>) -> Call<J> {
     let Call {
         tick,
@@ -176,31 +176,22 @@ fn answer_dealt<J: Planned, R: Wait, G: Gate>(
     Ok(replies)
 }
 
-/// The caller's answers to calls that wait in a queue, until none does: it takes so many at most.
-fn answer_waiting<J: Planned, R: Wait, G: Gate>(
+/// An answer to one of the calls that are out: the caller's own where one waits in the queue, else that of a worker.
+fn next_answer<J: Planned, R: Wait, G: Gate>(
     rt: &R,
-    alloc: Global,
     gate: &G,
     script: &Script,
     shared: &Shared<J>,
-    most: usize,
-) -> Result<Vec<Reply<J>>, OutOfMemory>
+) -> Result<Reply<J>, OutOfMemory>
     requires plan { script.now ≡ J.plan }
 {
-    let mut replies = Vec::new(alloc);
-    for _ in 0..most {
-        let Ok(call) = shared.waiting.try_recv(rt) else {
-            return Ok(replies);
-        };
-        let reply = answer(gate, script, taken_by(Some(CALLER), call))?;
-        if replies.push(reply).is_err() {
-            return Err(OutOfMemory);
-        }
+    match shared.waiting.try_recv(rt) {
+        Ok(call) => Ok(answer(gate, script, taken_by(Some(CALLER), call))?),
+        Err(_) => receive(rt, &shared.ends),
     }
-    Ok(replies)
 }
 
-/// The answers to calls that go into a queue. The caller takes some as the workers do, and these answer the others.
+/// The answers to calls that go into a queue. The caller takes the next as long as some wait, as each worker does.
 fn answer_queued<J: Planned, R: Wait, G: Gate>(
     rt: &R,
     alloc: Global,
@@ -211,13 +202,13 @@ fn answer_queued<J: Planned, R: Wait, G: Gate>(
 ) -> Result<Vec<Reply<J>>, OutOfMemory>
     requires plan { script.now ≡ J.plan }
 {
-    let all = calls.len();
+    let out = calls.len();
     for call in calls {
         send(rt, &shared.ends, call)?;
     }
-    let mut replies = answer_waiting(rt, alloc, gate, script, shared, all)?;
-    for _ in replies.len()..all {
-        let reply = receive(rt, &shared.ends)?;
+    let mut replies = Vec::new(alloc);
+    for _ in 0..out {
+        let reply = next_answer(rt, gate, script, shared)?;
         if replies.push(reply).is_err() {
             return Err(OutOfMemory);
         }
