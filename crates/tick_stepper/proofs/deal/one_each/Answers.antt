@@ -1,6 +1,5 @@
 use Rattle.std.proofs.Common.{rules, ◌≡◌, ◌++◌, ◌∙◌, [], ◌∷◌, List, sym, ap, subst}
 use Rattle.std.specs.List.{All}
-use Rattle.lane_turn.specs.Lane.{State}
 use Rattle.tick_stepper.specs.Share.{handed}
 use Rattle.tick_stepper.specs.declared.share.Share.{Share}
 use Rattle.tick_stepper.proofs.Theirs.{none_more, handed_more}
