@@ -45,7 +45,16 @@ use Rattle.tick_stepper.specs.contracts.share.Share as Share
 use Rattle.tick_stepper.specs.contracts.calls.Call as Call
 use Rattle.std.proofs.marker.PhantomData.TheSendSync as marker
 use Rattle.tick_stepper.specs.contracts.calls.Reply as Reply
+use Rattle.tick_stepper.specs.contracts.channels.Place as Place
 use Rattle.tick_stepper.specs.declared.calls.Planned.{Ghosts}
+use Rattle.std.specs.contracts.alloc.Global as Heap
+use Rattle.std.specs.contracts.impls.GlobalAllocator.TheImpl.{ghosts}
+use Rattle.std.specs.contracts.result.Result as Result
+use Rattle.crossbeam_channel.specs.contracts.channel.Receiver as Receiver
+use Rattle.crossbeam_channel.specs.contracts.channel.Sender as Sender
+use Rattle.crossbeam_channel.proofs.channel.Receiver.TheSendSync as receiver
+use Rattle.crossbeam_channel.proofs.channel.Sender.TheSendSync as sender
+use Rattle.lane_turn.specs.contracts.state.LaneFault as LaneFault
 use Rattle.tick_stepper.specs.contracts.work.Hired as Hired
 use Rattle.tick_stepper.specs.contracts.work.Haul as Haul
 
@@ -148,3 +157,17 @@ call_send T g = search (share_field_send, marker.the_field_send, sendable, cross
 
 pub reply_send : (T : RattleType) (g : Ghosts T.Denot) → IsSend (Reply.the_row T g)
 reply_send T g = search (share_field_send, marker.the_field_send, sendable, crosses) depth 60 fits 10000
+
+-- ---- a worker's ends of its channels
+
+calls_send : (T : RattleType) → IsSend T → IsSend (Receiver.the_field T Heap.the_row ghosts).row
+calls_send T s = search (receiver.the_send, sendable, crosses) depth 40
+
+replies_send : (T : RattleType) → IsSend T → IsSend (Sender.the_field T Heap.the_row ghosts).row
+replies_send T s = search (sender.the_send, sendable, crosses) depth 40
+
+answer_send : (T : RattleType) → IsSend T → IsSend (Result.the_row T LaneFault.the_row)
+answer_send T s = search (sendable, crosses) depth 40
+
+pub place_send : (T : RattleType) (g : Ghosts T.Denot) → IsSend (Place.the_row T g)
+place_send T g = search (calls_send, replies_send, answer_send, call_send, reply_send, option.the_field_send, sendable, crosses) depth 60 fits 10000

@@ -66,5 +66,8 @@ all_theirs crew dealt lane shares i share d e same more w h =
 pub none_more : (P : Share → Type 0) (shares : List Share) (share : Share) → All P shares → P share → All P (shares ++ share ∷ [])
 none_more P shares share h p = All-append P shares (share ∷ []) h (of_rec P (share ∷ []) (p, tt))
 
+pub handed_more : (shares : List Share) (share : Share) → handed (shares ++ share ∷ []) ≡ handed shares ++ share.lanes.items
+handed_more shares share = sym (flat_map_more (λ (s : Share). s.lanes.items) [] shares share)
+
 pub handed_none : (shares : List Share) (share : Share) → handed shares ≡ [] → share.lanes.items ≡ [] → handed (shares ++ share ∷ []) ≡ []
-handed_none shares share h e = sym (flat_map_more (λ (s : Share). s.lanes.items) [] shares share) ∙ ap (λ (l : List State). l ++ share.lanes.items) h ∙ e
+handed_none shares share h e = handed_more shares share ∙ ap (λ (l : List State). l ++ share.lanes.items) h ∙ e

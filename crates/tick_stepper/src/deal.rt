@@ -6,7 +6,7 @@ ghost use Rattle.tick_stepper.specs.Crew.{worker_of};
 ghost use Rattle.tick_stepper.specs.Share.{has_lanes, handed, AreWorkers, HasTheirs, IsGathered};
 ghost use Rattle.tick_stepper.specs.declared.crew.Crew.{Crew};
 
-use crate::crew::Crew;
+use crate::crew::{Crew, Sharing};
 use crate::share::Share;
 use lane_turn::{LaneFault, LaneState};
 use post_office::{Letter, Numbered, Tray};
@@ -83,6 +83,41 @@ pub(crate) fn deal(
     let mut shares = hand_out(alloc, crew, lanes)?;
     leave_out_idle(&mut shares);
     Ok(shares)
+}
+
+/// A share for each lane, with an empty tray, of no worker until one takes it.
+fn one_each(alloc: Global, lanes: Vec<LaneState>) -> Result<Vec<Share>, AllocError>
+    ensures lanes { IfOk result (λ shares. handed shares.items ≡ lanes.items) }
+    ensures trays { IfOk result (λ shares. All (λ share. share.tray ≡ []) shares.items) }
+{
+    let mut shares = Vec::new(alloc);
+    for lane in lanes {
+        let mut one = Vec::new(alloc);
+        one.push(lane)?;
+        shares.push(Share {
+            worker: 0,
+            lanes: one,
+            tray: Tray::new(alloc),
+        })?;
+    }
+    Ok(shares)
+}
+
+/// Lanes in shares, with empty trays: those of each worker, or each lane by itself where workers take them from a queue.
+pub(crate) fn share_out(
+    alloc: Global,
+    crew: &Crew,
+    lanes: Vec<LaneState>,
+) -> Result<Vec<Share>, AllocError>
+    requires some { 0 < crew.now.workers }
+    requires named { All (λ s. worker_of crew.now s.lane.number < crew.now.workers) lanes.items }
+    ensures lanes { IfOk result (λ shares. IsPermutation lanes.items (handed shares.items)) }
+    ensures trays { IfOk result (λ shares. All (λ share. share.tray ≡ []) shares.items) }
+{
+    match crew.sharing {
+        Sharing::Queue => one_each(alloc, lanes),
+        Sharing::Round | Sharing::Fixed(_) => deal(alloc, crew, lanes),
+    }
 }
 
 /// All lanes and letters that the workers bring back, where none failed.

@@ -3,6 +3,7 @@
 #![tactic(auto)]
 
 mod calls;
+mod channels;
 mod crew;
 mod deal;
 mod deliver;

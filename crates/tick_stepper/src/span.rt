@@ -8,18 +8,17 @@ ghost use Rattle.tick_stepper.specs.Rest.{AreAt};
 ghost use Rattle.tick_stepper.specs.Share.{turned_one, out_of_one, IsRound};
 ghost use denote.Param.Send.{IsSync};
 
-use crate::calls::{Call, Planned, Reply};
-use crate::crew::{Crew, Sharing};
-use crate::deal::deal;
+use crate::calls::Planned;
+use crate::channels::{Channels, Opened, open_channels};
+use crate::crew::Crew;
+use crate::deal::share_out;
 use crate::fault::OutOfMemory;
 use crate::gate::Gate;
-use crate::queue::{least, turn_by_queue};
 use crate::rest::{Resting, any_due};
 use crate::round::{Parted, begin_tick, end_tick};
 use crate::share::in_order;
-use crate::stay::{Ends, answer_all, calls_of, collect, have_numbers, numbers_of, work};
-use crossbeam_channel::bounded;
-use lane_turn::{LaneFault, LaneState};
+use crate::stay::{answer_all, calls_of, collect, have_numbers, numbers_of, work};
+use lane_turn::LaneState;
 use loop_script::Script;
 use post_office::{Letter, merge};
 use std::alloc::Global;
@@ -27,17 +26,17 @@ use std::sync::Wait;
 use std::thread;
 use std::thread::Threads;
 
-/// Lanes after their turns at a tick, by number, and what they posted, by sender and number. Each lane is dealt to
-/// its worker; the caller turns those of the first worker that has some, and workers that stay those of the others.
-/// `OutOfMemory` stands for lanes of other numbers, too: each worker gives back the lanes that it got, which no clause says.
-fn turn_by_call<J: Planned, R: Wait, G: Gate>(
+/// Lanes after their turns at a tick, by number, and what they posted, by sender and number. The caller and workers that stay
+/// take these turns. `OutOfMemory` stands for lanes of other numbers, too: each worker gives back the lanes that it got, which no
+/// clause says.
+fn turn_each<J: Planned, R: Wait, G: Gate>(
     rt: &R,
     alloc: Global,
     gate: &G,
     script: &Script,
     tick: u32,
     crew: &Crew,
-    ends: &[Ends<J>],
+    channels: &Channels<J>,
     lanes: Vec<LaneState>,
 ) -> Result<(Vec<LaneState>, Vec<Letter>), OutOfMemory>
     requires plan { script.now ≡ J.plan }
@@ -50,9 +49,9 @@ fn turn_by_call<J: Planned, R: Wait, G: Gate>(
     ensures letters { IfOk result (λ r. r.1.items ≡ flat_map (out_of_one script.now tick) lanes.items) }
 {
     let numbers = numbers_of(alloc, lanes.as_slice())?;
-    let shares = deal(alloc, crew, lanes)?;
+    let shares = share_out(alloc, crew, lanes)?;
     let calls = calls_of::<J>(alloc, tick, shares)?;
-    let replies = answer_all(rt, alloc, gate, script, ends, calls)?;
+    let replies = answer_all(rt, alloc, gate, script, channels, calls)?;
     let (lanes, letters) = collect(alloc, tick, replies)?;
     let lanes = in_order(lanes)?;
     if !have_numbers(lanes.as_slice(), numbers.as_slice()) {
@@ -62,44 +61,15 @@ fn turn_by_call<J: Planned, R: Wait, G: Gate>(
     Ok((lanes, letters))
 }
 
-/// Lanes after their turns at a tick, by number, and what they posted, by sender and number. Workers that stay are called for
-/// them, or some that are started for this tick take them from a queue.
-fn turn_each<J: Planned, R: Threads + Wait + Sync, G: Gate>(
-    rt: &R,
-    alloc: Global,
-    gate: &G,
-    script: &Script,
-    tick: u32,
-    crew: &Crew,
-    ends: &[Ends<J>],
-    lanes: Vec<LaneState>,
-) -> Result<(Vec<LaneState>, Vec<Letter>), OutOfMemory>
-    requires plan { script.now ≡ J.plan }
-    requires few { length script.now.lanes ≤ most_lanes }
-    requires tick { tick < most_ticks }
-    requires crew { refusal_of script.now crew.now.workers crew.now.sharing ≡ None }
-    requires lanes { IsRound script.now tick lanes.items }
-    requires own { AreOwn script.now tick lanes.items }
-    ensures lanes { IfOk result (λ r. r.0.items ≡ map (turned_one script.now tick) lanes.items) }
-    ensures letters { IfOk result (λ r. r.1.items ≡ flat_map (out_of_one script.now tick) lanes.items) }
-{
-    match crew.sharing {
-        Sharing::Queue => turn_by_queue(rt, alloc, gate, script, tick, crew.workers, lanes),
-        Sharing::Round | Sharing::Fixed(_) => turn_by_call(
-            rt, alloc, gate, script, tick, crew, ends, lanes,
-        ),
-    }
-}
-
 /// A tick of the lanes of a run, as `run_tick`, with workers that stay.
-fn step_tick<J: Planned, R: Threads + Wait + Sync, G: Gate>(
+fn step_tick<J: Planned, R: Wait, G: Gate>(
     rt: &R,
     alloc: Global,
     gate: &G,
     script: &Script,
     tick: u32,
     crew: &Crew,
-    ends: &[Ends<J>],
+    channels: &Channels<J>,
     lanes: Vec<Resting>,
 ) -> Result<Vec<Resting>, OutOfMemory>
     requires plan { script.now ≡ J.plan }
@@ -114,19 +84,19 @@ fn step_tick<J: Planned, R: Threads + Wait + Sync, G: Gate>(
         return Ok(lanes);
     }
     let Parted { due, resting } = begin_tick(alloc, script, tick, lanes)?;
-    let (done, letters) = turn_each(rt, alloc, gate, script, tick, crew, ends, due)?;
+    let (done, letters) = turn_each(rt, alloc, gate, script, tick, crew, channels, due)?;
     end_tick(alloc, script, tick, done, letters.as_slice(), resting)
 }
 
 /// All ticks of a run from one on, with workers that stay.
-fn step_ticks<J: Planned, R: Threads + Wait + Sync, G: Gate>(
+fn step_ticks<J: Planned, R: Wait, G: Gate>(
     rt: &R,
     alloc: Global,
     gate: &G,
     script: &Script,
     crew: &Crew,
     first: u32,
-    ends: Vec<Ends<J>>,
+    channels: Channels<J>,
     mut lanes: Vec<Resting>,
 ) -> Result<Vec<Resting>, OutOfMemory>
     requires plan { script.now ≡ J.plan }
@@ -137,22 +107,14 @@ fn step_ticks<J: Planned, R: Threads + Wait + Sync, G: Gate>(
     ensures { IfOk result (λ lanes. AreAt script.now script.now.ticks lanes.items) }
 {
     for tick in first..script.ticks() {
-        lanes = step_tick(rt, alloc, gate, script, tick, crew, ends.as_slice(), lanes)?;
+        lanes = step_tick(rt, alloc, gate, script, tick, crew, &channels, lanes)?;
     }
     Ok(lanes)
 }
 
-/// How many workers stay for a run, beside the caller.
-fn others(crew: &Crew, lanes: usize) -> u32 {
-    match crew.sharing {
-        Sharing::Queue => 0,
-        Sharing::Round | Sharing::Fixed(_) => least(crew.workers, lanes).saturating_sub(1),
-    }
-}
-
 /// All ticks of a run from one on. Workers are started once, and stay until the last; where one can't be started, there are
 /// fewer.
-#[tactic(auto, using(crate::proofs::Crossing::call_send, crate::proofs::Crossing::reply_send, crate::proofs::Crossing::script_sync))]
+#[tactic(auto, using(crate::proofs::Crossing::place_send, crate::proofs::Crossing::script_sync))]
 pub(crate) fn run_ticks<J: Planned + Send + Sync, R: Threads + Wait + Sync, G: Gate>(
     rt: &R,
     alloc: Global,
@@ -169,7 +131,6 @@ pub(crate) fn run_ticks<J: Planned + Send + Sync, R: Threads + Wait + Sync, G: G
     requires lanes { AreAt script.now first lanes.items }
     ensures { IfOk result (λ lanes. AreAt script.now script.now.ticks lanes.items) }
 {
-    let others = others(crew, lanes.len());
     thread::scope(
         thread::scope_env(),
         rt,
@@ -177,24 +138,22 @@ pub(crate) fn run_ticks<J: Planned + Send + Sync, R: Threads + Wait + Sync, G: G
             requires { IsSync R.row × IsSync G.row × (script.now ≡ J.plan) × (length script.now.lanes ≤ most_lanes) × (first ≤ script.now.ticks) × (refusal_of script.now crew.now.workers crew.now.sharing ≡ None) × AreAt script.now first lanes.items }
             ensures { IfOk result (λ lanes. AreAt script.entry.now script.entry.now.ticks lanes.items) }
         {
-            let mut ends = Vec::new(alloc);
-            for _ in 0..others {
-                let (to, calls) = bounded::<Call<J>, Global>(alloc, 1)?;
-                let (replies, from) = bounded::<Result<Reply<J>, LaneFault>, Global>(alloc, 1)?;
-                let started = scope.spawn(
+            let Opened {
+                mut channels,
+                places,
+            } = open_channels::<J>(alloc, crew, lanes.len())?;
+            for (before, place) in places.into_iter().enumerate() {
+                let thread = scope.spawn(
                     move ||
                         requires { IsSync G.row × (script.now ≡ J.plan) }
-                    { work::<J, R, G>(rt, gate, script, calls, replies) },
+                    { work::<J, R, G>(rt, gate, script, place) },
                 );
-                let both = Ends {
-                    calls: to,
-                    replies: from,
-                };
-                if started.is_ok() && ends.push(both).is_err() {
-                    return Err(OutOfMemory);
+                if thread.is_err() {
+                    channels.keep(before);
+                    break;
                 }
             }
-            step_ticks(rt, alloc, gate, script, crew, first, ends, lanes)
+            step_ticks(rt, alloc, gate, script, crew, first, channels, lanes)
         },
     )
 }

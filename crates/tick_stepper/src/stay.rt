@@ -6,11 +6,11 @@ ghost use Rattle.lane_turn.specs.Lane.{State};
 ghost use Rattle.tick_stepper.specs.Call.{IsCall, IsReply};
 
 use crate::calls::{Call, Planned, Reply};
+use crate::channels::{Channels, Ends, Place, Shared};
 use crate::fault::OutOfMemory;
 use crate::gate::Gate;
 use crate::share::{Share, turn_share};
 use crate::wait::next;
-use crossbeam_channel::{Receiver, Sender};
 use lane_turn::{LaneFault, LaneState};
 use loop_script::Script;
 use post_office::{Letter, Numbered};
@@ -18,12 +18,8 @@ use std::alloc::{AllocError, Global};
 use std::marker::PhantomData;
 use std::sync::Wait;
 
-/// The caller's ends of the channels of a worker.
-#[derive(Drop)]
-pub(crate) struct Ends<J: Planned> {
-    pub(crate) calls: Sender<Call<J>>,
-    pub(crate) replies: Receiver<Result<Reply<J>, LaneFault>>,
-}
+/// The number of the worker that the caller is.
+const CALLER: u32 = 0;
 
 /// A call for the turns of a share.
 fn call_with<J: Planned>(tick: u32, share: Share) -> Call<J>
@@ -47,6 +43,18 @@ fn reply_with<J: Planned>(tick: u32, share: Share) -> Reply<J>
     }
 }
 
+/// A call with the number of the worker that takes it from a queue. None is given where lanes are dealt out: then it has that of
+/// the worker to which they are dealt.
+fn taken_by<J: Planned>(worker: Option<u32>, call: Call<J>) -> Call<J> {
+    let Call {
+        tick,
+        mut share,
+        of: _,
+    } = call;
+    share.worker = worker.unwrap_or(share.worker);
+    call_with(tick, share)
+}
+
 /// Takes the turns of a call, and answers it.
 fn answer<J: Planned, G: Gate>(
     gate: &G,
@@ -61,20 +69,15 @@ fn answer<J: Planned, G: Gate>(
 }
 
 /// Answers the calls that come, until none comes any more.
-pub(crate) fn work<J: Planned, R: Wait, G: Gate>(
-    rt: &R,
-    gate: &G,
-    script: &Script,
-    calls: Receiver<Call<J>>,
-    replies: Sender<Result<Reply<J>, LaneFault>>,
-)
+pub(crate) fn work<J: Planned, R: Wait, G: Gate>(rt: &R, gate: &G, script: &Script, place: Place<J>)
     requires plan { script.now ≡ J.plan }
 {
     for _ in rt.forever() {
-        let Some(call) = next(rt, &calls) else {
+        let Some(call) = next(rt, &place.calls) else {
             return;
         };
-        if replies.send(rt, answer(gate, script, call)).is_err() {
+        let reply = answer(gate, script, taken_by(place.worker, call));
+        if place.replies.send(rt, reply).is_err() {
             return;
         }
     }
@@ -95,17 +98,8 @@ pub(crate) fn calls_of<J: Planned>(
     Ok(calls)
 }
 
-/// The calls of a tick, when those for workers went out.
-#[derive(Drop)]
-struct Sent<J: Planned> {
-    /// Those that the caller answers.
-    kept: Vec<Call<J>>,
-    /// How many workers have one, the first of all workers.
-    sent: usize,
-}
-
-/// Hands a call to a worker. `OutOfMemory` stands for a worker that is gone: each stays until the last tick, which no clause
-/// says.
+/// Hands a call to a worker, or to whichever takes it. `OutOfMemory` stands for workers that are gone: each stays until the last
+/// tick, which no clause says.
 fn send<J: Planned, R: Wait>(rt: &R, ends: &Ends<J>, call: Call<J>) -> Result<(), OutOfMemory> {
     match ends.calls.send(rt, call) {
         Ok(()) => Ok(()),
@@ -113,13 +107,22 @@ fn send<J: Planned, R: Wait>(rt: &R, ends: &Ends<J>, call: Call<J>) -> Result<()
     }
 }
 
-/// What a worker answers to the call that it was handed. `OutOfMemory` stands for a worker that is gone, too: each stays until
-/// the last tick, which no clause says.
+/// What a worker answers to a call. `OutOfMemory` stands for workers that are gone, too: each stays until the last tick, which no
+/// clause says.
 fn receive<J: Planned, R: Wait>(rt: &R, ends: &Ends<J>) -> Result<Reply<J>, OutOfMemory> {
     match next(rt, &ends.replies) {
         Some(Ok(reply)) => Ok(reply),
         Some(Err(_)) | None => Err(OutOfMemory),
     }
+}
+
+/// The calls of a tick, when those for workers went out.
+#[derive(Drop)]
+struct Sent<J: Planned> {
+    /// Those that the caller answers.
+    kept: Vec<Call<J>>,
+    /// How many workers have one, the first of all workers.
+    sent: usize,
 }
 
 /// Hands each call but the first to a worker, as long as there is one.
@@ -144,8 +147,9 @@ fn send_each<J: Planned, R: Wait>(
     Ok(Sent { kept, sent })
 }
 
-/// The answers to all calls. The caller answers the first, and those that are too many for the workers; these answer the others.
-pub(crate) fn answer_all<J: Planned, R: Wait, G: Gate>(
+/// The answers to calls that are dealt out. The caller answers the first, and those that are too many for the workers; these
+/// answer the others.
+fn answer_dealt<J: Planned, R: Wait, G: Gate>(
     rt: &R,
     alloc: Global,
     gate: &G,
@@ -170,6 +174,63 @@ pub(crate) fn answer_all<J: Planned, R: Wait, G: Gate>(
         }
     }
     Ok(replies)
+}
+
+/// An answer to one of the calls that are out: the caller's own where one waits in the queue, else that of a worker.
+fn next_answer<J: Planned, R: Wait, G: Gate>(
+    rt: &R,
+    gate: &G,
+    script: &Script,
+    shared: &Shared<J>,
+) -> Result<Reply<J>, OutOfMemory>
+    requires plan { script.now ≡ J.plan }
+{
+    match shared.waiting.try_recv(rt) {
+        Ok(call) => Ok(answer(gate, script, taken_by(Some(CALLER), call))?),
+        Err(_) => receive(rt, &shared.ends),
+    }
+}
+
+/// The answers to calls that go into a queue. The caller takes the next as long as some wait, as each worker does.
+fn answer_queued<J: Planned, R: Wait, G: Gate>(
+    rt: &R,
+    alloc: Global,
+    gate: &G,
+    script: &Script,
+    shared: &Shared<J>,
+    calls: Vec<Call<J>>,
+) -> Result<Vec<Reply<J>>, OutOfMemory>
+    requires plan { script.now ≡ J.plan }
+{
+    let out = calls.len();
+    for call in calls {
+        send(rt, &shared.ends, call)?;
+    }
+    let mut replies = Vec::new(alloc);
+    for _ in 0..out {
+        let reply = next_answer(rt, gate, script, shared)?;
+        if replies.push(reply).is_err() {
+            return Err(OutOfMemory);
+        }
+    }
+    Ok(replies)
+}
+
+/// The answers to all calls of a tick, of the caller and of the workers.
+pub(crate) fn answer_all<J: Planned, R: Wait, G: Gate>(
+    rt: &R,
+    alloc: Global,
+    gate: &G,
+    script: &Script,
+    channels: &Channels<J>,
+    calls: Vec<Call<J>>,
+) -> Result<Vec<Reply<J>>, OutOfMemory>
+    requires plan { script.now ≡ J.plan }
+{
+    match channels {
+        Channels::Own(ends) => answer_dealt(rt, alloc, gate, script, ends.as_slice(), calls),
+        Channels::Queue(shared) => answer_queued(rt, alloc, gate, script, shared, calls),
+    }
 }
 
 /// The lanes and letters of all answers of a tick.

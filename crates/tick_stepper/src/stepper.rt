@@ -111,8 +111,8 @@ impl Stepper {
         Ok(true)
     }
 
-    /// Steps all ticks that are left. Workers that lanes are dealt out to start once, and stay until the last tick. After
-    /// `OutOfMemory` the stepper is spent, as after `tick`.
+    /// Steps all ticks that are left. Workers start once, and stay until the last tick. After `OutOfMemory` the stepper is spent,
+    /// as after `tick`.
     pub fn run<R: Threads + Wait + Sync, G: Gate>(
         &mut self,
         rt: &R,

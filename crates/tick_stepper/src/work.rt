@@ -1,4 +1,4 @@
-//! What a worker does where lanes are taken from a queue.
+//! What a worker does where lanes are taken from a queue in a single tick.
 ghost use Rattle.std.specs.Prelude.{◌≡◌, ◌<◌, ◌++◌, OnOk, IfOk};
 ghost use Rattle.loop_script.specs.Bounds.{most_ticks};
 ghost use Rattle.tick_stepper.specs.Share.{turned_one, out_of_one, IsReadyOne};

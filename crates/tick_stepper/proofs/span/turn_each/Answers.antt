@@ -1,4 +1,4 @@
-use Rattle.std.proofs.Common.{◌≡◌, ◌∙◌, ℕ, List, map, true, sym, ap, subst, rules}
+use Rattle.std.proofs.Common.{◌≡◌, ◌∙◌, ℕ, map, true, sym, ap, subst, rules}
 use Rattle.std.specs.List.{All}
 use Rattle.std.proofs.lemmas.List.Sorted.{IsPermutation-refl, IsPermutation-sym}
 use Rattle.loop_script.specs.declared.plan.Plan.{Plan}
@@ -7,13 +7,13 @@ use Rattle.tick_stepper.specs.Call.{IsCall, IsReply}
 use Rattle.tick_stepper.proofs.Crews.{some_workers, all_named}
 use Rattle.tick_stepper.proofs.Rounds.{posted_by_sender}
 use Rattle.tick_stepper.proofs.Answering.{all_calls, turns_back, letters_back}
-use Rattle.tick_stepper.proofs.span.turn_by_call.Goals as goal
+use Rattle.tick_stepper.proofs.span.turn_each.Goals as goal
 
-pub deal-requires-clause-some : goal.deal-requires-clause-some
-deal-requires-clause-some g c = some_workers c.args.script.now c.args.crew.now.workers c.args.crew.now.sharing c.requires.crew
+pub share_out-requires-clause-some : goal.share_out-requires-clause-some
+share_out-requires-clause-some g c = some_workers c.args.script.now c.args.crew.now.workers c.args.crew.now.sharing c.requires.crew
 
-pub deal-requires-clause-named : goal.deal-requires-clause-named
-deal-requires-clause-named g c = all_named c.args.script.now c.args.crew.now c.args.lanes.items c.requires.crew c.requires.lanes.below
+pub share_out-requires-clause-named : goal.share_out-requires-clause-named
+share_out-requires-clause-named g c = all_named c.args.script.now c.args.crew.now c.args.lanes.items c.requires.crew c.requires.lanes.below
 
 pub calls_of-requires : goal.calls_of-requires
 calls_of-requires g c =
