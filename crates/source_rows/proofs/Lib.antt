@@ -44,3 +44,4 @@ pub mod LastTo
 pub mod Found
 pub mod Parted
 pub mod SetIn
+pub mod Parts

@@ -179,6 +179,7 @@ impl Seats {
         requires low { IsLow self.old }
         ensures some { IfSome result (λ f. self.old.0 ≡ f.value.seat ∷ self.new.0) }
         ensures none { IfNone result (self.old ≡ ([], 0)) }
+        ensures gone { IfNone result (self.new ≡ ([], 0)) }
         ensures low { IsLow self.new }
         ensures height { IsLowered self.old.1 self.new.1 }
     {
@@ -203,7 +204,7 @@ impl Seats {
 
     /// Takes a seat out, and hands its room out; none where it is not there.
     #[tactic(auto, using(crate::proofs::Low::low_even))]
-    fn take(&mut self, seat: &Seat) -> Option<Room>
+    pub fn take(&mut self, seat: &Seat) -> Option<Room>
         requires rises { Rises is_ahead self.old.0 }
         requires few { length self.old.0 ≤ count_end }
         requires low { IsLow self.old }
@@ -225,31 +226,6 @@ impl Seats {
         };
         balance(&mut self.root);
         room
-    }
-
-    /// Gives a seat up, and its room.
-    pub fn remove(&mut self, seat: &Seat)
-        requires rises { Rises is_ahead self.old.0 }
-        requires few { length self.old.0 ≤ count_end }
-        requires low { IsLow self.old }
-        ensures seats { self.new.0 ≡ without seat.now self.old.0 }
-        ensures low { IsLow self.new }
-    {
-        drop(self.take(seat));
-    }
-
-    /// Puts another seat into the place of one.
-    pub fn change(&mut self, before: &Seat, after: &Seat)
-        requires rises { Rises is_ahead self.old.0 }
-        requires few { length self.old.0 ≤ count_end }
-        requires low { IsLow self.old }
-        requires there { list_any (λ u. is_eq (seat_cmp before.now u)) self.old.0 ≡ true }
-        ensures seats { self.new.0 ≡ inserted is_ahead after.now (without before.now self.old.0) }
-        ensures low { IsLow self.new }
-    {
-        if let Some(room) = self.take(before) {
-            let _ = self.insert(room, after);
-        }
     }
 
     /// Puts another seat where one stands, and answers whether the least times may be others.
@@ -276,24 +252,6 @@ impl Seats {
         }
     }
 
-    /// Puts another seat into the place of one, where it is another.
-    pub fn replace(&mut self, before: &Seat, after: &Seat)
-        requires rises { Rises is_ahead self.old.0 }
-        requires few { length self.old.0 ≤ count_end }
-        requires low { IsLow self.old }
-        requires there { list_any (λ u. is_eq (seat_cmp before.now u)) self.old.0 ≡ true }
-        ensures seats { self.new.0 ≡ replaced before.now after.now self.old.0 }
-        ensures low { IsLow self.new }
-    {
-        if is_other(before, after) {
-            if stays(before, after) {
-                let _ = self.set(before, after);
-            } else {
-                self.change(before, after);
-            }
-        }
-    }
-
     /// The least times of the seats.
     fn least(&self) -> Least
         ensures { result ≡ least_of self.now.0 }
@@ -309,31 +267,11 @@ impl Seats {
 }
 
 /// Whether a seat stands before another.
-fn is_ahead(a: &Seat, b: &Seat) -> bool
+pub(crate) fn is_ahead(a: &Seat, b: &Seat) -> bool
     ensures { result ≡ is_ahead a.now b.now }
 {
     match a.cmp(b) {
         Ordering::Less => true,
-        _ => false,
-    }
-}
-
-/// Whether two seats are not the same.
-fn is_other(a: &Seat, b: &Seat) -> bool
-    ensures { result ≡ is_other a.now b.now }
-{
-    match a.cmp(b) {
-        Ordering::Equal => false,
-        _ => true,
-    }
-}
-
-/// Whether two seats have one key.
-fn stays(a: &Seat, b: &Seat) -> bool
-    ensures { result ≡ stays a.now b.now }
-{
-    match a.key.cmp(&b.key) {
-        Ordering::Equal => true,
         _ => false,
     }
 }
