@@ -1,17 +1,21 @@
 -- What holds of seats in two lists, one behind the other.
-use Rattle.std.proofs.Common.{◌≡◌, ◌∙◌, ◌≤◌, ◌+◌, ◌⊎◌, ℕ, zero, suc, Bool, true, false, not, ◌||◌, max, inl, inr, Option, None, List, [], ◌∷◌, ◌++◌, length, filter, refl, sym, ap, subst, arith, append_assoc, length-append}
+use Rattle.std.proofs.Common.{◌≡◌, ◌∙◌, ◌≤◌, ◌+◌, ◌⊎◌, ℕ, zero, suc, Bool, true, false, not, cond, ◌||◌, max, inl, inr, Option, Some, None, IfSome, IfNone, List, [], ◌∷◌, ◌++◌, length, filter, refl, sym, ap, subst, arith, append_assoc, length-append}
+use Rattle.std.proofs.lemmas.Cmp.{tied_itself}
 use Rattle.std.specs.List.{AllByRecursion, list_any}
-use Rattle.std.specs.Ordering.{is_eq}
+use Rattle.std.specs.declared.cmp.Ordering.{Ordering}
+use Rattle.std.specs.declared.cmp.Ordering.TheVariants.{Less, Equal, Greater}
+use Rattle.std.specs.Ordering.{is_lt, is_eq}
 use Rattle.source_rows.specs.declared.seats.Seat.{Seat}
 use Rattle.source_rows.specs.Inserted.{inserted, Rises}
 use Rattle.source_rows.specs.LastTo.{stands_to, IsLastTo}
 use Rattle.source_rows.specs.Rows.{Key}
-use Rattle.source_rows.specs.SeatOrder.{seen_together, IsParted, IsFirst, IsLast}
-use Rattle.source_rows.specs.Seats.{seat_cmp, is_ahead, without, swapped, fewest, IsLow}
-use Rattle.source_rows.proofs.Ahead.{sooner_order, filter_join, without_none, any_join, any_none, or_false, swapped_join, swapped_none, all_apart_left, all_apart_right}
-use Rattle.source_rows.proofs.Inserted.{front, put_behind, inserted_left, all_left, asym, before_rest, trans}
+use Rattle.source_rows.specs.SeatOrder.{seen_together, ArePassed, AreBehind, IsLastKey}
+use Rattle.source_rows.specs.Seats.{seat_cmp, is_ahead, is_passed, without, swap, swapped, fewest, IsLow}
+use Rattle.source_rows.proofs.Ahead.{sooner_order, less_sooner, greater_back, same_from_equal, same_time, passed_by, filter_join, without_none, any_join, any_none, or_false, swapped_join, swapped_none, all_apart_left, all_apart_right}
+use Rattle.source_rows.proofs.Inserted.{put_behind, inserted_left, all_left, asym}
 use Rattle.source_rows.proofs.LastTo.{all_joined}
-use Rattle.source_rows.proofs.Lists.{all_of, all_front}
+use Rattle.source_rows.proofs.Lists.{all_of, all_front, all_map}
+use Rattle.source_rows.proofs.Order.{key_total}
 use Rattle.source_rows.proofs.Parted.{append_nil}
 
 pub rises_front : (l r : List Seat) → Rises is_ahead (l ++ r) → Rises is_ahead l
@@ -24,32 +28,33 @@ rises_behind (x ∷ l) r h = rises_behind l r h.1
 
 -- ---- on which side a seat stands
 
--- at the first of those behind, or behind it
-pub parted_by : (l r : List Seat) (first seat : Seat) → Rises is_ahead (l ++ r) → IsFirst r first → IsParted l r seat (not (is_ahead seat first))
-parted_by l r first seat h f =
-    let rises : Rises is_ahead (l ++ first ∷ f.others) = subst (λ (x : List Seat). Rises is_ahead (l ++ x)) f.is h in
-    record {
-      after = λ e. all_of (λ u. is_ahead u first ≡ true) (λ u. is_ahead u seat ≡ true) (λ u a. before_rest is_ahead sooner_order u first seat a (no_not (is_ahead seat first) e)) l (all_left is_ahead l first f.others rises);
-      before = λ e. subst (AllByRecursion (λ u. is_ahead seat u ≡ true)) (sym f.is) (yes_not (is_ahead seat first) e, all_of (λ u. is_ahead first u ≡ true) (λ u. is_ahead seat u ≡ true) (λ u a. trans is_ahead sooner_order seat first u (yes_not (is_ahead seat first) e) a) f.others (rises_behind l (first ∷ f.others) rises).0);
-    }
+-- what is passed stands before what is not
+pub passed_ahead : (bound : Option Key) (u s : Seat) → is_passed bound u.key ≡ true → is_passed bound s.key ≡ false → is_ahead u s ≡ true
+passed_ahead bound u s p q = by (seat_cmp u s) refl
   where
-    no_not : (b : Bool) → not b ≡ true → b ≡ false
-    no_not true e = sym e
-    no_not false e = refl
+    by : (o : Ordering) → seat_cmp u s ≡ o → is_ahead u s ≡ true
+    by Less e = less_sooner u s e
+    by Equal e = let no = sym p ∙ (ap (λ (t : Seat). is_passed bound t.key) (same_from_equal u s e) ∙ q) in cc
+    by Greater e = let no = sym q ∙ passed_by bound s u (greater_back u s e) p in cc
 
-    yes_not : (b : Bool) → not b ≡ false → b ≡ true
-    yes_not true e = refl
-    yes_not false e = sym e
+-- a seat that is not passed stands behind those that are
+pub after_passed : (bound : Option Key) (s : Seat) (l : List Seat) → is_passed bound s.key ≡ false → ArePassed bound l → AllByRecursion (λ u. is_ahead u s ≡ true) l
+after_passed bound s l q h = all_of (λ u. is_passed bound u.key ≡ true) (λ u. is_ahead u s ≡ true) (λ u p. passed_ahead bound u s p q) l h
 
--- behind all of the front, where none stands behind it
-pub parted_last : (l : List Seat) (last seat : Seat) → Rises is_ahead l → IsLast l last → IsParted l [] seat (is_ahead last seat)
-parted_last l last seat h f =
-    let rises : Rises is_ahead (f.others ++ last ∷ []) = subst (Rises is_ahead) f.is h in
-    record {
-      after = λ e. subst (AllByRecursion (λ u. is_ahead u seat ≡ true)) (sym f.is) (all_joined (λ u. is_ahead u seat ≡ true) f.others (last ∷ [])
-          (all_of (λ u. is_ahead u last ≡ true) (λ u. is_ahead u seat ≡ true) (λ u a. trans is_ahead sooner_order u last seat a e) f.others (all_left is_ahead f.others last [] rises)) (e, tt));
-      before = λ e. tt;
-    }
+-- one that is passed stands before those that are not
+pub before_others : (bound : Option Key) (s : Seat) (r : List Seat) → is_passed bound s.key ≡ true → AreBehind bound r → AllByRecursion (λ u. is_ahead s u ≡ true) r
+before_others bound s r p h = all_of (λ u. is_passed bound u.key ≡ false) (λ u. is_ahead s u ≡ true) (λ u q. passed_ahead bound s u p q) r h
+
+-- none stands behind the last
+pub bound_passed : (o : Option Key) (l : List Seat) → Rises is_ahead l → IfSome o (IsLastKey l) → IfNone o (l ≡ []) → ArePassed o l
+bound_passed None l rises some none = subst (ArePassed None) (sym none) tt
+bound_passed (Some key) l rises h none = rw h.is (subst (ArePassed (Some h.seat.key)) (sym h.are) (all_joined (λ u. is_passed (Some h.seat.key) u.key ≡ true) h.others (h.seat ∷ []) front (itself, tt)))
+  where
+    itself : is_passed (Some h.seat.key) h.seat.key ≡ true
+    itself = ap (λ (o : Ordering). not (is_lt o)) (tied_itself key_total h.seat.key)
+
+    front : ArePassed (Some h.seat.key) h.others
+    front = all_of (λ u. is_ahead u h.seat ≡ true) (λ u. is_passed (Some h.seat.key) u.key ≡ true) (λ u a. passed_by (Some h.seat.key) u h.seat a itself) h.others (all_left is_ahead h.others h.seat [] (subst (Rises is_ahead) h.are rises))
 
 -- ---- a seat put in, on the side on which it stands
 
@@ -125,3 +130,12 @@ low_together v w l m = by (higher v.1 w.1)
     by : (max v.1 w.1 ≡ v.1) ⊎ (max v.1 w.1 ≡ w.1) → IsLow (seen_together v w)
     by (inl e) = (omega (arith, long, e, l.0), subst (λ n. fewest n ≤ length (v.0 ++ w.0)) (sym e) (omega (arith, long, l.1)))
     by (inr e) = (omega (arith, long, e, m.0), subst (λ n. fewest n ≤ length (v.0 ++ w.0)) (sym e) (omega (arith, long, m.1)))
+
+-- ---- a swap keeps the side
+
+swap_key : (a b u : Seat) → b.key ≡ a.key → (v : Bool) → is_eq (seat_cmp a u) ≡ v → (cond v b u).key ≡ u.key
+swap_key a b u e true h = e ∙ ap (λ (t : Seat). t.key) (same_time a u h)
+swap_key a b u e false h = refl
+
+pub sides_swapped : (P : Key → Bool) (v : Bool) (a b : Seat) (l : List Seat) → b.key ≡ a.key → AllByRecursion (λ u. P u.key ≡ v) l → AllByRecursion (λ u. P u.key ≡ v) (swapped a b l)
+sides_swapped P v a b l e h = all_map (λ u. P u.key ≡ v) (λ u. P u.key ≡ v) (swap a b) (λ u p. ap P (swap_key a b u e (is_eq (seat_cmp a u)) refl) ∙ p) l h

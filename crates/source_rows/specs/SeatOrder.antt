@@ -1,24 +1,25 @@
 -- Seats in two trees, of which one stands behind the other.
-use Rattle.std.specs.Prelude.{◌≡◌, ℕ, Bool, true, false, List, [], ◌∷◌, ◌++◌, max}
+use Rattle.std.specs.Prelude.{◌≡◌, ℕ, true, false, Option, List, [], ◌∷◌, ◌++◌, max}
 use Rattle.std.specs.List.{AllByRecursion}
 use Rattle.source_rows.specs.declared.seats.Seat.{Seat}
-use Rattle.source_rows.specs.Seats.{is_ahead}
+use Rattle.source_rows.specs.Rows.{Key}
+use Rattle.source_rows.specs.Seats.{is_passed}
 
 -- the seats of both in order, and the height of the higher one
 abbrev pub seen_together : List Seat × ℕ → List Seat × ℕ → List Seat × ℕ
 seen_together front back = (front.0 ++ back.0, max front.1 back.1)
 
--- a seat that goes behind stands behind the whole front, and any other one before all that stands behind
-pub record IsParted (front back : List Seat) (seat : Seat) (behind : Bool) : Type 0 where
-  pub after : behind ≡ true → AllByRecursion (λ u. is_ahead u seat ≡ true) front
-  pub before : behind ≡ false → AllByRecursion (λ u. is_ahead seat u ≡ true) back
+-- no seat stands behind a bound; where there is none, there is no seat
+abbrev pub ArePassed : Option Key → List Seat → Type 0
+ArePassed bound seats = AllByRecursion (λ u. is_passed bound u.key ≡ true) seats
 
--- the seat stands first
-pub record IsFirst (seats : List Seat) (seat : Seat) : Type 0 where
-  pub others : List Seat
-  pub is : seats ≡ seat ∷ others
+-- each seat stands behind a bound, or there is none
+abbrev pub AreBehind : Option Key → List Seat → Type 0
+AreBehind bound seats = AllByRecursion (λ u. is_passed bound u.key ≡ false) seats
 
--- the seat stands last
-pub record IsLast (seats : List Seat) (seat : Seat) : Type 0 where
+-- the key of the last of the seats
+pub record IsLastKey (seats : List Seat) (key : Key) : Type 0 where
   pub others : List Seat
-  pub is : seats ≡ others ++ seat ∷ []
+  pub seat : Seat
+  pub are : seats ≡ others ++ seat ∷ []
+  pub is : key ≡ seat.key

@@ -1,11 +1,12 @@
-//! The ends of the tree of seats, and joining two trees.
+//! Joining two trees of seats.
 ghost use Rattle.std.specs.Prelude.{◌≡◌, ◌≤◌, ◌+◌, max, length, [], ◌∷◌, ◌++◌, true, IfSome, IfNone};
 ghost use Rattle.loop_script.specs.Bounds.{count_end};
 ghost use Rattle.source_rows.specs.Seats.{IsLow};
-ghost use Rattle.source_rows.specs.SeatOrder.{IsFirst, IsLast};
+ghost use Rattle.source_rows.specs.SeatOrder.{IsLastKey};
 
 use crate::balance::{balance, balanced};
-use crate::seats::{Fork, Seat, Seats};
+use crate::row::Key;
+use crate::seats::{Fork, Seats};
 use std::mem;
 
 impl Seats {
@@ -16,35 +17,18 @@ impl Seats {
         self.root.is_none()
     }
 
-    /// The first seat.
-    pub fn first(&self) -> Option<&Seat>
-        ensures some { IfSome result (λ s. IsFirst self.now.0 s.now) }
-        ensures none { IfNone result (self.now ≡ ([], 0)) }
+    /// The key of the last seat.
+    pub fn last_key(&self) -> Option<Key>
+        ensures some { IfSome result (IsLastKey self.now.0) }
+        ensures none { IfNone result (self.now.0 ≡ []) }
     {
         match &self.root {
             None => None,
             Some(fork) => {
                 let fork = &**fork;
-                match fork.sooner.first() {
-                    None => Some(&fork.seat),
-                    first => first,
-                }
-            }
-        }
-    }
-
-    /// The last seat.
-    pub fn last(&self) -> Option<&Seat>
-        ensures some { IfSome result (λ s. IsLast self.now.0 s.now) }
-        ensures none { IfNone result (self.now ≡ ([], 0)) }
-    {
-        match &self.root {
-            None => None,
-            Some(fork) => {
-                let fork = &**fork;
-                match fork.later.last() {
-                    None => Some(&fork.seat),
-                    last => last,
+                match fork.later.last_key() {
+                    None => Some(fork.seat.key),
+                    key => key,
                 }
             }
         }

@@ -10,11 +10,11 @@ ghost use Rattle.source_rows.specs.Band.{is_between};
 ghost use Rattle.source_rows.specs.Inserted.{inserted, Rises};
 ghost use Rattle.source_rows.specs.LastTo.{stands_to, IsLastTo};
 ghost use Rattle.source_rows.specs.Seats.{seat_cmp, is_ahead, without, first_awake, next_due, is_other, stays, swapped, replaced, IsLow};
-ghost use Rattle.source_rows.specs.SeatOrder.{IsParted};
 
 use crate::room::Room;
 use crate::row::Key;
-use crate::seats::{Seat, Seats, is_ahead, lesser};
+use crate::search::is_passed;
+use crate::seats::{Seat, Seats, lesser};
 use std::alloc::AllocError;
 use std::cmp::Ordering;
 use std::marker::Model;
@@ -26,8 +26,11 @@ const MOST_BEHIND: u64 = 8;
 /// Seats in order, seen as a list with the height of the higher tree.
 #[derive(Drop)]
 pub(crate) struct SeatOrder {
+    /// The key of the last seat of the front as it was when the two were joined; none before.
+    bound: Option<Key>,
+    /// The seats that don't stand behind the bound.
     pub(crate) front: Seats,
-    /// What stands behind all seats of the front.
+    /// Those that do, and all where there is no bound.
     pub(crate) back: Seats,
 }
 
@@ -35,37 +38,27 @@ impl Model for SeatOrder {
     ghost use Rattle.std.specs.Prelude.{ℕ, List};
     ghost use Rattle.source_rows.specs.declared.seats.Seat.{Seat};
     ghost use Rattle.source_rows.specs.Seats.{IsLow};
-    ghost use Rattle.source_rows.specs.SeatOrder.{seen_together};
+    ghost use Rattle.source_rows.specs.SeatOrder.{seen_together, ArePassed, AreBehind};
 
     ghost Value = { List Seat × ℕ };
 
     ghost view = { λ o. seen_together o.front o.back };
 
-    ghost invariant = { λ o. IsLow o.front × IsLow o.back };
+    ghost invariant = { λ o. IsLow o.front × IsLow o.back × ArePassed o.bound o.front.0 × AreBehind o.bound o.back.0 };
 }
 
-/// Whether a seat stands at the first of the seats behind, or behind it.
-fn is_behind(front: &Seats, back: &Seats, seat: &Seat) -> bool
-    requires { Rises is_ahead (front.now.0 ++ back.now.0) }
-    ensures { IsParted front.now.0 back.now.0 seat.now result }
+/// Puts the seats behind to those in front, where these are none, or stand as high.
+fn move_over(front: &mut Seats, back: &mut Seats)
+    requires few { length front.old.0 + length back.old.0 ≤ count_end }
+    requires low { IsLow front.old × IsLow back.old }
+    requires not_higher { back.old.1 ≤ front.old.1 }
+    ensures seats { front.new.0 ≡ front.old.0 ++ back.old.0 }
+    ensures none { back.new ≡ ([], 0) }
+    ensures low { IsLow front.new }
 {
-    match back.first() {
-        None => false,
-        Some(first) => !is_ahead(seat, first),
-    }
-}
-
-/// Whether a new seat is put behind: where none stands there yet, one that stands behind the whole front.
-fn goes_behind(front: &Seats, back: &Seats, seat: &Seat) -> bool
-    requires { Rises is_ahead (front.now.0 ++ back.now.0) }
-    ensures { IsParted front.now.0 back.now.0 seat.now result }
-{
-    if !back.is_empty() {
-        return is_behind(front, back, seat);
-    }
-    match front.last() {
-        None => true,
-        Some(last) => is_ahead(last, seat),
+    if let Some(first) = back.remove_first() {
+        let behind = mem::replace(back, Seats::new());
+        front.append(first, behind);
     }
 }
 
@@ -74,27 +67,27 @@ impl SeatOrder {
         ensures { result ≡ ([], 0) }
     {
         SeatOrder {
+            bound: None,
             front: Seats::new(),
             back: Seats::new(),
         }
     }
 
-    /// Where the tree behind has grown, makes one of both, unless it is the higher one of two, and begins another behind it.
+    /// Where the tree behind has grown, makes one of both, if that in front is as high or has no seat.
     fn join(&mut self)
+        requires rises { Rises is_ahead self.old.0 }
         requires few { length self.old.0 ≤ count_end }
         ensures seats { self.new.0 ≡ self.old.0 }
-        ensures low { IsLow self.new }
     {
         if self.back.height() <= MOST_BEHIND {
             return;
         }
         if self.front.is_empty() {
             mem::swap(&mut self.front, &mut self.back);
+            self.bound = self.front.last_key();
         } else if self.back.height() <= self.front.height() {
-            if let Some(first) = self.back.remove_first() {
-                let behind = mem::replace(&mut self.back, Seats::new());
-                self.front.append(first, behind);
-            }
+            move_over(&mut self.front, &mut self.back);
+            self.bound = self.front.last_key();
         }
     }
 
@@ -102,15 +95,14 @@ impl SeatOrder {
     pub fn insert(&mut self, room: Room, seat: &Seat)
         requires rises { Rises is_ahead self.old.0 }
         requires few { length self.old.0 < count_end }
-        requires low { IsLow self.old }
         ensures seats { self.new.0 ≡ inserted is_ahead seat.now self.old.0 }
         ensures low { IsLow self.new }
     {
         self.join();
-        if goes_behind(&self.front, &self.back, seat) {
-            let _ = self.back.insert(room, seat);
-        } else {
+        if is_passed(self.bound, seat.key) {
             let _ = self.front.insert(room, seat);
+        } else {
+            let _ = self.back.insert(room, seat);
         }
     }
 
@@ -123,10 +115,10 @@ impl SeatOrder {
         ensures seats { self.new.0 ≡ without seat.now self.old.0 }
         ensures low { IsLow self.new }
     {
-        if is_behind(&self.front, &self.back, seat) {
-            self.back.take(seat)
-        } else {
+        if is_passed(self.bound, seat.key) {
             self.front.take(seat)
+        } else {
+            self.back.take(seat)
         }
     }
 
@@ -155,17 +147,18 @@ impl SeatOrder {
         }
     }
 
-    /// Puts another seat where one stands.
+    /// Puts another seat of the same key where one stands.
     pub fn set(&mut self, before: &Seat, after: &Seat)
-        requires { Rises is_ahead self.old.0 }
+        requires rises { Rises is_ahead self.old.0 }
+        requires key { after.now.key ≡ before.now.key }
         ensures seats { self.new.0 ≡ swapped before.now after.now self.old.0 }
         ensures height { self.new.1 ≡ self.old.1 }
     {
-        let _ = if is_behind(&self.front, &self.back, before) {
-            self.back.set(before, after)
+        if is_passed(self.bound, before.key) {
+            let _ = self.front.set(before, after);
         } else {
-            self.front.set(before, after)
-        };
+            let _ = self.back.set(before, after);
+        }
     }
 
     /// Puts another seat into the place of one, where it is another.
