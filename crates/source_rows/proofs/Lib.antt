@@ -45,3 +45,5 @@ pub mod Found
 pub mod Parted
 pub mod SetIn
 pub mod Parts
+pub mod Left
+pub mod TakenOut

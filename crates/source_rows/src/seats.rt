@@ -2,12 +2,12 @@
 //!
 //! A node has the least times of the seats from there on: so the next row that may be ready and the next ready time are found
 //! without a look at the others.
-ghost use Rattle.std.specs.Prelude.{◌≡◌, ◌≤◌, ◌<◌, length, nat_lt, [], ◌∷◌, ◌++◌, true, false, Some, is_some, IfSome, IfNone};
+ghost use Rattle.std.specs.Prelude.{◌≡◌, ◌≤◌, ◌<◌, length, nat_lt, List, [], ◌∷◌, ◌++◌, true, false, Some, is_some, IfSome, IfNone};
 ghost use Rattle.loop_script.specs.Bounds.{count_end};
 ghost use Rattle.std.specs.List.{list_any};
 ghost use Rattle.std.specs.Ordering.{is_eq};
 ghost use Rattle.source_rows.specs.Inserted.{inserted, Rises};
-ghost use Rattle.source_rows.specs.Seats.{seat_cmp, is_ahead, without, first_awake, next_due, due_after, least_of, lesser, is_passed, is_other, stays, swapped, replaced, IsLow};
+ghost use Rattle.source_rows.specs.Seats.{seat_cmp, is_ahead, without, first_awake, next_due, due_after, least_of, lesser, is_passed, IsLater, swapped, IsLow};
 ghost use Rattle.source_rows.specs.Candidates.{never};
 ghost use Rattle.source_rows.specs.SeatTree.{seats_of, IsEvenFork, IsLowered};
 
@@ -106,6 +106,23 @@ impl Fork {
         let is_other = least.wake != self.least.wake || least.due != self.least.due;
         self.least = least;
         is_other
+    }
+
+    /// Whether its sides have these heights.
+    fn has_sides(&self, low: u64, high: u64) -> bool
+        ensures { result ≡ true → (self.now.sooner.1 ≡ low) × (self.now.later.1 ≡ high) }
+    {
+        self.sooner.height() == low && self.later.height() == high
+    }
+
+    /// Notes the least times anew, once a seat was taken out.
+    fn leave_out(&mut self, seat: &Seat)
+        ensures { (all : List Seat) → self.old.least ≡ least_of all → seats_of self.old ≡ without seat.now all → self.new ≡ record self.old { least = least_of (seats_of self.old) } }
+    {
+        if is_later(seat.wake, self.least.wake) && is_later(seat.due, self.least.due) {
+            return;
+        }
+        let _ = self.note_least();
     }
 
     /// Takes both sides away.
@@ -217,11 +234,17 @@ impl Seats {
             None => return None,
             Some(fork) => {
                 let fork = &mut **fork;
-                match seat.cmp(&fork.seat) {
+                let (low, high) = (fork.sooner.height(), fork.later.height());
+                let room = match seat.cmp(&fork.seat) {
                     Ordering::Less => fork.sooner.take(seat),
                     Ordering::Greater => fork.later.take(seat),
                     Ordering::Equal => return remove_root(&mut self.root),
+                };
+                if fork.has_sides(low, high) {
+                    fork.leave_out(seat);
+                    return room;
                 }
+                room
             }
         };
         balance(&mut self.root);
@@ -281,6 +304,13 @@ pub(crate) fn lesser(a: u64, b: u64) -> u64
     ensures { result ≡ lesser a b }
 {
     if a < b { a } else { b }
+}
+
+/// Whether a time of a seat that goes is not the least of those that are left, which stays as it was.
+fn is_later(time: u64, least: u64) -> bool
+    ensures { result ≡ true → IsLater time least }
+{
+    least < time || time == NEVER
 }
 
 /// The least times of some seats and of one more.
