@@ -168,10 +168,10 @@ without_right t l k r s h =
     let kept : without t (k ∷ r) ≡ k ∷ without t r = rw (apart_later t k h) refl in
     filter_join (λ u. not (is_eq (seat_cmp t u))) l (k ∷ r) ∙ (ap (λ (ys : List Seat). ys ++ without t (k ∷ r)) others ∙ ap (λ (ys : List Seat). l ++ ys) kept)
 
-all_apart_left : (k : Seat) (xs : List Seat) → AllByRecursion (λ u. is_ahead u k ≡ true) xs → AllByRecursion (λ u. is_eq (seat_cmp k u) ≡ false) xs
+pub all_apart_left : (k : Seat) (xs : List Seat) → AllByRecursion (λ u. is_ahead u k ≡ true) xs → AllByRecursion (λ u. is_eq (seat_cmp k u) ≡ false) xs
 all_apart_left k xs s = all_of (λ u. is_ahead u k ≡ true) (λ u. is_eq (seat_cmp k u) ≡ false) (λ u e. apart_later k u e) xs s
 
-all_apart_right : (k : Seat) (xs : List Seat) → AllByRecursion (λ u. is_ahead k u ≡ true) xs → AllByRecursion (λ u. is_eq (seat_cmp k u) ≡ false) xs
+pub all_apart_right : (k : Seat) (xs : List Seat) → AllByRecursion (λ u. is_ahead k u ≡ true) xs → AllByRecursion (λ u. is_eq (seat_cmp k u) ≡ false) xs
 all_apart_right k xs s = all_of (λ u. is_ahead k u ≡ true) (λ u. is_eq (seat_cmp k u) ≡ false) (λ u e. apart_sooner k u e) xs s
 
 pub without_here : (l : List Seat) (k : Seat) (r : List Seat) → Rises is_ahead (l ++ k ∷ r) → without k (l ++ k ∷ r) ≡ l ++ r
@@ -183,7 +183,7 @@ without_here l k r s =
 
 -- ---- whether a time is there
 
-any_join : (p : Seat → Bool) (l r : List Seat) → list_any p (l ++ r) ≡ (list_any p l || list_any p r)
+pub any_join : (p : Seat → Bool) (l r : List Seat) → list_any p (l ++ r) ≡ (list_any p l || list_any p r)
 any_join p [] r = refl
 any_join p (x ∷ l) r = by_test (any_join p l r) (p x)
   where
@@ -191,11 +191,11 @@ any_join p (x ∷ l) r = by_test (any_join p l r) (p x)
     by_test ih true = refl
     by_test ih false = ih
 
-any_none : (p : Seat → Bool) (xs : List Seat) → AllByRecursion (λ u. p u ≡ false) xs → list_any p xs ≡ false
+pub any_none : (p : Seat → Bool) (xs : List Seat) → AllByRecursion (λ u. p u ≡ false) xs → list_any p xs ≡ false
 any_none p [] h = refl
 any_none p (u ∷ xs) h = ap (λ (b : Bool). b || list_any p xs) h.0 ∙ any_none p xs h.1
 
-or_false : (b : Bool) → (b || false) ≡ b
+pub or_false : (b : Bool) → (b || false) ≡ b
 or_false true = refl
 or_false false = refl
 
@@ -291,11 +291,11 @@ awake_left after now z l k r h = awake_join_some after now z l (k ∷ r) h
 
 -- ---- a seat put where another stands
 
-swapped_join : (a b : Seat) (l r : List Seat) → swapped a b (l ++ r) ≡ swapped a b l ++ swapped a b r
+pub swapped_join : (a b : Seat) (l r : List Seat) → swapped a b (l ++ r) ≡ swapped a b l ++ swapped a b r
 swapped_join a b [] r = refl
 swapped_join a b (x ∷ l) r = ap (λ (ys : List Seat). swap a b x ∷ ys) (swapped_join a b l r)
 
-swapped_none : (a b : Seat) (xs : List Seat) → AllByRecursion (λ u. is_eq (seat_cmp a u) ≡ false) xs → swapped a b xs ≡ xs
+pub swapped_none : (a b : Seat) (xs : List Seat) → AllByRecursion (λ u. is_eq (seat_cmp a u) ≡ false) xs → swapped a b xs ≡ xs
 swapped_none a b [] h = refl
 swapped_none a b (x ∷ xs) h = rw h.0 (ap (λ (ys : List Seat). x ∷ ys) (swapped_none a b xs h.1))
 

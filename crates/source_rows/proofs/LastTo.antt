@@ -19,7 +19,7 @@ pub none_of : {A : Type 0} (P Q : Type 0) → (P → Q) → (o : Option A) → I
 none_of P Q f None h = f h
 none_of P Q f (Some x) h = tt
 
-all_joined : (P : Seat → Type 0) (xs ys : List Seat) → AllByRecursion P xs → AllByRecursion P ys → AllByRecursion P (xs ++ ys)
+pub all_joined : (P : Seat → Type 0) (xs ys : List Seat) → AllByRecursion P xs → AllByRecursion P ys → AllByRecursion P (xs ++ ys)
 all_joined P [] ys h k = k
 all_joined P (x ∷ xs) ys h k = (h.0, all_joined P xs ys h.1 k)
 

@@ -44,3 +44,6 @@ pub mod LastTo
 pub mod Found
 pub mod Parted
 pub mod SetIn
+pub mod Parts
+pub mod Left
+pub mod TakenOut

@@ -1,8 +1,9 @@
 -- How low a balanced tree of seats is.
 use Rattle.std.proofs.Common.{◌≡◌, ℕ, zero, suc, ◌+◌, ◌≤◌, ◌⊎◌, inl, inr, max, Some, None, List, ◌∷◌, ◌++◌, length, refl, ap, sym, ◌∙◌, subst, arith, length-append}
+use Rattle.source_rows.specs.declared.seats.Fork.{Fork}
 use Rattle.source_rows.specs.declared.seats.Seat.{Seat}
 use Rattle.source_rows.specs.Seats.{swapped, fewest, IsLow}
-use Rattle.source_rows.specs.SeatTree.{Root, seats_of, seen_of, DifferBy, IsEven}
+use Rattle.source_rows.specs.SeatTree.{Root, seats_of, seen_of, DifferBy, IsEvenFork, IsEven}
 use Rattle.source_rows.proofs.Ahead.{length_swapped}
 
 pub fewest_rises : (h : ℕ) → fewest h ≤ fewest (suc h)
@@ -49,10 +50,12 @@ low_sides v w t d l m =
     )
 
 -- a tree in balance is low
+pub low_fork : (f : Fork) → IsEvenFork f → IsLow (seats_of f, f.height)
+low_fork f e = subst (λ h. IsLow (seats_of f, h)) (sym e.0) (low_sides f.sooner f.later f.seat e.1 e.2 e.3)
+
 pub low_even : (n : Root) → IsEven n → IsLow (seen_of n)
 low_even None e = (omega arith, omega arith)
-low_even (Some f) e =
-    subst (λ h. IsLow (seats_of f.value, h)) (sym e.0) (low_sides f.value.sooner f.value.later f.value.seat e.1 e.2 e.3)
+low_even (Some f) e = low_fork f.value e
 
 -- sides of which one has a seat put where another stands
 pub side_swapped : (v w : List Seat × ℕ) (a b : Seat) → w.0 ≡ swapped a b v.0 → w.1 ≡ v.1 → IsLow v → IsLow w

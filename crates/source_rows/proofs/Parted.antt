@@ -40,7 +40,7 @@ between_later first last l k r s p =
     let none : filter (is_between first last) l ≡ [] = none_of (is_between first last) l (all_of (λ u. is_ahead u k ≡ true) (λ u. is_between first last u ≡ false) (λ u e. rw (before_key first u k e p) refl) l (all_left is_ahead l k r s)) in
     filter_join (is_between first last) l (k ∷ r) ∙ (ap (λ (ys : List Seat). ys ++ filter (is_between first last) (k ∷ r)) none ∙ rw p refl)
 
-append_nil : (xs : List Seat) → xs ++ [] ≡ xs
+pub append_nil : (xs : List Seat) → xs ++ [] ≡ xs
 append_nil [] = refl
 append_nil (x ∷ xs) = ap (λ (ys : List Seat). x ∷ ys) (append_nil xs)
 

@@ -36,7 +36,7 @@ swap_by a b false false e f = grind (arith, nat_tests)
 lesser_swap : (a b : ℕ) → lesser a b ≡ lesser b a
 lesser_swap a b = swap_by a b (nat_lt a b) (nat_lt b a) refl refl
 
-behind_least : (a b c : ℕ) → lesser b (lesser a c) ≡ lesser a (lesser b c)
+pub behind_least : (a b c : ℕ) → lesser b (lesser a c) ≡ lesser a (lesser b c)
 behind_least a b c = assoc b a c ∙ (ap (λ (n : ℕ). lesser n c) (lesser_swap b a) ∙ sym (assoc a b c))
 
 least_put_by : (f : Seat → ℕ) (a x : Seat) (xs : List Seat) → least_by f (inserted is_ahead a xs) ≡ lesser (f a) (least_by f xs) → (b : Bool) → least_by f (cond b (a ∷ x ∷ xs) (x ∷ inserted is_ahead a xs)) ≡ lesser (f a) (lesser (f x) (least_by f xs))

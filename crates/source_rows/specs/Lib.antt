@@ -23,3 +23,4 @@ pub mod SeatTree
 pub mod Steps
 pub mod Walk
 pub mod LastTo
+pub mod SeatOrder

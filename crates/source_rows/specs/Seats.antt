@@ -1,5 +1,5 @@
 -- The seats of rows in their order: where a row stands, its id, from when on it may be ready, and when it is due.
-use Rattle.std.specs.Prelude.{ℕ, zero, suc, nat_lt, ◌+◌, length, ◌≡◌, ◌≤◌, Bool, false, not, Option, Some, None, List, [], ◌∷◌, map, filter, if◌then◌else◌}
+use Rattle.std.specs.Prelude.{ℕ, zero, suc, nat_lt, ◌+◌, length, ◌≡◌, ◌≤◌, ◌<◌, ◌⊎◌, Bool, false, not, Option, Some, None, List, [], ◌∷◌, map, filter, if◌then◌else◌}
 use Rattle.std.specs.Ordering.{is_lt, is_eq, ordering_then, nat_cmp}
 use Rattle.std.specs.declared.cmp.Ordering.{Ordering}
 use Rattle.loop_script.specs.Bounds.{count_end}
@@ -46,6 +46,10 @@ replaced a b seats = if is_other a b then (if stays a b then swapped a b seats e
 -- the lesser of two times
 abbrev pub lesser : Microseconds → Microseconds → Microseconds
 lesser a b = if nat_lt a b then a else b
+
+-- a time is later than a least one, or it is never
+abbrev pub IsLater : Microseconds → Microseconds → Type 0
+IsLater time least = (least < time) ⊎ (time ≡ never)
 
 -- the least of a time of each seat, never for none
 abbrev pub least_by : (Seat → Microseconds) → List Seat → Microseconds

@@ -76,7 +76,7 @@ pub(crate) fn balance(root: &mut Option<Box<Fork>>)
 
 /// A seat over two sides that differ in height by at most two.
 #[tactic(auto, using(crate::proofs::Low::low_even, crate::proofs::Low::low_sides))]
-fn balanced(fork: Box<Fork>, sooner: Seats, later: Seats) -> Box<Fork>
+pub(crate) fn balanced(fork: Box<Fork>, sooner: Seats, later: Seats) -> Box<Fork>
     requires { AreNearlyEven sooner later }
     ensures even { IsEven (Some result) }
     ensures seats { seats_of result.value ≡ sooner.0 ++ fork.value.seat ∷ later.0 }

@@ -2,12 +2,12 @@
 //!
 //! A node has the least times of the seats from there on: so the next row that may be ready and the next ready time are found
 //! without a look at the others.
-ghost use Rattle.std.specs.Prelude.{◌≡◌, ◌≤◌, ◌<◌, length, nat_lt, [], ◌∷◌, ◌++◌, true, false, Some, is_some, IfSome, IfNone};
+ghost use Rattle.std.specs.Prelude.{◌≡◌, ◌≤◌, ◌<◌, length, nat_lt, List, [], ◌∷◌, ◌++◌, true, false, Some, is_some, IfSome, IfNone};
 ghost use Rattle.loop_script.specs.Bounds.{count_end};
 ghost use Rattle.std.specs.List.{list_any};
 ghost use Rattle.std.specs.Ordering.{is_eq};
 ghost use Rattle.source_rows.specs.Inserted.{inserted, Rises};
-ghost use Rattle.source_rows.specs.Seats.{seat_cmp, is_ahead, without, first_awake, next_due, due_after, least_of, lesser, is_passed, is_other, stays, swapped, replaced, IsLow};
+ghost use Rattle.source_rows.specs.Seats.{seat_cmp, is_ahead, without, first_awake, next_due, due_after, least_of, lesser, is_passed, IsLater, swapped, IsLow};
 ghost use Rattle.source_rows.specs.Candidates.{never};
 ghost use Rattle.source_rows.specs.SeatTree.{seats_of, IsEvenFork, IsLowered};
 
@@ -108,6 +108,23 @@ impl Fork {
         is_other
     }
 
+    /// Whether its sides have these heights.
+    fn has_sides(&self, low: u64, high: u64) -> bool
+        ensures { result ≡ true → (self.now.sooner.1 ≡ low) × (self.now.later.1 ≡ high) }
+    {
+        self.sooner.height() == low && self.later.height() == high
+    }
+
+    /// Notes the least times anew, once a seat was taken out.
+    fn leave_out(&mut self, seat: &Seat)
+        ensures { (all : List Seat) → self.old.least ≡ least_of all → seats_of self.old ≡ without seat.now all → self.new ≡ record self.old { least = least_of (seats_of self.old) } }
+    {
+        if is_later(seat.wake, self.least.wake) && is_later(seat.due, self.least.due) {
+            return;
+        }
+        let _ = self.note_least();
+    }
+
     /// Takes both sides away.
     pub(crate) fn take_sides(&mut self) -> (Seats, Seats)
         ensures sides { result ≡ (self.old.sooner, self.old.later) }
@@ -179,6 +196,7 @@ impl Seats {
         requires low { IsLow self.old }
         ensures some { IfSome result (λ f. self.old.0 ≡ f.value.seat ∷ self.new.0) }
         ensures none { IfNone result (self.old ≡ ([], 0)) }
+        ensures gone { IfNone result (self.new ≡ ([], 0)) }
         ensures low { IsLow self.new }
         ensures height { IsLowered self.old.1 self.new.1 }
     {
@@ -203,7 +221,7 @@ impl Seats {
 
     /// Takes a seat out, and hands its room out; none where it is not there.
     #[tactic(auto, using(crate::proofs::Low::low_even))]
-    fn take(&mut self, seat: &Seat) -> Option<Room>
+    pub fn take(&mut self, seat: &Seat) -> Option<Room>
         requires rises { Rises is_ahead self.old.0 }
         requires few { length self.old.0 ≤ count_end }
         requires low { IsLow self.old }
@@ -216,40 +234,21 @@ impl Seats {
             None => return None,
             Some(fork) => {
                 let fork = &mut **fork;
-                match seat.cmp(&fork.seat) {
+                let (low, high) = (fork.sooner.height(), fork.later.height());
+                let room = match seat.cmp(&fork.seat) {
                     Ordering::Less => fork.sooner.take(seat),
                     Ordering::Greater => fork.later.take(seat),
                     Ordering::Equal => return remove_root(&mut self.root),
+                };
+                if fork.has_sides(low, high) {
+                    fork.leave_out(seat);
+                    return room;
                 }
+                room
             }
         };
         balance(&mut self.root);
         room
-    }
-
-    /// Gives a seat up, and its room.
-    pub fn remove(&mut self, seat: &Seat)
-        requires rises { Rises is_ahead self.old.0 }
-        requires few { length self.old.0 ≤ count_end }
-        requires low { IsLow self.old }
-        ensures seats { self.new.0 ≡ without seat.now self.old.0 }
-        ensures low { IsLow self.new }
-    {
-        drop(self.take(seat));
-    }
-
-    /// Puts another seat into the place of one.
-    pub fn change(&mut self, before: &Seat, after: &Seat)
-        requires rises { Rises is_ahead self.old.0 }
-        requires few { length self.old.0 ≤ count_end }
-        requires low { IsLow self.old }
-        requires there { list_any (λ u. is_eq (seat_cmp before.now u)) self.old.0 ≡ true }
-        ensures seats { self.new.0 ≡ inserted is_ahead after.now (without before.now self.old.0) }
-        ensures low { IsLow self.new }
-    {
-        if let Some(room) = self.take(before) {
-            let _ = self.insert(room, after);
-        }
     }
 
     /// Puts another seat where one stands, and answers whether the least times may be others.
@@ -276,24 +275,6 @@ impl Seats {
         }
     }
 
-    /// Puts another seat into the place of one, where it is another.
-    pub fn replace(&mut self, before: &Seat, after: &Seat)
-        requires rises { Rises is_ahead self.old.0 }
-        requires few { length self.old.0 ≤ count_end }
-        requires low { IsLow self.old }
-        requires there { list_any (λ u. is_eq (seat_cmp before.now u)) self.old.0 ≡ true }
-        ensures seats { self.new.0 ≡ replaced before.now after.now self.old.0 }
-        ensures low { IsLow self.new }
-    {
-        if is_other(before, after) {
-            if stays(before, after) {
-                let _ = self.set(before, after);
-            } else {
-                self.change(before, after);
-            }
-        }
-    }
-
     /// The least times of the seats.
     fn least(&self) -> Least
         ensures { result ≡ least_of self.now.0 }
@@ -309,31 +290,11 @@ impl Seats {
 }
 
 /// Whether a seat stands before another.
-fn is_ahead(a: &Seat, b: &Seat) -> bool
+pub(crate) fn is_ahead(a: &Seat, b: &Seat) -> bool
     ensures { result ≡ is_ahead a.now b.now }
 {
     match a.cmp(b) {
         Ordering::Less => true,
-        _ => false,
-    }
-}
-
-/// Whether two seats are not the same.
-fn is_other(a: &Seat, b: &Seat) -> bool
-    ensures { result ≡ is_other a.now b.now }
-{
-    match a.cmp(b) {
-        Ordering::Equal => false,
-        _ => true,
-    }
-}
-
-/// Whether two seats have one key.
-fn stays(a: &Seat, b: &Seat) -> bool
-    ensures { result ≡ stays a.now b.now }
-{
-    match a.key.cmp(&b.key) {
-        Ordering::Equal => true,
         _ => false,
     }
 }
@@ -343,6 +304,13 @@ pub(crate) fn lesser(a: u64, b: u64) -> u64
     ensures { result ≡ lesser a b }
 {
     if a < b { a } else { b }
+}
+
+/// Whether a time of a seat that goes is not the least of those that are left, which stays as it was.
+fn is_later(time: u64, least: u64) -> bool
+    ensures { result ≡ true → IsLater time least }
+{
+    least < time || time == NEVER
 }
 
 /// The least times of some seats and of one more.

@@ -16,9 +16,10 @@ ghost use Rattle.source_rows.specs.Walk.{rows_behind};
 
 use crate::guesses::Guesses;
 use crate::index::Index;
+use crate::seat_order::SeatOrder;
 use crate::room::Room;
 use crate::row::{Key, Row};
-use crate::seats::{NEVER, Seats};
+use crate::seats::NEVER;
 use crate::walk::Walk;
 use slab::Slab;
 use std::alloc::{AllocError, Global};
@@ -30,7 +31,7 @@ pub(crate) struct Table {
     slots: Slab<Row>,
     keys: Index,
     guesses: Guesses,
-    seats: Seats,
+    seats: SeatOrder,
     /// Whether a row may be one of a descriptor.
     may_ask: bool,
     /// Whether a row may have a parent.
@@ -88,7 +89,7 @@ impl Table {
             slots: Slab::new(alloc),
             keys: Index::new(alloc),
             guesses: Guesses::new(alloc),
-            seats: Seats::new(),
+            seats: SeatOrder::new(),
             may_ask: false,
             may_nest: false,
             alloc,
@@ -193,7 +194,7 @@ impl Table {
                 let may_nest = may_nest_with(self.may_nest, &row);
                 self.may_ask = may_ask;
                 self.may_nest = may_nest;
-                let _ = self.seats.insert(room, &row.seat());
+                self.seats.insert(room, &row.seat());
                 Ok(())
             }
             Err(_) => {
@@ -250,7 +251,7 @@ impl Table {
                     let before = slot.seat();
                     slot.ready = ready;
                     let after = slot.seat();
-                    let _ = self.seats.set(&before, &after);
+                    self.seats.set(&before, &after);
                 }
                 return true;
             }

@@ -1,11 +1,12 @@
 //! The seats of a tree one after another, in order.
-ghost use Rattle.std.specs.Prelude.{◌≡◌, ◌≢◌, ◌∷◌, ◌++◌, [], length, IfSome, IfNone};
+ghost use Rattle.std.specs.Prelude.{◌≡◌, ◌≢◌, ◌∷◌, ◌++◌, [], length, true, false, IfSome, IfNone};
 ghost use Rattle.std.specs.Iterator.{at_most};
 ghost use Rattle.std.specs.Map.Iter.{TakesFirst};
 ghost use Rattle.source_rows.specs.Inserted.{Rises};
 ghost use Rattle.source_rows.specs.Seats.{is_ahead};
 ghost use Rattle.source_rows.specs.Walk.{Begins, KeysRise, behind_key, after_of};
 
+use crate::seat_order::SeatOrder;
 use crate::row::Key;
 use crate::search::is_passed;
 use crate::seats::{Fork, Seat, Seats};
@@ -102,9 +103,30 @@ impl<'a> Path<'a> {
         }
     }
 
+    /// Whether it keeps no fork.
+    fn is_empty(&self) -> bool
+        ensures yes { result ≡ true → self.now ≡ [] }
+        ensures no { result ≡ false → self.now ≢ [] }
+    {
+        self.top == KEPT
+    }
+
+    /// Goes to the first of the seats of an order that stands behind a key, where it keeps no fork.
+    fn begin(&mut self, seats: &'a SeatOrder, after: Option<Key>)
+        requires rises { Rises is_ahead seats.now.0 }
+        requires none { self.old ≡ [] }
+        ensures begins { Begins (behind_key after seats.now.0) self.new }
+        ensures none { self.new ≡ [] → behind_key after seats.now.0 ≡ [] }
+    {
+        self.seek(&seats.front, after);
+        if self.is_empty() {
+            self.seek(&seats.back, after);
+        }
+    }
+
     /// Comes back from the sooner side of a fork, which is sought where it was forgotten.
     #[inline]
-    fn next_fork(&mut self, seats: &'a Seats, after: &After<'a>) -> Option<&'a Fork>
+    fn next_fork(&mut self, seats: &'a SeatOrder, after: &After<'a>) -> Option<&'a Fork>
         requires rises { Rises is_ahead seats.now.0 }
         requires begins { Begins (behind_key (after_of after.now) seats.now.0) self.old }
         ensures some { IfSome result (λ f. Begins (behind_key (after_of after.now) seats.now.0) (f.now.seat ∷ f.now.later.0 ++ self.new)) }
@@ -112,7 +134,7 @@ impl<'a> Path<'a> {
     {
         match self.pop() {
             None => {
-                self.seek(seats, after.key());
+                self.begin(seats, after.key());
                 self.pop()
             }
             fork => fork,
@@ -144,7 +166,7 @@ impl<'a> After<'a> {
 /// The seats of a tree that stand behind a key, one after another.
 #[derive(Drop)]
 pub(crate) struct Walk<'a> {
-    seats: &'a Seats,
+    seats: &'a SeatOrder,
     after: After<'a>,
     path: Path<'a>,
 }
@@ -165,7 +187,7 @@ impl<'a> Model for Walk<'a> {
 
 impl<'a> Walk<'a> {
     /// The seats that stand behind a key, or all.
-    pub fn new(seats: &'a Seats, after: Option<Key>) -> Walk<'a>
+    pub fn new(seats: &'a SeatOrder, after: Option<Key>) -> Walk<'a>
         requires rises { Rises is_ahead seats.now.0 }
         requires keys { KeysRise seats.now.0 }
         ensures { result ≡ behind_key after seats.now.0 }

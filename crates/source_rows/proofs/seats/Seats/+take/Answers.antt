@@ -1,17 +1,21 @@
-use Rattle.std.proofs.Common.{◌≡◌, ◌∙◌, ◌<◌, ◌≤◌, ◌^◌, List, ◌∷◌, ◌++◌, length, not, is_some, sym, ap, arith, rules}
+use Rattle.std.proofs.Common.{◌≡◌, ◌∙◌, ◌<◌, ◌≤◌, ◌+◌, ◌^◌, ℕ, List, ◌∷◌, ◌++◌, length, is_some, sym, ap, subst, arith, rules}
 use Rattle.std.specs.List.{list_any}
 use Rattle.std.specs.declared.cmp.Ordering.TheVariants.{Less, Equal, Greater}
 use Rattle.std.specs.Ordering.{is_eq}
+use Rattle.source_rows.specs.declared.seats.Fork.{Fork}
 use Rattle.source_rows.specs.declared.seats.Seat.{Seat}
-use Rattle.source_rows.specs.Seats.{seat_cmp, without}
-use Rattle.source_rows.specs.SeatTree.{seen_of}
-use Rattle.source_rows.proofs.SeatTree.{at_Fork, even_at, length_filter}
-use Rattle.source_rows.proofs.Ahead.{less_sooner, greater_back, same_from_equal, there_left, there_right, without_left, without_right, without_here}
+use Rattle.source_rows.specs.Seats.{seat_cmp, least_of, without}
+use Rattle.source_rows.specs.SeatTree.{seats_of, seen_of}
+use Rattle.source_rows.proofs.SeatTree.{at_Fork, even_at}
+use Rattle.source_rows.proofs.Ahead.{less_sooner, greater_back, same_from_equal, there_left, there_right, without_here}
+use Rattle.source_rows.proofs.Low.{low_fork}
+use Rattle.source_rows.proofs.TakenOut.{TakenOut, taken_sooner, taken_later, taken_near, taken_even}
 use Rattle.source_rows.proofs.seats.Seats.+take.Goals as goal
 use Rattle.source_rows.proofs.seats.Seats.+take.Goals.{in-Less, in-Greater}
 
-pub take-requires : goal.take-requires
-take-requires t c =
+
+pub take-room-requires : goal.take-room-requires
+take-room-requires t c =
     let same : c.deref_mut-fork.result.now ≡ c.in-Some.fork.value = search rules in
     let f = at_Fork c.self.view_is c.requires.rises c.in-Some.is same in
     let even = even_at c.self.invariant c.in-Some.is same in
@@ -19,70 +23,14 @@ take-requires t c =
     let fewer : length c.deref_mut-fork.result.now.sooner.0 < length c.args.self.now.0 = omega (arith, f.parts) in
     search rules
 
-pub take-requires-in-Greater : goal.take-requires-in-Greater
-take-requires-in-Greater t c =
+pub take-room-requires-in-Greater : goal.take-room-requires-in-Greater
+take-room-requires-in-Greater t c =
     let same : c.deref_mut-fork.result.now ≡ c.in-Some.fork.value = search rules in
     let f = at_Fork c.self.view_is c.requires.rises c.in-Some.is same in
     let even = even_at c.self.invariant c.in-Some.is same in
     let few : length c.deref_mut-fork.result.now.later.0 ≤ 2 ^ 63 = omega (arith, f.parts, c.requires.few) in
     let fewer : length c.deref_mut-fork.result.now.later.0 < length c.args.self.now.0 = omega (arith, f.parts) in
     search rules
-
-pub balance-requires : goal.balance-requires
-balance-requires t c =
-    let same : c.deref_mut-fork.result.now ≡ c.in-Some.fork.value = search rules in
-    let f = at_Fork c.self.view_is c.requires.rises c.in-Some.is same in
-    let even = even_at c.self.invariant c.in-Some.is same in
-    elim c.match-cmp.branch [
-      | in-Less w ↦
-          let a = w.take.ensures in
-          let less = length_filter (λ u. not (is_eq (seat_cmp c.args.seat.now u))) c.deref_mut-fork.result.now.sooner.0 in
-          rw w.self-inside-is (grind arith, a.low, even.3, grind (arith, less, a.seats, f.parts, c.requires.few))
-      | in-Greater w ↦
-          let a = w.take-in-Greater.ensures in
-          let less = length_filter (λ u. not (is_eq (seat_cmp c.args.seat.now u))) c.deref_mut-fork.result.now.later.0 in
-          rw w.self-inside-is (grind arith, even.2, a.low, grind (arith, less, a.seats, f.parts, c.requires.few))
-    ]
-
-pub returns-clause-there : goal.returns-clause-there
-returns-clause-there t c =
-    let same : c.deref_mut-fork.result.now ≡ c.in-Some.fork.value = search rules in
-    let f = at_Fork c.self.view_is c.requires.rises c.in-Some.is same in
-    let x = c.args.seat.now in
-    let l = c.deref_mut-fork.result.now.sooner.0 in
-    let k = c.deref_mut-fork.result.now.seat in
-    let r = c.deref_mut-fork.result.now.later.0 in
-    elim c.match-cmp.branch [
-      | in-Less w ↦
-          let o : seat_cmp x k ≡ Less = search rules in
-          let is : is_some c.match-cmp.room ≡ list_any (λ u. is_eq (seat_cmp x u)) l = search rules in
-          is ∙ sym (ap (list_any (λ u. is_eq (seat_cmp x u))) f.is ∙ there_left x l k r f.rises (less_sooner x k o))
-      | in-Greater w ↦
-          let o : seat_cmp x k ≡ Greater = search rules in
-          let is : is_some c.match-cmp.room ≡ list_any (λ u. is_eq (seat_cmp x u)) r = search rules in
-          is ∙ sym (ap (list_any (λ u. is_eq (seat_cmp x u))) f.is ∙ there_right x l k r f.rises (greater_back x k o))
-    ]
-
-pub returns-clause-seats : goal.returns-clause-seats
-returns-clause-seats t c =
-    let same : c.deref_mut-fork.result.now ≡ c.in-Some.fork.value = search rules in
-    let f = at_Fork c.self.view_is c.requires.rises c.in-Some.is same in
-    let x = c.args.seat.now in
-    let l = c.deref_mut-fork.result.now.sooner.0 in
-    let k = c.deref_mut-fork.result.now.seat in
-    let r = c.deref_mut-fork.result.now.later.0 in
-    elim c.match-cmp.branch [
-      | in-Less w ↦
-          let o : seat_cmp x k ≡ Less = search rules in
-          let s = rw w.self-inside-is at c.balance.ensures in
-          let is : w.take.new.self.0 ≡ without x l = search rules in
-          s.1 ∙ (ap (λ (y : List Seat). y ++ k ∷ r) is ∙ sym (ap (without x) f.is ∙ without_left x l k r f.rises (less_sooner x k o)))
-      | in-Greater w ↦
-          let o : seat_cmp x k ≡ Greater = search rules in
-          let s = rw w.self-inside-is at c.balance.ensures in
-          let is : w.take-in-Greater.new.self.0 ≡ without x r = search rules in
-          s.1 ∙ (ap (λ (y : List Seat). l ++ k ∷ y) is ∙ sym (ap (without x) f.is ∙ without_right x l k r f.rises (greater_back x k o)))
-    ]
 
 pub returns-in-Equal-clause-seats : goal.returns-in-Equal-clause-seats
 returns-in-Equal-clause-seats t c =
@@ -95,3 +43,123 @@ returns-in-Equal-clause-seats t c =
     let o : seat_cmp x k ≡ Equal = search rules in
     let is : (seen_of c.remove_root.new.root).0 ≡ l ++ r = search rules in
     is ∙ sym (ap (without x) f.is ∙ (ap (λ u. without u (l ++ k ∷ r)) (same_from_equal x k o) ∙ without_here l k r f.rises))
+
+-- what is left of the fork where its sides are as high as before, and where one is not
+taken : (t : ℕ) (c : goal.After-self-then-has_sides-1 t) → TakenOut c.deref_mut-fork.result.now c.match-cmp.fork c.args.seat.now
+taken t c =
+    let same : c.deref_mut-fork.result.now ≡ c.in-Some.fork.value = search rules in
+    let f = at_Fork c.self.view_is c.requires.rises c.in-Some.is same in
+    let even = even_at c.self.invariant c.in-Some.is same in
+    let x = c.args.seat.now in
+    elim c.match-cmp.branch [
+      | in-Less w ↦
+          let o : seat_cmp x c.deref_mut-fork.result.now.seat ≡ Less = search rules in
+          let a = w.take-room.ensures in
+          rw w.fork-is (taken_sooner c.deref_mut-fork.result.now x _ even f.rises (less_sooner x _ o) a.seats a.low a.height)
+      | in-Greater w ↦
+          let o : seat_cmp x c.deref_mut-fork.result.now.seat ≡ Greater = search rules in
+          let a = w.take-room-in-Greater.ensures in
+          rw w.fork-is (taken_later c.deref_mut-fork.result.now x _ even f.rises (greater_back x _ o) a.seats a.low a.height)
+    ]
+
+there : (t : ℕ) (c : goal.After-self-then-has_sides-1 t) → is_some c.match-cmp.room ≡ list_any (λ u. is_eq (seat_cmp c.args.seat.now u)) c.args.self.now.0
+there t c =
+    let same : c.deref_mut-fork.result.now ≡ c.in-Some.fork.value = search rules in
+    let f = at_Fork c.self.view_is c.requires.rises c.in-Some.is same in
+    let x = c.args.seat.now in
+    let l = c.deref_mut-fork.result.now.sooner.0 in
+    let k = c.deref_mut-fork.result.now.seat in
+    let r = c.deref_mut-fork.result.now.later.0 in
+    elim c.match-cmp.branch [
+      | in-Less w ↦
+          let o : seat_cmp x k ≡ Less = search rules in
+          ap is_some w.room-is ∙ (w.take-room.ensures.there ∙ sym (ap (list_any (λ u. is_eq (seat_cmp x u))) f.is ∙ there_left x l k r f.rises (less_sooner x k o)))
+      | in-Greater w ↦
+          let o : seat_cmp x k ≡ Greater = search rules in
+          ap is_some w.room-is ∙ (w.take-room-in-Greater.ensures.there ∙ sym (ap (list_any (λ u. is_eq (seat_cmp x u))) f.is ∙ there_right x l k r f.rises (greater_back x k o)))
+    ]
+
+taken_else : (t : ℕ) (c : goal.After-balance-arg-1 t) → TakenOut c.deref_mut-fork.result.now c.match-cmp.fork c.args.seat.now
+taken_else t c =
+    let same : c.deref_mut-fork.result.now ≡ c.in-Some.fork.value = search rules in
+    let f = at_Fork c.self.view_is c.requires.rises c.in-Some.is same in
+    let even = even_at c.self.invariant c.in-Some.is same in
+    let x = c.args.seat.now in
+    elim c.match-cmp.branch [
+      | in-Less w ↦
+          let o : seat_cmp x c.deref_mut-fork.result.now.seat ≡ Less = search rules in
+          let a = w.take-room.ensures in
+          rw w.fork-is (taken_sooner c.deref_mut-fork.result.now x _ even f.rises (less_sooner x _ o) a.seats a.low a.height)
+      | in-Greater w ↦
+          let o : seat_cmp x c.deref_mut-fork.result.now.seat ≡ Greater = search rules in
+          let a = w.take-room-in-Greater.ensures in
+          rw w.fork-is (taken_later c.deref_mut-fork.result.now x _ even f.rises (greater_back x _ o) a.seats a.low a.height)
+    ]
+
+there_else : (t : ℕ) (c : goal.After-balance-arg-1 t) → is_some c.match-cmp.room ≡ list_any (λ u. is_eq (seat_cmp c.args.seat.now u)) c.args.self.now.0
+there_else t c =
+    let same : c.deref_mut-fork.result.now ≡ c.in-Some.fork.value = search rules in
+    let f = at_Fork c.self.view_is c.requires.rises c.in-Some.is same in
+    let x = c.args.seat.now in
+    let l = c.deref_mut-fork.result.now.sooner.0 in
+    let k = c.deref_mut-fork.result.now.seat in
+    let r = c.deref_mut-fork.result.now.later.0 in
+    elim c.match-cmp.branch [
+      | in-Less w ↦
+          let o : seat_cmp x k ≡ Less = search rules in
+          ap is_some w.room-is ∙ (w.take-room.ensures.there ∙ sym (ap (list_any (λ u. is_eq (seat_cmp x u))) f.is ∙ there_left x l k r f.rises (less_sooner x k o)))
+      | in-Greater w ↦
+          let o : seat_cmp x k ≡ Greater = search rules in
+          ap is_some w.room-is ∙ (w.take-room-in-Greater.ensures.there ∙ sym (ap (list_any (λ u. is_eq (seat_cmp x u))) f.is ∙ there_right x l k r f.rises (greater_back x k o)))
+    ]
+
+-- the fork once its least times are noted
+noted : (t : ℕ) (c : goal.After-self-then-has_sides-1 t) → c.leave_out.new.self ≡ record c.match-cmp.fork { least = least_of (seats_of c.match-cmp.fork) }
+noted t c =
+    let same : c.deref_mut-fork.result.now ≡ c.in-Some.fork.value = search rules in
+    let even = even_at c.self.invariant c.in-Some.is same in
+    let out = taken t c in
+    c.leave_out.ensures (seats_of c.deref_mut-fork.result.now) (out.least ∙ even.4) out.seats
+
+pub invariant_of-self-then-has_sides : goal.invariant_of-self-then-has_sides
+invariant_of-self-then-has_sides t c =
+    let same : c.deref_mut-fork.result.now ≡ c.in-Some.fork.value = search rules in
+    let even = even_at c.self.invariant c.in-Some.is same in
+    let sides = c.has_sides.ensures c.if-has_sides.true in
+    rw (noted t c) (taken_even c.deref_mut-fork.result.now c.match-cmp.fork c.args.seat.now even (taken t c) (sides.0 ∙ c.height-low.ensures.height) (sides.1 ∙ c.height-high.ensures.height))
+
+pub returns-then-has_sides-clause-there : goal.returns-then-has_sides-clause-there
+returns-then-has_sides-clause-there t c = there t c
+
+pub returns-then-has_sides-clause-seats : goal.returns-then-has_sides-clause-seats
+returns-then-has_sides-clause-seats t c =
+    let same : c.deref_mut-fork.result.now ≡ c.in-Some.fork.value = search rules in
+    let f = at_Fork c.self.view_is c.requires.rises c.in-Some.is same in
+    ap seats_of (noted t c) ∙ ((taken t c).seats ∙ sym (ap (without c.args.seat.now) f.is))
+
+pub returns-then-has_sides-clause-low : goal.returns-then-has_sides-clause-low
+returns-then-has_sides-clause-low t c = low_fork c.leave_out.new.self (invariant_of-self-then-has_sides t c)
+
+pub returns-then-has_sides-clause-height : goal.returns-then-has_sides-clause-height
+returns-then-has_sides-clause-height t c =
+    let same : c.deref_mut-fork.result.now ≡ c.in-Some.fork.value = search rules in
+    let old : c.args.self.now.1 ≡ c.deref_mut-fork.result.now.height = ap (λ (v : List Seat × ℕ). v.1) (sym c.self.view_is ∙ ap seen_of c.in-Some.is) ∙ sym (ap (λ (g : Fork). g.height) same) in
+    let is : c.leave_out.new.self.height ≡ c.args.self.now.1 = ap (λ (g : Fork). g.height) (noted t c) ∙ ((taken t c).height ∙ sym old) in
+    (omega (arith, is), omega (arith, is))
+
+pub balance-requires : goal.balance-requires
+balance-requires t c =
+    let same : c.deref_mut-fork.result.now ≡ c.in-Some.fork.value = search rules in
+    let f = at_Fork c.self.view_is c.requires.rises c.in-Some.is same in
+    let even = even_at c.self.invariant c.in-Some.is same in
+    let few : length (seats_of c.deref_mut-fork.result.now) ≤ 2 ^ 63 = subst (λ (xs : List Seat). length xs ≤ 2 ^ 63) f.is c.requires.few in
+    taken_near c.deref_mut-fork.result.now c.match-cmp.fork c.args.seat.now even (taken_else t c) few
+
+pub returns-clause-there : goal.returns-clause-there
+returns-clause-there t c = there_else t c.before
+
+pub returns-clause-seats : goal.returns-clause-seats
+returns-clause-seats t c =
+    let same : c.deref_mut-fork.result.now ≡ c.in-Some.fork.value = search rules in
+    let f = at_Fork c.self.view_is c.requires.rises c.in-Some.is same in
+    c.balance.ensures.1 ∙ ((taken_else t c.before).seats ∙ sym (ap (without c.args.seat.now) f.is))

@@ -35,8 +35,8 @@ set_else c =
     in_place (ready_at c.args.ready) (stays c.args.ready) c.self.inside.slots c.self.inside.keys c.args.id c.in-Some.key c.in-Some-get_mut.slot.now c.self.invariant.filled.table
     (sym c.slot_of.ensures ∙ c.in-Some.is) at
 
-pub set-requires : goal.set-requires
-set-requires c = rises_seats c.self.inside.slots c.self.inside.keys c.self.inside.seats c.self.invariant.filled.table c.self.invariant.seated
+pub set-requires-clause-rises : goal.set-requires-clause-rises
+set-requires-clause-rises c = rises_seats c.self.inside.slots c.self.inside.keys c.self.inside.seats c.self.invariant.filled.table c.self.invariant.seated
 
 pub invariant_of-self : goal.invariant_of-self
 invariant_of-self c =

@@ -2,7 +2,7 @@ use Rattle.std.proofs.Common.{◌≡◌, ◌∙◌, true, false, sym, is_some, a
 use Rattle.source_rows.specs.Seats.{is_ahead}
 use Rattle.source_rows.proofs.Inserted.{rises_filter}
 use Rattle.source_rows.proofs.SeatTree.{length_without}
-use Rattle.source_rows.proofs.seats.Seats.change.Goals as goal
+use Rattle.source_rows.proofs.seat_order.SeatOrder.change.Goals as goal
 
 pub insert-requires-clause-rises : goal.insert-requires-clause-rises
 insert-requires-clause-rises c = rw c.take.ensures.seats (rises_filter is_ahead _ c.args.self.now.0 c.requires.rises)
