@@ -1,7 +1,9 @@
 //! What a lane sends in its turn.
 ghost use Rattle.std.specs.Prelude.{◌≡◌, ◌+◌, ◌<◌, ◌≤◌, ◌^◌, ◌∷◌, ◌++◌, [], true, length, OnOk};
 ghost use Rattle.loop_script.specs.References.{sizes, action_refers};
-ghost use Rattle.lane_turn.specs.Acted.{acted, sends};
+ghost use Rattle.lane_turn.specs.Acted.{acted, cancel_sends, sends};
+ghost use Rattle.lane_turn.specs.Handover.{give_sends};
+ghost use Rattle.lane_turn.specs.Owned.{invoke_sends};
 ghost use Rattle.lane_turn.specs.Step.{sending};
 ghost use Rattle.lane_turn.specs.Sound.{IsWithin};
 ghost use Rattle.lane_turn.specs.Meaning.{lane_of, turn_of};
@@ -46,26 +48,48 @@ impl Progress {
 }
 
 impl Lane {
+    /// What a cancel sends: a cancellable that the lane had not seen cancelled goes to all lanes.
+    fn cancel_sends(&self, c: u32) -> Option<Body>
+        ensures { result ≡ cancel_sends c (lane_of self.now) }
+    {
+        if self.watch.view().is_cancelled(c) {
+            None
+        } else {
+            Some(Body::Cancelled(c))
+        }
+    }
+
+    /// What an invoke sends: a source for a context that is another lane's.
+    fn invoke_sends(&self, context: u32, proc: u32) -> Option<Body>
+        ensures { result ≡ invoke_sends context proc (lane_of self.now) }
+    {
+        if self.has(context) {
+            None
+        } else {
+            Some(Body::Attach(context, invoke_spec(proc)))
+        }
+    }
+
+    /// What a give sends, where the context may be given.
+    fn give_sends(&self, script: &Script, context: u32, to: u32) -> Option<Body>
+        ensures { result ≡ give_sends script.now context to (lane_of self.now) }
+    {
+        if self.may_give(script, context, to) {
+            Some(Body::Give(context, to))
+        } else {
+            None
+        }
+    }
+
     /// What an action sends.
+    #[inline]
     fn sends(&self, script: &Script, action: &Action) -> Option<Body>
         ensures { result ≡ sends script.now action.now (lane_of self.now) }
     {
         match action {
-            Action::Cancel(c) => if self.watch.view().is_cancelled(*c) {
-                None
-            } else {
-                Some(Body::Cancelled(*c))
-            },
-            Action::Invoke { context, proc } => if self.has(*context) {
-                None
-            } else {
-                Some(Body::Attach(*context, invoke_spec(*proc)))
-            },
-            Action::Give { context, lane } => if self.may_give(script, *context, *lane) {
-                Some(Body::Give(*context, *lane))
-            } else {
-                None
-            },
+            Action::Cancel(c) => self.cancel_sends(*c),
+            Action::Invoke { context, proc } => self.invoke_sends(*context, *proc),
+            Action::Give { context, lane } => self.give_sends(script, *context, *lane),
             _ => None,
         }
     }
