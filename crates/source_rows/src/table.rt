@@ -16,9 +16,9 @@ ghost use Rattle.source_rows.specs.Walk.{rows_behind};
 
 use crate::guesses::Guesses;
 use crate::index::Index;
-use crate::seat_order::SeatOrder;
 use crate::room::Room;
 use crate::row::{Key, Row};
+use crate::seat_order::SeatOrder;
 use crate::seats::NEVER;
 use crate::walk::Walk;
 use slab::Slab;

@@ -6,9 +6,9 @@ ghost use Rattle.source_rows.specs.Inserted.{Rises};
 ghost use Rattle.source_rows.specs.Seats.{is_ahead};
 ghost use Rattle.source_rows.specs.Walk.{Begins, KeysRise, behind_key, after_of};
 
-use crate::seat_order::SeatOrder;
 use crate::row::Key;
 use crate::search::is_passed;
+use crate::seat_order::SeatOrder;
 use crate::seats::{Fork, Seat, Seats};
 use std::iter::Iterator;
 use std::marker::Model;

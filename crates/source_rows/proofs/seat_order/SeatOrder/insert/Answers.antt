@@ -20,16 +20,22 @@ insert-requires-else-is_passed-clause-rises c =
 pub invariant_of-self : goal.invariant_of-self
 invariant_of-self c =
     let v = c.self.invariant in
-    let passed : is_passed c.self.inside.bound c.args.seat.now.key ≡ true = search rules in
-    (c.insert.ensures.low, v.1,
-    subst (ArePassed c.self.inside.bound) (sym c.insert.ensures.seats) (all_inserted is_ahead (λ u. is_passed c.self.inside.bound u.key ≡ true) c.args.seat.now c.self.inside.front.0 passed v.2), v.3)
+    let passed : is_passed c.self.inside.bound c.args.seat.now.key ≡ true = search rules in (
+      c.insert.ensures.low,
+      v.1,
+      subst (ArePassed c.self.inside.bound) (sym c.insert.ensures.seats) (all_inserted is_ahead (λ u. is_passed c.self.inside.bound u.key ≡ true) c.args.seat.now c.self.inside.front.0 passed v.2),
+      v.3,
+    )
 
 pub invariant_of-self-else-is_passed : goal.invariant_of-self-else-is_passed
 invariant_of-self-else-is_passed c =
     let v = c.self.invariant in
-    let behind : is_passed c.self.inside.bound c.args.seat.now.key ≡ false = search rules in
-    (v.0, c.insert-else-is_passed.ensures.low, v.2,
-    subst (AreBehind c.self.inside.bound) (sym c.insert-else-is_passed.ensures.seats) (all_inserted is_ahead (λ u. is_passed c.self.inside.bound u.key ≡ false) c.args.seat.now c.self.inside.back.0 behind v.3))
+    let behind : is_passed c.self.inside.bound c.args.seat.now.key ≡ false = search rules in (
+      v.0,
+      c.insert-else-is_passed.ensures.low,
+      v.2,
+      subst (AreBehind c.self.inside.bound) (sym c.insert-else-is_passed.ensures.seats) (all_inserted is_ahead (λ u. is_passed c.self.inside.bound u.key ≡ false) c.args.seat.now c.self.inside.back.0 behind v.3),
+    )
 
 pub returns-then-is_passed-clause-seats : goal.returns-then-is_passed-clause-seats
 returns-then-is_passed-clause-seats c =

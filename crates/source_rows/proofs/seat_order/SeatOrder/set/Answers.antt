@@ -23,17 +23,23 @@ pub invariant_of-self : goal.invariant_of-self
 invariant_of-self c =
     let v = c.self.invariant in
     let a = c.args.before.now in
-    let b = c.args.after.now in
-    (side_swapped c.self.inside.front c.set.new.self a b c.set.ensures.seats c.set.ensures.height v.0, v.1,
-    subst (ArePassed c.self.inside.bound) (sym c.set.ensures.seats) (sides_swapped (is_passed c.self.inside.bound) true a b c.self.inside.front.0 c.requires.key v.2), v.3)
+    let b = c.args.after.now in (
+      side_swapped c.self.inside.front c.set.new.self a b c.set.ensures.seats c.set.ensures.height v.0,
+      v.1,
+      subst (ArePassed c.self.inside.bound) (sym c.set.ensures.seats) (sides_swapped (is_passed c.self.inside.bound) true a b c.self.inside.front.0 c.requires.key v.2),
+      v.3,
+    )
 
 pub invariant_of-self-else-is_passed : goal.invariant_of-self-else-is_passed
 invariant_of-self-else-is_passed c =
     let v = c.self.invariant in
     let a = c.args.before.now in
-    let b = c.args.after.now in
-    (v.0, side_swapped c.self.inside.back c.set-else-is_passed.new.self a b c.set-else-is_passed.ensures.seats c.set-else-is_passed.ensures.height v.1, v.2,
-    subst (AreBehind c.self.inside.bound) (sym c.set-else-is_passed.ensures.seats) (sides_swapped (is_passed c.self.inside.bound) false a b c.self.inside.back.0 c.requires.key v.3))
+    let b = c.args.after.now in (
+      v.0,
+      side_swapped c.self.inside.back c.set-else-is_passed.new.self a b c.set-else-is_passed.ensures.seats c.set-else-is_passed.ensures.height v.1,
+      v.2,
+      subst (AreBehind c.self.inside.bound) (sym c.set-else-is_passed.ensures.seats) (sides_swapped (is_passed c.self.inside.bound) false a b c.self.inside.back.0 c.requires.key v.3),
+    )
 
 pub returns-then-is_passed-clause-seats : goal.returns-then-is_passed-clause-seats
 returns-then-is_passed-clause-seats c =

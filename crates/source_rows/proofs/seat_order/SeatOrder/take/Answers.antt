@@ -23,15 +23,21 @@ take-requires-else-is_passed-clause-rises c =
 
 pub invariant_of-self : goal.invariant_of-self
 invariant_of-self c =
-    let v = c.self.invariant in
-    (c.take.ensures.low, v.1,
-    subst (ArePassed c.self.inside.bound) (sym c.take.ensures.seats) (all_filter (λ u. is_passed c.self.inside.bound u.key ≡ true) (λ u. not (is_eq (seat_cmp c.args.seat.now u))) c.self.inside.front.0 v.2), v.3)
+    let v = c.self.invariant in (
+      c.take.ensures.low,
+      v.1,
+      subst (ArePassed c.self.inside.bound) (sym c.take.ensures.seats) (all_filter (λ u. is_passed c.self.inside.bound u.key ≡ true) (λ u. not (is_eq (seat_cmp c.args.seat.now u))) c.self.inside.front.0 v.2),
+      v.3,
+    )
 
 pub invariant_of-self-else-is_passed : goal.invariant_of-self-else-is_passed
 invariant_of-self-else-is_passed c =
-    let v = c.self.invariant in
-    (v.0, c.take-else-is_passed.ensures.low, v.2,
-    subst (AreBehind c.self.inside.bound) (sym c.take-else-is_passed.ensures.seats) (all_filter (λ u. is_passed c.self.inside.bound u.key ≡ false) (λ u. not (is_eq (seat_cmp c.args.seat.now u))) c.self.inside.back.0 v.3))
+    let v = c.self.invariant in (
+      v.0,
+      c.take-else-is_passed.ensures.low,
+      v.2,
+      subst (AreBehind c.self.inside.bound) (sym c.take-else-is_passed.ensures.seats) (all_filter (λ u. is_passed c.self.inside.bound u.key ≡ false) (λ u. not (is_eq (seat_cmp c.args.seat.now u))) c.self.inside.back.0 v.3),
+    )
 
 pub returns-then-is_passed-clause-there : goal.returns-then-is_passed-clause-there
 returns-then-is_passed-clause-there c =

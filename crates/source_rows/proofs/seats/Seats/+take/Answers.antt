@@ -13,7 +13,6 @@ use Rattle.source_rows.proofs.TakenOut.{TakenOut, taken_sooner, taken_later, tak
 use Rattle.source_rows.proofs.seats.Seats.+take.Goals as goal
 use Rattle.source_rows.proofs.seats.Seats.+take.Goals.{in-Less, in-Greater}
 
-
 pub take-room-requires : goal.take-room-requires
 take-room-requires t c =
     let same : c.deref_mut-fork.result.now ≡ c.in-Some.fork.value = search rules in
