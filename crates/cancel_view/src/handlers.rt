@@ -1,5 +1,4 @@
-//! The handlers of a view, in the order in which they were connected: each found by its id, and those of a cancellable
-//! together.
+//! The handlers of a view, in the order in which they were connected: each found by its id, and those of a cancellable together.
 ghost use Rattle.std.specs.Prelude.{◌≡◌, ◌++◌, ◌∷◌, [], IfOk, OnOk, OnErr, filter, map};
 ghost use Rattle.std.specs.List.{list_any};
 ghost use Rattle.cancel_view.specs.Seen.{is_of, fired_as, has_id, has_other_id, RiseWithin};

@@ -1,5 +1,4 @@
-//! Where GLib does otherwise: as a run goes on, it is told at which move the real library parts from the rules, and by which of its ways
-//! (docs/GLIB.md, "Where the two part").
+//! Where GLib does otherwise: it is told each move of a run, and answers where the real library parts from the rules, and in which of its ways.
 #![tactic(auto)]
 
 mod acted;

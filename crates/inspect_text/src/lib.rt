@@ -1,5 +1,4 @@
-//! What a run did and why, in words: each iteration with its sources, the life of one source, a summary, where GLib does otherwise,
-//! and each moment as JSON.
+//! What a run did and why, in words: each iteration with its sources, the life of a source, a summary, notes on GLib, and each moment as JSON.
 #![tactic(auto)]
 
 mod alike;

@@ -1,5 +1,4 @@
-//! Words of what tells of a run: ticks and times, sources and what an iteration does with them, actions, iterations as they begin,
-//! halts, and the part of a run that is told.
+//! The words of what tells of a run: ticks and times, sources and why they wait, actions, how iterations begin, halts, and which part is told.
 #![tactic(auto)]
 
 mod action_words;

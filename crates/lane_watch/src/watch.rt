@@ -1,4 +1,4 @@
-//! A lane's view with its ticks, and its tasks.
+//! A lane's view, with the tick in which each cancellable came into it, and its tasks: a cancel comes in here, and goes on to the view.
 ghost use Rattle.std.specs.Prelude.{◌≡◌, ℕ, [], ◌+◌, ◌<◌, ◌≤◌, ◌^◌, slice_set, Some, None, true, false, IsTrue, IsOk, IfOk, OnOk, OnErr, option_map, map, if◌then◌else◌, ◌↔◌};
 ghost use Rattle.loop_script.specs.Bounds.{count_end, longest_tick, tick_end};
 ghost use Rattle.task_steps.specs.Run.{IsAfter};

@@ -1,4 +1,4 @@
-//! What the descriptors of a script show over the ticks.
+//! The list of levels of one descriptor: which holds at a tick, and when the next begins. `script` has the calls that ask it.
 ghost use Rattle.std.specs.Prelude.{◌≡◌, true};
 ghost use Rattle.loop_script.specs.Level.{rises, come, to_come, bits_at, change_after};
 

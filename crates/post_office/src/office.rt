@@ -1,4 +1,4 @@
-//! Letters that several workers post, each worker's in its order.
+//! Letters that several workers post, each worker's in its order, and that are drained once all passes are back.
 ghost use Rattle.std.specs.Prelude.{◌≡◌, ◌+◌, ◌≤◌, ◌++◌, [], length, IfOk, IsOk, MatchResult, OnErr, vec_capacity};
 ghost use Rattle.crossbeam_queue.specs.SegTies.{IsSegPassOf};
 ghost use Rattle.post_office.specs.Merge.{IsMerge, concat};

@@ -1,5 +1,4 @@
-//! Work that is put into a list and taken from it by workers, each value once: the list as its owner has it. How values are
-//! taken stands in `work_queue`.
+//! Work that is put into a list and taken by workers, each value once: the list as its owner has it. How values are taken stands in `work_queue`.
 ghost use Rattle.std.specs.Prelude.{◌≡◌, ◌∷◌, Contains, IfNone, IfOk, IfSome, IsOk, IsPermutation, MatchOption, MatchResult};
 ghost use Rattle.post_office.specs.Merge.{concat};
 ghost use Rattle.post_office.specs.Passes.{new_list, puts, takes_itself, takes, new_taking, lets_out, takes_in};

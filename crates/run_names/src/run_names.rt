@@ -1,4 +1,4 @@
-//! What the things of a run are called.
+//! What the things of a run are called: by their names, or by the word of their kind and a number.
 ghost use Rattle.std.specs.Prelude.{◌≡◌, ◌++◌, [], codes, Some, None, IfOk, IfSome, OnOk, option_map, is_some, string_bytes};
 ghost use Rattle.std.specs.Fmt.{decimal};
 ghost use Rattle.named.specs.Names.{number_of, of_kind};

@@ -1,5 +1,4 @@
-//! The keys of the objects of a script with names, and which one a misspelled key may be: the nearest by its letters, or one
-//! that begins as it does.
+//! The keys of the objects of a script with names, and which one a misspelled key may be: the nearest by letters, or one that begins so.
 use crate::nearest::nearest;
 use json::Value;
 use named::{Choice, Object, Sort, Word, beside, chosen, keys, words};

@@ -1,4 +1,4 @@
-//! Where a name stands for the second time.
+//! Where the names of a script are declared, and which stands for the second time.
 use json::Value;
 use named::{Kind, Step};
 use std::alloc::{AllocError, Global};

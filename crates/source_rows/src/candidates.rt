@@ -1,4 +1,4 @@
-//! The rows that may be ready at a time: an iterator over all of them, in order. A single search in the tree of seats stands in `search`.
+//! The rows that may be ready at a time: an iterator over all of them, in order, by the walk of `walk`. A single search stands in `search`.
 //!
 //! Rows are taken one after another from the order, and looked at. After some that sleep the next one that is awake is
 //! searched for in the tree of seats, and the order is entered again behind it: so a context whose rows are all awake costs

@@ -1,4 +1,4 @@
-//! Joining two trees of seats.
+//! Joining two trees of seats into one, and the key of the last seat. When that is done stands in `seat_order`.
 ghost use Rattle.std.specs.Prelude.{◌≡◌, ◌≤◌, ◌+◌, max, length, [], ◌∷◌, ◌++◌, true, IfSome, IfNone};
 ghost use Rattle.loop_script.specs.Bounds.{count_end};
 ghost use Rattle.source_rows.specs.Seats.{IsLow};

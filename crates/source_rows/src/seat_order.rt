@@ -1,7 +1,7 @@
 //! The seats of rows in order, in two trees of which one stands behind the other.
 //!
-//! A row that is attached mostly goes behind all others of its priority. So the tree behind is kept low, and what goes there takes
-//! few steps, however many seats there are; once it has grown, the two are joined.
+//! A row of the last priority mostly goes behind all others when it is attached. So the tree behind is kept low, and what goes there
+//! takes few steps, however many seats there are; once it has grown, the two are joined. Other rows go down the tree in front.
 ghost use Rattle.std.specs.Prelude.{◌≡◌, ◌≤◌, ◌<◌, ◌+◌, length, max, ◌++◌, ◌∷◌, [], true, false, map, filter, is_some, IfSome, IfNone, OnOk};
 ghost use Rattle.loop_script.specs.Bounds.{count_end};
 ghost use Rattle.std.specs.List.{AllByRecursion, list_any};
@@ -20,7 +20,7 @@ use std::cmp::Ordering;
 use std::marker::Model;
 use std::mem;
 
-/// How high the tree behind may grow before it is joined with the one in front. One so high has 88 to 255 seats.
+/// How high the tree behind may be before it is joined with the one in front. A tree of this height has 54 to 255 seats.
 const MOST_BEHIND: u64 = 8;
 
 /// Seats in order, seen as a list with the height of the higher tree.
@@ -47,7 +47,7 @@ impl Model for SeatOrder {
     ghost invariant = { λ o. IsLow o.front × IsLow o.back × ArePassed o.bound o.front.0 × AreBehind o.bound o.back.0 };
 }
 
-/// Puts the seats behind to those in front, where these are none, or stand as high.
+/// Puts the seats behind to those in front, whose tree is as high or higher. None is left behind.
 fn move_over(front: &mut Seats, back: &mut Seats)
     requires few { length front.old.0 + length back.old.0 ≤ count_end }
     requires low { IsLow front.old × IsLow back.old }
@@ -73,7 +73,8 @@ impl SeatOrder {
         }
     }
 
-    /// Where the tree behind has grown, makes one of both, if that in front is as high or has no seat.
+    /// Where the tree behind has grown, makes one tree of both, if that in front is as high or has no seat, and sets the bound
+    /// behind its last seat.
     fn join(&mut self)
         requires rises { Rises is_ahead self.old.0 }
         requires few { length self.old.0 ≤ count_end }

@@ -1,4 +1,4 @@
-//! The seats of a tree one after another, in order.
+//! A walk over the seats of an order, in both of its trees, from behind a key on; `candidates` goes by it.
 ghost use Rattle.std.specs.Prelude.{◌≡◌, ◌≢◌, ◌∷◌, ◌++◌, [], length, true, false, IfSome, IfNone};
 ghost use Rattle.std.specs.Iterator.{at_most};
 ghost use Rattle.std.specs.Map.Iter.{TakesFirst};

@@ -1,4 +1,4 @@
-//! A task of the book, and its reply.
+//! A task of the book: its poll, and its reply, which comes with its end, or where its cancellable is first seen as cancelled.
 ghost use Rattle.std.specs.Prelude.{◌≡◌, ◌&&◌};
 ghost use Rattle.task_steps.specs.Task.{answer_as};
 

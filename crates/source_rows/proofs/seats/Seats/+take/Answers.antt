@@ -11,7 +11,7 @@ use Rattle.source_rows.proofs.Ahead.{less_sooner, greater_back, same_from_equal,
 use Rattle.source_rows.proofs.Low.{low_fork}
 use Rattle.source_rows.proofs.TakenOut.{TakenOut, taken_sooner, taken_later, taken_near, taken_even}
 use Rattle.source_rows.proofs.seats.Seats.+take.Goals as goal
-use Rattle.source_rows.proofs.seats.Seats.+take.Goals.{in-Less, in-Greater}
+use Rattle.source_rows.proofs.seats.Seats.+take.Goals.{in-Less, in-Greater, Joined-cmp}
 
 pub take-room-requires : goal.take-room-requires
 take-room-requires t c =
@@ -43,8 +43,8 @@ returns-in-Equal-clause-seats t c =
     let is : (seen_of c.remove_root.new.root).0 ≡ l ++ r = search rules in
     is ∙ sym (ap (without x) f.is ∙ (ap (λ u. without u (l ++ k ∷ r)) (same_from_equal x k o) ∙ without_here l k r f.rises))
 
--- what is left of the fork where its sides are as high as before, and where one is not
-taken : (t : ℕ) (c : goal.After-self-then-has_sides-1 t) → TakenOut c.deref_mut-fork.result.now c.match-cmp.fork c.args.seat.now
+-- what is left of the fork once a side has lost the seat
+taken : (t : ℕ) (c : Joined-cmp t) → TakenOut c.deref_mut-fork.result.now c.match-cmp.fork c.args.seat.now
 taken t c =
     let same : c.deref_mut-fork.result.now ≡ c.in-Some.fork.value = search rules in
     let f = at_Fork c.self.view_is c.requires.rises c.in-Some.is same in
@@ -61,42 +61,8 @@ taken t c =
           rw w.fork-is (taken_later c.deref_mut-fork.result.now x _ even f.rises (greater_back x _ o) a.seats a.low a.height)
     ]
 
-there : (t : ℕ) (c : goal.After-self-then-has_sides-1 t) → is_some c.match-cmp.room ≡ list_any (λ u. is_eq (seat_cmp c.args.seat.now u)) c.args.self.now.0
+there : (t : ℕ) (c : Joined-cmp t) → is_some c.match-cmp.room ≡ list_any (λ u. is_eq (seat_cmp c.args.seat.now u)) c.args.self.now.0
 there t c =
-    let same : c.deref_mut-fork.result.now ≡ c.in-Some.fork.value = search rules in
-    let f = at_Fork c.self.view_is c.requires.rises c.in-Some.is same in
-    let x = c.args.seat.now in
-    let l = c.deref_mut-fork.result.now.sooner.0 in
-    let k = c.deref_mut-fork.result.now.seat in
-    let r = c.deref_mut-fork.result.now.later.0 in
-    elim c.match-cmp.branch [
-      | in-Less w ↦
-          let o : seat_cmp x k ≡ Less = search rules in
-          ap is_some w.room-is ∙ (w.take-room.ensures.there ∙ sym (ap (list_any (λ u. is_eq (seat_cmp x u))) f.is ∙ there_left x l k r f.rises (less_sooner x k o)))
-      | in-Greater w ↦
-          let o : seat_cmp x k ≡ Greater = search rules in
-          ap is_some w.room-is ∙ (w.take-room-in-Greater.ensures.there ∙ sym (ap (list_any (λ u. is_eq (seat_cmp x u))) f.is ∙ there_right x l k r f.rises (greater_back x k o)))
-    ]
-
-taken_else : (t : ℕ) (c : goal.After-balance-arg-1 t) → TakenOut c.deref_mut-fork.result.now c.match-cmp.fork c.args.seat.now
-taken_else t c =
-    let same : c.deref_mut-fork.result.now ≡ c.in-Some.fork.value = search rules in
-    let f = at_Fork c.self.view_is c.requires.rises c.in-Some.is same in
-    let even = even_at c.self.invariant c.in-Some.is same in
-    let x = c.args.seat.now in
-    elim c.match-cmp.branch [
-      | in-Less w ↦
-          let o : seat_cmp x c.deref_mut-fork.result.now.seat ≡ Less = search rules in
-          let a = w.take-room.ensures in
-          rw w.fork-is (taken_sooner c.deref_mut-fork.result.now x _ even f.rises (less_sooner x _ o) a.seats a.low a.height)
-      | in-Greater w ↦
-          let o : seat_cmp x c.deref_mut-fork.result.now.seat ≡ Greater = search rules in
-          let a = w.take-room-in-Greater.ensures in
-          rw w.fork-is (taken_later c.deref_mut-fork.result.now x _ even f.rises (greater_back x _ o) a.seats a.low a.height)
-    ]
-
-there_else : (t : ℕ) (c : goal.After-balance-arg-1 t) → is_some c.match-cmp.room ≡ list_any (λ u. is_eq (seat_cmp c.args.seat.now u)) c.args.self.now.0
-there_else t c =
     let same : c.deref_mut-fork.result.now ≡ c.in-Some.fork.value = search rules in
     let f = at_Fork c.self.view_is c.requires.rises c.in-Some.is same in
     let x = c.args.seat.now in
@@ -117,7 +83,7 @@ noted : (t : ℕ) (c : goal.After-self-then-has_sides-1 t) → c.leave_out.new.s
 noted t c =
     let same : c.deref_mut-fork.result.now ≡ c.in-Some.fork.value = search rules in
     let even = even_at c.self.invariant c.in-Some.is same in
-    let out = taken t c in
+    let out = taken t c.before.before.before.before in
     c.leave_out.ensures (seats_of c.deref_mut-fork.result.now) (out.least ∙ even.4) out.seats
 
 pub invariant_of-self-then-has_sides : goal.invariant_of-self-then-has_sides
@@ -125,16 +91,16 @@ invariant_of-self-then-has_sides t c =
     let same : c.deref_mut-fork.result.now ≡ c.in-Some.fork.value = search rules in
     let even = even_at c.self.invariant c.in-Some.is same in
     let sides = c.has_sides.ensures c.if-has_sides.true in
-    rw (noted t c) (taken_even c.deref_mut-fork.result.now c.match-cmp.fork c.args.seat.now even (taken t c) (sides.0 ∙ c.height-low.ensures.height) (sides.1 ∙ c.height-high.ensures.height))
+    rw (noted t c) (taken_even c.deref_mut-fork.result.now c.match-cmp.fork c.args.seat.now even (taken t c.before.before.before.before) (sides.0 ∙ c.height-low.ensures.height) (sides.1 ∙ c.height-high.ensures.height))
 
 pub returns-then-has_sides-clause-there : goal.returns-then-has_sides-clause-there
-returns-then-has_sides-clause-there t c = there t c
+returns-then-has_sides-clause-there t c = there t c.before.before.before.before
 
 pub returns-then-has_sides-clause-seats : goal.returns-then-has_sides-clause-seats
 returns-then-has_sides-clause-seats t c =
     let same : c.deref_mut-fork.result.now ≡ c.in-Some.fork.value = search rules in
     let f = at_Fork c.self.view_is c.requires.rises c.in-Some.is same in
-    ap seats_of (noted t c) ∙ ((taken t c).seats ∙ sym (ap (without c.args.seat.now) f.is))
+    ap seats_of (noted t c) ∙ ((taken t c.before.before.before.before).seats ∙ sym (ap (without c.args.seat.now) f.is))
 
 pub returns-then-has_sides-clause-low : goal.returns-then-has_sides-clause-low
 returns-then-has_sides-clause-low t c = low_fork c.leave_out.new.self (invariant_of-self-then-has_sides t c)
@@ -143,7 +109,7 @@ pub returns-then-has_sides-clause-height : goal.returns-then-has_sides-clause-he
 returns-then-has_sides-clause-height t c =
     let same : c.deref_mut-fork.result.now ≡ c.in-Some.fork.value = search rules in
     let old : c.args.self.now.1 ≡ c.deref_mut-fork.result.now.height = ap (λ (v : List Seat × ℕ). v.1) (sym c.self.view_is ∙ ap seen_of c.in-Some.is) ∙ sym (ap (λ (g : Fork). g.height) same) in
-    let is : c.leave_out.new.self.height ≡ c.args.self.now.1 = ap (λ (g : Fork). g.height) (noted t c) ∙ ((taken t c).height ∙ sym old) in
+    let is : c.leave_out.new.self.height ≡ c.args.self.now.1 = ap (λ (g : Fork). g.height) (noted t c) ∙ ((taken t c.before.before.before.before).height ∙ sym old) in
     (omega (arith, is), omega (arith, is))
 
 pub balance-requires : goal.balance-requires
@@ -152,13 +118,13 @@ balance-requires t c =
     let f = at_Fork c.self.view_is c.requires.rises c.in-Some.is same in
     let even = even_at c.self.invariant c.in-Some.is same in
     let few : length (seats_of c.deref_mut-fork.result.now) ≤ 2 ^ 63 = subst (λ (xs : List Seat). length xs ≤ 2 ^ 63) f.is c.requires.few in
-    taken_near c.deref_mut-fork.result.now c.match-cmp.fork c.args.seat.now even (taken_else t c) few
+    taken_near c.deref_mut-fork.result.now c.match-cmp.fork c.args.seat.now even (taken t c.before.before.before.before) few
 
 pub returns-clause-there : goal.returns-clause-there
-returns-clause-there t c = there_else t c.before
+returns-clause-there t c = there t c.before.before.before.before.before
 
 pub returns-clause-seats : goal.returns-clause-seats
 returns-clause-seats t c =
     let same : c.deref_mut-fork.result.now ≡ c.in-Some.fork.value = search rules in
     let f = at_Fork c.self.view_is c.requires.rises c.in-Some.is same in
-    c.balance.ensures.1 ∙ ((taken_else t c.before).seats ∙ sym (ap (without c.args.seat.now) f.is))
+    c.balance.ensures.1 ∙ ((taken t c.before.before.before.before.before).seats ∙ sym (ap (without c.args.seat.now) f.is))
