@@ -210,8 +210,9 @@ pub(crate) fn run_tick<R: Threads + Wait + Sync, G: Gate>(
 }
 
 /// Lanes after their turns at a tick, by number, and what they posted, by sender and number. The caller takes each turn.
-fn turn_alone(
+pub(crate) fn turn_alone<G: Gate>(
     alloc: Global,
+    gate: &G,
     script: &Script,
     tick: u32,
     mut lanes: Vec<LaneState>,
@@ -222,7 +223,7 @@ fn turn_alone(
     ensures letters { IfOk result (λ r. r.1.items ≡ flat_map (out_of_one script.now tick) lanes.items) }
 {
     let mut tray = Tray::new(alloc);
-    take_turns(&OpenGate, script, tick, 0, lanes.as_mut_slice(), &mut tray)?;
+    take_turns(gate, script, tick, 0, lanes.as_mut_slice(), &mut tray)?;
     Ok((lanes, tray.into_letters()))
 }
 
@@ -240,6 +241,6 @@ pub(crate) fn run_tick_alone(
     ensures { IfOk result (λ lanes. AreAt script.now (tick + 1) lanes.items) }
 {
     let Parted { due, resting } = begin_tick(alloc, script, tick, lanes)?;
-    let (done, letters) = turn_alone(alloc, script, tick, due)?;
+    let (done, letters) = turn_alone(alloc, &OpenGate, script, tick, due)?;
     end_tick(alloc, script, tick, done, letters.as_slice(), resting)
 }

@@ -15,7 +15,7 @@ use crate::deal::share_out;
 use crate::fault::OutOfMemory;
 use crate::gate::Gate;
 use crate::rest::{Resting, any_due};
-use crate::round::{Parted, begin_tick, end_tick};
+use crate::round::{Parted, begin_tick, end_tick, turn_alone};
 use crate::share::in_order;
 use crate::stay::{answer_all, calls_of, collect, have_numbers, numbers_of, work};
 use lane_turn::LaneState;
@@ -27,8 +27,8 @@ use std::thread;
 use std::thread::Threads;
 
 /// Lanes after their turns at a tick, by number, and what they posted, by sender and number. The caller and workers that stay
-/// take these turns. `OutOfMemory` stands for lanes of other numbers, too: each worker gives back the lanes that it got, which no
-/// clause says.
+/// take these turns; a caller that is alone takes them where the lanes stand. `OutOfMemory` stands for lanes of other numbers, too:
+/// each worker gives back the lanes that it got, which no clause says.
 fn turn_each<J: Planned, R: Wait, G: Gate>(
     rt: &R,
     alloc: Global,
@@ -48,6 +48,9 @@ fn turn_each<J: Planned, R: Wait, G: Gate>(
     ensures lanes { IfOk result (λ r. r.0.items ≡ map (turned_one script.now tick) lanes.items) }
     ensures letters { IfOk result (λ r. r.1.items ≡ flat_map (out_of_one script.now tick) lanes.items) }
 {
+    if crew.workers == 1 {
+        return turn_alone(alloc, gate, script, tick, lanes);
+    }
     let numbers = numbers_of(alloc, lanes.as_slice())?;
     let shares = share_out(alloc, crew, lanes)?;
     let calls = calls_of::<J>(alloc, tick, shares)?;

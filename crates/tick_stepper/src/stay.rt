@@ -1,7 +1,6 @@
 //! Workers that stay for a run, and the turns that they take.
-ghost use Rattle.std.specs.Prelude.{◌≡◌, ◌<◌, true, map, IfOk, OnOk, length};
-ghost use Rattle.std.specs.List.{All};
-ghost use Rattle.loop_script.specs.Bounds.{most_ticks};
+ghost use Rattle.std.specs.Prelude.{◌≡◌, ◌++◌, true, map, IfOk, OnOk};
+ghost use Rattle.std.specs.List.{All, flat_map};
 ghost use Rattle.lane_turn.specs.Lane.{State};
 ghost use Rattle.tick_stepper.specs.Call.{IsCall, IsReply};
 
@@ -239,7 +238,8 @@ pub(crate) fn collect<J: Planned>(
     tick: u32,
     replies: Vec<Reply<J>>,
 ) -> Result<(Vec<LaneState>, Vec<Letter>), OutOfMemory>
-    ensures { IfOk result (λ r. IsReply J.plan tick r.0.items r.1.items) }
+    ensures reply { IfOk result (λ r. IsReply J.plan tick r.0.items r.1.items) }
+    ensures lanes { IfOk result (λ r. r.0.items ≡ flat_map (λ reply. reply.share.lanes.items) replies.items) }
 {
     let mut lanes = Vec::new(alloc);
     let mut letters = Vec::new(alloc);
@@ -258,7 +258,8 @@ fn take_in<J: Planned>(
     reply: Reply<J>,
 ) -> Result<(), OutOfMemory>
     requires { IsReply J.plan tick lanes.old.items letters.old.items }
-    ensures { OnOk result (IsReply J.plan tick lanes.new.items letters.new.items) }
+    ensures reply { OnOk result (IsReply J.plan tick lanes.new.items letters.new.items) }
+    ensures lanes { OnOk result (lanes.new.items ≡ lanes.old.items ++ reply.share.lanes.items) }
 {
     if reply.tick != tick {
         return Err(OutOfMemory);

@@ -27,7 +27,7 @@ returns-clause-lanes g c =
     let lanes = c.in_ok-lanes.lanes.items in
     let letters = c.in_ok-lanes.letters.items in
     let sorted = c.in_ok-lanes-2.lanes.items in
-    let reply = subst (λ (p : Plan). IsReply p c.args.tick lanes letters) (sym c.requires.plan) c.in_ok-lanes.ensures in
+    let reply = subst (λ (p : Plan). IsReply p c.args.tick lanes letters) (sym c.requires.plan) c.in_ok-lanes.ensures.reply in
     let yes : c.have_numbers.result ≡ true = search rules in
     let same : map number sorted ≡ map number c.args.lanes.items =
     ap (map number) (sym c.as_slice-2.ensures.value) ∙ (c.have_numbers.ensures yes ∙ (c.as_slice-3.ensures.value ∙ (c.in_ok-numbers.ensures ∙ ap (map number) c.as_slice.ensures.value))) in
@@ -39,7 +39,7 @@ returns-clause-letters g c =
     let lanes = c.in_ok-lanes.lanes.items in
     let letters = c.in_ok-lanes.letters.items in
     let sorted = c.in_ok-lanes-2.lanes.items in
-    let reply = subst (λ (p : Plan). IsReply p c.args.tick lanes letters) (sym c.requires.plan) c.in_ok-lanes.ensures in
+    let reply = subst (λ (p : Plan). IsReply p c.args.tick lanes letters) (sym c.requires.plan) c.in_ok-lanes.ensures.reply in
     let yes : c.have_numbers.result ≡ true = search rules in
     let same : map number sorted ≡ map number c.args.lanes.items =
     ap (map number) (sym c.as_slice-2.ensures.value) ∙ (c.have_numbers.ensures yes ∙ (c.as_slice-3.ensures.value ∙ (c.in_ok-numbers.ensures ∙ ap (map number) c.as_slice.ensures.value))) in
