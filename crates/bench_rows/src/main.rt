@@ -4,7 +4,6 @@
 
 mod bench;
 mod orders;
-mod random;
 mod refusal;
 mod request;
 

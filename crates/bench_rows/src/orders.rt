@@ -5,11 +5,19 @@ ghost use Rattle.source_rows.specs.Rows.{in_order};
 ghost use Rattle.bench_rows.specs.declared.refusal.Refusal.TheVariants.{Call};
 ghost use Rattle.bench_rows.specs.declared.request.Order.TheVariants.{Loop};
 
-use crate::random::Random;
 use crate::refusal::Refusal;
 use crate::request::Order;
+use rand::seq::SliceRandom;
+use rand_pcg::Pcg32;
 use source_rows::Rows;
 use std::alloc::{AllocError, Global};
+
+/// From which numbers that look random the orders of both rounds come, of one stream of them.
+const ODD_SEED: u64 = 1;
+
+const EVEN_SEED: u64 = 2;
+
+const STREAM: u64 = 0;
 
 /// The ids of rows, once for the odd rounds and once for the even ones. In random order the two are not the same: a call
 /// that puts a row behind the others would else find it in front of them in the next round.
@@ -30,8 +38,8 @@ impl Orders {
         let mut odd = ids_in_order(alloc, rows)?;
         let mut even = ids_in_order(alloc, rows)?;
         if order == Order::Random {
-            shuffle(odd.as_mut_slice(), &mut Random::new(1));
-            shuffle(even.as_mut_slice(), &mut Random::new(2));
+            shuffle(odd.as_mut_slice(), ODD_SEED);
+            shuffle(even.as_mut_slice(), EVEN_SEED);
         }
         Ok(Orders { odd, even })
     }
@@ -64,12 +72,9 @@ fn ids_in_order(alloc: Global, rows: &Rows) -> Result<Vec<u32>, Refusal>
     Ok(ids)
 }
 
-/// Puts the ids into one of their orders.
-fn shuffle(ids: &mut [u32], random: &mut Random)
+/// Puts the ids into an order that looks random, the same for the same seed.
+fn shuffle(ids: &mut [u32], seed: u64)
     ensures { IsPermutation ids.old ids.new }
 {
-    for last in 1..ids.len() {
-        let other = random.below(last + 1);
-        ids.swap(last, other);
-    }
+    ids.shuffle(&mut Pcg32::new(seed, STREAM));
 }

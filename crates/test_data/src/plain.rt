@@ -1,32 +1,8 @@
-//! Rows in a plain list, which each call goes through, and numbers from a seed.
-ghost use Rattle.std.specs.Prelude.{◌<◌};
-
+//! Rows in a plain list, which each call goes through.
+use rand::RngExt;
+use rand_pcg::Pcg32;
 use source_rows::{Levels, Row, RowsFault};
 use std::alloc::{AllocError, Global};
-
-/// Numbers that look random, the same for the same seed.
-#[derive(Drop)]
-pub(crate) struct Random {
-    state: u64,
-}
-
-impl Random {
-    pub(crate) fn new(seed: u64) -> Random {
-        Random { state: seed }
-    }
-
-    /// A number below a bound that is not 0.
-    pub(crate) fn below(&mut self, bound: u64) -> u64
-        requires { 0 < bound }
-        ensures { result < bound }
-    {
-        self.state = self
-            .state
-            .wrapping_mul(6_364_136_223_846_793_005)
-            .wrapping_add(1_442_695_040_888_963_407);
-        (self.state >> 33) % bound
-    }
-}
 
 /// A row as the plain list keeps it.
 #[derive(Clone, Copy)]
@@ -64,8 +40,8 @@ impl Plain {
     }
 
     /// The id of some row, or one that no row has.
-    pub(crate) fn some_id(&self, random: &mut Random) -> u64 {
-        let index = random.below(30) as usize;
+    pub(crate) fn some_id(&self, random: &mut Pcg32) -> u64 {
+        let index = random.random_range(0..30_u32) as usize;
         match self.held.get(index) {
             Some(held) => held.id,
             None => self.next_id.saturating_sub(index as u64),

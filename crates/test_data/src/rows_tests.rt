@@ -1,11 +1,18 @@
 //! Single calls of rows, with ample memory and with memory refused, and random edits beside plain rows.
-use crate::plain::{Plain, Random};
+use crate::plain::Plain;
 use crate::tried::Tried;
 use loop_script::{Kind, SourceSpec};
+use rand::RngExt;
+use rand_pcg::Pcg32;
 use source_rows::{Levels, Row, RowsFault};
 use std::alloc::Global;
 use std::process::Abort;
 use std::test::Fail;
+
+/// From which numbers that look random the edits come, of which stream of them.
+const SEED: u64 = 20;
+
+const STREAM: u64 = 0;
 
 fn idle() -> SourceSpec {
     SourceSpec {
@@ -200,7 +207,7 @@ fn refused_rows_of_four_levels(rt: HostRuntime) {
 /// One random edit of the rows and of the plain ones, none of which is given a child where they do not nest; both then have the same rows in the same order.
 fn edit(
     alloc: Global,
-    random: &mut Random,
+    random: &mut Pcg32,
     rows: &mut Tried,
     plain: &mut Plain,
     nests: bool,
@@ -208,12 +215,12 @@ fn edit(
     let choice = if plain.len() > 24 {
         12
     } else {
-        random.below(20)
+        random.random_range(0..20_u32)
     };
     let id = plain.some_id(random);
-    let ready = random.below(50) as i64 - 1;
+    let ready = random.random_range(-1..49_i64);
     let spec = SourceSpec {
-        priority: random.below(3) as i32 * 100 - 100,
+        priority: random.random_range(-1..2_i32) * 100,
         ..idle()
     };
     let same = match choice {
@@ -239,7 +246,7 @@ fn edit(
 #[test]
 fn random_edits(rt: HostRuntime) -> Result<(), Fail> {
     for levels in [Levels::Two, Levels::Four] {
-        let mut random = Random::new(20);
+        let mut random = Pcg32::new(SEED, STREAM);
         let mut rows = Tried::new(rt.alloc(), levels);
         let mut plain = Plain::new(rt.alloc(), levels);
         for step in 0..2_500_u64 {
