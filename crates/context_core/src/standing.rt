@@ -1,4 +1,4 @@
-//! What an iteration begun now would do with each source, and why.
+//! What an iteration begun now would do with one source, and why; `context` goes over all.
 ghost use Rattle.std.specs.Prelude.{◌≡◌};
 ghost use Rattle.context_core.specs.Phases.{shown};
 ghost use Rattle.context_core.specs.Standing.{blocker, until_of, waiting, standing_behind, standing_by};

@@ -1,4 +1,4 @@
-//! What the program does, and its exit status.
+//! What the program does, its exit status, and which numbers of its arguments are refused since the run has no such thing.
 use crate::arguments::point_of;
 use crate::failure::{Failure, Numbered};
 use crate::first_lines::FirstLines;

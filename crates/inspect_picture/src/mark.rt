@@ -1,4 +1,4 @@
-//! What something did in a tick, as one character.
+//! The marks of a picture: which goes above which. `timeline` says which one something gets.
 
 /// The characters of dispatches by their depth, from 1 on: no more than 32 calls are in progress.
 const DEPTHS: &[u8; 32] = b"123456789abcdefghijklmnopqrstuvw";

@@ -1,4 +1,4 @@
-//! When a task started, replied and ended late, as far as the run tells it, and the marks of its row by that.
+//! When a task started, replied and ended late, and the marks of its row by that; `timeline` notes these, and whose reply a dispatch is.
 use crate::mark::Mark;
 use crate::track::Track;
 use inspect_words::Window;

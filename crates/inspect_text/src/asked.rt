@@ -1,4 +1,4 @@
-//! What is asked of a run, answered as one text.
+//! An account, a `why` or a life of a whole run as one text, for callers of the library for C; `mainctx_inspect` goes moment by moment.
 use crate::life::Life;
 use crate::moments::Moments;
 use crate::why::Why;

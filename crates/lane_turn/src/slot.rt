@@ -1,4 +1,4 @@
-//! What slots name.
+//! The types of what slots name; `lane` has the calls that look one up.
 
 /// A source: its context, and its id there. It may be destroyed since.
 #[derive(Clone, Copy, Debug, PartialEq, Eq)]

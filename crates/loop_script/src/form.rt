@@ -1,4 +1,4 @@
-//! Reading a part of a script into a value, with the faults in it.
+//! What reads a part of a script into a value, with the faults in it: one value, or a list of rows, needed or not.
 ghost use Rattle.std.specs.Prelude.{◌≡◌, ◌≤◌, length, IfOk, OnOk};
 ghost use Rattle.loop_script.specs.Read.{after};
 ghost use Rattle.loop_script.specs.Rows.{rows, rows_or, of_length, each};

@@ -32,7 +32,7 @@ impl From<AllocError> for InputFault {
 /// All bytes that are left, where there are at most `INPUT_LIMIT`. Any failed read ends it.
 pub(crate) fn read_input<R: Read>(alloc: Global, input: &mut R) -> Result<Vec<u8>, InputFault>
     ensures whole { IfOk result (λ bytes. IsRestOf (R.remaining input.old) bytes.items) }
-    ensures limit { IfOk result (λ bytes. vec_len bytes ≤ 4194304) }
+    ensures limit { IfOk result (λ bytes. vec_len bytes ≤ input_limit) }
     ensures constant { INPUT_LIMIT ≡ input_limit }
 {
     let mut space = vec![in alloc; 0u8; ROOM]?;

@@ -1,4 +1,4 @@
-//! Where a run stands.
+//! Where a run stands, and in which tick its cancellable was first seen as cancelled and last as not.
 ghost use Rattle.std.specs.Prelude.{◌≡◌};
 ghost use Rattle.task_steps.specs.Run.{set_to, seen_from, clear_to};
 

@@ -1,4 +1,4 @@
-//! Lanes are taken from a queue in a single tick, by workers that start for it.
+//! Lanes are taken from a queue in a single tick, by workers that start for it; and how many workers so many lanes need, in a run too.
 ghost use Rattle.std.specs.Prelude.{◌≡◌, ◌+◌, ◌<◌, ◌++◌, [], ◌∷◌, map, vec_len, OnOk, IfOk, IsPermutation};
 ghost use Rattle.std.specs.List.{All, AllByRecursion, flat_map};
 ghost use Rattle.loop_script.specs.Bounds.{most_ticks};
