@@ -1,5 +1,6 @@
 -- A fork of which a side has lost a seat.
-use Rattle.std.proofs.Common.{◌≡◌, ℕ, ◌+◌, ◌≤◌, ◌^◌, true, not, max, List, ◌∷◌, ◌++◌, length, filter, refl, sym, ap, subst, ◌∙◌, arith}
+use Rattle.std.proofs.Common.{◌≡◌, ℕ, ◌+◌, ◌≤◌, ◌^◌, Bool, true, false, not, nat_lt, max, List, ◌∷◌, ◌++◌, length, filter, refl, sym, ap, subst, ◌∙◌, arith}
+use Rattle.std.proofs.lemmas.Bool.Decides.{nat_tests}
 use Rattle.std.specs.Ordering.{is_eq}
 use Rattle.source_rows.specs.Inserted.{Rises}
 use Rattle.source_rows.specs.declared.seats.Fork.{Fork}
@@ -10,7 +11,8 @@ use Rattle.source_rows.specs.SeatTree.{seats_of, IsEvenFork, AreNearlyEven, IsLo
 use Rattle.source_rows.proofs.Ahead.{without_left, without_right}
 use Rattle.source_rows.proofs.SeatTree.{length_filter, sides_shorter}
 
-pub record TakenOut (old new : Fork) (seat : Seat) : Type 0 where
+-- what a fork is once a seat was taken out of one of its sides, where that side may be lower for it
+pub record TakenOut (old new : Fork) (seat : Seat) (lower : Bool) : Type 0 where
   pub seats : seats_of new ≡ without seat (seats_of old)
   pub height : new.height ≡ old.height
   pub least : new.least ≡ old.least
@@ -18,10 +20,11 @@ pub record TakenOut (old new : Fork) (seat : Seat) : Type 0 where
   pub later : IsLow new.later
   pub low : IsLowered old.sooner.1 new.sooner.1
   pub high : IsLowered old.later.1 new.later.1
+  pub still : lower ≡ false → (new.sooner.1 ≡ old.sooner.1) × (new.later.1 ≡ old.later.1)
 
-pub taken_sooner : (old : Fork) (seat : Seat) (side : List Seat × ℕ) → IsEvenFork old → Rises is_ahead (seats_of old) → is_ahead seat old.seat ≡ true → side.0 ≡ without seat old.sooner.0 → IsLow side → IsLowered old.sooner.1 side.1
-    → TakenOut old (record old { sooner = side }) seat
-taken_sooner old seat side even rises ahead is low h = record {
+pub taken_sooner : (old : Fork) (seat : Seat) (side : List Seat × ℕ) (lower : Bool) → IsEvenFork old → Rises is_ahead (seats_of old) → is_ahead seat old.seat ≡ true → side.0 ≡ without seat old.sooner.0 → IsLow side → IsLowered old.sooner.1 side.1 → lower ≡ nat_lt side.1 old.sooner.1
+    → TakenOut old (record old { sooner = side }) seat lower
+taken_sooner old seat side lower even rises ahead is low h l = record {
   seats = ap (λ (l : List Seat). l ++ old.seat ∷ old.later.0) is ∙ sym (without_left seat old.sooner.0 old.seat old.later.0 rises ahead);
   height = refl;
   least = refl;
@@ -29,11 +32,12 @@ taken_sooner old seat side even rises ahead is low h = record {
   later = even.3;
   low = h;
   high = (omega arith, omega arith);
+  still = λ e. (let same : nat_lt side.1 old.sooner.1 ≡ false = sym l ∙ e in grind (arith, nat_tests, same, h.0, h.1), refl);
 }
 
-pub taken_later : (old : Fork) (seat : Seat) (side : List Seat × ℕ) → IsEvenFork old → Rises is_ahead (seats_of old) → is_ahead old.seat seat ≡ true → side.0 ≡ without seat old.later.0 → IsLow side → IsLowered old.later.1 side.1
-    → TakenOut old (record old { later = side }) seat
-taken_later old seat side even rises behind is low h = record {
+pub taken_later : (old : Fork) (seat : Seat) (side : List Seat × ℕ) (lower : Bool) → IsEvenFork old → Rises is_ahead (seats_of old) → is_ahead old.seat seat ≡ true → side.0 ≡ without seat old.later.0 → IsLow side → IsLowered old.later.1 side.1 → lower ≡ nat_lt side.1 old.later.1
+    → TakenOut old (record old { later = side }) seat lower
+taken_later old seat side lower even rises behind is low h l = record {
   seats = ap (λ (l : List Seat). old.sooner.0 ++ old.seat ∷ l) is ∙ sym (without_right seat old.sooner.0 old.seat old.later.0 rises behind);
   height = refl;
   least = refl;
@@ -41,17 +45,19 @@ taken_later old seat side even rises behind is low h = record {
   later = low;
   low = (omega arith, omega arith);
   high = h;
+  still = λ e. (refl, let same : nat_lt side.1 old.later.1 ≡ false = sym l ∙ e in grind (arith, nat_tests, same, h.0, h.1));
 }
 
 -- one that balance may take
-pub taken_near : (old new : Fork) (seat : Seat) → IsEvenFork old → TakenOut old new seat → length (seats_of old) ≤ 2 ^ 63 → AreNearlyEven new.sooner new.later
-taken_near old new seat even t few =
+pub taken_near : (old new : Fork) (seat : Seat) (lower : Bool) → IsEvenFork old → TakenOut old new seat lower → length (seats_of old) ≤ 2 ^ 63 → AreNearlyEven new.sooner new.later
+taken_near old new seat lower even t few =
     let less = length_filter (λ u. not (is_eq (seat_cmp seat u))) (seats_of old) in
     let long : length (seats_of new) ≤ length (seats_of old) = subst (λ (l : List Seat). length l ≤ length (seats_of old)) (sym t.seats) less in
     let parts = sides_shorter new.sooner.0 new.seat new.later.0 in
     ((omega (arith, even.1.0, even.1.1, t.low, t.high), omega (arith, even.1.0, even.1.1, t.low, t.high)), t.sooner, t.later, omega (arith, long, parts, few))
 
--- even already, where both sides are as high as they were
-pub taken_even : (old new : Fork) (seat : Seat) → IsEvenFork old → TakenOut old new seat → new.sooner.1 ≡ old.sooner.1 → new.later.1 ≡ old.later.1 → IsEvenFork (record new { least = least_of (seats_of new) })
-taken_even old new seat even t low high =
-    (t.height ∙ (even.0 ∙ rw (low, high) refl), rw (low, high) even.1, t.sooner, t.later, refl)
+-- even already, where no side is lower
+pub taken_even : (old new : Fork) (seat : Seat) → IsEvenFork old → TakenOut old new seat false → IsEvenFork (record new { least = least_of (seats_of new) })
+taken_even old new seat even t =
+    let same = t.still refl in
+    (t.height ∙ (even.0 ∙ rw (same.0, same.1) refl), rw (same.0, same.1) even.1, t.sooner, t.later, refl)

@@ -117,9 +117,9 @@ impl SeatOrder {
         ensures low { IsLow self.new }
     {
         if is_passed(self.bound, seat.key) {
-            self.front.take(seat)
+            self.front.take(seat).room
         } else {
-            self.back.take(seat)
+            self.back.take(seat).room
         }
     }
 

@@ -59,6 +59,15 @@ pub(crate) struct Least {
     pub(crate) due: u64,
 }
 
+/// The room of a seat that was taken out of a tree.
+#[derive(Drop)]
+pub(crate) struct Taken {
+    /// None where the seat was not there.
+    pub(crate) room: Option<Room>,
+    /// Whether the tree is lower without it.
+    pub(crate) lower: bool,
+}
+
 impl Model for Seats {
     ghost use Rattle.std.specs.Prelude.{ℕ, List, length};
     ghost use Rattle.source_rows.specs.declared.seats.Seat.{Seat};
@@ -108,13 +117,6 @@ impl Fork {
         is_other
     }
 
-    /// Whether its sides have these heights.
-    fn has_sides(&self, low: u64, high: u64) -> bool
-        ensures { result ≡ true → (self.now.sooner.1 ≡ low) × (self.now.later.1 ≡ high) }
-    {
-        self.sooner.height() == low && self.later.height() == high
-    }
-
     /// Notes the least times anew, once a seat was taken out.
     fn leave_out(&mut self, seat: &Seat)
         ensures { (all : List Seat) → self.old.least ≡ least_of all → seats_of self.old ≡ without seat.now all → self.new ≡ record self.old { least = least_of (seats_of self.old) } }
@@ -133,6 +135,20 @@ impl Fork {
         let sooner = mem::replace(&mut self.sooner, Seats::new());
         let later = mem::replace(&mut self.later, Seats::new());
         (sooner, later)
+    }
+}
+
+impl Least {
+    /// Notes the times of one more seat.
+    fn note(&mut self, seat: &Seat)
+        ensures { self.new ≡ record { wake = lesser seat.now.wake self.old.wake; due = lesser seat.now.due self.old.due } }
+    {
+        if seat.wake < self.wake {
+            self.wake = seat.wake;
+        }
+        if seat.due < self.due {
+            self.due = seat.due;
+        }
     }
 }
 
@@ -179,7 +195,7 @@ impl Seats {
                     fork.later.insert(room, seat)
                 };
                 if !higher {
-                    fork.least = least_with(&fork.least, seat);
+                    fork.least.note(seat);
                     return false;
                 }
                 fork.height
@@ -221,34 +237,45 @@ impl Seats {
 
     /// Takes a seat out, and hands its room out; none where it is not there.
     #[tactic(auto, using(crate::proofs::Low::low_even))]
-    pub fn take(&mut self, seat: &Seat) -> Option<Room>
+    pub fn take(&mut self, seat: &Seat) -> Taken
         requires rises { Rises is_ahead self.old.0 }
         requires few { length self.old.0 ≤ count_end }
         requires low { IsLow self.old }
-        ensures there { is_some result ≡ list_any (λ u. is_eq (seat_cmp seat.now u)) self.old.0 }
+        ensures there { is_some result.room ≡ list_any (λ u. is_eq (seat_cmp seat.now u)) self.old.0 }
         ensures seats { self.new.0 ≡ without seat.now self.old.0 }
         ensures low { IsLow self.new }
         ensures height { IsLowered self.old.1 self.new.1 }
+        ensures lower { result.lower ≡ nat_lt self.new.1 self.old.1 }
     {
+        let height = self.height();
         let room = match &mut self.root {
-            None => return None,
+            None => {
+                return Taken {
+                    room: None,
+                    lower: false,
+                };
+            }
             Some(fork) => {
                 let fork = &mut **fork;
-                let (low, high) = (fork.sooner.height(), fork.later.height());
-                let room = match seat.cmp(&fork.seat) {
+                let taken = match seat.cmp(&fork.seat) {
                     Ordering::Less => fork.sooner.take(seat),
                     Ordering::Greater => fork.later.take(seat),
-                    Ordering::Equal => return remove_root(&mut self.root),
+                    Ordering::Equal => {
+                        let room = remove_root(&mut self.root);
+                        let lower = self.height() < height;
+                        return Taken { room, lower };
+                    }
                 };
-                if fork.has_sides(low, high) {
+                if !taken.lower {
                     fork.leave_out(seat);
-                    return room;
+                    return taken;
                 }
-                room
+                taken.room
             }
         };
         balance(&mut self.root);
-        room
+        let lower = self.height() < height;
+        Taken { room, lower }
     }
 
     /// Puts another seat where one stands, and answers whether the least times may be others.
@@ -311,16 +338,6 @@ fn is_later(time: u64, least: u64) -> bool
     ensures { result ≡ true → IsLater time least }
 {
     least < time || time == NEVER
-}
-
-/// The least times of some seats and of one more.
-fn least_with(least: &Least, seat: &Seat) -> Least
-    ensures { result ≡ record { wake = lesser seat.now.wake least.now.wake; due = lesser seat.now.due least.now.due } }
-{
-    Least {
-        wake: lesser(seat.wake, least.wake),
-        due: lesser(seat.due, least.due),
-    }
 }
 
 /// The least times of a seat and of those on its sides.

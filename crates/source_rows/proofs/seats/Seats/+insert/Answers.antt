@@ -65,7 +65,7 @@ invariant_of-self-then-not-higher t c =
     let same : c.deref_mut-fork.result.now ≡ c.in-Some.fork.value = search rules in
     let even = even_at c.self.invariant c.in-Some.is same in
     let put = subst (PutIn c.deref_mut-fork.result.now c.if-is_ahead.fork c.args.seat.now) c.if-not-higher.true (new_one t c) in
-    rw c.least_with-fork.ensures (put_even c.deref_mut-fork.result.now c.if-is_ahead.fork c.args.seat.now even put)
+    rw c.note.ensures (put_even c.deref_mut-fork.result.now c.if-is_ahead.fork c.args.seat.now even put)
 
 pub returns-then-not-higher-clause-seats : goal.returns-then-not-higher-clause-seats
 returns-then-not-higher-clause-seats t c =
