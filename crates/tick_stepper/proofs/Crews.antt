@@ -21,7 +21,7 @@ le_of a b e = search (rules, tests)
 eq_of : (a b : ℕ) → (a == b) ≡ true → a ≡ b
 eq_of a b e = search (rules, tests)
 
-both_true : (a b : Bool) → (a && b) ≡ true → (a ≡ true) × (b ≡ true)
+pub both_true : (a b : Bool) → (a && b) ≡ true → (a ≡ true) × (b ≡ true)
 both_true true b e = (refl, e)
 both_true false b e = absurd (true≢false (sym e))
 

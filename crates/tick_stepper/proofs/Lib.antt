@@ -7,6 +7,7 @@ pub mod Crossing
 pub mod Crews
 pub mod Rounds
 pub mod Resting
+pub mod RestsOn
 pub mod Sparse
 pub mod Queues
 pub mod Ready

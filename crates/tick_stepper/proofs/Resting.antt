@@ -211,7 +211,7 @@ lanes_of_settled tick [] = refl
 lanes_of_settled tick (one ∷ ones) = ap (λ (ls : List Lane). lane_at tick one ∷ ls) (lanes_of_settled tick ones)
 
 -- what stands in the order of a number that f of it has
-order_seen : {X Y : Type 0} (f : X → Y) (n : Y → ℕ) (xs : List X) → IsNonDecreasingBy (λ (x : X). n (f x)) xs → IsNonDecreasingBy n (map f xs)
+pub order_seen : {X Y : Type 0} (f : X → Y) (n : Y → ℕ) (xs : List X) → IsNonDecreasingBy (λ (x : X). n (f x)) xs → IsNonDecreasingBy n (map f xs)
 order_seen f n [] up i j d le lt = absurd (omega arith)
 order_seen f n (x ∷ xs) up i j d le lt =
     let long : length (map f (x ∷ xs)) ≡ length (x ∷ xs) = simp length-map in

@@ -5,6 +5,7 @@ pub mod Crew
 pub mod Share
 pub mod Queue
 pub mod Rest
+pub mod Known
 pub mod Sparse
 pub mod Stepper
 pub mod Account

@@ -9,6 +9,7 @@ mod deliver;
 mod fault;
 mod gate;
 mod hand;
+mod known;
 pub mod laws;
 mod open;
 mod queue;

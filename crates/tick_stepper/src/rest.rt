@@ -33,7 +33,7 @@ impl Resting {
     }
 
     /// The lane, brought to a tick.
-    fn wake(self, tick: u32) -> Result<LaneState, LaneFault>
+    pub(crate) fn wake(self, tick: u32) -> Result<LaneState, LaneFault>
         requires tick { tick ≤ most_ticks }
         requires passed { HasPassed tick self }
         ensures { IfOk result (λ lane. lane ≡ woken tick self) }
@@ -84,7 +84,7 @@ pub(crate) fn wake_all(
 }
 
 /// A lane after a tick, with the tick of its next turn.
-fn rest(script: &Script, tick: u32, lane: LaneState) -> Resting
+pub(crate) fn rest(script: &Script, tick: u32, lane: LaneState) -> Resting
     requires tick { tick < most_ticks }
     requires ready { IsReadyOne script.now (tick + 1) lane }
     ensures same { result.lane ≡ lane }
