@@ -1,8 +1,8 @@
--- Lanes that rested in a tick whose letters bring sources alone.
-use Rattle.std.specs.Prelude.{◌≡◌, ◌+◌, Bool, true, false, Option, Some, None, List, [], ◌∷◌, length}
-use Rattle.std.specs.List.{list_all}
+-- Lanes that rested in a tick whose letters tell no cancellation.
+use Rattle.std.specs.Prelude.{◌≡◌, ◌+◌, ◌==◌, if◌then◌else◌, Bool, true, false, Option, Some, None, List, [], ◌∷◌, length}
+use Rattle.std.specs.List.{list_all, list_any}
 use Rattle.loop_script.specs.declared.plan.Plan.{Plan}
-use Rattle.loop_script.specs.Units.{Tick}
+use Rattle.loop_script.specs.Units.{Tick, LaneNumber}
 use Rattle.post_office.specs.declared.letter.Letter.{Letter}
 use Rattle.post_office.specs.declared.letter.Body.{Body}
 use Rattle.post_office.specs.declared.letter.Body.TheVariants.{Attach, Complete, Cancelled, Give}
@@ -12,29 +12,38 @@ use Rattle.tick_stepper.specs.declared.known.Rested.{Rested}
 use Rattle.tick_stepper.specs.declared.rest.Resting.{Resting}
 use Rattle.tick_stepper.specs.Rest.{woken, Rests}
 
--- whether what a letter tells is a source or a reply that comes
-abbrev pub brings_source : Body → Bool
-brings_source (Attach context spec) = true
-brings_source (Complete reply) = true
-brings_source (Cancelled c) = false
-brings_source (Give context to) = false
+-- whether a letter tells something else than a cancellation
+abbrev pub tells_otherwise : Body → Bool
+tells_otherwise (Attach context spec) = true
+tells_otherwise (Complete reply) = true
+tells_otherwise (Cancelled c) = false
+tells_otherwise (Give context to) = true
 
--- whether all letters of a tick bring such
-abbrev pub are_sources : List Letter → Bool
-are_sources letters = list_all (λ letter. brings_source letter.body) letters
+-- whether all letters of a tick do
+abbrev pub cancel_nothing : List Letter → Bool
+cancel_nothing letters = list_all (λ letter. tells_otherwise letter.body) letters
+
+-- whether the lane of a number sent one of them
+abbrev pub has_sent : List Letter → LaneNumber → Bool
+has_sent letters number = list_any (λ letter. number == letter.sender) letters
+
+-- how a lane rested, if it sent none
+abbrev pub rested_of : List Letter → Resting → Option Rested
+rested_of letters one = if has_sent letters one.lane.lane.number then None else Some (record { next = one.next; lines = length one.lane.lane.trace })
 
 -- a lane that took its turn
 abbrev pub turned_known : State → Known
 turned_known lane = record { lane = lane; rested = None }
 
 -- a lane that rested, brought to a tick
-abbrev pub rested_known : Tick → Resting → Known
-rested_known tick one = record { lane = woken tick one; rested = Some (record { next = one.next; lines = length one.lane.lane.trace }) }
+abbrev pub rested_known : Tick → List Letter → Resting → Known
+rested_known tick letters one = record { lane = woken tick one; rested = rested_of letters one }
 
--- so many lines has a lane that rested, and it rests from the next tick on
-abbrev pub WasKnown : Plan → Tick → State → Option Rested → Type 0
-WasKnown script tick lane None = Unit {0}
-WasKnown script tick lane (Some rested) = (length lane.lane.trace ≡ rested.lines) × Rests script (tick + 1) (record { lane = lane; next = rested.next })
+-- so many lines has a lane that rested and sent none of these letters, and it rests from the next tick on
+abbrev pub WasKnown : Plan → Tick → List Letter → State → Option Rested → Type 0
+WasKnown script tick letters lane None = Unit {0}
+WasKnown script tick letters lane (Some rested) =
+    (has_sent letters lane.lane.number ≡ false) × (length lane.lane.trace ≡ rested.lines) × Rests script (tick + 1) (record { lane = lane; next = rested.next })
 
 -- where a lane that rested has no line more, it rests on
 abbrev pub IsKnown : Plan → Tick → State → Option Rested → Type 0

@@ -1,10 +1,10 @@
-//! Lanes that rested in a tick whose letters only bring sources: one to which nothing is written rests on, and is not asked again.
+//! Lanes that rested in a tick whose letters tell no cancellation: one to which nothing is written rests on, and is not asked again.
 ghost use Rattle.std.specs.Prelude.{◌≡◌, ◌+◌, ◌<◌, ◌≤◌, ◌++◌, map, IfOk, IsPermutation};
 ghost use Rattle.std.specs.List.{All};
 ghost use Rattle.std.specs.List.Sorted.{IsNonDecreasingBy};
 ghost use Rattle.loop_script.specs.Bounds.{most_ticks};
 ghost use Rattle.tick_stepper.specs.declared.known.Known.{Known};
-ghost use Rattle.tick_stepper.specs.Known.{brings_source, are_sources, turned_known, rested_known, IsKnown, AreKnown};
+ghost use Rattle.tick_stepper.specs.Known.{tells_otherwise, cancel_nothing, has_sent, rested_of, turned_known, rested_known, IsKnown, AreKnown};
 ghost use Rattle.tick_stepper.specs.Rest.{HasPassed, Rests, IsSettled};
 ghost use Rattle.tick_stepper.specs.Share.{IsReadyOne};
 
@@ -28,25 +28,45 @@ pub(crate) struct Rested {
 #[derive(Drop)]
 pub(crate) struct Known {
     pub(crate) lane: LaneState,
-    /// None where it took its turn.
+    /// None where it took its turn, or sent a letter.
     pub(crate) rested: Option<Rested>,
 }
 
-/// Whether a letter brings a source, or a reply: nothing changes but where that is attached.
-fn brings_source(letter: &Letter) -> bool
-    ensures { result ≡ brings_source letter.now.body }
+/// Whether no letter tells a cancellation: then a lane that sent none stays as it was, unless a line is written to it.
+pub(crate) fn cancel_nothing(letters: &[Letter]) -> bool
+    ensures { result ≡ cancel_nothing letters.now }
+{
+    letters.iter().all(|letter| tells_otherwise(letter))
+}
+
+/// Whether a letter tells something else than a cancellation.
+fn tells_otherwise(letter: &Letter) -> bool
+    ensures { result ≡ tells_otherwise letter.now.body }
 {
     match letter.body {
-        Body::Attach(_, _) | Body::Complete(_) => true,
-        Body::Cancelled(_) | Body::Give(_, _) => false,
+        Body::Attach(_, _) | Body::Complete(_) | Body::Give(_, _) => true,
+        Body::Cancelled(_) => false,
     }
 }
 
-/// Whether letters bring sources and replies alone.
-pub(crate) fn bring_sources(letters: &[Letter]) -> bool
-    ensures { result ≡ are_sources letters.now }
+/// Whether the lane of a number sent one of these letters.
+fn has_sent(letters: &[Letter], number: u32) -> bool
+    ensures { result ≡ has_sent letters.now number }
 {
-    letters.iter().all(|letter| brings_source(letter))
+    letters.iter().any(|letter| number == letter.sender)
+}
+
+/// How a lane rested, if it sent none of these letters.
+fn rested_of(letters: &[Letter], one: &Resting) -> Option<Rested>
+    ensures { result ≡ rested_of letters.now one.now }
+{
+    if has_sent(letters, one.lane.number()) {
+        return None;
+    }
+    Some(Rested {
+        next: one.next,
+        lines: one.lane.trace().len(),
+    })
 }
 
 /// Lanes after the turns of a tick, those that rested brought to the next one.
@@ -55,10 +75,11 @@ pub(crate) fn awake(
     tick: u32,
     done: Vec<LaneState>,
     resting: Vec<Resting>,
+    letters: &[Letter],
 ) -> Result<Vec<Known>, OutOfMemory>
     requires tick { tick ≤ most_ticks }
     requires passed { All (HasPassed tick) resting.items }
-    ensures { IfOk result (λ all. all.items ≡ map turned_known done.items ++ map (rested_known tick) resting.items) }
+    ensures { IfOk result (λ all. all.items ≡ map turned_known done.items ++ map (rested_known tick letters.now) resting.items) }
 {
     let mut all = Vec::with_capacity(alloc, done.len())?;
     for lane in done {
@@ -66,10 +87,7 @@ pub(crate) fn awake(
         all.push_reserved(Known { lane, rested: None });
     }
     for one in resting {
-        let rested = Some(Rested {
-            next: one.next,
-            lines: one.lane.trace().len(),
-        });
+        let rested = rested_of(letters, &one);
         let lane = one.wake(tick)?;
         all.reserve(1)?;
         all.push_reserved(Known { lane, rested });

@@ -5,7 +5,7 @@ ghost use Rattle.loop_script.specs.Bounds.{most_lanes, most_ticks};
 ghost use Rattle.lane_turn.specs.Turn.{turned};
 ghost use Rattle.lane_turn.specs.Tick.{posted_at, lanes_at};
 ghost use Rattle.tick_stepper.specs.Crew.{refusal_of};
-ghost use Rattle.tick_stepper.specs.Known.{are_sources};
+ghost use Rattle.tick_stepper.specs.Known.{cancel_nothing};
 ghost use Rattle.tick_stepper.specs.Rest.{all_woken, HasPassed, Rests, AreAt, IsParted, AreTurned};
 ghost use Rattle.tick_stepper.specs.Share.{unspent_all, turned_one, out_of_one, IsFresh, IsTurned, IsRound};
 
@@ -14,7 +14,7 @@ use crate::deal::{deal, gather};
 use crate::fault::OutOfMemory;
 use crate::gate::{Gate, OpenGate};
 use crate::hand::bring;
-use crate::known::{apart, awake, bring_sources, by_lane, settle_known};
+use crate::known::{apart, awake, by_lane, cancel_nothing, settle_known};
 use crate::queue::turn_by_queue;
 use crate::rest::{Resting, by_number, part, settle, wake_all};
 use crate::share::{Share, in_order, take_turns, turn_share};
@@ -121,8 +121,9 @@ fn deliver_to_all(
     Ok(settle(alloc, script, tick, lanes)?)
 }
 
-/// Lanes after their turns, where the letters that these posted bring sources alone: a lane that rested and gets none rests on.
-fn deliver_sources(
+/// Lanes after their turns, where the letters that these posted tell no cancellation: a lane that rested and to which nothing is
+/// written rests on.
+fn deliver_quietly(
     alloc: Global,
     script: &Script,
     tick: u32,
@@ -134,11 +135,11 @@ fn deliver_sources(
     requires rest { AllByRecursion (Rests script.now (tick + 1)) resting.items }
     requires lanes { IsPermutation (unspent_all (map (turned script.now tick) (lanes_at script.now tick))) (done.items ++ all_woken (tick + 1) resting.items) }
     requires letters { letters.now ≡ posted_at script.now tick (lanes_at script.now tick) }
-    requires sources { are_sources letters.now ≡ true }
+    requires quiet { cancel_nothing letters.now ≡ true }
     requires few { length script.now.lanes ≤ most_lanes }
     ensures { IfOk result (λ ones. AreAt script.now (tick + 1) ones.items) }
 {
-    let all = awake(alloc, tick + 1, done, resting)?;
+    let all = awake(alloc, tick + 1, done, resting, letters)?;
     let (mut lanes, rested) = apart(alloc, by_lane(all)?)?;
     bring(script, tick, lanes.as_mut_slice(), letters)?;
     Ok(settle_known(alloc, script, tick, lanes, rested.as_slice())?)
@@ -190,7 +191,7 @@ pub(crate) fn begin_tick(
 }
 
 /// Lanes after a tick in which some took their turns and posted letters: these are delivered. Without a letter no lane that
-/// rests is looked at; where letters bring sources alone, those of it alone that get one.
+/// rests is looked at; where no letter tells a cancellation, only those to which a line is written are asked for their next turn.
 pub(crate) fn end_tick(
     alloc: Global,
     script: &Script,
@@ -206,8 +207,8 @@ pub(crate) fn end_tick(
 {
     if letters.is_empty() {
         put_back(alloc, script, tick, done, resting)
-    } else if bring_sources(letters) {
-        deliver_sources(alloc, script, tick, done, resting, letters)
+    } else if cancel_nothing(letters) {
+        deliver_quietly(alloc, script, tick, done, resting, letters)
     } else {
         deliver_to_all(alloc, script, tick, done, resting, letters)
     }

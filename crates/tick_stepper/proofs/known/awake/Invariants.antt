@@ -10,4 +10,4 @@ invariant-loop-lane l =
 abbrev pub invariant-loop-one : goal.invariant-loop-one
 invariant-loop-one l =
     goal.iterator-loop-one.can_next l.one-iterator × goal.iterator-loop-one.is_finite l.one-iterator
-    × (l.all.items ≡ map turned_known l.fn.done.items ++ map (rested_known l.tick) l.yielded)
+    × (l.all.items ≡ map turned_known l.fn.done.items ++ map (rested_known l.tick l.letters) l.yielded)

@@ -1,8 +1,7 @@
-use Rattle.std.proofs.Common.{◌≡◌, ◌∷◌, ◌++◌, Some, length, refl, sym, ap, ◌∙◌, subst, rules}
+use Rattle.std.proofs.Common.{◌≡◌, ◌∷◌, ◌++◌, length, refl, sym, ap, ◌∙◌, subst, rules}
 use Rattle.std.specs.Prelude.{slice_get}
 use Rattle.std.proofs.lemmas.Bool.{ltb-true}
 use Rattle.std.proofs.lemmas.Option.{slice_get_read}
-use Rattle.lane_turn.specs.Lane.{State}
 use Rattle.tick_stepper.specs.Known.{AreKnown}
 use Rattle.tick_stepper.proofs.RestsOn.{known_there}
 use Rattle.tick_stepper.proofs.known.settle_known.Goals as goal
