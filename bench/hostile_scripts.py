@@ -251,6 +251,17 @@ def quiet_lanes(n):
     return script(64 * n, procs, starts[:1] + [lane([])] + starts[1:], cancellables=1, loops=[*range(64)]), 62 * 250 * n
 
 
+def quiet_lanes_given(n):
+    """Two lanes that give each other a context in each tick, beside others whose sources ask for what no descriptor shows."""
+    asks = {"kind": ["cancel", 0]}
+    procs = [{"do": [["give", 2, other]], "keep": None} for other in (1, 0)]
+    starts = [lane(attaches(1, {"kind": ["idle"], "call": l}, l) + [["run", l]], 1 + l) for l in (0, 1)]
+    for l in range(2, 64):
+        procs.append({"do": [["attach", l + 1, 255, asks]] * 250})
+        starts.append(lane(attaches(n, {"kind": ["idle"], "call": l}, l + 1) + [["run", l]]))
+    return script(64 * n, procs, starts, version=2, cancellables=1, loops=[0, 1, *range(3, 65)]), 62 * 250 * n
+
+
 def read_numbers(n):
     return b'{"x":[0' + b",0" * (n * MIB // 2 - 8) + b"]}"
 
@@ -329,6 +340,7 @@ GROWTHS = {
     "lines": (lines, 64, 256),
     "contexts": (contexts, 128, 512),
     "letters beside lanes that rest": (quiet_lanes, 2, 8),
+    "contexts given beside lanes that rest": (quiet_lanes_given, 2, 8),
     "reading numbers": (read_numbers, 1, 4),
     "reading lists": (read_lists, 1, 4),
     "reading keys": (read_keys, 1, 4),
@@ -348,7 +360,6 @@ KNOWN = {
     "ticks beside sources of a descriptor that shows other bits": "each tick with a turn, the sources of descriptors",
     "ticks beside sources of a cancellable": "each tick with a turn, the sources of cancellables",
     "ticks beside sources that wait for others": "each tick with a turn, the idle sources of a context that has had a descriptor's",
-    "letters beside lanes that rest": "each tick with a letter, the sources of descriptors and cancellables of all lanes",
     "letters of more lanes": "each letter, the lanes: 64 at most",
     "checks of a tree that are begun one by one": "each tick in which a check of a task may see a cancellation, all parts of the task",
 }
