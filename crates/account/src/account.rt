@@ -1,4 +1,4 @@
-//! The account of a run.
+//! The account of a run, by its public calls: it is opened over a script, told for its next moment, and shows each lane as it is then.
 ghost use Rattle.std.specs.Prelude.{◌≡◌, ◌+◌, ◌<◌, ◌≤◌, ◌↔◌, false, length, slice_get, option_map, IsTrue, OnOk, OnErr, IfOk, IfSome, IsSome, None, Ok, Err};
 ghost use Rattle.std.specs.Option.{option_copied};
 ghost use Rattle.loop_script.specs.Bounds.{most_lanes};

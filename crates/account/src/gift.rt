@@ -1,4 +1,4 @@
-//! What a letter gives.
+//! Which letter gives a context, and to whom.
 ghost use Rattle.std.specs.Prelude.{◌≡◌};
 ghost use Rattle.account.specs.Gifts.{gift_of};
 

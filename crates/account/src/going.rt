@@ -1,4 +1,4 @@
-//! A tick of a run in progress.
+//! What comes next in a run of which an account is asked: a step, a turn's begin or end, a letter, a context that goes over, a tick's begin.
 ghost use Rattle.std.specs.Prelude.{◌≡◌, ◌+◌, ◌<◌, ◌≤◌, ◌++◌, Ok, None, Some, length, IfOk, IfSome, OnOk};
 ghost use Rattle.loop_script.specs.declared.plan.Plan.{Plan};
 ghost use Rattle.loop_script.specs.Bounds.{most_lanes, most_ticks};

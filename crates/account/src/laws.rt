@@ -1,4 +1,4 @@
-//! Laws of the definitions, as functions that do nothing.
+//! What an account says of an attached source, as a law of the definitions: a function that does nothing.
 ghost use Rattle.account.specs.Gained.{TellsAttach, TellsChild};
 
 /// Where an action attaches a source and names it by a slot of the lane, the source that the moment tells is the next one of its

@@ -1,4 +1,4 @@
-//! The letters of a tick, brought one by one.
+//! A letter of a tick brought to its lane, and what the moment tells of it. `going` says whose turn it is.
 ghost use Rattle.std.specs.Prelude.{◌≡◌, ◌+◌, ◌<◌, Some, length, drop, OnOk};
 ghost use Rattle.loop_script.specs.Bounds.{most_ticks};
 ghost use Rattle.tick_stepper.specs.Account.{moved};

@@ -1,4 +1,4 @@
-//! The moments of a run.
+//! The types of what an account answers: the moments of a run, each with its move and the lines that it wrote.
 use loop_script::Body;
 
 /// One move of a run, and where its lines stand.

@@ -1,4 +1,4 @@
-//! The turns of lanes, a step at a time.
+//! A lane's turn, begun and taken a step at a time, and what it sent.
 ghost use Rattle.std.specs.Prelude.{◌≡◌, ◌<◌, List, Some, None, is_some, length, drop, slice_index_or, OnOk, IfOk};
 ghost use Rattle.std.specs.List.{AllByRecursion};
 ghost use Rattle.loop_script.specs.Bounds.{most_ticks};

@@ -1,4 +1,4 @@
-//! The rounds that are measured.
+//! The rounds that are measured: each makes its rows and takes one of the calls for each.
 ghost use Rattle.std.specs.Prelude.{◌+◌, ◌≡◌, ◌≤◌, ◌<◌};
 ghost use Rattle.loop_script.specs.Bounds.{count_end};
 

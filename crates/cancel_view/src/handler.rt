@@ -1,4 +1,4 @@
-//! Handlers of cancellables.
+//! What a handler is: its id, its cancellable, what it does.
 
 /// A handler that is connected: a procedure that a cancellation calls.
 #[derive(Clone, Copy, Debug, PartialEq, Eq)]

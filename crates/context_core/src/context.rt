@@ -1,4 +1,4 @@
-//! A context, and its three phases.
+//! A context: who owns it and how often, its rows, how long it may wait, its three phases, and what it shows of each source.
 ghost use Rattle.std.specs.Prelude.{◌≡◌, false, ◌≤◌, ◌<◌, ◌^◌, ◌==◌, ◌&&◌, ◌||◌, IfOk, OnOk, IsSome, ℕ, ◌≢◌, [], filter, map, None};
 ghost use Rattle.std.specs.Borrow.{sem};
 ghost use Rattle.loop_script.specs.Bounds.{count_end, latest};

@@ -1,4 +1,4 @@
-//! What the phases tell one another.
+//! The types of what the phases tell one another: what is asked of descriptors, the most urgent level, the wait.
 
 /// What `prepare` tells.
 #[derive(Clone, Copy, Debug, PartialEq, Eq)]

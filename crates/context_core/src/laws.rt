@@ -1,4 +1,4 @@
-//! Laws of the definitions, as functions that do nothing.
+//! Laws of what is selected, blocked and standing in a context, as functions that do nothing.
 ghost use Rattle.context_core.specs.TwoLevels.{LevelLaws};
 ghost use Rattle.context_core.specs.FourLevels.{ParentLaws};
 ghost use Rattle.context_core.specs.Standing.{StandingsTell, StandingsNameWhatIsSo};

@@ -1,4 +1,4 @@
-//! What descriptors show.
+//! What descriptors show, as a poll told it, and at which level each of them stands.
 ghost use Rattle.std.specs.Prelude.{◌≡◌, ◌==◌, [], Some, IfSome, slice_get};
 ghost use Rattle.std.specs.List.{find};
 ghost use Rattle.context_core.specs.Phases.{shown};

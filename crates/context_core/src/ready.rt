@@ -1,4 +1,4 @@
-//! What makes a source ready.
+//! Whether one source is ready, by its kind and the time, and whether it is blocked or beyond the level that is dispatched.
 ghost use Rattle.std.specs.Prelude.{◌≡◌, ◌≤◌, ◌^◌, ◌==◌, Some, None, IfSome, IsTrue, int_lt, slice_get, pos, if◌then◌else◌};
 ghost use Rattle.loop_script.specs.Bounds.{latest};
 ghost use Rattle.source_rows.specs.Rows.{sooner};

@@ -1,4 +1,4 @@
-//! Actions that do something else in GLib.
+//! Where the action of a call does otherwise in GLib: goes over to the file of what the action is about.
 use crate::asked::{asked, looked_at};
 use crate::cancelled::{Connection, cancelled, connected};
 use crate::difference::Difference;

@@ -1,4 +1,4 @@
-//! Calls of sources as they begin and return, and what comes from other threads.
+//! What GLib does otherwise as a call begins (of a source, of a reply) or returns, and as a source comes from another thread.
 use crate::difference::Difference;
 use crate::kept::{Called, ReplyKept, ThreadKept, holds};
 use crate::notes::{Kept, Note, Scene};

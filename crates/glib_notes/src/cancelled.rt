@@ -1,4 +1,4 @@
-//! Cancellables that are cancelled, their handlers, and what those do.
+//! What GLib does otherwise where something is cancelled, and where handlers are connected or called.
 use crate::difference::Difference;
 use crate::kept::{hold, holds};
 use crate::notes::{Kept, Note, Scene, add_note};

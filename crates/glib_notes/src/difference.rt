@@ -1,4 +1,4 @@
-//! The ways of GLib that part from the rules.
+//! The ways in which GLib does otherwise: the name of each, and its words.
 
 /// A way in which GLib parts from the rules, which a script can show. Each is a row of docs/GLIB.md, under its name.
 #[derive(Clone, Copy, Debug, PartialEq, Eq)]

@@ -1,4 +1,4 @@
-//! What is kept beside what the lanes show, to know what GLib would do: the records of sources, contexts and threads alone. Other files fill and ask them.
+//! What is kept of each source, context and thread beside what the lanes show, to know what GLib would do. Other files fill and ask it.
 use lane_turn::Place;
 use loop_script::Script;
 use std::alloc::{AllocError, Global};

@@ -1,4 +1,4 @@
-//! The notes of a run: each move comes in here and goes to the file of its kind; iterations are followed here, as they begin, take ids and end.
+//! The notes of a run: each move comes in here and goes to the file of its kind. It keeps iterations as they begin, take ids, end, and which call is innermost.
 use crate::acted::acted;
 use crate::called::{arrived, begun_call, polled, returned, settle};
 use crate::cancelled::handlers_called;

@@ -1,4 +1,4 @@
-//! Contexts that are acquired, released and given, and what is invoked in them.
+//! What GLib does otherwise where a context is acquired, released, given or invoked in.
 use crate::difference::Difference;
 use crate::notes::{Kept, Note, Scene, add_note};
 use crate::shared::{default_of, is_free, is_owned};

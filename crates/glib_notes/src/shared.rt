@@ -1,4 +1,4 @@
-//! What threads do to each other within a tick.
+//! What threads do to each other within a tick, as GLib has it at once: cancels, sources that come, contexts that go over, who owns what.
 use crate::kept::{hold, holds, none_of};
 use account::Account;
 use lane_turn::LaneState;

@@ -1,4 +1,4 @@
-//! Sources that are made and changed, by an action or by a handler.
+//! What GLib does otherwise where a source is attached, named, made ready, given a child or another priority, by an action or a handler.
 use crate::difference::Difference;
 use crate::notes::{Kept, Note, Scene, add_note};
 use crate::shared::holder_of;

@@ -1,4 +1,4 @@
-//! What words ask for.
+//! What a reading of arguments answers: an order, a text of help, or what is wrong with them.
 ghost use Rattle.std.specs.Prelude.{IfOk};
 ghost use Rattle.inspect_arguments.specs.Answers.{AnswersTo};
 ghost use Rattle.clap.specs.Words.{kind_of};

@@ -14,7 +14,7 @@ pub struct CheckOrder<'a> {
     pub file: Option<&'a str>,
 }
 
-/// Reads the words behind the name of the program.
+/// Reads the words behind the name of `mainctx_check`.
 pub fn read_check_words<'a>(
     alloc: Global,
     words: &'a [String],

@@ -1,4 +1,4 @@
-//! The commands of `mainctx_inspect`, as `clap` has them.
+//! The commands of `mainctx_inspect`, as `clap` has them: the flags of each, and its help.
 use crate::flags::{columns, file, lane, most_lines, notes, numbers, source, step, tick, ticks};
 use crate::texts;
 use clap::Command;

@@ -1,4 +1,4 @@
-//! The flags, as `clap` has them.
+//! Each flag of the two programs, as `clap` has it: its name, its value, its help.
 use clap::{Arg, ArgAction, value_parser};
 use std::alloc::Global;
 

@@ -1,4 +1,4 @@
-//! The arguments of `mainctx_inspect`.
+//! The arguments of `mainctx_inspect`, once `clap` has read them: which order they give.
 ghost use Rattle.std.specs.Prelude.{◌≤◌, IfOk, IfSome};
 ghost use Rattle.inspect_arguments.specs.Bounds.{AsksWithin, IsWithin};
 
@@ -16,7 +16,7 @@ use std::alloc::{AllocError, Global};
 /// What is said of a command that there is not, where `clap` has not said it.
 const NO_COMMAND: &str = "error: unrecognized subcommand\n";
 
-/// Reads the words behind the name of the program.
+/// Reads the words behind the name of `mainctx_inspect`.
 pub fn read_inspect_words<'a>(
     alloc: Global,
     words: &'a [String],

@@ -1,4 +1,4 @@
-//! What is to be told of a run.
+//! The types of what `mainctx_inspect` is asked for: the command, the part of a run, how it is told.
 ghost use Rattle.std.specs.Prelude.{◌≡◌, IfSome, Some};
 ghost use Rattle.inspect_arguments.specs.Words.{word_of};
 ghost use Rattle.inspect_arguments.specs.declared.orders.Command.{Command};

@@ -1,4 +1,4 @@
-//! Values of flags that `clap` has no parser for.
+//! Values of flags that `clap` has no parser for: a source, ticks from one to another, numbers with commas between.
 ghost use Rattle.std.specs.Prelude.{◌≡◌, ◌⊎◌, ℕ, IfSome, Some, codes};
 ghost use Rattle.inspect_arguments.specs.Forms.{AreNumbers};
 ghost use Rattle.inspect_arguments.specs.declared.values.Source.{Source};

@@ -1,4 +1,4 @@
-//! Why there is no answer.
+//! Why `mainctx_inspect` gave no answer: the exit status, and the line on standard error.
 use account::AccountFault;
 use script_report::InputFault;
 use std::alloc::AllocError;

@@ -1,4 +1,4 @@
-//! The first lines of what is written.
+//! A writer that hands on the first whole lines, so many at most, and tells whether there were more.
 ghost use Rattle.std.specs.Prelude.{◌≤◌, length};
 
 use std::io;

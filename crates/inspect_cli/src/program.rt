@@ -1,4 +1,4 @@
-//! What the program does, its exit status, and which numbers of its arguments are refused since the run has no such thing.
+//! The program `mainctx_inspect` in order: reads arguments and script, opens the run, writes what is asked, and refuses numbers that the run has not.
 use crate::arguments::point_of;
 use crate::failure::{Failure, Numbered};
 use crate::first_lines::FirstLines;

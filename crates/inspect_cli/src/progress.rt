@@ -1,4 +1,4 @@
-//! How far a long run is, on a terminal.
+//! How far a long run is, on a terminal, once it took two seconds.
 use std::io::{IsTerminal, Write};
 use std::time::{Duration, Instant};
 

@@ -1,4 +1,4 @@
-//! What is told of a run, moment by moment.
+//! What one command tells of a run: its beginning, each moment, its end.
 use crate::arguments::{source_of, window_of};
 use account::Moment;
 use inspect_arguments::{Command, Order};

@@ -1,4 +1,4 @@
-//! Ticks and the columns of a picture.
+//! Which ticks a column of a picture stands for, and the column of a tick.
 use inspect_words::Window;
 
 /// Where the columns of a picture stand among the ticks of a run: each has as many ticks, but the last, which may have fewer.

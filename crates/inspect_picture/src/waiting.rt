@@ -1,4 +1,4 @@
-//! The sources of a thread that only wait, told in one line.
+//! The sources of a thread that only wait, named in one line below a picture's rows as far as there is room.
 use std::alloc::{AllocError, Global};
 
 /// How many characters stand before the names and between two, and behind them where others are only counted.

@@ -1,4 +1,4 @@
-//! The sources of a context, each with what an iteration does with it.
+//! One iteration in words: the sources of its context, each with what it does with it, those that are alike joined.
 use context_core::Standing;
 use inspect_words::{Words, push_source, push_standing};
 use run_names::RunNames;

@@ -1,4 +1,4 @@
-//! Counting what happens in a run, loop by loop and source by source. `summary` tells of it.
+//! Counting what happens in a run, loop by loop and source by source: iterations, actions, arrivals, dispatches. `summary` tells of it.
 use crate::record::Record;
 use account::{Account, Deed, Moment};
 use inspect_words::{Span, begun_by};
@@ -27,6 +27,13 @@ pub(crate) struct ContextCount {
 pub(crate) struct Counts {
     pub contexts: Vec<ContextCount>,
     pub loops: Vec<LoopCount>,
+}
+
+impl ContextCount {
+    /// What is counted of the source with an id, once it was attached.
+    fn record_mut(&mut self, id: u64) -> Option<&mut Record> {
+        self.sources.get_mut(id.saturating_sub(1) as usize)
+    }
 }
 
 impl Counts {
@@ -98,7 +105,7 @@ impl Counts {
         };
         let list = lane.standings(script, tick, context)?;
         for (row, standing) in rows.in_order().zip(list.as_slice().iter()) {
-            if let Some(record) = count.sources.get_mut(place_of(row.id)) {
+            if let Some(record) = count.record_mut(row.id) {
                 record.add_iteration(tick, *standing);
             }
         }
@@ -176,14 +183,9 @@ impl Counts {
             return;
         }
         if let Some(count) = self.contexts.get_mut(context as usize) {
-            if let Some(record) = count.sources.get_mut(place_of(source)) {
+            if let Some(record) = count.record_mut(source) {
                 record.dispatches.add(moment.tick);
             }
         }
     }
-}
-
-/// Where a source stands among those of its context.
-fn place_of(id: u64) -> usize {
-    id.saturating_sub(1) as usize
 }

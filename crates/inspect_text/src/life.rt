@@ -1,4 +1,4 @@
-//! The life of one source.
+//! The life of one source: when it came, what each iteration did with it and why, its dispatches, its end.
 use crate::alike::push_count;
 use account::{Deed, Moment};
 use context_core::Standing;

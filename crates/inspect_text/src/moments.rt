@@ -1,4 +1,4 @@
-//! The moments of a run as JSON, an object a line.
+//! The moments of a run as JSON, an object a line: what moved, by whom, what it wrote and left.
 use crate::name_lists::{push_name_lists, push_quoted_name};
 use account::{Account, Deed, Moment};
 use inspect_words::{Run, Window, Words, action_word, text_of};

@@ -1,4 +1,4 @@
-//! Names as JSON.
+//! The names of a script as lists of JSON, for the first object of a run told as JSON.
 use named::Kind;
 use run_names::{RunNames, Thing, push_quoted};
 use std::alloc::{AllocError, Global};

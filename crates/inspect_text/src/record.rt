@@ -1,4 +1,4 @@
-//! What is counted of a source.
+//! What is counted of one source, and its words in a summary.
 use context_core::Standing;
 use inspect_words::{Span, Words, push_many, push_priority, push_source, push_tick};
 use run_names::{RunNames, Thing};

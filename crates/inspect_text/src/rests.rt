@@ -1,4 +1,4 @@
-//! What iterations have left to dispatch.
+//! What the latest iteration of each context has left to dispatch, and what the one before it loses.
 use lane_turn::{Activity, LaneState};
 use loop_script::Script;
 use std::alloc::{AllocError, Global};

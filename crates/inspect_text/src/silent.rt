@@ -1,4 +1,4 @@
-//! What was silent in a run, and why.
+//! What was silent in a run, and why: sources never dispatched, tasks without an end, loops that never ran, replies not taken.
 use crate::counts::{ContextCount, Counts};
 use crate::record::Record;
 use account::Account;

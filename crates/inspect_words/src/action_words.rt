@@ -1,4 +1,4 @@
-//! Actions, and what did something, in words.
+//! Actions in words, and what did one: a call, a handler, a step.
 use account::{Deed, Moment};
 use loop_script::{Action, Body};
 use run_names::{RunNames, Thing};

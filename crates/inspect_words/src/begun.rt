@@ -1,4 +1,4 @@
-//! Iterations as they begin.
+//! How an iteration began, in words: who asked for it, of which context.
 use crate::action_words::push_list;
 use crate::window::SourceName;
 use account::{Account, Deed, Moment};

@@ -1,4 +1,4 @@
-//! When threads halted, and why.
+//! When threads halted, and why, in words.
 use crate::run::Words;
 use crate::time::push_tick;
 use lane_turn::{Event, LaneState, Line};

@@ -1,4 +1,4 @@
-//! The lines of a run with names.
+//! The lines that a moment wrote, told with the names of the script, and a priority as such a line has it.
 ghost use Rattle.std.specs.Prelude.{◌≡◌, true, false, IfOk, OnOk, is_some, slice_get, string_bytes};
 ghost use Rattle.tick_stepper.specs.Account.{lanes_in};
 ghost use Rattle.inspect_words.specs.Named.{Adds, AreWritten, TellsOf};

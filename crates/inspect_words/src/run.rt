@@ -1,4 +1,4 @@
-//! A run, with what its things are called.
+//! A run together with what its things are called: what most calls here take.
 use account::Account;
 use loop_script::Script;
 use run_names::RunNames;

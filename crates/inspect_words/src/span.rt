@@ -1,4 +1,4 @@
-//! How often something happened, and when.
+//! How often something happened, and in which ticks first and last, in words.
 use crate::time::push_ticks;
 use loop_script::Script;
 use std::alloc::AllocError;

@@ -1,4 +1,4 @@
-//! Ticks and times in words.
+//! Ticks and times in words: a tick, a span of ticks, the time until one.
 use loop_script::Script;
 use named_lines::push_milliseconds;
 use std::alloc::AllocError;

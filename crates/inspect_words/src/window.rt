@@ -1,4 +1,4 @@
-//! What of a run is told.
+//! Which part of a run is told: a thread or all, ticks from one to another.
 
 /// The threads and ticks of which is told.
 #[derive(Clone, Copy, Debug, PartialEq, Eq)]

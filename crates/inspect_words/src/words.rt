@@ -1,4 +1,4 @@
-//! Sources, and what an iteration does with them, in words.
+//! Sources in words: kind, descriptor, conditions, priority, and what an iteration does with one.
 use crate::named_line::push_priority;
 use crate::run::Words;
 use crate::time::push_time_to_come;

@@ -1,4 +1,4 @@
-//! The lines that moments write.
+//! The lines that a moment wrote, in the numbers and bytes of the text of `mainctx`.
 use account::Moment;
 use lane_turn::LaneState;
 use mainctx::{OutOfMemory, add_text};

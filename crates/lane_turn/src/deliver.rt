@@ -1,4 +1,4 @@
-//! What a lane does with the letters of a tick.
+//! What a lane does with the letters of a tick: sources come, cancellables are cancelled.
 ghost use Rattle.std.specs.Prelude.{◌≡◌, ◌+◌, ◌≤◌, ◌^◌, [], length, IsOk, OnOk};
 ghost use Rattle.lane_turn.specs.Deliver.{reply_spec, arrived, arrived_source, received, received_all};
 ghost use Rattle.lane_turn.specs.Sound.{IsWithin, IsReady};

@@ -1,4 +1,4 @@
-//! What is cancelled, connected and disconnected.
+//! Actions on cancellables: cancel, connect, disconnect; and the calls of handlers, where an action or a letter cancels.
 ghost use Rattle.std.specs.Prelude.{◌≡◌, ◌+◌, ◌^◌, ◌≤◌, true, IsTrue, IsOk, OnOk};
 ghost use Rattle.loop_script.specs.References.{sizes, action_refers};
 ghost use Rattle.lane_turn.specs.Acted.{plain_acted, handled, all_handled, cancel, connect, disconnect};

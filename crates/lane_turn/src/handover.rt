@@ -1,4 +1,4 @@
-//! Contexts that are given to other lanes, and handed over at the end of the tick.
+//! The action `give`, and a context with its sources as it leaves one lane and comes into another at the end of a tick.
 ghost use Rattle.std.specs.Prelude.{◌≡◌, [], true, None, OnOk, is_none};
 ghost use Rattle.loop_script.specs.References.{sizes};
 ghost use Rattle.lane_turn.specs.Lane.{context_at, is_given};

@@ -1,4 +1,4 @@
-//! What is in progress, one after another from the outermost inwards.
+//! One thing that is in progress, as a look at a lane shows it, and all of them from the outermost inwards.
 ghost use Rattle.std.specs.Prelude.{◌≡◌, length, reverse};
 ghost use Rattle.std.specs.Iterator.{at_most};
 ghost use Rattle.std.specs.Map.Iter.{TakesFirst};

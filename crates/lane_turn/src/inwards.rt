@@ -1,4 +1,4 @@
-//! The layers that are in progress, from the outermost inwards.
+//! An iterator over the layers that are in progress, from the outermost inwards.
 ghost use Rattle.std.specs.Prelude.{◌≡◌, length, reverse};
 ghost use Rattle.std.specs.Iterator.{at_most};
 ghost use Rattle.std.specs.Map.Iter.{TakesFirst};

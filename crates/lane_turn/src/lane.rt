@@ -1,4 +1,4 @@
-//! What a lane keeps, and the changes of its parts.
+//! What a lane keeps, and the plain changes of its parts: a line written, a halt, a slot set, a loop that runs, a source looked up.
 ghost use Rattle.std.specs.Prelude.{◌≡◌, ◌^◌, ◌≤◌, IfOk, OnOk, IfSome, OnSome, None, true, false, is_some, is_none, slice_get};
 ghost use Rattle.std.specs.Borrow.{sem};
 ghost use Rattle.std.specs.Option.{option_copied, option_copied_mut};

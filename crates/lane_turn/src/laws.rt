@@ -1,4 +1,4 @@
-//! Laws of the definitions, as functions that do nothing.
+//! Laws of turns, deliveries and whole runs of lanes: letters, replies, traces, depths, contexts that move. As functions that do nothing.
 ghost use Rattle.lane_turn.specs.Turn.{TurnsEnd};
 ghost use Rattle.lane_turn.specs.Iterations.{IterationsGoOn};
 ghost use Rattle.lane_turn.specs.Levels.{LevelsHold};

@@ -1,4 +1,4 @@
-//! The things that a lane can be in the middle of: a call, an iteration, a run of a loop.
+//! One thing that a lane can be in the middle of: a call, an iteration, a run of a loop. What each blocks, owns, and does next.
 ghost use Rattle.std.specs.Prelude.{◌≡◌, [], ◌∷◌, slice_get};
 ghost use Rattle.lane_turn.specs.Frames.{top_of};
 ghost use Rattle.lane_turn.specs.Nest.{frame_of, ids_left, is_live, is_dispatch_layer, is_call_layer, is_blocking_layer, blocked_by_layer, layer_owns, taken_layer};

@@ -1,4 +1,4 @@
-//! What a lane sends in its turn.
+//! What a lane sends in its turn: which action sends something, and its letters posted.
 ghost use Rattle.std.specs.Prelude.{◌≡◌, ◌+◌, ◌<◌, ◌≤◌, ◌^◌, ◌∷◌, ◌++◌, [], true, length, OnOk};
 ghost use Rattle.loop_script.specs.References.{sizes, action_refers};
 ghost use Rattle.lane_turn.specs.Acted.{acted, cancel_sends, sends};

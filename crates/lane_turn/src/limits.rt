@@ -1,4 +1,4 @@
-//! The limits of a lane.
+//! The limits of a lane, as numbers: the most steps of a turn, the most calls in progress, how many slots it has.
 
 /// The most actions and dispatches of a turn.
 pub(crate) const MOST_STEPS: u32 = 10_000;

@@ -1,4 +1,4 @@
-//! A lane between its turns.
+//! A lane between its turns, by its public calls: turn, deliver, hand over, take over, the next tick. Each goes on to a call of `Lane`.
 ghost use Rattle.std.specs.Prelude.{◌≡◌, ℕ, ◌+◌, ◌*◌, ◌^◌, ◌<◌, ◌≤◌, ◌++◌, ◌↔◌, ◌≢◌, [], false, length, IsTrue, IsOk, OnOk, IfOk, IfSome, OnErr, Some, None, Ok, Err, is_some, option_map, reverse};
 ghost use Rattle.loop_script.specs.Bounds.{tick_end};
 ghost use Rattle.lane_turn.specs.Step.{step};

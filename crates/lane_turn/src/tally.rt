@@ -1,4 +1,4 @@
-//! How much is in progress.
+//! How many calls, iterations and loops are in progress: a sum kept with the layers.
 ghost use Rattle.std.specs.Prelude.{◌≡◌, ◌≤◌, ◌+◌, ◌-◌, IfOk};
 ghost use Rattle.lane_turn.specs.Tally.{more, IsSmall, Counts};
 

@@ -1,4 +1,4 @@
-//! A turn that is begun: the polls of tasks.
+//! How a turn begins: the polls of tasks, the lines of those that end late, the replies that they send.
 ghost use Rattle.std.specs.Prelude.{◌≡◌, ◌≢◌, ◌+◌, ◌^◌, ◌<◌, ◌≤◌, ◌++◌, [], map, length, IsOk, OnOk, IfOk};
 ghost use Rattle.lane_turn.specs.Turn.{begun_with};
 ghost use Rattle.lane_turn.specs.Step.{late_line};

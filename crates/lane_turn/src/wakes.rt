@@ -1,4 +1,4 @@
-//! When a lane has something to do next.
+//! When a lane has something to do next: the next tick of a source, by kind, of a context, of a step.
 ghost use Rattle.std.specs.Prelude.{◌≡◌, ℕ, ◌<◌, ◌≤◌, ◌^◌, [], Some, true, false, length, IfSome};
 ghost use Rattle.task_steps.specs.Run.{IsAfter};
 ghost use Rattle.loop_script.specs.Parts.{level_of, time_of};

@@ -1,4 +1,4 @@
-//! The actions of a script.
+//! The types of the actions of a script.
 
 use crate::source::SourceSpec;
 use crate::task::TaskSpec;

@@ -1,4 +1,4 @@
-//! Reading the actions of a script.
+//! Reading each action of a script from its value: its word, its parts.
 ghost use Rattle.std.specs.Prelude.{◌≡◌, IfOk, OnOk};
 ghost use Rattle.loop_script.specs.Read.{after};
 ghost use Rattle.loop_script.specs.Action.{attach, child, destroy, set_ready, set_priority, iterate, pending, run, quit, cancel, connect, disconnect, task, push, pop, show_default, acquire, release, invoke, give, log, action};

@@ -1,4 +1,4 @@
-//! What a call does.
+//! The type of which list of actions a call takes.
 
 /// The list of actions that a call takes.
 #[derive(Clone, Copy, Debug, PartialEq, Eq)]

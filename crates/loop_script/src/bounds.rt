@@ -1,4 +1,4 @@
-//! The bounds of a script.
+//! The bounds of numbers and lengths in a script, as numbers.
 
 /// The most lanes.
 pub(crate) const MOST_LANES: usize = 64;

@@ -1,4 +1,4 @@
-//! The sources of a script, and their reading.
+//! The type of a source in a script, its kinds, and their reading.
 ghost use Rattle.std.specs.Prelude.{◌≡◌};
 ghost use Rattle.loop_script.specs.Read.{after};
 ghost use Rattle.loop_script.specs.Source.{kind, idle, timeout, ready, fd, cancel, source_spec, child_spec, usual_priority, priority_or};

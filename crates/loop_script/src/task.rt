@@ -1,4 +1,4 @@
-//! The tasks of a script.
+//! The type of a task in a script.
 
 use crate::tree::TaskTree;
 

@@ -1,4 +1,4 @@
-//! Reading the tasks of a script.
+//! Reading the tasks of a script from their values.
 ghost use Rattle.std.specs.Prelude.{◌≡◌, IfOk, OnOk};
 ghost use Rattle.loop_script.specs.Read.{after};
 ghost use Rattle.loop_script.specs.TaskForm.{task_spec, shallow_tree, priority_or_zero};

@@ -1,4 +1,4 @@
-//! The tree of a task, whose parts are shared by all that run it.
+//! The tree of a task: its type, whose parts are shared by all that run it, and the calls that make each kind.
 ghost use Rattle.std.specs.Prelude.{◌≡◌, IfOk};
 
 use std::alloc::{AllocError, Global};

@@ -1,4 +1,4 @@
-//! Reading the trees of tasks.
+//! Reading the trees of tasks from their values.
 ghost use Rattle.std.specs.Prelude.{◌≡◌, IfOk, OnOk, Some};
 ghost use Rattle.serde_json.specs.View.{view};
 ghost use Rattle.loop_script.specs.Read.{after};

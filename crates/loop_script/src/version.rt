@@ -1,4 +1,4 @@
-//! The word that version 2 alone has.
+//! Whether a script gives contexts where its version allows it: the word that version 2 alone has.
 ghost use Rattle.std.specs.Prelude.{◌≡◌, map, Some};
 ghost use Rattle.std.specs.List.{list_any};
 ghost use Rattle.serde_json.specs.Find.{get};

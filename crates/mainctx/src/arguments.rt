@@ -1,4 +1,4 @@
-//! What the arguments of the program ask for.
+//! What the arguments of the program ask for: how many workers, and how lanes are shared out.
 ghost use Rattle.std.specs.Prelude.{◌≡◌, IfSome, Some};
 ghost use Rattle.tick_stepper.specs.declared.crew.Sharing.{Sharing};
 ghost use Rattle.mainctx.specs.declared.arguments.Asked.{Asked};

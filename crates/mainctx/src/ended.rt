@@ -1,4 +1,4 @@
-//! A run that has ended, and its text.
+//! A run that has ended, and its text as it goes to a writer.
 ghost use Rattle.std.specs.Prelude.{◌≡◌, ◌<◌, None, [], ◌++◌, IfOk, IfErr, OnOk, OnErr};
 ghost use Rattle.tick_stepper.specs.Crew.{refusal_of};
 ghost use Rattle.mainctx.specs.Run.{IsSetup, IsSetupFaultOf};

@@ -1,4 +1,4 @@
-//! Texts that are written from their ends: each part before those that follow it.
+//! Texts that are written from their ends, each part before those that follow it: numbers, events, whole lines, headings.
 ghost use Rattle.std.specs.Prelude.{◌≡◌, ◌+◌, ◌≤◌, ◌++◌, [], codes, drop, length};
 ghost use Rattle.std.specs.Fmt.{decimal, signed_decimal};
 ghost use Rattle.mainctx.specs.Bounds.{longest_line};

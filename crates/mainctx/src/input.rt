@@ -1,4 +1,4 @@
-//! Reading the whole input, up to a limit.
+//! Reading the whole input of `mainctx`, up to a limit.
 ghost use Rattle.std.specs.Prelude.{◌≡◌, ◌≤◌, IfOk, vec_len};
 ghost use Rattle.mainctx.specs.Serving.{IsRestOf, input_limit};
 

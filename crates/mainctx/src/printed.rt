@@ -1,4 +1,4 @@
-//! The line that was printed last.
+//! The line or heading that was printed last, as bytes.
 ghost use Rattle.std.specs.Prelude.{◌≡◌, ◌≤◌, [], length};
 ghost use Rattle.mainctx.specs.Bounds.{longest_line};
 ghost use Rattle.mainctx.specs.Text.{lane_text, line_text};

@@ -1,4 +1,4 @@
-//! From the bytes of a script to the bytes of its text.
+//! The public calls: from the bytes of a script to the bytes of its text, by workers or on one thread.
 ghost use Rattle.std.specs.Prelude.{◌≡◌, ◌≢◌, ◌<◌, ◌↔◌, OnOk, OnErr, IfOk, IfErr, Err};
 ghost use Rattle.mainctx.specs.Run.{IsCrewFor, IsLoneFaultOf, IsRunFaultOf, IsScriptOf, Writes, WritesPrefix, HoldsText};
 ghost use Rattle.mainctx.specs.Writing.{GrowAlike};

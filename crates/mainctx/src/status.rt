@@ -1,4 +1,4 @@
-//! What the program does with its arguments, input and output.
+//! What the program does with its arguments, input and output: its exit statuses, and the line on standard error for each refusal.
 ghost use Rattle.std.specs.Prelude.{◌≡◌, ◌<◌, ◌≤◌, ◌⊎◌, ◌↔◌, ℕ, OnOk, IfErr, IfSome, Some, Err};
 ghost use Rattle.mainctx.specs.declared.arguments.Asked.{Asked};
 ghost use Rattle.mainctx.specs.Arguments.{AskFor};

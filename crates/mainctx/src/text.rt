@@ -1,4 +1,4 @@
-//! A lane's part of the text.
+//! A lane's part of the text: its heading, and each line of its trace.
 ghost use Rattle.std.specs.Prelude.{◌≡◌, ◌++◌, OnOk, OnErr};
 ghost use Rattle.mainctx.specs.Text.{lane_text};
 ghost use Rattle.mainctx.specs.Writing.{AddsPrefix};

@@ -1,4 +1,4 @@
-//! The words of a trace.
+//! The words of actions and of ways to be invoked in the text.
 ghost use Rattle.std.specs.Prelude.{◌≡◌, ◌≤◌, length};
 ghost use Rattle.mainctx.specs.Text.{invoked_text, word_text};
 

@@ -1,4 +1,4 @@
-//! The numbers that a call answers.
+//! The numbers that a call from C answers, one for each class of fault.
 ghost use Rattle.std.specs.Prelude.{◌≡◌};
 ghost use Rattle.mainctx_c.specs.Room.{class_of};
 

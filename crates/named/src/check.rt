@@ -1,4 +1,4 @@
-//! The faults of a script with names.
+//! The faults of a script with names, gathered place by place through all of it.
 ghost use Rattle.std.specs.Prelude.{◌≡◌, ◌++◌, ◌∷◌, [], map, IfOk, OnOk};
 ghost use Rattle.json.specs.Value.{value_view};
 ghost use Rattle.named.specs.Faults.{found_at, faults_in, within, own};

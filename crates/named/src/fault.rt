@@ -1,4 +1,4 @@
-//! What is wrong with a script with names.
+//! The types of what is wrong with a script with names: the cause, and the place.
 use crate::piece::Step;
 use crate::sort::{Kind, Sort};
 use crate::word::Word;

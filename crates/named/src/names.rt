@@ -1,4 +1,4 @@
-//! The names of a script, in the order that gives them their numbers.
+//! The names of a script, in the order that gives them their numbers: declared ones, those that are said, and contexts.
 ghost use Rattle.std.specs.Prelude.{◌≡◌, ◌==◌, [], ℕ, List, length, IfOk, OnOk};
 ghost use Rattle.std.specs.List.{list_any};
 ghost use Rattle.std.specs.Str.{bytes_eq};

@@ -1,4 +1,4 @@
-//! Where a value of the script of numbers comes from.
+//! Which place of the script with names a value of the script of numbers comes from, step by step down both.
 use crate::field::{each, fields, pair};
 use crate::piece::{Step, chosen};
 use crate::sort::{Object, Sort};

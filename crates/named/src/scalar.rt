@@ -1,4 +1,4 @@
-//! What a value without parts is in a script of numbers.
+//! What a value without parts is in a script of numbers: a name, a number, a time, a priority, a truth.
 ghost use Rattle.std.specs.Prelude.{◌≡◌, [], ◌∷◌, Some, is_some, option_map, option_and_then, codes, if◌then◌else◌};
 ghost use Rattle.json.specs.Find.{as_str, as_number, as_bool, as_array, is_null};
 ghost use Rattle.json.specs.Token.{boolean, null};

@@ -1,4 +1,4 @@
-//! A script with names, translated.
+//! A script with names translated, from a value or from bytes, by public calls.
 ghost use Rattle.std.specs.Prelude.{◌≡◌, option_map, IfOk};
 ghost use Rattle.json.specs.Value.{value_view};
 ghost use Rattle.named.specs.Answer.{StandsForAny, Translates, is_named, is_meant_named};

@@ -1,4 +1,4 @@
-//! Laws of the definitions, as functions that do nothing.
+//! That lines with names are told apart, as a law of the definitions: a function that does nothing.
 ghost use Rattle.named_lines.specs.Alike.{LinesAreApart, TextsAreApart};
 
 /// What is told of a run with the names of its script is told apart: two lines of a thread that are told alike are the same

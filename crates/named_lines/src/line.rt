@@ -1,4 +1,4 @@
-//! The lines of a run with names.
+//! A line of a run with names: the text of each event.
 ghost use Rattle.std.specs.Prelude.{◌≡◌, ◌++◌, ◌≤◌, codes, OnOk, string_bytes};
 ghost use Rattle.loop_script.specs.Bounds.{longest_tick};
 ghost use Rattle.named.specs.declared.sort.Kind.TheVariants as kinds;

@@ -1,4 +1,4 @@
-//! Times, priorities, and what else of a line has no name.
+//! Parts of a line with names: a time, a priority, a depth, an outcome, an answer.
 ghost use Rattle.std.specs.Prelude.{◌≡◌, ◌++◌, OnOk, string_bytes};
 ghost use Rattle.named_lines.specs.Lines as lines;
 

@@ -1,4 +1,4 @@
-//! Lines of a run, with what they do not say themselves.
+//! The type of a line with what it does not say itself: the action, the origin.
 use lane_turn::Line;
 
 /// A line of a run, and what it does not say itself.

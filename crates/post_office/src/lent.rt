@@ -1,4 +1,4 @@
-//! A pass that is lent to a turn.
+//! A pass that is lent to a turn, so that it posts into an office and comes back.
 ghost use Rattle.std.specs.Prelude.{◌≡◌};
 
 use crate::letter::Letter;

@@ -1,4 +1,4 @@
-//! What a lane sends.
+//! The types of what a lane sends.
 use loop_script::SourceSpec;
 use task_steps::Reply;
 

@@ -1,4 +1,4 @@
-//! The queue of an office, into which workers post.
+//! The queue of an office, into which the workers post side by side.
 ghost use Rattle.std.specs.Prelude.{◌≡◌, MatchResult};
 ghost use Rattle.post_office.specs.Passes.{posts};
 

@@ -1,4 +1,4 @@
-//! What has a number.
+//! A value with the number of what it belongs to.
 ghost use Rattle.std.specs.Prelude.{◌≡◌, ℕ};
 
 /// What has a number of its own, as a lane has in its script.

@@ -1,4 +1,4 @@
-//! The letters of a tick in one order.
+//! The letters of a tick in one order, by sender and number.
 ghost use Rattle.std.specs.Prelude.{IfOk, IsPermutation};
 ghost use Rattle.post_office.specs.Order.{InOrder};
 

@@ -1,4 +1,4 @@
-//! Where a turn sends its letters.
+//! Where a turn sends its letters: what each way of posting has in common.
 ghost use Rattle.std.specs.Prelude.{◌≡◌, ℕ, List, [], ◌∷◌, ◌++◌, MatchResult};
 ghost use Rattle.post_office.specs.declared.letter.Letter.{Letter};
 

@@ -1,4 +1,4 @@
-//! A post of one's own.
+//! A post of one's own: the letters of one worker, in a list.
 ghost use Rattle.std.specs.Prelude.{◌≡◌, [], ◌∷◌, ◌++◌, OnOk, OnErr};
 
 use crate::letter::Letter;

@@ -1,4 +1,4 @@
-//! What sources and handlers are called.
+//! The types of what sources and handlers are called.
 
 /// Where a source or a handler stands: the context or the thread that has it, and its id there.
 #[derive(Clone, Copy, Debug, PartialEq, Eq, PartialOrd, Ord)]

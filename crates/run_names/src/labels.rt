@@ -1,4 +1,4 @@
-//! The labels of the sources or the handlers of a run.
+//! Which name each source, or each handler, of a run has: kept by ids as they come.
 ghost use Rattle.std.specs.Prelude.{◌≡◌, [], OnOk, OnErr};
 ghost use Rattle.run_names.specs.Labelled.{label_of, AreApart};
 

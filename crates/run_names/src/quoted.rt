@@ -1,4 +1,4 @@
-//! Names as texts have them.
+//! A name as a text has it, in quotes or plain, by what its letters are.
 ghost use Rattle.std.specs.Prelude.{◌≡◌, ◌++◌, OnOk, string_bytes};
 ghost use Rattle.std.specs.List.{list_all};
 ghost use Rattle.json.specs.Print.{quoted};

@@ -1,4 +1,4 @@
-//! The names that a script gives.
+//! The names that a script gives to its things, kind by kind, each by its number.
 ghost use Rattle.std.specs.Prelude.{◌≡◌, Some, IfOk, IfSome, option_map, slice_get, string_bytes};
 ghost use Rattle.json.specs.Value.{value_view};
 ghost use Rattle.named.specs.Names.{names_in, number_of, of_kind};

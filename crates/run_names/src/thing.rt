@@ -1,4 +1,4 @@
-//! What has a name.
+//! The kinds of things that have a name.
 
 /// A thing of a run, by its numbers.
 #[derive(Clone, Copy, Debug, PartialEq, Eq)]

@@ -1,4 +1,4 @@
-//! What an action names that the script has not.
+//! What an action, a source or a task names that the script has not.
 ghost use Rattle.std.specs.Prelude.{◌≡◌, ◌++◌, ◌∷◌, [], map, OnOk};
 ghost use Rattle.script_check.specs.PlanFaults.{fault, missing, option_missing, kind_missing, source_missing, task_missing, action_missing};
 ghost use Rattle.script_check.specs.Seen.{found_of};

@@ -1,4 +1,4 @@
-//! The faults of a script: those of shape and of limits.
+//! All faults of a script, gathered: first those of shape and limits, and where there are none those of references and rules.
 ghost use Rattle.std.specs.Prelude.{◌≡◌, ◌++◌, map, IfOk, OnOk};
 ghost use Rattle.serde_json.specs.View.{view};
 ghost use Rattle.script_check.specs.Faults.{faults_in, found_at, form_faults};

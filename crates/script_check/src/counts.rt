@@ -1,4 +1,4 @@
-//! How many of each a script has.
+//! How many contexts, loops, descriptors and so on a script has.
 ghost use Rattle.std.specs.Prelude.{◌≡◌, ◌≤◌, length, sum_by};
 ghost use Rattle.loop_script.specs.Tables.{index};
 ghost use Rattle.script_check.specs.PlanFaults.{counts_of, count};

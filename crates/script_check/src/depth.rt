@@ -1,4 +1,4 @@
-//! How deep a value goes.
+//! Whether a value nests deeper than a limit.
 ghost use Rattle.std.specs.Prelude.{◌≡◌, nat_lt};
 ghost use Rattle.serde_json.specs.View.{view, items_view, members_view};
 ghost use Rattle.serde_json.specs.Data.{depth, items_depth, members_depth};

@@ -1,4 +1,4 @@
-//! A fault of a script.
+//! The types of a fault of a script: its cause, its place, its class.
 ghost use Rattle.std.specs.Prelude.{◌≡◌};
 ghost use Rattle.script_check.specs.Classes.{class_of};
 

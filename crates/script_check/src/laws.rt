@@ -1,4 +1,4 @@
-//! What the faults of a script are, by the tables, as a function that does nothing.
+//! Laws of the faults of a script: what they are by the tables, and where their places lead. As functions that do nothing.
 ghost use Rattle.script_check.specs.Laws.{FormFaults};
 ghost use Rattle.script_check.specs.Agreement.{ClassesAgree, FirstClassIs};
 ghost use Rattle.script_check.specs.PlanPlaces.{PlacesLead};

@@ -1,4 +1,4 @@
-//! The first class of some faults.
+//! The class that a reading would refuse with, of all faults: the first one.
 ghost use Rattle.std.specs.Prelude.{◌≡◌, map};
 ghost use Rattle.std.specs.List.{list_any};
 ghost use Rattle.script_check.specs.Laws.{has};

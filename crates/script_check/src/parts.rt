@@ -1,4 +1,4 @@
-//! The parts of a value, each with what should stand there.
+//! The parts of a value of a script, each with what should stand there.
 ghost use Rattle.std.specs.Prelude.{◌≡◌, ◌≤◌, ◌++◌, map, IfOk, OnOk};
 ghost use Rattle.serde_json.specs.View.{view, items_view};
 ghost use Rattle.serde_json.specs.Find.{as_array};

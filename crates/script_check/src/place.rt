@@ -1,4 +1,4 @@
-//! Places in a document.
+//! The place of a value in a document, as steps down from its root.
 use crate::tables::Name;
 use std::alloc::{AllocError, Global};
 use std::marker::Model;

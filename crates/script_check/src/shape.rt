@@ -1,4 +1,4 @@
-//! What should stand at a place of a script, without its meaning.
+//! The types of what should stand at a place of a script, without its meaning.
 use crate::wanted::{Choice, Object, Wanted};
 
 /// A form, with its ranges.

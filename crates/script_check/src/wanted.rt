@@ -1,4 +1,4 @@
-//! What should stand at a place of a script, by its meaning.
+//! The types of what should stand at a place of a script, by its meaning, and the shape of each.
 ghost use Rattle.std.specs.Prelude.{◌≡◌};
 ghost use Rattle.script_check.specs.Views.{form_of, shape_of};
 

@@ -1,4 +1,4 @@
-//! What the program does, and its exit status.
+//! The program `mainctx_check` in order: arguments, file, answer; and its exit status.
 use inspect_arguments::{Asked, CheckOrder, read_check_words};
 use script_report::{Form, InputFault, Language, check_file, read_input};
 use std::alloc::AllocError;

@@ -1,4 +1,4 @@
-//! Lines and columns.
+//! The line and column of a byte of a script.
 
 /// A place in a document: a byte from 0, its line and its column in characters, both from 1.
 #[derive(Clone, Copy, Debug, PartialEq, Eq)]

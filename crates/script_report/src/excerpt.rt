@@ -1,4 +1,4 @@
-//! The line of a fault, or what of a long line is beside it.
+//! The line of the script in which a fault is, as it is shown below the fault: of a long one what is beside it.
 use crate::cursor::{Cursor, begins_character};
 use std::alloc::{AllocError, Global};
 use std::str::from_utf8;

@@ -1,4 +1,4 @@
-//! Scripts of either form: of numbers, or with names.
+//! Which form a script has, of numbers or with names, and its reading and checking by that.
 ghost use Rattle.std.specs.Prelude.{IfOk};
 ghost use Rattle.script_report.specs.Verdict.{Judges, IsOfForm, JudgesEither};
 

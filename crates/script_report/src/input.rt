@@ -1,4 +1,4 @@
-//! Reading the whole input, up to a limit.
+//! Reading the whole input of the checks and tellers, up to a limit.
 use std::alloc::{AllocError, Global};
 use std::io::Read;
 

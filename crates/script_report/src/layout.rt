@@ -1,4 +1,4 @@
-//! Where the values of a document lie in its bytes.
+//! Where the values of a JSON document lie in its bytes.
 use json::{Reader, Scratch, Token};
 use std::alloc::{AllocError, Global};
 use std::collections::BTreeMap;

@@ -1,4 +1,4 @@
-//! Where the place of a fault leads.
+//! Where the place of a fault leads in the value of the script, as far as it does.
 ghost use Rattle.std.specs.Prelude.{◌≡◌, Some, map, option_map};
 ghost use Rattle.serde_json.specs.Data.{Data};
 ghost use Rattle.serde_json.specs.View.{view};

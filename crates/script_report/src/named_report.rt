@@ -3,10 +3,10 @@ use crate::cursor::Cursor;
 use crate::layout::{Layout, layout_of};
 use crate::named_entries::{Entry, entries_of};
 use crate::report::{Form, MOST_TOLD, Said, TextPlace, push_told};
-use crate::told::push_escaped;
 use json::Value;
 use named::Step;
 use std::alloc::{AllocError, Global};
+use toml_names::push_escaped;
 
 /// Adds all faults of a script that is meant as one with names.
 pub(crate) fn push_named(

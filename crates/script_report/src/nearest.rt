@@ -1,4 +1,4 @@
-//! The nearest word.
+//! The nearest word by letters, for one that is misspelled.
 use std::alloc::{AllocError, Global};
 use strsim::osa_distance;
 

@@ -1,4 +1,4 @@
-//! What a right script has.
+//! What a right script has, in words: how many lanes, sources, tasks.
 use loop_script::{Action, LaneSpec, Script};
 use std::alloc::{AllocError, Global};
 

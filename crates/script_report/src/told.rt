@@ -1,4 +1,4 @@
-//! Where a fault is told: a pointer to a value of the document, and the bytes of that value.
+//! Where a fault is told: the pointer to its value as a text, and the bytes of that value.
 ghost use Rattle.std.specs.Prelude.{◌≡◌, ◌≤◌, Some, IsTrue, IfOk, IfSome, string_bytes};
 ghost use Rattle.std.specs.List.{slice_range};
 ghost use Rattle.serde_json.specs.Data.{depth};
@@ -12,6 +12,7 @@ use crate::words::other_key;
 use script_check::{Cause, Fault, Step};
 use serde_json::Value;
 use std::alloc::{AllocError, Global};
+use toml_names::push_escaped;
 
 /// The place of a fault.
 #[derive(Drop)]
@@ -95,15 +96,4 @@ fn pointer_text(alloc: Global, value: &Value, fault: &Fault) -> Result<String, A
         }
     }
     Ok(text)
-}
-
-pub(crate) fn push_escaped(out: &mut String, name: &str) -> Result<(), AllocError> {
-    for character in name.chars() {
-        match character {
-            '~' => out.push_str("~0")?,
-            '/' => out.push_str("~1")?,
-            _ => out.push(character)?,
-        }
-    }
-    Ok(())
 }

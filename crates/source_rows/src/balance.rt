@@ -1,4 +1,4 @@
-//! The balance of the tree of seats.
+//! Rotations that keep a tree of seats balanced, and what is left of one without its root.
 ghost use Rattle.std.specs.Prelude.{◌≡◌, ◌+◌, ◌≤◌, ◌<◌, ◌^◌, max, length, ◌∷◌, ◌++◌, Some, is_some};
 ghost use Rattle.loop_script.specs.Bounds.{count_end};
 ghost use Rattle.source_rows.specs.Seats.{least_of};

@@ -1,4 +1,4 @@
-//! Why an edit of rows is refused.
+//! The refusals of edits of rows.
 use thiserror::Error;
 
 /// Why an edit was refused; the rows are then as they were.

@@ -1,4 +1,4 @@
-//! Guesses at the slots of ids.
+//! Guesses at the slots of ids: a table that may be wrong.
 use crate::row::Row;
 use slab::Slab;
 use std::alloc::{AllocError, Global};

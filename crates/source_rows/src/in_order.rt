@@ -1,4 +1,4 @@
-//! Rows one after another, in the order in which an iteration dispatches them.
+//! Iterators over all rows and all ids of a context, in the order in which an iteration dispatches them.
 ghost use Rattle.std.specs.Prelude.{◌≡◌, length};
 ghost use Rattle.std.specs.Iterator.{at_most};
 ghost use Rattle.std.specs.Map.Iter.{TakesFirst};

@@ -1,4 +1,4 @@
-//! Laws of the definitions, as functions that do nothing.
+//! Laws of the order of sources, and of their trees, as functions that do nothing.
 ghost use Rattle.source_rows.specs.Edits.{EditLaws};
 ghost use Rattle.source_rows.specs.Heights.{HeightLaws};
 ghost use Rattle.source_rows.specs.Laws.{OrderLaws, PathLaws, TreeLaws};

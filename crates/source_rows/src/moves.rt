@@ -1,4 +1,4 @@
-//! Many rows at once, put in the places of others.
+//! Many rows at once that go to new slots, each in the place of another.
 ghost use Rattle.std.specs.Prelude.{◌≡◌, map};
 ghost use Rattle.source_rows.specs.InOrder.{rows_of};
 ghost use Rattle.source_rows.specs.Moves.{with_each, moved_row, NoneTwice};

@@ -1,4 +1,4 @@
-//! Taking a row away with all that are under it.
+//! Taking a row away with all that are below it.
 ghost use Rattle.std.specs.Prelude.{◌≡◌, false, filter, not, IfSome, IfNone, Some, true};
 ghost use Rattle.std.specs.List.{AllByRecursion};
 ghost use Rattle.source_rows.specs.Rows.{row_of, is_under};

@@ -1,4 +1,4 @@
-//! What is kept of a source.
+//! What is kept of a source, and what is asked of that alone: its key in the order, its times, its child.
 ghost use Rattle.std.specs.Prelude.{◌≡◌, ◌<◌, ◌≤◌, ◌==◌, length};
 ghost use Rattle.loop_script.specs.Bounds.{latest};
 ghost use Rattle.source_rows.specs.Rows.{key_of, stands_before};

@@ -1,4 +1,4 @@
-//! Rows by their ids.
+//! Rows in slots, by their ids, with their seats: a row put in, found by its id or between two keys, changed in place, taken out.
 ghost use Rattle.std.specs.Prelude.{◌≡◌, ◌<◌, ◌≤◌, ◌+◌, ◌++◌, ◌∷◌, [], true, OnOk, OnErr, IfOk, IfSome, IfNone, is_some, IsSome, option_map, map, filter, not, ◌||◌};
 ghost use Rattle.std.specs.List.{AllByRecursion};
 ghost use Rattle.std.specs.Map.{lookup};

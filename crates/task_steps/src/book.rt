@@ -1,4 +1,4 @@
-//! The tasks of a lane.
+//! The tasks of a lane, by public calls: started, polled tick by tick, and the next tick in which one wakes.
 ghost use Rattle.std.specs.Prelude.{◌≡◌, ℕ, ◌+◌, ◌<◌, ◌≤◌, ◌^◌, ◌↔◌, [], Option, None, Some, false, IsTrue, IsOk, IfOk, OnOk, OnErr, filter, map};
 
 use crate::entries::new_entry;

@@ -1,4 +1,4 @@
-//! Tasks that are started.
+//! A task that is started, as an entry of the book.
 ghost use Rattle.std.specs.Prelude.{◌≡◌, ◌+◌, ◌<◌, ◌≤◌, ◌^◌, IfOk};
 ghost use Rattle.loop_script.specs.Bounds.{longest_tick, tick_end};
 ghost use Rattle.task_steps.specs.Task.{task_of};

@@ -1,4 +1,4 @@
-//! The run of one task.
+//! The run of one task alone, by public calls, without a book.
 ghost use Rattle.std.specs.Prelude.{◌≡◌, ℕ, ◌+◌, ◌<◌, ◌≤◌, None, IfOk, IsTrue, ◌↔◌};
 
 use crate::body::{Body, Look};

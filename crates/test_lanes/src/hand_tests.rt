@@ -1,4 +1,4 @@
-//! Contexts on their way from lane to lane, with ample memory, and with memory refused.
+//! A context that a lane hands over and another takes, with ample memory, and with memory refused.
 ghost use Rattle.std.specs.Prelude.{◌≡◌, false, Err, IsTrue};
 ghost use Rattle.lane_turn.specs.Sound.{IsReady};
 

@@ -1,4 +1,4 @@
-//! Lanes with ample memory, and with memory refused: the first run's, and one that takes a task's reply.
+//! Whole turns of lanes and their lines, with ample memory and with memory refused: the first run's, and one that takes a task's reply.
 ghost use Rattle.std.specs.Prelude.{◌≡◌, ℕ, ◌^◌, false, Err, IsTrue};
 ghost use Rattle.lane_turn.specs.Sound.{IsReady};
 

@@ -1,4 +1,4 @@
-//! What a tick's turns posted is delivered.
+//! What the turns of a tick posted, delivered lane by lane.
 ghost use Rattle.std.specs.Prelude.{◌≡◌, ◌+◌, ◌<◌, ◌≤◌, map, length, OnOk};
 ghost use Rattle.std.specs.List.{AllByRecursion};
 ghost use Rattle.loop_script.specs.Bounds.{most_ticks};

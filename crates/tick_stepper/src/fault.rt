@@ -1,4 +1,4 @@
-//! Why a call of a stepper was refused.
+//! The refusals of a stepper's calls, and what each comes from.
 use lane_turn::{HandFault, LaneFault};
 use std::alloc::AllocError;
 use thiserror::Error;

@@ -1,4 +1,4 @@
-//! By whom each turn is taken.
+//! The trait by which each turn is taken, and the gate that only takes it.
 ghost use Rattle.std.specs.Prelude.{◌≡◌, ◌≢◌, ℕ, ◌+◌, ◌*◌, ◌^◌, ◌<◌, ◌≤◌, ◌++◌, ◌↔◌, [], false, length, IsTrue, IsOk, OnOk, Err};
 ghost use Rattle.loop_script.specs.Bounds.{tick_end};
 ghost use Rattle.lane_turn.specs.Turn.{turned, out_of};

@@ -1,4 +1,4 @@
-//! The lanes of a script at first.
+//! The lanes of a script as a run begins, each with its start call.
 ghost use Rattle.std.specs.Prelude.{◌≡◌, ◌≤◌, Some, map, length, IfOk};
 ghost use Rattle.std.specs.List.{AllByRecursion};
 ghost use Rattle.loop_script.specs.Bounds.{most_lanes};

@@ -1,4 +1,4 @@
-//! Lanes that are left alone until their next turn.
+//! Lanes that are left alone until their next turn: which are due, parted from the rest, and put in order by number again.
 ghost use Rattle.std.specs.Prelude.{◌≡◌, ◌+◌, ◌<◌, ◌≤◌, ◌++◌, not, IfOk, IsPermutation};
 ghost use Rattle.std.specs.List.{All, filter, list_any};
 ghost use Rattle.std.specs.List.Sorted.{IsNonDecreasingBy};

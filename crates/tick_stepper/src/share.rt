@@ -1,4 +1,4 @@
-//! What a worker does in a tick.
+//! What a worker does in a tick where lanes are dealt: the turns of its share.
 ghost use Rattle.std.specs.Prelude.{◌≡◌, ◌<◌, ◌++◌, map, OnOk, IfOk, IsPermutation};
 ghost use Rattle.std.specs.List.{AllByRecursion, flat_map};
 ghost use Rattle.std.specs.List.Sorted.{IsNonDecreasingBy};

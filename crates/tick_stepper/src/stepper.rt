@@ -1,4 +1,4 @@
-//! The lanes of a script, tick by tick.
+//! A stepper, by its public calls: lanes are opened, stepped tick by tick or to the end, and shown.
 ghost use Rattle.std.specs.Prelude.{◌≡◌, ◌≢◌, ◌+◌, ◌<◌, ◌↔◌, true, false, length, slice_get, option_map, IsTrue, OnOk, OnErr, IfOk, IfErr, IfSome, IsSome, None, Some, Ok, Err};
 ghost use Rattle.loop_script.specs.Bounds.{most_ticks};
 ghost use Rattle.lane_turn.specs.Tick.{opened, ticked, lanes_at};

@@ -1,4 +1,4 @@
-//! Why bytes have no JSON text as a table of TOML.
+//! The reasons for which bytes have no JSON text as a table of TOML.
 use std::alloc::AllocError;
 use std::fmt;
 use thiserror::Error;

@@ -8,4 +8,5 @@ mod translation;
 mod value;
 
 pub use fault::{TomlFault, Unfit};
+pub use place::push_escaped;
 pub use translation::json_of_toml;

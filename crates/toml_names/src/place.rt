@@ -1,4 +1,4 @@
-//! Where a value lies in a table.
+//! Where a value lies in a table of TOML, as a JSON pointer, and how keys stand in pointers.
 use std::alloc::{AllocError, Global};
 
 /// The steps that lead to a value, the last one first.
@@ -29,8 +29,9 @@ impl Place<'_> {
     }
 }
 
-/// Adds a key as it stands in a pointer.
-fn push_escaped(text: &mut String, key: &str) -> Result<(), AllocError> {
+/// Adds a key as it stands in a pointer (RFC 6901): `~` as `~0`, and `/` as `~1`. Where memory is refused, what was added by then
+/// stays.
+pub fn push_escaped(text: &mut String, key: &str) -> Result<(), AllocError> {
     for character in key.chars() {
         match character {
             '~' => text.push_str("~0")?,

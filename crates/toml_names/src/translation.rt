@@ -1,4 +1,4 @@
-//! Bytes of TOML, as JSON.
+//! From the bytes of TOML to those of JSON: the public call.
 ghost use Rattle.std.specs.Prelude.{IfErr, IfOk};
 ghost use Rattle.toml_names.specs.Answer.{StandsFor, IsFaultOf};
 
