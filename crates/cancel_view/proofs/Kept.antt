@@ -1,159 +1,262 @@
--- Handlers by their ids, with each cancellable's in its group, after one more and after one less.
-use Rattle.std.proofs.Common.{◌≡◌, ◌≢◌, ℕ, ◌+◌, ◌<◌, ◌≤◌, ◌==◌, Bool, true, false, cond, not, Some, List, [], ◌∷◌, ◌++◌, map, refl, ap, sym, ◌∙◌, arith}
+-- Handlers in their slots, with each cancellable's ids, after one more and after one less.
+use Rattle.std.proofs.Common.{◌≡◌, ◌≢◌, ℕ, zero, suc, ◌+◌, ◌<◌, ◌≤◌, ◌==◌, Bool, true, false, cond, not, Option, Some, None, List, [], ◌∷◌, ◌++◌, map, length, refl, ap, sym, subst, ◌∙◌, arith}
 use Rattle.std.proofs.lemmas.Bool.Decides.{nat_tests}
 use Rattle.std.proofs.lemmas.List.{append-nil}
 use Rattle.std.proofs.lemmas.List.Elements.{filter-append}
-use Rattle.std.specs.Prelude.{is_some}
-use Rattle.std.specs.List.{filter, list_any, AllByRecursion}
+use Rattle.std.specs.Prelude.{is_some, slice_get, slice_set, slice_index_or, option_map, Vec}
+use Rattle.std.specs.Option.{option_flatten}
+use Rattle.std.specs.List.{filter, filter_map, cons_option, list_any, AllByRecursion}
 use Rattle.std.specs.Ordering.{nat_cmp}
-use Rattle.std.specs.declared.cmp.Ordering.TheVariants.{Greater}
-use Rattle.std.specs.Map.{lookup, remove_entry}
-use Rattle.std.specs.BTreeMap.{BTreeMap, is_at, insert_entry}
+use Rattle.std.specs.Map.{lookup}
+use Rattle.std.specs.BTreeMap.{BTreeMap, is_at}
 use Rattle.cancel_view.specs.declared.handler.Handler.{Handler}
+use Rattle.cancel_view.specs.declared.handler.Fired.{Fired}
 use Rattle.cancel_view.specs.declared.handlers.Connection.{Connection}
-use Rattle.cancel_view.specs.Seen.{RiseWithin, is_of, fired_as, has_id, has_other_id}
-use Rattle.cancel_view.specs.Groups.{AreKept, group, fired_at, handler_of, grouped_as, listed}
-use Rattle.cancel_view.proofs.Rising.{rise_filtered, rise_pushed}
+use Rattle.cancel_view.specs.Seen.{Seen, IsRising, connected, RiseWithin, is_of, fired_as, has_id, has_other_id}
+use Rattle.cancel_view.specs.Groups.{AreKept, group, listed, handlers_from, handlers_in, connection_at, emptied, fired_at}
+use Rattle.cancel_view.proofs.Rising.{rise_fired}
 
-abbrev at_id : ℕ → ℕ → Bool
-at_id id = is_at (nat_cmp id)
+abbrev Slots : Type 0
+Slots = List (Option Connection)
 
-tests : (id n : ℕ) → at_id id n ≡ (n == id)
-tests id n = by (at_id id n) refl
+tests_too : (id n : ℕ) → is_at (nat_cmp id) n ≡ (id == n)
+tests_too id n = by (is_at (nat_cmp id) n) refl
   where
-    by : (b : Bool) → at_id id n ≡ b → b ≡ (n == id)
+    by : (b : Bool) → is_at (nat_cmp id) n ≡ b → b ≡ (id == n)
     by true e = grind (arith, nat_tests)
     by false e = grind (arith, nat_tests)
 
-tests_too : (id n : ℕ) → at_id id n ≡ (id == n)
-tests_too id n = by (at_id id n) refl
-  where
-    by : (b : Bool) → at_id id n ≡ b → b ≡ (id == n)
-    by true e = grind (arith, nat_tests)
-    by false e = grind (arith, nat_tests)
-
-after : (id n : ℕ) → n < id → nat_cmp id n ≡ Greater
-after id n h = grind (arith, nat_tests)
-
-are_same : (a b : ℕ) → (a == b) ≡ true → a ≡ b
+are_same : (a b : ℕ) → a ≡ b → (a == b) ≡ true
 are_same a b h = grind (arith, nat_tests)
 
 are_not : (a b : ℕ) → a ≢ b → (a == b) ≡ false
 are_not a b h = grind (arith, nat_tests)
 
-same_self : (a : ℕ) → (a == a) ≡ true
-same_self a = grind (arith, nat_tests)
+is_same : (a b : ℕ) → (a == b) ≡ true → a ≡ b
+is_same a b h = grind (arith, nat_tests)
 
--- ---- what stands under the ids of handlers, where f tells it of a handler
+-- ---- handlers by their slots
 
-abbrev under : {V : Type 0} → (Handler → V) → List Handler → List (ℕ × V)
-under f hs = map (λ h. (h.id, f h)) hs
+-- their ids rise
+pub rise : (low first high : ℕ) (slots : Slots) → low < first → high ≡ first + length slots → RiseWithin low high (handlers_from first slots)
+rise low first high [] l e = omega (arith, l, e)
+rise low first high (None ∷ slots) l e = rise low (first + 1) high slots (omega (arith, l)) (omega (arith, e))
+rise low first high (Some c ∷ slots) l e = (l, rise first (first + 1) high slots (omega arith) (omega (arith, e)))
 
-below : (low high : ℕ) (hs : List Handler) → RiseWithin low high hs → low < high
-below low high [] r = r
-below low high (x ∷ hs) r = omega (arith, r.0, below x.id high hs r.1)
+pub fired_rise : (c : ℕ) (slots : Slots) → IsRising (map fired_as (filter (is_of c) (handlers_in slots)))
+fired_rise c slots = rise_fired c 0 (1 + length slots) (handlers_in slots) (rise 0 1 (1 + length slots) slots (omega arith) refl)
 
--- one that is above the others comes last
-at_end : {V : Type 0} (f : Handler → V) (low : ℕ) (h : Handler) (hs : List Handler) → RiseWithin low h.id hs → insert_entry nat_cmp (under f hs) h.id (f h) ≡ under f (hs ++ h ∷ [])
-at_end f low h [] r = refl
-at_end f low h (x ∷ hs) r = rw (after h.id x.id (below x.id h.id hs r.1)) (ap (λ es. (x.id, f x) ∷ es) (at_end f x.id h hs r.1))
+-- none has an id below the first one
+none_below : (id first : ℕ) (slots : Slots) → id < first → list_any (has_id id) (handlers_from first slots) ≡ false
+none_below id first [] l = refl
+none_below id first (None ∷ slots) l = none_below id (first + 1) slots (omega (arith, l))
+none_below id first (Some c ∷ slots) l = rw (are_not first id (λ e. absurd (omega (arith, e, l)))) (none_below id (first + 1) slots (omega (arith, l)))
 
--- and is taken out again
-undone : {V : Type 0} (f : Handler → V) (low id : ℕ) (v : V) (hs : List Handler) → RiseWithin low id hs → remove_entry (at_id id) (insert_entry nat_cmp (under f hs) id v) ≡ under f hs
-undone f low id v [] r = rw (tests id id ∙ same_self id) refl
-undone f low id v (x ∷ hs) r =
-    let less : x.id < id = below x.id id hs r.1 in
-    rw (after id x.id less) (rw (tests id x.id ∙ are_not x.id id (λ e. absurd (omega (arith, e, less)))) (ap (λ es. (x.id, f x) ∷ es) (undone f x.id id v hs r.1)))
-
--- those above an id have others
-all_stay : (id low high : ℕ) (hs : List Handler) → id ≤ low → RiseWithin low high hs → filter (has_other_id id) hs ≡ hs
-all_stay id low high [] l r = refl
-all_stay id low high (x ∷ hs) l r = rw (are_not x.id id (λ e. absurd (omega (arith, e, l, r.0)))) (ap (λ hs. x ∷ hs) (all_stay id x.id high hs (omega (arith, l, r.0)) r.1))
-
--- one less
-taken : {V : Type 0} (f : Handler → V) (id low high : ℕ) (hs : List Handler) → RiseWithin low high hs → remove_entry (at_id id) (under f hs) ≡ under f (filter (has_other_id id) hs)
-taken f id low high [] r = refl
-taken f id low high (x ∷ hs) r = ap (λ b. cond b (under f hs) ((x.id, f x) ∷ remove_entry (at_id id) (under f hs))) (tests id x.id) ∙ by (taken f id x.id high hs r.1) (x.id == id) refl
-  where
-    by : remove_entry (at_id id) (under f hs) ≡ under f (filter (has_other_id id) hs) → (b : Bool) → (x.id == id) ≡ b
-        → cond b (under f hs) ((x.id, f x) ∷ remove_entry (at_id id) (under f hs)) ≡ under f (cond (not b) (x ∷ filter (has_other_id id) hs) (filter (has_other_id id) hs))
-    by h true e = ap (under f) (sym (all_stay id x.id high hs (omega (arith, are_same x.id id e)) r.1))
-    by h false e = ap (λ es. (x.id, f x) ∷ es) h
+all_stay : (id first : ℕ) (slots : Slots) → id < first → filter (has_other_id id) (handlers_from first slots) ≡ handlers_from first slots
+all_stay id first [] l = refl
+all_stay id first (None ∷ slots) l = all_stay id (first + 1) slots (omega (arith, l))
+all_stay id first (Some c ∷ slots) l =
+    rw (are_not first id (λ e. absurd (omega (arith, e, l)))) (ap (λ (hs : List Handler). record { id = first; cancellable = c.cancellable; proc = c.proc } ∷ hs) (all_stay id (first + 1) slots (omega (arith, l))))
 
 -- whether one has an id
-found_by : {V : Type 0} (f : Handler → V) (id : ℕ) (hs : List Handler) → is_some (lookup (at_id id) (under f hs)) ≡ list_any (has_id id) hs
-found_by f id [] = refl
-found_by f id (x ∷ hs) = ap (λ b. is_some (cond b (Some (f x)) (lookup (at_id id) (under f hs)))) (tests id x.id) ∙ by (found_by f id hs) (x.id == id) refl
-  where
-    by : is_some (lookup (at_id id) (under f hs)) ≡ list_any (has_id id) hs → (b : Bool) → (x.id == id) ≡ b → is_some (cond b (Some (f x)) (lookup (at_id id) (under f hs))) ≡ list_any (has_id id) (x ∷ hs)
-    by h true e = rw e refl
-    by h false e = rw e h
+found_from : (id first i : ℕ) (slots : Slots) → id ≡ first + i → is_some (option_flatten (slice_get slots i)) ≡ list_any (has_id id) (handlers_from first slots)
+found_from id first i [] e = refl
+found_from id first zero (None ∷ slots) e = sym (none_below id (first + 1) slots (omega (arith, e)))
+found_from id first zero (Some c ∷ slots) e = rw (are_same first id (omega (arith, e))) refl
+found_from id first (suc i) (None ∷ slots) e = found_from id (first + 1) i slots (omega (arith, e))
+found_from id first (suc i) (Some c ∷ slots) e = rw (are_not first id (λ s. absurd (omega (arith, e, s)))) (found_from id (first + 1) i slots (omega (arith, e)))
 
--- ---- by id
+pub found : (id : ℕ) (slots : Slots) → is_some (connection_at slots id) ≡ list_any (has_id id) (handlers_in slots)
+found zero slots = sym (none_below 0 1 slots (omega arith))
+found (suc i) slots = found_from (suc i) 1 i slots (omega arith)
 
-abbrev connection_of : Handler → Connection
-connection_of h = record { cancellable = h.cancellable; proc = h.proc }
+-- one less
+left_from : (id first i : ℕ) (slots : Slots) → id ≡ first + i → handlers_from first (slice_set slots i None) ≡ filter (has_other_id id) (handlers_from first slots)
+left_from id first i [] e = refl
+left_from id first zero (None ∷ slots) e = sym (all_stay id (first + 1) slots (omega (arith, e)))
+left_from id first zero (Some c ∷ slots) e = rw (are_same first id (omega (arith, e))) (sym (all_stay id (first + 1) slots (omega (arith, e))))
+left_from id first (suc i) (None ∷ slots) e = left_from id (first + 1) i slots (omega (arith, e))
+left_from id first (suc i) (Some c ∷ slots) e =
+    rw (are_not first id (λ s. absurd (omega (arith, e, s)))) (ap (λ (hs : List Handler). record { id = first; cancellable = c.cancellable; proc = c.proc } ∷ hs) (left_from id (first + 1) i slots (omega (arith, e))))
 
--- entries are what stands under the ids of their handlers
-back : (es : List (ℕ × Connection)) → under connection_of (map handler_of es) ≡ es
-back [] = refl
-back (e ∷ es) = ap (λ es. e ∷ es) (back es)
+pub left : (id : ℕ) (slots : Slots) → handlers_in (emptied slots id) ≡ filter (has_other_id id) (handlers_in slots)
+left zero slots = sym (all_stay 0 1 slots (omega arith))
+left (suc i) slots = left_from (suc i) 1 i slots (omega arith)
 
-forth : (hs : List Handler) → map handler_of (under connection_of hs) ≡ hs
-forth [] = refl
-forth (h ∷ hs) = ap (λ hs. h ∷ hs) (forth hs)
+same_length : (i : ℕ) (slots : Slots) → length (slice_set slots i None) ≡ length slots
+same_length i [] = refl
+same_length zero (s ∷ slots) = refl
+same_length (suc i) (s ∷ slots) = ap suc (same_length i slots)
 
-pub added : (h : Handler) (es fs : List (ℕ × Connection)) → RiseWithin 0 h.id (map handler_of es) → fs ≡ insert_entry nat_cmp es h.id (connection_of h) → map handler_of fs ≡ map handler_of es ++ h ∷ []
-added h es fs r e =
-    let hs : List Handler = map handler_of es in
-    ap (map handler_of) (e ∙ (ap (λ es. insert_entry nat_cmp es h.id (connection_of h)) (sym (back es)) ∙ at_end connection_of 0 h hs r)) ∙ forth (hs ++ h ∷ [])
+pub as_many : (id : ℕ) (slots : Slots) → length (emptied slots id) ≡ length slots
+as_many zero slots = refl
+as_many (suc i) slots = same_length i slots
 
-pub put_back : (h : Handler) (es fs gs : List (ℕ × Connection)) → RiseWithin 0 h.id (map handler_of es) → fs ≡ insert_entry nat_cmp es h.id (connection_of h) → gs ≡ remove_entry (at_id h.id) fs → map handler_of gs ≡ map handler_of es
-put_back h es fs gs r e k =
-    let hs : List Handler = map handler_of es in
-    ap (map handler_of) (k ∙ (ap (remove_entry (at_id h.id)) (e ∙ ap (λ es. insert_entry nat_cmp es h.id (connection_of h)) (sym (back es))) ∙ undone connection_of 0 h.id (connection_of h) hs r)) ∙ forth hs
+-- one more
+more_from : (first id : ℕ) (c : Connection) (slots : Slots) → id ≡ first + length slots → handlers_from first (slots ++ Some c ∷ []) ≡ handlers_from first slots ++ record { id = id; cancellable = c.cancellable; proc = c.proc } ∷ []
+more_from first id c [] e = ap (λ (n : ℕ). record { id = n; cancellable = c.cancellable; proc = c.proc } ∷ []) (omega (arith, e))
+more_from first id c (None ∷ slots) e = more_from (first + 1) id c slots (omega (arith, e))
+more_from first id c (Some d ∷ slots) e = ap (λ (hs : List Handler). record { id = first; cancellable = d.cancellable; proc = d.proc } ∷ hs) (more_from (first + 1) id c slots (omega (arith, e)))
 
-pub removed : (id high : ℕ) (es fs : List (ℕ × Connection)) → RiseWithin 0 high (map handler_of es) → fs ≡ remove_entry (at_id id) es → map handler_of fs ≡ filter (has_other_id id) (map handler_of es)
-removed id high es fs r e =
-    let hs : List Handler = map handler_of es in
-    ap (map handler_of) (e ∙ (ap (remove_entry (at_id id)) (sym (back es)) ∙ taken connection_of id 0 high hs r)) ∙ forth (filter (has_other_id id) hs)
+pub more : (c : Connection) (slots : Slots) → handlers_in (slots ++ Some c ∷ []) ≡ handlers_in slots ++ record { id = length slots + 1; cancellable = c.cancellable; proc = c.proc } ∷ []
+more c slots = more_from 1 (length slots + 1) c slots (omega arith)
 
-pub found : (id : ℕ) (es : List (ℕ × Connection)) → is_some (lookup (at_id id) es) ≡ list_any (has_id id) (map handler_of es)
-found id es = ap (λ es. is_some (lookup (at_id id) es)) (sym (back es)) ∙ found_by connection_of id (map handler_of es)
+pub as_many_more : (s : Option Connection) (slots : Slots) → length (slots ++ s ∷ []) ≡ length slots + 1
+as_many_more s [] = refl
+as_many_more s (t ∷ slots) = omega (arith, as_many_more s slots)
+
+-- what contracts see of a view with such slots
+abbrev seen_in : List Bool → Slots → Seen
+seen_in members slots = record { members = members; handlers = handlers_in slots; next_id = length slots + 1 }
 
 -- ---- by cancellable
 
-abbrev Groups : Type 0
-Groups = BTreeMap ℕ (BTreeMap ℕ ℕ)
+-- what an id leads to after one more
+got_before : (i : ℕ) (s : Option Connection) (slots : Slots) → i < length slots → slice_get (slots ++ s ∷ []) i ≡ slice_get slots i
+got_before i s [] l = absurd (omega (arith, l))
+got_before zero s (t ∷ slots) l = refl
+got_before (suc i) s (t ∷ slots) l = got_before i s slots (omega (arith, l))
 
-told : (hs : List Handler) → map fired_at (map grouped_as hs) ≡ map fired_as hs
-told [] = refl
-told (h ∷ hs) = ap (λ fs. fired_as h ∷ fs) (told hs)
+got_last : (s : Option Connection) (slots : Slots) → slice_get (slots ++ s ∷ []) (length slots) ≡ Some s
+got_last s [] = refl
+got_last s (t ∷ slots) = got_last s slots
 
-pub fired_kept : (c : ℕ) (hs : List Handler) (groups : Groups) → AreKept hs groups → map fired_at (group c groups) ≡ map fired_as (filter (is_of c) hs)
-fired_kept c hs groups k = ap (map fired_at) (k.grouped c) ∙ told (filter (is_of c) hs)
+fired_before : (id : ℕ) (s : Option Connection) (slots : Slots) → id ≤ length slots → fired_at (slots ++ s ∷ []) id ≡ fired_at slots id
+fired_before zero s slots l = refl
+fired_before (suc i) s slots l = ap (λ o. option_map (λ (c : Connection). record { id = suc i; proc = c.proc }) (option_flatten o)) (got_before i s slots (omega (arith, l)))
 
-pub kept_none : (es : List (ℕ × Connection)) (groups : Groups) → es ≡ [] → groups.entries ≡ [] → AreKept (map handler_of es) groups
-kept_none es groups e k = rw e (record { rising = (1, omega arith); grouped = λ c. ap (λ (rows : List (ℕ × BTreeMap ℕ ℕ)). listed (lookup (at_id c) rows)) k })
+fired_last : (id : ℕ) (at : Connection) (slots : Slots) → id ≡ suc (length slots) → fired_at (slots ++ Some at ∷ []) id ≡ Some (record { id = id; proc = at.proc })
+fired_last zero at slots e = absurd (omega (arith, e))
+fired_last (suc i) at slots e = ap (λ o. option_map (λ (c : Connection). record { id = suc i; proc = c.proc }) (option_flatten o)) (ap (slice_get (slots ++ Some at ∷ [])) (omega (arith, e)) ∙ got_last (Some at) slots)
 
-pub kept_same : (hs gs : List Handler) (groups new : Groups) → AreKept hs groups → gs ≡ hs → ((c : ℕ) → group c new ≡ group c groups) → AreKept gs new
-kept_same hs gs groups new k e same = rw e (record { rising = k.rising; grouped = λ c. same c ∙ k.grouped c })
+all_before : (ids : List ℕ) (s : Option Connection) (slots : Slots) → AllByRecursion (λ id. id ≤ length slots) ids → filter_map (fired_at (slots ++ s ∷ [])) ids ≡ filter_map (fired_at slots) ids
+all_before [] s slots k = refl
+all_before (id ∷ ids) s slots k = rw (fired_before id s slots k.0) (ap (λ (fs : List Fired). cons_option (fired_at slots id) fs) (all_before ids s slots k.1))
 
-pub kept_more : (h : Handler) (hs gs : List Handler) (groups new : Groups) → AreKept hs groups → RiseWithin 0 h.id hs → gs ≡ hs ++ h ∷ []
-    → ((c : ℕ) → group c new ≡ cond (at_id h.cancellable c) (insert_entry nat_cmp (group c groups) h.id h.proc) (group c groups)) → AreKept gs new
-kept_more h hs gs groups new k r e joins =
+still_known : (n m : ℕ) (ids : List ℕ) → n ≤ m → AllByRecursion (λ id. id ≤ n) ids → AllByRecursion (λ id. id ≤ m) ids
+still_known n m [] l k = tt
+still_known n m (id ∷ ids) l k = (omega (arith, l, k.0), still_known n m ids l k.1)
+
+known_last : (n : ℕ) (ids : List ℕ) → AllByRecursion (λ id. id ≤ n) ids → AllByRecursion (λ id. id ≤ n + 1) (ids ++ (n + 1) ∷ [])
+known_last n [] k = (omega arith, tt)
+known_last n (id ∷ ids) k = (omega (arith, k.0), known_last n ids k.1)
+
+map_both : (f : ℕ → Option Fired) (ids : List ℕ) (id : ℕ) → filter_map f (ids ++ id ∷ []) ≡ filter_map f ids ++ cons_option (f id) []
+map_both f [] id = refl
+map_both f (x ∷ ids) id = by (f x) (map_both f ids id)
+  where
+    by : (o : Option Fired) → filter_map f (ids ++ id ∷ []) ≡ filter_map f ids ++ cons_option (f id) [] → cons_option o (filter_map f (ids ++ id ∷ [])) ≡ cons_option o (filter_map f ids) ++ cons_option (f id) []
+    by None h = h
+    by (Some x) h = ap (λ (fs : List Fired). x ∷ fs) h
+
+map_fired : (hs gs : List Handler) → map fired_as (hs ++ gs) ≡ map fired_as hs ++ map fired_as gs
+map_fired [] gs = refl
+map_fired (h ∷ hs) gs = ap (λ (fs : List Fired). fired_as h ∷ fs) (map_fired hs gs)
+
+abbrev Groups : Type 0 → Type 0
+Groups Z = BTreeMap ℕ (Vec ℕ Z)
+
+pub kept_none : {Z : Type 0} (slots : Slots) (groups : Groups Z) → slots ≡ [] → groups.entries ≡ [] → AreKept slots groups
+kept_none {Z} slots groups e k =
+    let none : (c : ℕ) → group c groups ≡ [] = λ c. ap (λ (rows : List (ℕ × Vec ℕ Z)). listed (lookup (is_at (nat_cmp c)) rows)) k in
+    rw e (record { known = λ c. rw (none c) tt; grouped = λ c. rw (none c) refl })
+
+pub kept_same : {Z : Type 0} (slots new_slots : Slots) (groups new : Groups Z) → AreKept slots groups → new_slots ≡ slots → ((c : ℕ) → group c new ≡ group c groups) → AreKept new_slots new
+kept_same slots new_slots groups new k e same = rw e (record { known = λ c. rw (same c) (k.known c); grouped = λ c. rw (same c) (k.grouped c) })
+
+pub kept_more : {Z : Type 0} (at : Connection) (slots new_slots : Slots) (groups new : Groups Z) → AreKept slots groups → new_slots ≡ slots ++ Some at ∷ []
+    → ((c : ℕ) → group c new ≡ cond (is_at (nat_cmp at.cancellable) c) (group c groups ++ (length slots + 1) ∷ []) (group c groups)) → AreKept new_slots new
+kept_more {Z} at slots new_slots groups new k e joins =
     rw e (record {
-      rising = (h.id + 1, rise_pushed 0 h.id h.cancellable h.proc hs r);
+      known = λ c. rw (joins c ∙ ap (λ b. cond b (group c groups ++ (length slots + 1) ∷ []) (group c groups)) (tests_too at.cancellable c)) (rw (as_many_more (Some at) slots) (known_by c (at.cancellable == c)));
       grouped = λ c.
-          joins c
-          ∙ (ap (λ b. cond b (insert_entry nat_cmp (group c groups) h.id h.proc) (group c groups)) (tests_too h.cancellable c)
-          ∙ (by c (h.cancellable == c)
-          ∙ ap (map grouped_as) (sym (filter-append (is_of c) hs (h ∷ [])))));
+          rw (joins c ∙ ap (λ b. cond b (group c groups ++ (length slots + 1) ∷ []) (group c groups)) (tests_too at.cancellable c))
+          (rw (more at slots)
+          (by c (at.cancellable == c) refl
+          ∙ (sym (map_fired (filter (is_of c) (handlers_in slots)) (filter (is_of c) (handler ∷ [])))
+          ∙ ap (map fired_as) (sym (filter-append (is_of c) (handlers_in slots) (handler ∷ []))))));
     })
   where
-    by : (c : ℕ) (b : Bool) → cond b (insert_entry nat_cmp (group c groups) h.id h.proc) (group c groups) ≡ map grouped_as (filter (is_of c) hs ++ cond b (h ∷ []) [])
-    by c true = ap (λ es. insert_entry nat_cmp es h.id h.proc) (k.grouped c) ∙ at_end (λ x. x.proc) 0 h (filter (is_of c) hs) (rise_filtered (is_of c) 0 h.id hs r)
-    by c false = k.grouped c ∙ ap (map grouped_as) (sym (append-nil (filter (is_of c) hs)))
+    handler : Handler
+    handler = record { id = length slots + 1; cancellable = at.cancellable; proc = at.proc }
+
+    known_by : (c : ℕ) (b : Bool) → AllByRecursion (λ id. id ≤ length slots + 1) (cond b (group c groups ++ (length slots + 1) ∷ []) (group c groups))
+    known_by c true = known_last (length slots) (group c groups) (k.known c)
+    known_by c false = still_known (length slots) (length slots + 1) (group c groups) (omega arith) (k.known c)
+
+    last : fired_at (slots ++ Some at ∷ []) (length slots + 1) ≡ Some (fired_as handler)
+    last = fired_last (length slots + 1) at slots (omega arith)
+
+    by : (c : ℕ) (b : Bool) → (at.cancellable == c) ≡ b
+        → filter_map (fired_at (slots ++ Some at ∷ [])) (cond b (group c groups ++ (length slots + 1) ∷ []) (group c groups)) ≡ map fired_as (filter (is_of c) (handlers_in slots)) ++ map fired_as (filter (is_of c) (handler ∷ []))
+    by c true f =
+        rw f (map_both (fired_at (slots ++ Some at ∷ [])) (group c groups) (length slots + 1)
+        ∙ (ap (λ o. filter_map (fired_at (slots ++ Some at ∷ [])) (group c groups) ++ cons_option o []) last
+        ∙ ap (λ fs. fs ++ fired_as handler ∷ []) (all_before (group c groups) (Some at) slots (k.known c) ∙ k.grouped c)))
+    by c false f = rw f (all_before (group c groups) (Some at) slots (k.known c) ∙ (k.grouped c ∙ sym (append-nil (map fired_as (filter (is_of c) (handlers_in slots))))))
+
+pub kept_pushed : {Z : Type 0} (at : Connection) (id : ℕ) (slots new_slots : Slots) (groups new : Groups Z) → AreKept slots groups → id ≡ length slots + 1 → new_slots ≡ slots ++ Some at ∷ []
+    → ((c : ℕ) → group c new ≡ cond (is_at (nat_cmp at.cancellable) c) (group c groups ++ id ∷ []) (group c groups)) → AreKept new_slots new
+kept_pushed at id slots new_slots groups new k i e joins =
+    kept_more at slots new_slots groups new k e (subst (λ (n : ℕ). (c : ℕ) → group c new ≡ cond (is_at (nat_cmp at.cancellable) c) (group c groups ++ n ∷ []) (group c groups)) i joins)
+
+pub connected_more : (c proc : ℕ) (members : List Bool) (slots new_slots : Slots) → slice_index_or members c false ≡ false → new_slots ≡ slots ++ Some (record { cancellable = c; proc = proc }) ∷ []
+    → seen_in members new_slots ≡ connected c proc (seen_in members slots)
+connected_more c proc members slots new_slots n e =
+    rw (e, n) (rw (as_many_more (Some (record { cancellable = c; proc = proc })) slots) (ap (λ (hs : List Handler). record { members = members; handlers = hs; next_id = (length slots + 1) + 1 }) (more (record { cancellable = c; proc = proc }) slots)))
+
+-- what an id leads to after one less
+either_way : {X : Type 0} (b : Bool) (x : X) → x ≡ cond b x x
+either_way true x = refl
+either_way false x = refl
+
+same_suc : (i j : ℕ) → (suc j == suc i) ≡ (j == i)
+same_suc i j = by (j == i) refl
+  where
+    by : (b : Bool) → (j == i) ≡ b → (suc j == suc i) ≡ b
+    by true e = are_same (suc j) (suc i) (ap suc (is_same j i e))
+    by false e = are_not (suc j) (suc i) (λ s. let no : true ≡ false = sym (are_same j i (omega (arith, s))) ∙ e in cc)
+
+emptied_at : (i j : ℕ) (slots : Slots) → option_flatten (slice_get (slice_set slots i None) j) ≡ cond (j == i) None (option_flatten (slice_get slots j))
+emptied_at i j [] = either_way (j == i) None
+emptied_at zero zero (s ∷ slots) = refl
+emptied_at zero (suc j) (s ∷ slots) = rw (are_not (suc j) 0 (λ e. absurd (omega (arith, e)))) refl
+emptied_at (suc i) zero (s ∷ slots) = rw (are_not 0 (suc i) (λ e. absurd (omega (arith, e)))) refl
+emptied_at (suc i) (suc j) (s ∷ slots) = rw (same_suc i j) (emptied_at i j slots)
+
+abbrev other_fired : ℕ → Fired → Bool
+other_fired id f = not (f.id == id)
+
+fired_after : (id j : ℕ) (slots : Slots) → fired_at (emptied slots id) j ≡ cond (j == id) None (fired_at slots j)
+fired_after zero zero slots = refl
+fired_after zero (suc j) slots = rw (are_not (suc j) 0 (λ e. absurd (omega (arith, e)))) refl
+fired_after (suc i) zero slots = either_way (0 == suc i) None
+fired_after (suc i) (suc j) slots = rw (same_suc i j) (ap (option_map (λ (c : Connection). record { id = suc j; proc = c.proc })) (emptied_at i j slots) ∙ by (j == i))
+  where
+    by : (b : Bool) → option_map (λ (c : Connection). record { id = suc j; proc = c.proc }) (cond b None (option_flatten (slice_get slots j))) ≡ cond b None (fired_at slots (suc j))
+    by true = refl
+    by false = refl
+
+fired_less : (id : ℕ) (slots : Slots) (ids : List ℕ) → filter_map (fired_at (emptied slots id)) ids ≡ filter (other_fired id) (filter_map (fired_at slots) ids)
+fired_less id slots [] = refl
+fired_less id slots (j ∷ ids) = rw (fired_after id j slots) (by (j == id) refl (connection_at slots j) (fired_less id slots ids))
+  where
+    by : (b : Bool) → (j == id) ≡ b → (o : Option Connection) → filter_map (fired_at (emptied slots id)) ids ≡ filter (other_fired id) (filter_map (fired_at slots) ids)
+        → cons_option (cond b None (option_map (λ (c : Connection). record { id = j; proc = c.proc }) o)) (filter_map (fired_at (emptied slots id)) ids)
+        ≡ filter (other_fired id) (cons_option (option_map (λ (c : Connection). record { id = j; proc = c.proc }) o) (filter_map (fired_at slots) ids))
+    by true e None h = h
+    by true e (Some c) h = rw e h
+    by false e None h = h
+    by false e (Some c) h = rw e (ap (λ (fs : List Fired). record { id = j; proc = c.proc } ∷ fs) h)
+
+map_filter : (id : ℕ) (hs : List Handler) → filter (other_fired id) (map fired_as hs) ≡ map fired_as (filter (has_other_id id) hs)
+map_filter id [] = refl
+map_filter id (h ∷ hs) = by (h.id == id) (map_filter id hs)
+  where
+    by : (b : Bool) → filter (other_fired id) (map fired_as hs) ≡ map fired_as (filter (has_other_id id) hs)
+        → cond (not b) (fired_as h ∷ filter (other_fired id) (map fired_as hs)) (filter (other_fired id) (map fired_as hs)) ≡ map fired_as (cond (not b) (h ∷ filter (has_other_id id) hs) (filter (has_other_id id) hs))
+    by true k = k
+    by false k = ap (λ (fs : List Fired). fired_as h ∷ fs) k
 
 both_ways : (p q : Handler → Bool) (hs : List Handler) → filter p (filter q hs) ≡ filter q (filter p hs)
 both_ways p q [] = refl
@@ -165,59 +268,13 @@ both_ways p q (x ∷ hs) = by (both_ways p q hs) (p x) (q x) refl refl
     by h false true e f = rw e h
     by h false false e f = h
 
--- a handler that has an id is one of a cancellable
-abbrev IsHere : (id cancellable : ℕ) → Handler → Type 0
-IsHere id cancellable h = h.id ≡ id → h.cancellable ≡ cancellable
-
-none_here : (id cancellable low high : ℕ) (hs : List Handler) → id ≤ low → RiseWithin low high hs → AllByRecursion (IsHere id cancellable) hs
-none_here id cancellable low high [] l r = tt
-none_here id cancellable low high (x ∷ hs) l r = (λ e. absurd (omega (arith, e, l, r.0)), none_here id cancellable x.id high hs (omega (arith, l, r.0)) r.1)
-
-same_cancellable : (a b : Connection) → Some a ≡ Some b → a.cancellable ≡ b.cancellable
-same_cancellable a b e = let same : a ≡ b = cc in ap (λ (x : Connection). x.cancellable) same
-
-all_here : (id low high : ℕ) (at : Connection) (hs : List Handler) → RiseWithin low high hs → lookup (at_id id) (under connection_of hs) ≡ Some at → AllByRecursion (IsHere id at.cancellable) hs
-all_here id low high at [] r e = tt
-all_here id low high at (x ∷ hs) r e = by (all_here id x.id high at hs r.1) (x.id == id) refl (ap (λ b. cond b (Some (connection_of x)) (lookup (at_id id) (under connection_of hs))) (sym (tests id x.id)) ∙ e)
-  where
-    by : (lookup (at_id id) (under connection_of hs) ≡ Some at → AllByRecursion (IsHere id at.cancellable) hs) → (b : Bool) → (x.id == id) ≡ b
-        → cond b (Some (connection_of x)) (lookup (at_id id) (under connection_of hs)) ≡ Some at → AllByRecursion (IsHere id at.cancellable) (x ∷ hs)
-    by h true f g = (λ _. same_cancellable (connection_of x) at g, none_here id at.cancellable x.id high hs (omega (arith, are_same x.id id f)) r.1)
-    by h false f g = (λ same. let no : false ≡ true = sym f ∙ (ap (λ (n : ℕ). n == id) same ∙ same_self id) in cc, h g)
-
--- the groups of other cancellables do not have it
-not_there : (id cancellable c : ℕ) (hs : List Handler) → (cancellable == c) ≡ false → AllByRecursion (IsHere id cancellable) hs → filter (is_of c) (filter (has_other_id id) hs) ≡ filter (is_of c) hs
-not_there id cancellable c [] e h = refl
-not_there id cancellable c (x ∷ hs) e h = by (not_there id cancellable c hs e h.1) (x.id == id) refl
-  where
-    by : filter (is_of c) (filter (has_other_id id) hs) ≡ filter (is_of c) hs → (b : Bool) → (x.id == id) ≡ b
-        → filter (is_of c) (cond (not b) (x ∷ filter (has_other_id id) hs) (filter (has_other_id id) hs)) ≡ filter (is_of c) (x ∷ hs)
-    by k true f = rw (ap (λ (n : ℕ). n == c) (h.0 (are_same x.id id f)) ∙ e) k
-    by k false f = ap (λ hs. cond (x.cancellable == c) (x ∷ hs) hs) k
-
-pub kept_less : (id : ℕ) (at : Connection) (es : List (ℕ × Connection)) (gs : List Handler) (groups new : Groups) → AreKept (map handler_of es) groups → lookup (at_id id) es ≡ Some at → gs ≡ filter (has_other_id id) (map handler_of es)
-    → ((c : ℕ) → group c new ≡ cond (at_id at.cancellable c) (remove_entry (at_id id) (group c groups)) (group c groups)) → AreKept gs new
-kept_less id at es gs groups new k l e leaves =
+pub kept_less : {Z : Type 0} (id : ℕ) (slots new_slots : Slots) (groups : Groups Z) → AreKept slots groups → new_slots ≡ emptied slots id → AreKept new_slots groups
+kept_less id slots new_slots groups k e =
     rw e (record {
-      rising = (high, rise_filtered (has_other_id id) 0 high hs r);
-      grouped = λ c. leaves c ∙ (ap (λ b. cond b (remove_entry (at_id id) (group c groups)) (group c groups)) (tests_too at.cancellable c) ∙ by c (at.cancellable == c) refl);
+      known = λ c. rw (as_many id slots) (k.known c);
+      grouped = λ c.
+          fired_less id slots (group c groups)
+          ∙ (ap (filter (other_fired id)) (k.grouped c)
+          ∙ (map_filter id (filter (is_of c) (handlers_in slots))
+          ∙ ap (map fired_as) (both_ways (has_other_id id) (is_of c) (handlers_in slots) ∙ ap (filter (is_of c)) (sym (left id slots)))));
     })
-  where
-    hs : List Handler
-    hs = map handler_of es
-
-    high : ℕ
-    high = k.rising.0
-
-    r : RiseWithin 0 high hs
-    r = k.rising.1
-
-    here : AllByRecursion (IsHere id at.cancellable) hs
-    here = all_here id 0 high at hs r (ap (lookup (at_id id)) (back es) ∙ l)
-
-    by : (c : ℕ) (b : Bool) → (at.cancellable == c) ≡ b → cond b (remove_entry (at_id id) (group c groups)) (group c groups) ≡ map grouped_as (filter (is_of c) (filter (has_other_id id) hs))
-    by c true f =
-        ap (remove_entry (at_id id)) (k.grouped c)
-        ∙ (taken (λ x. x.proc) id 0 high (filter (is_of c) hs) (rise_filtered (is_of c) 0 high hs r)
-        ∙ ap (map grouped_as) (both_ways (has_other_id id) (is_of c) hs))
-    by c false f = k.grouped c ∙ ap (map grouped_as) (sym (not_there id at.cancellable c hs f here))

@@ -2,7 +2,7 @@
 ghost use Rattle.std.specs.Prelude.{◌≡◌, ◌+◌, ◌<◌, [], Some, None, true, false, replicate, slice_index_or, slice_set, IsTrue, IsOk, IfOk, OnOk, OnErr, option_map, if◌then◌else◌};
 ghost use Rattle.cancel_view.specs.Bounds.{count_end};
 
-use crate::handler::{Connected, Fired, Handler};
+use crate::handler::{Connected, Fired};
 use crate::handlers::Handlers;
 use crate::memory::OutOfMemory;
 use std::alloc::Global;
@@ -13,17 +13,16 @@ use std::marker::Model;
 pub struct View {
     members: Vec<bool>,
     handlers: Handlers,
-    next_id: u64,
 }
 
 impl Model for View {
-    ghost use Rattle.cancel_view.specs.Seen.{Seen, IsSound};
+    ghost use Rattle.std.specs.Prelude.{◌+◌, length};
+    ghost use Rattle.cancel_view.specs.Seen.{Seen};
+    ghost use Rattle.cancel_view.specs.Groups.{handlers_in};
 
     ghost Value = { Seen };
 
-    ghost view = { λ v. record { members = v.members.items; handlers = v.handlers; next_id = v.next_id } };
-
-    ghost invariant = { λ v. IsSound (record { members = v.members.items; handlers = v.handlers; next_id = v.next_id }) };
+    ghost view = { λ v. record { members = v.members.items; handlers = handlers_in v.handlers; next_id = length v.handlers + 1 } };
 }
 
 /// Whether a cancellable is a member; a number that none has is not.
@@ -56,7 +55,6 @@ impl View {
         Ok(View {
             members,
             handlers: Handlers::new(alloc),
-            next_id: 1,
         })
     }
 
@@ -87,7 +85,6 @@ impl View {
 
     /// Connects a handler, where the view does not have its cancellable; where it does, that takes no memory. After
     /// `OutOfMemory` the view is unchanged.
-    #[tactic(auto, using(crate::proofs::Rising::rise_pushed))]
     pub fn connect(&mut self, c: u32, proc: u32) -> Result<Connected, OutOfMemory>
         requires room { self.old.next_id < count_end }
         ensures answer { IfOk result (λ r. r ≡ connecting c self.old) }
@@ -98,20 +95,13 @@ impl View {
         if has_member(&self.members, c) {
             return Ok(Connected::Already);
         }
-        let id = self.next_id;
-        let handler = Handler {
-            id,
-            cancellable: c,
-            proc,
-        };
-        self.handlers.push(handler)?;
-        self.next_id = id + 1;
+        let id = self.handlers.next_id();
+        self.handlers.push(c, proc)?;
         Ok(Connected::Id(id))
     }
 
     /// Disconnects the handler that has the id; false where there is none. The id 0 is that of no handler: it is
     /// always true, and does nothing.
-    #[tactic(auto, using(crate::proofs::Rising::rise_filtered))]
     pub fn disconnect(&mut self, id: u64) -> bool
         ensures answer { result ≡ may_disconnect id self.old }
         ensures view { self.new ≡ without id self.old }
