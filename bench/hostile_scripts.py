@@ -126,6 +126,13 @@ def cancellables_looked_at(n):
     return longer(it, n, 256 * n), n * 2500
 
 
+def marks_shared(n):
+    """The same where they have the mark of a cancellable that is cancelled: of cancellables 62 apart there is one mark."""
+    start = [["cancel", 0], ["attach", 0, 254, {"kind": ["idle"]}]]
+    it = phases((n, 10, ["attach", 0, 255, {"kind": ["cancel", 62]}]), start=start, cancellables=63)
+    return longer(it, n, 256 * n), n * 2500
+
+
 def waiting_behind_one(n):
     """Ticks in which one source is ready before many that wait, where a descriptor was asked for once."""
     start = [["attach", 0, 254, {"kind": ["idle"]}], ["attach", 0, 253, {"kind": ["fd", 0, 1]}], ["destroy", 253]]
@@ -322,6 +329,7 @@ GROWTHS = {
     "pending beside sources of descriptors": (descriptors_asked, 2, 8),
     "ticks beside sources of a descriptor that shows other bits": (ticks_of_other_bits, 2, 8),
     "ticks beside sources of a cancellable": (cancellables_looked_at, 1, 4),
+    "ticks beside sources of a cancellable with the mark of a cancelled one": (marks_shared, 1, 4),
     "ticks beside sources that wait for others": (waiting_behind_one, 1, 4),
     "handlers that are called": (handlers_called, 1, 4),
     "handlers that are disconnected": (handlers_disconnected, 1, 4),
@@ -358,8 +366,7 @@ KNOWN = {
     "pending in a call, beside its source's children": "each pending and iteration, the sources that would be ready but for a call",
     "pending beside sources of descriptors": "each pending and iteration, the sources of descriptors",
     "ticks beside sources of a descriptor that shows other bits": "each tick with a turn, the sources of descriptors",
-    "ticks beside sources of a cancellable": "each tick with a turn, the sources of cancellables",
-    "ticks beside sources that wait for others": "each tick with a turn, the idle sources of a context that has had a descriptor's",
+    "ticks beside sources of a cancellable with the mark of a cancelled one": "each tick with a turn, the sources of cancellables 62 from one that was cancelled",
     "letters of more lanes": "each letter, the lanes: 64 at most",
     "checks of a tree that are begun one by one": "each tick in which a check of a task may see a cancellation, all parts of the task",
 }

@@ -4,9 +4,11 @@
 mod groups;
 mod handler;
 mod handlers;
+mod marks;
 mod memory;
 mod view;
 
 pub use handler::{Connected, Fired, Handler};
+pub use marks::mark_of;
 pub use memory::OutOfMemory;
 pub use view::View;

@@ -4,6 +4,7 @@ ghost use Rattle.cancel_view.specs.Bounds.{count_end};
 
 use crate::handler::{Connected, Fired};
 use crate::handlers::Handlers;
+use crate::marks::mark_of;
 use crate::memory::OutOfMemory;
 use std::alloc::Global;
 use std::marker::Model;
@@ -12,6 +13,8 @@ use std::marker::Model;
 #[derive(Drop)]
 pub struct View {
     members: Vec<bool>,
+    /// The marks of these.
+    marks: u64,
     handlers: Handlers,
 }
 
@@ -19,10 +22,13 @@ impl Model for View {
     ghost use Rattle.std.specs.Prelude.{◌+◌, length};
     ghost use Rattle.cancel_view.specs.Seen.{Seen};
     ghost use Rattle.cancel_view.specs.Groups.{handlers_in};
+    ghost use Rattle.cancel_view.specs.Marks.{AreMarked};
 
     ghost Value = { Seen };
 
     ghost view = { λ v. record { members = v.members.items; handlers = handlers_in v.handlers; next_id = length v.handlers + 1 } };
+
+    ghost invariant = { λ v. AreMarked v.members.items v.marks };
 }
 
 /// Whether a cancellable is a member; a number that none has is not.
@@ -45,6 +51,7 @@ fn add_member(members: &mut Vec<bool>, c: u32)
 }
 
 impl View {
+    ghost use Rattle.cancel_view.specs.Marks.{IsMarked};
     ghost use Rattle.cancel_view.specs.Seen.{has, fired, cancelled, connected, connecting, without, may_disconnect, IsRising};
 
     /// The view of a lane that has seen none of n cancellables cancelled, with no handler.
@@ -54,6 +61,7 @@ impl View {
         let members = vec![in alloc; false; n as usize]?;
         Ok(View {
             members,
+            marks: 0,
             handlers: Handlers::new(alloc),
         })
     }
@@ -63,6 +71,14 @@ impl View {
         ensures { result ≡ has c self.now }
     {
         has_member(&self.members, c)
+    }
+
+    /// Marks of which each cancellable that the view has has its own (`mark_of`): where two sets have none in common, the view has
+    /// none of the other's.
+    pub fn marks(&self) -> u64
+        ensures { IsMarked self.now result }
+    {
+        self.marks
     }
 
     /// Brings a cancellable into the view, and gives the handlers to call, by rising id; they stay connected. None
@@ -80,6 +96,7 @@ impl View {
         }
         let fired = self.handlers.of(alloc, c)?;
         add_member(&mut self.members, c);
+        self.marks |= mark_of(c);
         Ok(Some(fired))
     }
 

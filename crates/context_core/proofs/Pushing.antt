@@ -1,15 +1,13 @@
 -- A stack of thread-default contexts after a push and after a pop.
-use Rattle.std.proofs.Common.{◌≡◌, ◌⊎◌, inl, inr, ℕ, zero, suc, ◌<◌, ◌≤◌, ◌-◌, ◌==◌, ◌||◌, Bool, true, false, cond, not, Option, Some, None, List, [], ◌∷◌, ◌++◌, length, map, take, slice_get, refl, ap, sym, subst, ◌∙◌, arith, option_to_list, option_map}
+use Rattle.std.proofs.Common.{◌≡◌, ◌⊎◌, inl, inr, ℕ, zero, suc, ◌-◌, ◌==◌, ◌||◌, Bool, true, false, cond, Option, Some, None, List, [], ◌∷◌, ◌++◌, length, take, slice_get, refl, ap, sym, subst, ◌∙◌, arith, option_to_list, option_map}
 use Rattle.std.proofs.lemmas.Bool.Decides.{nat_tests}
 use Rattle.std.proofs.lemmas.List.{take-append-le, length-append, length-map, length-take-le, map-append}
-use Rattle.std.proofs.lemmas.List.Folds.{list_any-append}
 use Rattle.std.proofs.lemmas.Option.{slice_get_within, slice_get-map}
-use Rattle.std.specs.List.{list_any}
 use Rattle.std.specs.Ordering.{nat_cmp}
 use Rattle.std.specs.BTreeSet.{BTreeSet, contains, Updates}
 use Rattle.std.specs.BTreeMap.{is_at}
 use Rattle.context_core.specs.declared.defaults.Pushed.{Pushed}
-use Rattle.context_core.specs.Defaults.{Defaults, top_of, is_pushed, is_on_top, names, popped}
+use Rattle.context_core.specs.Defaults.{top_of, is_pushed, is_on_top, names, popped}
 use Rattle.context_core.specs.Pushed.{contexts_of, IsKnown}
 
 is_at_number : (k q : ℕ) → is_at (nat_cmp k) q ≡ (k == q)

@@ -23,7 +23,7 @@ use crate::ready::{
 };
 use crate::standing::{Standing, stand};
 use cancel_view::View;
-use source_rows::{Levels, Row, Rows};
+use source_rows::{Levels, Row, Rows, Sight};
 use std::alloc::{AllocError, Global};
 use std::collections::BTreeSet;
 
@@ -118,7 +118,8 @@ impl Context {
         ensures { result ≡ least_ready (in_view view.now) now busy.now self.now.rows.rows }
     {
         let polled = Polled::nothing();
-        'rows: for row in self.rows.candidates(now) {
+        let sight = Sight::undisturbed(now, view.marks());
+        'rows: for row in self.rows.candidates(sight) {
             if is_callable(row, &polled, now, busy, view) {
                 return Some(row.priority);
             }
@@ -185,7 +186,8 @@ impl Context {
         ensures { IfOk result (λ list. list.items ≡ interests least busy.now self.now.rows.rows) }
     {
         let mut list = Vec::new(alloc);
-        'rows: for row in self.rows.candidates(0) {
+        let sight = Sight::of_descriptors();
+        'rows: for row in self.rows.candidates(sight) {
             if let Some(interest) = interest(row, least, busy) {
                 list.push(interest)?;
             }
@@ -207,7 +209,8 @@ impl Context {
         if levels.is_empty() {
             return Ok(list);
         }
-        'rows: for row in self.rows.candidates(0) {
+        let sight = Sight::of_descriptors();
+        'rows: for row in self.rows.candidates(sight) {
             if let Some(interest) = interest(row, least, busy) {
                 if let Some(level) = level_at(levels, list.len()) {
                     list.push(Shown {
@@ -238,7 +241,8 @@ impl Context {
         let mut bound = least;
         let mut ids = Vec::new(alloc);
         let mut lent = BTreeSet::new(alloc);
-        'rows: for row in self.rows.candidates(now) {
+        let sight = Sight::new(now, view.marks());
+        'rows: for row in self.rows.candidates(sight) {
             if is_beyond(bound, row.priority) {
                 break;
             }

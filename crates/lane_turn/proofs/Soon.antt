@@ -7,7 +7,9 @@ use Rattle.std.specs.List.{AllByRecursion, list_any}
 use Rattle.loop_script.specs.declared.source.Kind.{Kind}
 use Rattle.loop_script.specs.declared.source.Kind.TheVariants.{Idle, Timeout, ReadyTime, Fd, Cancel}
 use Rattle.source_rows.specs.declared.row.Row.{Row}
-use Rattle.source_rows.specs.Candidates.{due_at, wakes_at, is_awake, may_call, candidates}
+use Rattle.cancel_view.specs.Marks.{mark_of, meets}
+use Rattle.source_rows.specs.declared.sight.Sight.{Sight}
+use Rattle.source_rows.specs.Candidates.{descriptor, due_at, opened_by, sleeps, is_awake, may_call, candidates}
 use Rattle.source_rows.specs.Rows.{sooner, next_ready, in_order}
 use Rattle.source_rows.specs.Tree.{IsForest}
 use Rattle.source_rows.proofs.Band.{any_in_order}
@@ -16,8 +18,8 @@ use Rattle.source_rows.proofs.Forest.{InForest, members}
 use Rattle.source_rows.proofs.Lists.{all_both}
 use Rattle.source_rows.proofs.Order.{all_in_order}
 use Rattle.source_rows.proofs.Steps.{awake_calls}
-use Rattle.context_core.specs.Ready.{own_ready, kind_ready, is_due, is_free, is_callable}
-use Rattle.context_core.proofs.Candidates.{any_kept}
+use Rattle.context_core.specs.Ready.{own_ready, kind_ready, has_bit, is_due, is_free, is_callable}
+use Rattle.context_core.proofs.Candidates.{Sees, any_kept}
 
 -- ---- the next ready time
 
@@ -82,37 +84,51 @@ late_all now t (r ∷ rows) h = late_step now t r rows (int_lt (pos now) r.ready
 
 -- ---- what sleeps
 
-awake_always : (now : ℕ) → not (nat_lt now 0) ≡ false → false ≡ true
-awake_always now e = let no : nat_lt now 0 ≡ false = grind (arith, nat_tests) in let never = sym (ap not no) ∙ e in cc
+both_of : (a b : Bool) → not (not a && b) ≡ false → (a ≡ false) × (b ≡ true)
+both_of true b e = cc
+both_of false true e = (refl, refl)
+both_of false false e = cc
 
-due_later : (now t : ℕ) (ready : ℤ) (b : Bool) → b ≡ not (nat_lt now (due_at ready)) → b ≡ false → (int_lt (pos now) ready ≡ true → is_due t ready ≡ false) → is_due t ready ≡ false
-due_later now t (negsuc n) b e f h = refl
-due_later now t (pos n) b e f h =
-    let low : not (nat_lt now n) ≡ false = sym e ∙ f in
-    let over : nat_lt now n ≡ true = grind (arith, nat_tests) in
-    h (grind (arith, nat_tests, ints))
+due_later : (now t : ℕ) (ready : ℤ) → nat_lt now (due_at ready) ≡ true → (int_lt (pos now) ready ≡ true → is_due t ready ≡ false) → is_due t ready ≡ false
+due_later now t (negsuc n) over h = refl
+due_later now t (pos n) over h = h (grind (arith, nat_tests, ints))
 
-asleep_by : (level : ℕ → ℕ) (view : ℕ → Bool) (now t : ℕ) (k : Kind) (ready : ℤ) → not (nat_lt now (wakes_at k ready)) ≡ false → (int_lt (pos now) ready ≡ true → is_due t ready ≡ false) → (kind_ready level view k || is_due t ready) ≡ false
-asleep_by level view now t Idle ready e h = let no = awake_always now e in cc
-asleep_by level view now t (Timeout ms) ready e h = due_later now t ready _ refl e h
-asleep_by level view now t (ReadyTime us) ready e h = due_later now t ready _ refl e h
-asleep_by level view now t (Fd fd bits) ready e h = let no = awake_always now e in cc
-asleep_by level view now t (Cancel c) ready e h = let no = awake_always now e in cc
+closed : (level : ℕ → ℕ) (view : ℕ → Bool) (now : ℕ) (sight : Sight) → Sees level view now sight → (c : ℕ) → meets (mark_of c) sight.marks ≡ false → (b : Bool) → view c ≡ b → b ≡ false
+closed level view now sight sees c e true f = let never = sym e ∙ sees.marked c f in cc
+closed level view now sight sees c e false f = refl
 
-own_awake : (level : ℕ → ℕ) (view : ℕ → Bool) (now t : ℕ) (r : Row) → (int_lt (pos now) r.ready ≡ true → is_due t r.ready ≡ false) → own_ready level view t r ≡ true → is_awake now r ≡ true
-own_awake level view now t r h own = by_awake (is_awake now r) refl
+shows_none : (level : ℕ → ℕ) (view : ℕ → Bool) (now : ℕ) (sight : Sight) → Sees level view now sight → (fd bits : ℕ) → meets descriptor sight.marks ≡ false → (b : Bool) → has_bit (level fd) bits ≡ b → b ≡ false
+shows_none level view now sight sees fd bits e true f = let never = sym e ∙ sees.shown fd bits f in cc
+shows_none level view now sight sees fd bits e false f = refl
+
+asleep_by : (level : ℕ → ℕ) (view : ℕ → Bool) (now t : ℕ) (sight : Sight) → Sees level view now sight → (k : Kind) (ready : ℤ) → not (sleeps sight (opened_by k) (due_at ready)) ≡ false → (int_lt (pos now) ready ≡ true → is_due t ready ≡ false)
+    → (kind_ready level view k || is_due t ready) ≡ false
+asleep_by level view now t sight sees k ready e h = by k (both_of (meets (opened_by k) sight.marks) (nat_lt sight.now (due_at ready)) e)
   where
-    by_awake : (b : Bool) → is_awake now r ≡ b → b ≡ true
+    late : nat_lt sight.now (due_at ready) ≡ true → is_due t ready ≡ false
+    late over = due_later now t ready (ap (λ (n : ℕ). nat_lt n (due_at ready)) (sym sees.time) ∙ over) h
+
+    by : (k : Kind) → (meets (opened_by k) sight.marks ≡ false) × (nat_lt sight.now (due_at ready) ≡ true) → (kind_ready level view k || is_due t ready) ≡ false
+    by Idle two = let never = sym two.0 ∙ sees.idle in cc
+    by (Timeout ms) two = late two.1
+    by (ReadyTime us) two = late two.1
+    by (Fd fd bits) two = rw (shows_none level view now sight sees fd bits two.0 (has_bit (level fd) bits) refl) (late two.1)
+    by (Cancel c) two = rw (closed level view now sight sees c two.0 (view c) refl) (late two.1)
+
+own_awake : (level : ℕ → ℕ) (view : ℕ → Bool) (now t : ℕ) (sight : Sight) → Sees level view now sight → (r : Row) → (int_lt (pos now) r.ready ≡ true → is_due t r.ready ≡ false) → own_ready level view t r ≡ true → is_awake sight r ≡ true
+own_awake level view now t sight sees r h own = by_awake (is_awake sight r) refl
+  where
+    by_awake : (b : Bool) → is_awake sight r ≡ b → b ≡ true
     by_awake true e = refl
-    by_awake false e = sym (asleep_by level view now t r.kind r.ready e h) ∙ own
+    by_awake false e = sym (asleep_by level view now t sight sees r.kind r.ready e h) ∙ own
 
 -- what calls stands among what may be ready
-pub soon : (level : ℕ → ℕ) (view : ℕ → Bool) (now t : ℕ) (busy : List ℕ) (rows : List Row) → IsForest rows → Late t (next_ready now rows)
-    → list_any (is_callable (own_ready level view t) busy) (candidates now rows) ≡ list_any (is_callable (own_ready level view t) busy) rows
-soon level view now t busy rows forest late =
-    any_kept (is_callable (own_ready level view t) busy) (may_call now rows) (in_order rows)
-    (all_in_order (λ r. is_callable (own_ready level view t) busy r ≡ true → may_call now rows r ≡ true) rows
-    (all_both (InForest rows) (λ q. int_lt (pos now) q.ready ≡ true → is_due t q.ready ≡ false) (λ r. is_callable (own_ready level view t) busy r ≡ true → may_call now rows r ≡ true)
-    (λ r g h c. awake_calls rows (members rows forest) now r g (own_awake level view now t r h (and_both (is_free busy r) (own_ready level view t r) c).1))
+pub soon : (level : ℕ → ℕ) (view : ℕ → Bool) (now t : ℕ) (sight : Sight) → Sees level view now sight → (busy : List ℕ) (rows : List Row) → IsForest rows → Late t (next_ready now rows)
+    → list_any (is_callable (own_ready level view t) busy) (candidates sight rows) ≡ list_any (is_callable (own_ready level view t) busy) rows
+soon level view now t sight sees busy rows forest late =
+    any_kept (is_callable (own_ready level view t) busy) (may_call sight rows) (in_order rows)
+    (all_in_order (λ r. is_callable (own_ready level view t) busy r ≡ true → may_call sight rows r ≡ true) rows
+    (all_both (InForest rows) (λ q. int_lt (pos now) q.ready ≡ true → is_due t q.ready ≡ false) (λ r. is_callable (own_ready level view t) busy r ≡ true → may_call sight rows r ≡ true)
+    (λ r g h c. awake_calls rows (members rows forest) sight r g (own_awake level view now t sight sees r h (and_both (is_free busy r) (own_ready level view t r) c).1))
     rows (members rows forest) (late_all now t rows late)))
     ∙ any_in_order (is_callable (own_ready level view t) busy) rows

@@ -17,7 +17,7 @@ use crate::layer::Top;
 use cancel_view::View;
 use context_core::Context;
 use loop_script::{Kind, Script};
-use source_rows::Row;
+use source_rows::{Row, Sight};
 
 /// The sooner of two ticks, where none is never.
 pub(crate) fn sooner(a: Option<u64>, b: Option<u64>) -> Option<u64>
@@ -166,7 +166,8 @@ fn context_wake(
     ensures { (k : ℕ) → from ≤ k → IsAfter k result → chosen_in script.now k view.now (busy number frames.now) (Some context.now) ≡ [] }
 {
     let mut wake = None;
-    'rows: for row in context.rows().candidates(script.now(from)) {
+    let sight = Sight::new(script.now(from), view.marks());
+    'rows: for row in context.rows().candidates(sight) {
         wake = sooner(wake, free_wake(script, frames, number, row, from, view));
         if is_by(wake, from) {
             return wake;

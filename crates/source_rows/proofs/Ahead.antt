@@ -1,5 +1,5 @@
 -- What follows for seats: their order, one among them, and the least times.
-use Rattle.std.proofs.Common.{◌≡◌, length, nat_lt, Option, ◌≢◌, ◌⊎◌, ℕ, ℤ, int_lt, Bool, true, false, not, cond, ◌||◌, Some, None, List, [], ◌∷◌, ◌++◌, inl, inr, filter, refl, ap, sym, ◌∙◌, ap₂, arith}
+use Rattle.std.proofs.Common.{◌≡◌, length, Option, ◌≢◌, ◌⊎◌, ℕ, ℤ, int_lt, Bool, true, false, not, cond, ◌||◌, Some, None, List, [], ◌∷◌, ◌++◌, inl, inr, filter, refl, ap, sym, ◌∙◌, ap₂, arith}
 use Rattle.std.proofs.lemmas.Bool.Decides.{nat_tests}
 use Rattle.std.proofs.lemmas.Int.{ints}
 use Rattle.std.proofs.lemmas.List.Sorted.{ranks_by}
@@ -10,14 +10,16 @@ use Rattle.std.specs.declared.cmp.Ordering.{Ordering}
 use Rattle.std.specs.declared.cmp.Ordering.TheVariants.{Less, Equal, Greater}
 use Rattle.source_rows.specs.Inserted.{Rises}
 use Rattle.source_rows.specs.declared.seats.Seat.{Seat}
-use Rattle.source_rows.specs.Seats.{seat_cmp, is_ahead, without, least_by, is_passed, first_awake, swap, swapped}
+use Rattle.source_rows.specs.Seats.{seat_cmp, is_ahead, without, least_by, marks_of, is_passed, first_awake, swap, swapped}
 use Rattle.std.specs.Cmp.Lexicographic.{slice_cmp}
 use Rattle.std.proofs.lemmas.Map.Lookups.{exact_bytes}
 use Rattle.source_rows.specs.Rows.{Key, key_cmp}
 use Rattle.source_rows.proofs.Order.{key_total}
 use Rattle.source_rows.proofs.Compared.{or_true}
 use Rattle.source_rows.proofs.Lists.{all_of}
-use Rattle.source_rows.proofs.Soonest.{asleep_by}
+use Rattle.source_rows.proofs.AllMarks.{all_sleep}
+use Rattle.source_rows.specs.Candidates.{sleeps}
+use Rattle.source_rows.specs.declared.sight.Sight.{Sight}
 use Rattle.source_rows.proofs.Inserted.{all_left, all_right, trans}
 
 -- ---- the order
@@ -25,7 +27,7 @@ use Rattle.source_rows.proofs.Inserted.{all_left, all_right, trans}
 pub seat_total : IsTotalOrder seat_cmp
 seat_total =
     then_total (on_total (λ (t : Seat). t.key) key_total)
-    (then_total (on_total (λ (t : Seat). t.id) nat_cmp_total) (then_total (on_total (λ (t : Seat). t.wake) nat_cmp_total) (on_total (λ (t : Seat). t.due) nat_cmp_total)))
+    (then_total (on_total (λ (t : Seat). t.id) nat_cmp_total) (then_total (on_total (λ (t : Seat). t.marks) nat_cmp_total) (on_total (λ (t : Seat). t.due) nat_cmp_total)))
 
 pub sooner_order : IsStrictWeakOrder is_ahead
 sooner_order = ranks_by seat_total (λ (t : Seat). t)
@@ -64,15 +66,15 @@ same_key a b h =
 
 pub same_from_equal : (a b : Seat) → seat_cmp a b ≡ Equal → a ≡ b
 same_from_equal a b h =
-    let times = ordering_then (nat_cmp a.wake b.wake) (nat_cmp a.due b.due) in
+    let times = ordering_then (nat_cmp a.marks b.marks) (nat_cmp a.due b.due) in
     let t = then_equal (key_cmp a.key b.key) (ordering_then (nat_cmp a.id b.id) times) h in
     let u = then_equal (nat_cmp a.id b.id) times t.1 in
-    let v = then_equal (nat_cmp a.wake b.wake) (nat_cmp a.due b.due) u.1 in
-    let seat = λ (k : Key) (n w d : ℕ). let c : Seat = record { key = k; id = n; wake = w; due = d } in c in
-    ap (λ (k : Key). seat k a.id a.wake a.due) (same_key a.key b.key t.0)
-    ∙ (ap (λ (n : ℕ). seat b.key n a.wake a.due) (same_number a.id b.id u.0)
-    ∙ (ap (λ (w : ℕ). seat b.key b.id w a.due) (same_number a.wake b.wake v.0)
-    ∙ ap (λ (d : ℕ). seat b.key b.id b.wake d) (same_number a.due b.due v.1)))
+    let v = then_equal (nat_cmp a.marks b.marks) (nat_cmp a.due b.due) u.1 in
+    let seat = λ (k : Key) (n w d : ℕ). let c : Seat = record { key = k; id = n; marks = w; due = d } in c in
+    ap (λ (k : Key). seat k a.id a.marks a.due) (same_key a.key b.key t.0)
+    ∙ (ap (λ (n : ℕ). seat b.key n a.marks a.due) (same_number a.id b.id u.0)
+    ∙ (ap (λ (w : ℕ). seat b.key b.id w a.due) (same_number a.marks b.marks v.0)
+    ∙ ap (λ (d : ℕ). seat b.key b.id b.marks d) (same_number a.due b.due v.1)))
 
 pub equal_from_same : (a b : Seat) → a ≡ b → seat_cmp a b ≡ Equal
 equal_from_same a b e = ap (seat_cmp a) (sym e) ∙ tied_itself seat_total a
@@ -214,36 +216,36 @@ there_here t l k r e =
     let here : list_any (λ u. is_eq (seat_cmp t u)) (k ∷ r) ≡ true = ap (λ (b : Bool). b || list_any (λ u. is_eq (seat_cmp t u)) r) (is_same t k e) in
     any_join (λ u. is_eq (seat_cmp t u)) l (k ∷ r) ∙ (ap (λ (b : Bool). list_any (λ u. is_eq (seat_cmp t u)) l || b) here ∙ or_true (list_any (λ u. is_eq (seat_cmp t u)) l))
 
--- ---- the first seat behind a key that wakes by a time
+-- ---- the first seat behind a key that does not sleep
 
-asleep_at : (after : Option Key) (now : ℕ) (s : Seat) (o : Option ℕ) → nat_lt now s.wake ≡ true → o ≡ None → (b : Bool) → cond b o (cond (nat_lt now s.wake) o (Some s.id)) ≡ None
-asleep_at after now s o h e true = e
-asleep_at after now s o h e false = ap (λ (b : Bool). cond b o (Some s.id)) h ∙ e
+asleep_at : (after : Option Key) (sight : Sight) (s : Seat) (o : Option ℕ) → sleeps sight s.marks s.due ≡ true → o ≡ None → (b : Bool) → cond b o (cond (sleeps sight s.marks s.due) o (Some s.id)) ≡ None
+asleep_at after sight s o h e true = e
+asleep_at after sight s o h e false = ap (λ (b : Bool). cond b o (Some s.id)) h ∙ e
 
--- none wakes before the least time
-pub none_awake : (after : Option Key) (now : ℕ) (xs : List Seat) → nat_lt now (least_by (λ s. s.wake) xs) ≡ true → first_awake after now xs ≡ None
-none_awake after now [] h = refl
-none_awake after now (s ∷ xs) h =
-    let two = asleep_by now s.wake (least_by (λ s. s.wake) xs) (nat_lt s.wake (least_by (λ s. s.wake) xs)) refl h in
-    asleep_at after now s (first_awake after now xs) two.0 (none_awake after now xs two.1) (is_passed after s.key)
+-- where all their marks and their least time sleep, each seat does
+pub none_awake : (after : Option Key) (sight : Sight) (xs : List Seat) → sleeps sight (marks_of xs) (least_by (λ s. s.due) xs) ≡ true → first_awake after sight xs ≡ None
+none_awake after sight [] h = refl
+none_awake after sight (s ∷ xs) h =
+    let two = all_sleep sight s xs h in
+    asleep_at after sight s (first_awake after sight xs) two.0 (none_awake after sight xs two.1) (is_passed after s.key)
 
 awake_some_by : (z : ℕ) (s : Seat) (o p : Option ℕ) → (o ≡ Some z → p ≡ Some z) → (b v : Bool) → cond b o (cond v o (Some s.id)) ≡ Some z → cond b p (cond v p (Some s.id)) ≡ Some z
 awake_some_by z s o p ih true v h = ih h
 awake_some_by z s o p ih false true h = ih h
 awake_some_by z s o p ih false false h = h
 
-pub awake_join_some : (after : Option Key) (now : ℕ) (z : ℕ) (l r : List Seat) → first_awake after now l ≡ Some z → first_awake after now (l ++ r) ≡ Some z
-awake_join_some after now z [] r h = cc
-awake_join_some after now z (s ∷ l) r h = awake_some_by z s (first_awake after now l) (first_awake after now (l ++ r)) (awake_join_some after now z l r) (is_passed after s.key) (nat_lt now s.wake) h
+pub awake_join_some : (after : Option Key) (sight : Sight) (z : ℕ) (l r : List Seat) → first_awake after sight l ≡ Some z → first_awake after sight (l ++ r) ≡ Some z
+awake_join_some after sight z [] r h = cc
+awake_join_some after sight z (s ∷ l) r h = awake_some_by z s (first_awake after sight l) (first_awake after sight (l ++ r)) (awake_join_some after sight z l r) (is_passed after s.key) (sleeps sight s.marks s.due) h
 
 awake_none_by : (s : Seat) (o p q : Option ℕ) → (o ≡ None → p ≡ q) → (b v : Bool) → cond b o (cond v o (Some s.id)) ≡ None → cond b p (cond v p (Some s.id)) ≡ q
 awake_none_by s o p q ih true v h = ih h
 awake_none_by s o p q ih false true h = ih h
 awake_none_by s o p q ih false false h = cc
 
-pub awake_join_none : (after : Option Key) (now : ℕ) (l r : List Seat) → first_awake after now l ≡ None → first_awake after now (l ++ r) ≡ first_awake after now r
-awake_join_none after now [] r h = refl
-awake_join_none after now (s ∷ l) r h = awake_none_by s (first_awake after now l) (first_awake after now (l ++ r)) (first_awake after now r) (awake_join_none after now l r) (is_passed after s.key) (nat_lt now s.wake) h
+pub awake_join_none : (after : Option Key) (sight : Sight) (l r : List Seat) → first_awake after sight l ≡ None → first_awake after sight (l ++ r) ≡ first_awake after sight r
+awake_join_none after sight [] r h = refl
+awake_join_none after sight (s ∷ l) r h = awake_none_by s (first_awake after sight l) (first_awake after sight (l ++ r)) (first_awake after sight r) (awake_join_none after sight l r) (is_passed after s.key) (sleeps sight s.marks s.due) h
 
 -- a key that does not stand behind one that is passed is passed
 pub key_by : (o p : Ordering) → is_lt (ordering_then o p) ≡ true → (o ≡ Less) ⊎ (o ≡ Equal)
@@ -270,24 +272,24 @@ pub passed_by : (after : Option Key) (x k : Seat) → is_ahead x k ≡ true → 
 passed_by None x k h p = p
 passed_by (Some a) x k h p = behind_by a x.key k.key (not_true (is_lt (key_cmp a k.key)) p) (key_by (key_cmp x.key k.key) _ h) (is_lt (key_cmp a x.key)) refl
 
-none_behind : (after : Option Key) (now : ℕ) (k : Seat) (xs : List Seat) → is_passed after k.key ≡ true → AllByRecursion (λ u. is_ahead u k ≡ true) xs → first_awake after now xs ≡ None
-none_behind after now k [] p h = refl
-none_behind after now k (s ∷ xs) p h =
-    ap (λ (b : Bool). cond b (first_awake after now xs) (cond (nat_lt now s.wake) (first_awake after now xs) (Some s.id))) (passed_by after s k h.0 p) ∙ none_behind after now k xs p h.1
+none_behind : (after : Option Key) (sight : Sight) (k : Seat) (xs : List Seat) → is_passed after k.key ≡ true → AllByRecursion (λ u. is_ahead u k ≡ true) xs → first_awake after sight xs ≡ None
+none_behind after sight k [] p h = refl
+none_behind after sight k (s ∷ xs) p h =
+    ap (λ (b : Bool). cond b (first_awake after sight xs) (cond (sleeps sight s.marks s.due) (first_awake after sight xs) (Some s.id))) (passed_by after s k h.0 p) ∙ none_behind after sight k xs p h.1
 
-pub awake_right : (after : Option Key) (now : ℕ) (l : List Seat) (k : Seat) (r : List Seat) → Rises is_ahead (l ++ k ∷ r) → is_passed after k.key ≡ true → first_awake after now (l ++ k ∷ r) ≡ first_awake after now r
-awake_right after now l k r s p =
-    awake_join_none after now l (k ∷ r) (none_behind after now k l p (all_left is_ahead l k r s))
-    ∙ ap (λ (b : Bool). cond b (first_awake after now r) (cond (nat_lt now k.wake) (first_awake after now r) (Some k.id))) p
+pub awake_right : (after : Option Key) (sight : Sight) (l : List Seat) (k : Seat) (r : List Seat) → Rises is_ahead (l ++ k ∷ r) → is_passed after k.key ≡ true → first_awake after sight (l ++ k ∷ r) ≡ first_awake after sight r
+awake_right after sight l k r s p =
+    awake_join_none after sight l (k ∷ r) (none_behind after sight k l p (all_left is_ahead l k r s))
+    ∙ ap (λ (b : Bool). cond b (first_awake after sight r) (cond (sleeps sight k.marks k.due) (first_awake after sight r) (Some k.id))) p
 
-pub awake_here : (after : Option Key) (now : ℕ) (l : List Seat) (k : Seat) (r : List Seat) → is_passed after k.key ≡ false → nat_lt now k.wake ≡ false → first_awake after now l ≡ None → first_awake after now (l ++ k ∷ r) ≡ Some k.id
-awake_here after now l k r p n h = awake_join_none after now l (k ∷ r) h ∙ rw (p, n) refl
+pub awake_here : (after : Option Key) (sight : Sight) (l : List Seat) (k : Seat) (r : List Seat) → is_passed after k.key ≡ false → sleeps sight k.marks k.due ≡ false → first_awake after sight l ≡ None → first_awake after sight (l ++ k ∷ r) ≡ Some k.id
+awake_here after sight l k r p n h = awake_join_none after sight l (k ∷ r) h ∙ rw (p, n) refl
 
-pub awake_over : (after : Option Key) (now : ℕ) (l : List Seat) (k : Seat) (r : List Seat) → is_passed after k.key ≡ false → nat_lt now k.wake ≡ true → first_awake after now l ≡ None → first_awake after now (l ++ k ∷ r) ≡ first_awake after now r
-awake_over after now l k r p n h = awake_join_none after now l (k ∷ r) h ∙ rw (p, n) refl
+pub awake_over : (after : Option Key) (sight : Sight) (l : List Seat) (k : Seat) (r : List Seat) → is_passed after k.key ≡ false → sleeps sight k.marks k.due ≡ true → first_awake after sight l ≡ None → first_awake after sight (l ++ k ∷ r) ≡ first_awake after sight r
+awake_over after sight l k r p n h = awake_join_none after sight l (k ∷ r) h ∙ rw (p, n) refl
 
-pub awake_left : (after : Option Key) (now : ℕ) (z : ℕ) (l : List Seat) (k : Seat) (r : List Seat) → first_awake after now l ≡ Some z → first_awake after now (l ++ k ∷ r) ≡ Some z
-awake_left after now z l k r h = awake_join_some after now z l (k ∷ r) h
+pub awake_left : (after : Option Key) (sight : Sight) (z : ℕ) (l : List Seat) (k : Seat) (r : List Seat) → first_awake after sight l ≡ Some z → first_awake after sight (l ++ k ∷ r) ≡ Some z
+awake_left after sight z l k r h = awake_join_some after sight z l (k ∷ r) h
 
 -- ---- a seat put where another stands
 
@@ -335,7 +337,7 @@ wake_free Equal Greater v w h = refl
 
 same_ahead : (x y u v : Seat) → x.key ≡ u.key → x.id ≡ u.id → y.key ≡ v.key → y.id ≡ v.id → u.id ≢ v.id → is_ahead x y ≡ is_ahead u v
 same_ahead x y u v a b c d n =
-    rw (a, b, c, d) (wake_free (key_cmp u.key v.key) (nat_cmp u.id v.id) (ordering_then (nat_cmp x.wake y.wake) (nat_cmp x.due y.due)) (ordering_then (nat_cmp u.wake v.wake) (nat_cmp u.due v.due)) (λ e. n (same_number u.id v.id e)))
+    rw (a, b, c, d) (wake_free (key_cmp u.key v.key) (nat_cmp u.id v.id) (ordering_then (nat_cmp x.marks y.marks) (nat_cmp x.due y.due)) (ordering_then (nat_cmp u.marks v.marks) (nat_cmp u.due v.due)) (λ e. n (same_number u.id v.id e)))
 
 pub swap_ahead : (a b u v : Seat) → b.key ≡ a.key → b.id ≡ a.id → u.id ≢ v.id → is_ahead (swap a b u) (swap a b v) ≡ is_ahead u v
 swap_ahead a b u v e f n =

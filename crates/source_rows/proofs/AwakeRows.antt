@@ -1,17 +1,18 @@
 -- The first seat that is awake is that of the first row that is.
-use Rattle.std.proofs.Common.{◌≡◌, ℕ, ◌&&◌, nat_lt, Bool, true, false, not, cond, Option, Some, None, List, [], ◌∷◌, map, option_map, refl, ap, ◌∙◌}
+use Rattle.std.proofs.Common.{◌≡◌, ℕ, ◌&&◌, Bool, true, false, not, cond, Option, Some, None, List, [], ◌∷◌, map, option_map, refl, ap, ◌∙◌}
 use Rattle.std.specs.Prelude.{IfSome}
 use Rattle.std.specs.List.{AllByRecursion, find}
 use Rattle.std.specs.Ordering.{is_lt, ordering_then}
 use Rattle.std.specs.declared.cmp.Ordering.{Ordering}
 use Rattle.std.specs.declared.cmp.Ordering.TheVariants.{Less, Equal, Greater}
 use Rattle.source_rows.specs.declared.row.Row.{Row}
+use Rattle.source_rows.specs.declared.sight.Sight.{Sight}
 use Rattle.source_rows.specs.Inserted.{inserted}
 use Rattle.source_rows.specs.Order.{Apart}
 use Rattle.source_rows.specs.Kept.{AllApart}
 use Rattle.source_rows.specs.Rows.{key_cmp, key_of, row_of, stands_before, placed, in_order}
 use Rattle.source_rows.specs.Tree.{IsForest}
-use Rattle.source_rows.specs.Candidates.{wakes_at}
+use Rattle.source_rows.specs.Candidates.{sleeps, opened_by, due_at}
 use Rattle.source_rows.specs.declared.seats.Seat.{Seat}
 use Rattle.source_rows.specs.Seats.{is_ahead, seat_of, in_seats, is_passed, first_awake}
 use Rattle.source_rows.specs.Steps.{wakes}
@@ -48,13 +49,13 @@ awake_by r o p ih true v = ih
 awake_by r o p ih false true = ih
 awake_by r o p ih false false = refl
 
-awake_mapped : (last : Option Row) (now : ℕ) (qs : List Row) → first_awake (option_map key_of last) now (map seat_of qs) ≡ option_map (λ (x : Row). x.id) (find (wakes now last) qs)
-awake_mapped last now [] = refl
-awake_mapped last now (r ∷ qs) =
-    awake_by r (first_awake (option_map key_of last) now (map seat_of qs)) (find (wakes now last) qs) (awake_mapped last now qs) (is_passed (option_map key_of last) (key_of r)) (nat_lt now (wakes_at r.kind r.ready))
+awake_mapped : (last : Option Row) (sight : Sight) (qs : List Row) → first_awake (option_map key_of last) sight (map seat_of qs) ≡ option_map (λ (x : Row). x.id) (find (wakes sight last) qs)
+awake_mapped last sight [] = refl
+awake_mapped last sight (r ∷ qs) =
+    awake_by r (first_awake (option_map key_of last) sight (map seat_of qs)) (find (wakes sight last) qs) (awake_mapped last sight qs) (is_passed (option_map key_of last) (key_of r)) (sleeps sight (opened_by r.kind) (due_at r.ready))
 
-pub awake_is : (rows : List Row) (last : Option Row) (now : ℕ) → AllApart rows → first_awake (option_map key_of last) now (in_seats rows) ≡ option_map (λ (x : Row). x.id) (find (wakes now last) (in_order rows))
-awake_is rows last now h = ap (first_awake (option_map key_of last) now) (seats_in_order rows h) ∙ awake_mapped last now (in_order rows)
+pub awake_is : (rows : List Row) (last : Option Row) (sight : Sight) → AllApart rows → first_awake (option_map key_of last) sight (in_seats rows) ≡ option_map (λ (x : Row). x.id) (find (wakes sight last) (in_order rows))
+awake_is rows last sight h = ap (first_awake (option_map key_of last) sight) (seats_in_order rows h) ∙ awake_mapped last sight (in_order rows)
 
 there_by : (rows : List Row) (p : Option Row) → IfSome p (λ r. row_of r.id rows ≡ Some r) → (id : ℕ) → Some id ≡ option_map (λ (x : Row). x.id) p → row_of id rows ≡ p
 there_by rows None h id e = cc
@@ -65,16 +66,16 @@ holds_some P f xs h None e = tt
 holds_some P f xs h (Some z) e = find_holds P f z xs h e
 
 -- the row of the id that is found is the one that wakes
-pub awake_row : (rows : List Row) (last : Option Row) (now : ℕ) → IsForest rows → AllApart rows → (id : ℕ) → Some id ≡ first_awake (option_map key_of last) now (in_seats rows) → row_of id rows ≡ find (wakes now last) (in_order rows)
-awake_row rows last now forest apart id e =
-    there_by rows (find (wakes now last) (in_order rows))
-    (holds_some (λ r. row_of r.id rows ≡ Some r) (wakes now last) (in_order rows)
-    (all_in_order (λ r. row_of r.id rows ≡ Some r) rows (all_of (InForest rows) (λ r. row_of r.id rows ≡ Some r) (λ r f. f.is) rows (members rows forest))) (find (wakes now last) (in_order rows)) refl)
-    id (e ∙ awake_is rows last now apart)
+pub awake_row : (rows : List Row) (last : Option Row) (sight : Sight) → IsForest rows → AllApart rows → (id : ℕ) → Some id ≡ first_awake (option_map key_of last) sight (in_seats rows) → row_of id rows ≡ find (wakes sight last) (in_order rows)
+awake_row rows last sight forest apart id e =
+    there_by rows (find (wakes sight last) (in_order rows))
+    (holds_some (λ r. row_of r.id rows ≡ Some r) (wakes sight last) (in_order rows)
+    (all_in_order (λ r. row_of r.id rows ≡ Some r) rows (all_of (InForest rows) (λ r. row_of r.id rows ≡ Some r) (λ r f. f.is) rows (members rows forest))) (find (wakes sight last) (in_order rows)) refl)
+    id (e ∙ awake_is rows last sight apart)
 
 none_of : (p : Option Row) → None ≡ option_map (λ (x : Row). x.id) p → p ≡ None
 none_of None e = refl
 none_of (Some r) e = cc
 
-pub awake_none : (rows : List Row) (last : Option Row) (now : ℕ) → AllApart rows → None ≡ first_awake (option_map key_of last) now (in_seats rows) → find (wakes now last) (in_order rows) ≡ None
-awake_none rows last now apart e = none_of (find (wakes now last) (in_order rows)) (e ∙ awake_is rows last now apart)
+pub awake_none : (rows : List Row) (last : Option Row) (sight : Sight) → AllApart rows → None ≡ first_awake (option_map key_of last) sight (in_seats rows) → find (wakes sight last) (in_order rows) ≡ None
+awake_none rows last sight apart e = none_of (find (wakes sight last) (in_order rows)) (e ∙ awake_is rows last sight apart)

@@ -1,11 +1,12 @@
 -- The least times of seats once one of them is taken out.
-use Rattle.std.proofs.Common.{◌≡◌, ◌<◌, ◌⊎◌, nat_lt, ℕ, Bool, true, false, not, cond, inl, inr, List, [], ◌∷◌, refl, ap, ap₂, sym, subst, ◌∙◌, arith}
+use Rattle.std.proofs.Common.{◌≡◌, nat_lt, ℕ, Bool, true, false, not, cond, inl, inr, List, [], ◌∷◌, refl, ap, ap₂, sym, subst, ◌∙◌, arith}
 use Rattle.std.proofs.lemmas.Bool.Decides.{nat_tests}
 use Rattle.std.specs.Ordering.{is_eq}
 use Rattle.source_rows.specs.Candidates.{never}
 use Rattle.source_rows.specs.declared.seats.Least.{Least}
 use Rattle.source_rows.specs.declared.seats.Seat.{Seat}
 use Rattle.source_rows.specs.Seats.{seat_cmp, lesser, least_by, least_of, without, IsLater}
+use Rattle.source_rows.proofs.AllMarks.{marks_stay}
 use Rattle.source_rows.proofs.Ahead.{same_time}
 use Rattle.source_rows.proofs.Soonest.{least_most, behind_least}
 
@@ -39,9 +40,9 @@ least_stays f t xs (inl later) = by (nat_lt (f t) (least_by f (without t xs))) r
 least_stays f t xs (inr none) = sym (ap (λ (v : Bool). cond v never (least_by f (without t xs))) (least_most f (without t xs)))
     ∙ (subst (λ (n : ℕ). lesser n (least_by f (without t xs)) ≡ lesser n (least_by f xs)) none (least_without f t xs) ∙ ap (λ (v : Bool). cond v never (least_by f xs)) (least_most f xs))
 
--- so do both least times
-pub leasts_stay : (t : Seat) (least : Least) (xs : List Seat) → least ≡ least_of xs → IsLater t.wake least.wake → IsLater t.due least.due → least_of (without t xs) ≡ least_of xs
-leasts_stay t least xs is wake due =
-    let w = least_stays (λ s. s.wake) t xs (subst (λ (l : Least). IsLater t.wake l.wake) is wake) in
+-- without a seat that has no mark and is later, marks and least time stay
+pub leasts_stay : (t : Seat) (least : Least) (xs : List Seat) → least ≡ least_of xs → t.marks ≡ 0 → IsLater t.due least.due → least_of (without t xs) ≡ least_of xs
+leasts_stay t least xs is none due =
+    let m = marks_stay same_time t xs none in
     let d = least_stays (λ s. s.due) t xs (subst (λ (l : Least). IsLater t.due l.due) is due) in
-    ap₂ (λ (a b : ℕ). let l : Least = record { wake = a; due = b } in l) w d
+    ap₂ (λ (a b : ℕ). let l : Least = record { marks = a; due = b } in l) m d

@@ -47,3 +47,4 @@ pub mod SetIn
 pub mod Parts
 pub mod Left
 pub mod TakenOut
+pub mod AllMarks

@@ -9,6 +9,8 @@ use Rattle.source_rows.specs.Seats.{is_ahead, least_of, lesser, IsLow}
 use Rattle.source_rows.specs.SeatTree.{seats_of, DifferBy, IsEvenFork, IsLowered, AreNearlyEven}
 use Rattle.source_rows.proofs.Inserted.{inserted_left, inserted_right}
 use Rattle.source_rows.proofs.Ahead.{sooner_order}
+use Rattle.std.specs.Prelude.{bit_or}
+use Rattle.source_rows.proofs.AllMarks.{marks_more}
 use Rattle.source_rows.proofs.Soonest.{least_put}
 use Rattle.source_rows.proofs.SeatTree.{length_inserted, sides_shorter}
 
@@ -46,13 +48,13 @@ put_later old seat side higher even rises before is low lowered h = record {
   still = λ e. (refl, let same : nat_lt old.later.1 side.1 ≡ false = sym h ∙ e in let b = lowered in grind (arith, nat_tests, same, b.0, b.1));
 }
 
--- the least times of a list with one more seat
-least_more : (seat : Seat) (xs : List Seat) → least_of (inserted is_ahead seat xs) ≡ record { wake = lesser seat.wake (least_of xs).wake; due = lesser seat.due (least_of xs).due }
+-- marks and least time of a list with one more seat
+least_more : (seat : Seat) (xs : List Seat) → least_of (inserted is_ahead seat xs) ≡ record { marks = bit_or (least_of xs).marks seat.marks; due = lesser seat.due (least_of xs).due }
 least_more seat xs =
-    ap₂ (λ (w d : ℕ). let l : Least = record { wake = w; due = d } in l) (least_put (λ s. s.wake) seat xs) (least_put (λ s. s.due) seat xs)
+    ap₂ (λ (w d : ℕ). let l : Least = record { marks = w; due = d } in l) (marks_more seat xs) (least_put (λ s. s.due) seat xs)
 
--- where no side is higher, the fork is even with the lesser of its least times and those of the seat
-pub put_even : (old new : Fork) (seat : Seat) → IsEvenFork old → PutIn old new seat false → IsEvenFork (record new { least = record { wake = lesser seat.wake new.least.wake; due = lesser seat.due new.least.due } })
+-- where no side is higher, the fork is even with its marks and least time and those of the seat
+pub put_even : (old new : Fork) (seat : Seat) → IsEvenFork old → PutIn old new seat false → IsEvenFork (record new { least = record { marks = bit_or new.least.marks seat.marks; due = lesser seat.due new.least.due } })
 put_even old new seat even put =
     let same = put.still refl in
     let a = even.1 in (
@@ -60,7 +62,7 @@ put_even old new seat even put =
       (omega (arith, same.0, same.1, a.0, a.1), omega (arith, same.0, same.1, a.0, a.1)),
       put.sooner,
       put.later,
-      ap (λ (l : Least). let m : Least = record { wake = lesser seat.wake l.wake; due = lesser seat.due l.due } in m) (put.least ∙ even.4) ∙ (sym (least_more seat (seats_of old)) ∙ ap least_of (sym put.seats)),
+      ap (λ (l : Least). let m : Least = record { marks = bit_or l.marks seat.marks; due = lesser seat.due l.due } in m) (put.least ∙ even.4) ∙ (sym (least_more seat (seats_of old)) ∙ ap least_of (sym put.seats)),
     )
 
 -- the sides are near enough to be balanced

@@ -8,6 +8,8 @@ use Rattle.source_rows.specs.Seats.{is_ahead, least_of, lesser, swapped, IsLow}
 use Rattle.source_rows.specs.SeatTree.{seats_of, IsEvenFork}
 use Rattle.source_rows.proofs.Ahead.{swapped_left, swapped_right, swapped_here}
 use Rattle.source_rows.proofs.Low.{side_swapped}
+use Rattle.std.specs.Prelude.{bit_or}
+use Rattle.source_rows.proofs.AllMarks.{marks_join}
 use Rattle.source_rows.proofs.Soonest.{least_join}
 
 -- what a fork is once a seat was put where another stands in it, and the least times may be others
@@ -21,19 +23,19 @@ pub record SetIn (a b : Seat) (old new : Fork) (may : Bool) : Type 0 where
   pub least : new.least ≡ old.least
   pub same : may ≡ false → least_of (seats_of new) ≡ least_of (seats_of old)
 
-least_parts : (l r : List Seat) → least_of (l ++ r) ≡ record { wake = lesser (least_of l).wake (least_of r).wake; due = lesser (least_of l).due (least_of r).due }
-least_parts l r = ap₂ (λ (w d : ℕ). let m : Least = record { wake = w; due = d } in m) (least_join (λ s. s.wake) l r) (least_join (λ s. s.due) l r)
+least_parts : (l r : List Seat) → least_of (l ++ r) ≡ record { marks = bit_or (least_of l).marks (least_of r).marks; due = lesser (least_of l).due (least_of r).due }
+least_parts l r = ap₂ (λ (w d : ℕ). let m : Least = record { marks = w; due = d } in m) (marks_join l r) (least_join (λ s. s.due) l r)
 
 least_left : (l m r : List Seat) → least_of l ≡ least_of m → least_of (l ++ r) ≡ least_of (m ++ r)
 least_left l m r e =
-    least_parts l r ∙ (ap (λ (x : Least). let y : Least = record { wake = lesser x.wake (least_of r).wake; due = lesser x.due (least_of r).due } in y) e ∙ sym (least_parts m r))
+    least_parts l r ∙ (ap (λ (x : Least). let y : Least = record { marks = bit_or x.marks (least_of r).marks; due = lesser x.due (least_of r).due } in y) e ∙ sym (least_parts m r))
 
 least_right : (l m r : List Seat) → least_of m ≡ least_of r → least_of (l ++ m) ≡ least_of (l ++ r)
 least_right l m r e =
-    least_parts l m ∙ (ap (λ (x : Least). let y : Least = record { wake = lesser (least_of l).wake x.wake; due = lesser (least_of l).due x.due } in y) e ∙ sym (least_parts l r))
+    least_parts l m ∙ (ap (λ (x : Least). let y : Least = record { marks = bit_or (least_of l).marks x.marks; due = lesser (least_of l).due x.due } in y) e ∙ sym (least_parts l r))
 
 least_behind : (k : Seat) (l m : List Seat) → least_of l ≡ least_of m → least_of (k ∷ l) ≡ least_of (k ∷ m)
-least_behind k l m e = ap (λ (x : Least). let y : Least = record { wake = lesser k.wake x.wake; due = lesser k.due x.due } in y) e
+least_behind k l m e = ap (λ (x : Least). let y : Least = record { marks = bit_or k.marks x.marks; due = lesser k.due x.due } in y) e
 
 pub set_sooner : (a b : Seat) (old : Fork) (side : List Seat × ℕ) (may : Bool) → IsEvenFork old → Rises is_ahead (seats_of old) → is_ahead a old.seat ≡ true → side.0 ≡ swapped a b old.sooner.0 → side.1 ≡ old.sooner.1
     → (may ≡ false → least_of side.0 ≡ least_of old.sooner.0) → SetIn a b old (record old { sooner = side }) may

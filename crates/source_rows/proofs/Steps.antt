@@ -5,6 +5,7 @@ use Rattle.std.specs.List.{AllByRecursion, find, list_any}
 use Rattle.std.specs.Ordering.{is_lt}
 use Rattle.std.specs.Cmp.{tied_itself}
 use Rattle.source_rows.specs.declared.row.Row.{Row}
+use Rattle.source_rows.specs.declared.sight.Sight.{Sight}
 use Rattle.source_rows.specs.Inserted.{Rises}
 use Rattle.source_rows.specs.Lists.{Pairs}
 use Rattle.source_rows.specs.Order.{IsInOrder, Apart}
@@ -141,8 +142,8 @@ both_true a b h k = rw (h, k) refl
 
 -- ---- who may call
 
-pub awake_calls : (rows : List Row) → AllByRecursion (InForest rows) rows → (now : ℕ) (q : Row) → InForest rows q → is_awake now q ≡ true → may_call now rows q ≡ true
-awake_calls rows all now q g h = any_here (λ x. is_under q.id x && is_awake now x) rows q g (both_true _ _ (under_self q (shaped rows all q g)) h)
+pub awake_calls : (rows : List Row) → AllByRecursion (InForest rows) rows → (sight : Sight) (q : Row) → InForest rows q → is_awake sight q ≡ true → may_call sight rows q ≡ true
+awake_calls rows all sight q g h = any_here (λ x. is_under q.id x && is_awake sight x) rows q g (both_true _ _ (under_self q (shaped rows all q g)) h)
 
 under_all : (rows : List Row) → AllByRecursion (InForest rows) rows → (p r : Row) → InForest rows r → is_under p.id r ≡ true → (q : Row) → InForest rows q → is_under r.id q ≡ true → is_under p.id q ≡ true
 under_all rows all p r g u = each rows (λ q. is_under r.id q ≡ true → is_under p.id q ≡ true) all
@@ -152,12 +153,12 @@ under_all rows all p r g u = each rows (λ q. is_under r.id q ≡ true → is_un
       | inr t ↦ subst (λ (x : Row). is_under p.id x ≡ true) (sym (same_id rows q r f g t)) u
     ])
 
-parent_calls : (rows : List Row) → AllByRecursion (InForest rows) rows → (now : ℕ) (p r : Row) → InForest rows p → InForest rows r → IsChildOf p r → may_call now rows r ≡ true → may_call now rows p ≡ true
-parent_calls rows all now p r fp g c h =
-    let w = any_some (λ x. is_under r.id x && is_awake now x) (InForest rows) rows all h in
-    let two = and_both (is_under r.id w.0) (is_awake now w.0) w.2 in
+parent_calls : (rows : List Row) → AllByRecursion (InForest rows) rows → (sight : Sight) (p r : Row) → InForest rows p → InForest rows r → IsChildOf p r → may_call sight rows r ≡ true → may_call sight rows p ≡ true
+parent_calls rows all sight p r fp g c h =
+    let w = any_some (λ x. is_under r.id x && is_awake sight x) (InForest rows) rows all h in
+    let two = and_both (is_under r.id w.0) (is_awake sight w.0) w.2 in
     let up = under_up p.id p r c g.level (shaped rows all p fp) (under_self p (shaped rows all p fp)) in
-    any_here (λ x. is_under p.id x && is_awake now x) rows w.0 w.1 (both_true _ _ (under_all rows all p r g up w.0 w.1 two.0) two.1)
+    any_here (λ x. is_under p.id x && is_awake sight x) rows w.0 w.1 (both_true _ _ (under_all rows all p r g up w.0 w.1 two.0) two.1)
 
 parent_behind_by : (rows : List Row) → IsForest rows → AllApart rows → (p r : Row) → InForest rows p → InForest rows r → IsChildOf p r → stands_before p r ≡ false → (b : Bool) → stands_before r p ≡ b → b ≡ true
 parent_behind_by rows forest apart p r fp g c h true e = refl
@@ -181,8 +182,8 @@ follows_before q r = twice (stands_before q r)
 
 -- ---- what comes stands no sooner than what wakes, or than the parent of the last
 
-abbrev Woken : List Row → ℕ → Option Row → Row → Type 0
-Woken rows now last y = (q : Row) × InForest rows q × (wakes now last q ≡ true) × (stands_before y q ≡ false)
+abbrev Woken : List Row → Sight → Option Row → Row → Type 0
+Woken rows sight last y = (q : Row) × InForest rows q × (wakes sight last q ≡ true) × (stands_before y q ≡ false)
 
 abbrev Above : List Row → Option Row → Row → Type 0
 Above rows last y = (p : Row) × (parent_at rows last ≡ Some p) × (stands_before y p ≡ false)
@@ -201,87 +202,87 @@ above_by rows all y r f g h u (Some id) place =
           let no = sym (subst (λ (x : Row). stands_before r x ≡ false) same (not_self r)) ∙ h in cc
     ]
 
-come_by : (rows : List Row) → IsForest rows → (now : ℕ) (r y q : Row) → InForest rows r → InForest rows y → InForest rows q → stands_before r y ≡ true → is_under y.id q ≡ true → is_awake now q ≡ true
-    → (b : Bool) → stands_before r q ≡ b → Woken rows now (Some r) y ⊎ Above rows (Some r) y
-come_by rows forest now r y q g f k h u awake true e = inl (q, k, both_true _ _ (follows_before r q ∙ e) awake, children_first rows (members rows forest) y q f k u)
-come_by rows forest now r y q g f k h u awake false e =
+come_by : (rows : List Row) → IsForest rows → (sight : Sight) (r y q : Row) → InForest rows r → InForest rows y → InForest rows q → stands_before r y ≡ true → is_under y.id q ≡ true → is_awake sight q ≡ true
+    → (b : Bool) → stands_before r q ≡ b → Woken rows sight (Some r) y ⊎ Above rows (Some r) y
+come_by rows forest sight r y q g f k h u awake true e = inl (q, k, both_true _ _ (follows_before r q ∙ e) awake, children_first rows (members rows forest) y q f k u)
+come_by rows forest sight r y q g f k h u awake false e =
     let all = members rows forest in
     let over = together rows all y q r f k g u e (before_order.one_way r y h) in
     inr (above_by rows all y r f g h over r.parent g.place)
 
-comes_from : (rows : List Row) → IsForest rows → (now : ℕ) (last : Option Row) → IfSome last (λ r. InForest rows r) → (y : Row) → InForest rows y → comes now rows last y ≡ true → Woken rows now last y ⊎ Above rows last y
-comes_from rows forest now None g y f h =
+comes_from : (rows : List Row) → IsForest rows → (sight : Sight) (last : Option Row) → IfSome last (λ r. InForest rows r) → (y : Row) → InForest rows y → comes sight rows last y ≡ true → Woken rows sight last y ⊎ Above rows last y
+comes_from rows forest sight None g y f h =
     let all = members rows forest in
-    let two = and_both (follows None y) (may_call now rows y) h in
-    let w = any_some (λ x. is_under y.id x && is_awake now x) (InForest rows) rows all two.1 in
-    let both = and_both (is_under y.id w.0) (is_awake now w.0) w.2 in
+    let two = and_both (follows None y) (may_call sight rows y) h in
+    let w = any_some (λ x. is_under y.id x && is_awake sight x) (InForest rows) rows all two.1 in
+    let both = and_both (is_under y.id w.0) (is_awake sight w.0) w.2 in
     inl (w.0, w.1, both.1, children_first rows all y w.0 f w.1 both.0)
-comes_from rows forest now (Some r) g y f h =
+comes_from rows forest sight (Some r) g y f h =
     let all = members rows forest in
-    let two = and_both (follows (Some r) y) (may_call now rows y) h in
-    let w = any_some (λ x. is_under y.id x && is_awake now x) (InForest rows) rows all two.1 in
-    let both = and_both (is_under y.id w.0) (is_awake now w.0) w.2 in
-    come_by rows forest now r y w.0 g f w.1 (sym (follows_before r y) ∙ two.0) both.0 both.1 (stands_before r w.0) refl
+    let two = and_both (follows (Some r) y) (may_call sight rows y) h in
+    let w = any_some (λ x. is_under y.id x && is_awake sight x) (InForest rows) rows all two.1 in
+    let both = and_both (is_under y.id w.0) (is_awake sight w.0) w.2 in
+    come_by rows forest sight r y w.0 g f w.1 (sym (follows_before r y) ∙ two.0) both.0 both.1 (stands_before r w.0) refl
 
 -- ---- the next row
 
 later : (y q x : Row) → stands_before y q ≡ false → stands_before q x ≡ false → stands_before y x ≡ false
 later y q x h k = before_order.chain y q x h k
 
-module _ (rows : List Row) (forest : IsForest rows) (apart : AllApart rows) (now : ℕ) (last : Option Row) (there : IfSome last (λ r. InForest rows r)) (parents : (p : Row) → parent_at rows last ≡ Some p → InForest rows p × (comes now rows last p ≡ true)) where
-  woken : (q : Row) → InForest rows q → wakes now last q ≡ true → comes now rows last q ≡ true
+module _ (rows : List Row) (forest : IsForest rows) (apart : AllApart rows) (sight : Sight) (last : Option Row) (there : IfSome last (λ r. InForest rows r)) (parents : (p : Row) → parent_at rows last ≡ Some p → InForest rows p × (comes sight rows last p ≡ true)) where
+  woken : (q : Row) → InForest rows q → wakes sight last q ≡ true → comes sight rows last q ≡ true
   woken q g h =
-      let two = and_both (follows last q) (is_awake now q) h in
-      both_true _ _ two.0 (awake_calls rows (members rows forest) now q g two.1)
+      let two = and_both (follows last q) (is_awake sight q) h in
+      both_true _ _ two.0 (awake_calls rows (members rows forest) sight q g two.1)
 
   -- none comes where none wakes and there is no parent
-  nothing : find (wakes now last) (in_order rows) ≡ None → parent_at rows last ≡ None → find (comes now rows last) (in_order rows) ≡ None
-  nothing e h = all_false (comes now rows last) (in_order rows) (all_in_order (λ y. comes now rows last y ≡ false) rows
-      (all_of (InForest rows) (λ y. comes now rows last y ≡ false) (λ y f. never_by y f (comes now rows last y) refl) rows (members rows forest)))
+  nothing : find (wakes sight last) (in_order rows) ≡ None → parent_at rows last ≡ None → find (comes sight rows last) (in_order rows) ≡ None
+  nothing e h = all_false (comes sight rows last) (in_order rows) (all_in_order (λ y. comes sight rows last y ≡ false) rows
+      (all_of (InForest rows) (λ y. comes sight rows last y ≡ false) (λ y f. never_by y f (comes sight rows last y) refl) rows (members rows forest)))
     where
-      asleep : AllByRecursion (λ y. wakes now last y ≡ false) rows
-      asleep = all_of_order (λ y. wakes now last y ≡ false) rows (find_none (wakes now last) (in_order rows) e)
+      asleep : AllByRecursion (λ y. wakes sight last y ≡ false) rows
+      asleep = all_of_order (λ y. wakes sight last y ≡ false) rows (find_none (wakes sight last) (in_order rows) e)
 
-      never_by : (y : Row) → InForest rows y → (b : Bool) → comes now rows last y ≡ b → b ≡ false
+      never_by : (y : Row) → InForest rows y → (b : Bool) → comes sight rows last y ≡ b → b ≡ false
       never_by y f false t = refl
-      never_by y f true t = elim (comes_from rows forest now last there y f t) [
-        | inl w ↦ let no = sym (found (λ x. wakes now last x ≡ false) w.0.id w.0 rows asleep w.1.is) ∙ w.2 in cc
+      never_by y f true t = elim (comes_from rows forest sight last there y f t) [
+        | inl w ↦ let no = sym (found (λ x. wakes sight last x ≡ false) w.0.id w.0 rows asleep w.1.is) ∙ w.2 in cc
         | inr p ↦ let no = sym h ∙ p.1 in cc
       ]
 
   -- a row that comes is the next where it stands no later than what wakes first and than the parent
-  next_is : (y : Row) → InForest rows y → comes now rows last y ≡ true
-      → ((q : Row) → InForest rows q → wakes now last q ≡ true → stands_before q y ≡ false) → ((p : Row) → parent_at rows last ≡ Some p → stands_before p y ≡ false)
-      → find (comes now rows last) (in_order rows) ≡ Some y
-  next_is y f t h k = is_first rows forest apart (comes now rows last) y f t
-      (all_of (InForest rows) (λ x. comes now rows last x ≡ true → stands_before x y ≡ false) (λ x g c. elim (comes_from rows forest now last there x g c) [
+  next_is : (y : Row) → InForest rows y → comes sight rows last y ≡ true
+      → ((q : Row) → InForest rows q → wakes sight last q ≡ true → stands_before q y ≡ false) → ((p : Row) → parent_at rows last ≡ Some p → stands_before p y ≡ false)
+      → find (comes sight rows last) (in_order rows) ≡ Some y
+  next_is y f t h k = is_first rows forest apart (comes sight rows last) y f t
+      (all_of (InForest rows) (λ x. comes sight rows last x ≡ true → stands_before x y ≡ false) (λ x g c. elim (comes_from rows forest sight last there x g c) [
         | inl w ↦ later x w.0 y w.3 (h w.0 w.1 w.2)
         | inr p ↦ later x p.0 y p.2 (k p.0 p.1)
       ]) rows (members rows forest))
 
-  first_woken : (x q : Row) → find (wakes now last) (in_order rows) ≡ Some x → InForest rows q → wakes now last q ≡ true → stands_before q x ≡ false
+  first_woken : (x q : Row) → find (wakes sight last) (in_order rows) ≡ Some x → InForest rows q → wakes sight last q ≡ true → stands_before q x ≡ false
   first_woken x q e g t =
-      found (λ z. wakes now last z ≡ true → stands_before z x ≡ false) q.id q rows
-      (all_of_order (λ z. wakes now last z ≡ true → stands_before z x ≡ false) rows (find_first (wakes now last) x (in_order rows) (sorted_in_order rows) e)) g.is t
+      found (λ z. wakes sight last z ≡ true → stands_before z x ≡ false) q.id q rows
+      (all_of_order (λ z. wakes sight last z ≡ true → stands_before z x ≡ false) rows (find_first (wakes sight last) x (in_order rows) (sorted_in_order rows) e)) g.is t
 
-  there_woken : (x : Row) → find (wakes now last) (in_order rows) ≡ Some x → InForest rows x
-  there_woken x e = find_holds (InForest rows) (wakes now last) x (in_order rows) (all_in_order (InForest rows) rows (members rows forest)) e
+  there_woken : (x : Row) → find (wakes sight last) (in_order rows) ≡ Some x → InForest rows x
+  there_woken x e = find_holds (InForest rows) (wakes sight last) x (in_order rows) (all_in_order (InForest rows) rows (members rows forest)) e
 
-  passes_woken : (x : Row) → find (wakes now last) (in_order rows) ≡ Some x → comes now rows last x ≡ true
-  passes_woken x e = woken x (there_woken x e) (find_passes (wakes now last) x (in_order rows) e)
+  passes_woken : (x : Row) → find (wakes sight last) (in_order rows) ≡ Some x → comes sight rows last x ≡ true
+  passes_woken x e = woken x (there_woken x e) (find_passes (wakes sight last) x (in_order rows) e)
 
-  nearer_by : (x p : Row) → find (wakes now last) (in_order rows) ≡ Some x → parent_at rows last ≡ Some p → (b : Bool) → stands_before p x ≡ b → find (comes now rows last) (in_order rows) ≡ cond b (Some p) (Some x)
+  nearer_by : (x p : Row) → find (wakes sight last) (in_order rows) ≡ Some x → parent_at rows last ≡ Some p → (b : Bool) → stands_before p x ≡ b → find (comes sight rows last) (in_order rows) ≡ cond b (Some p) (Some x)
   nearer_by x p e h true k =
       let is = parents p h in
       next_is p is.0 is.1 (λ q g t. later q x p (first_woken x q e g t) (before_order.one_way p x k)) (λ z u. subst (λ (y : Row). stands_before y p ≡ false) (same_row p z (sym h ∙ u)) (not_self p))
   nearer_by x p e h false k =
       next_is x (there_woken x e) (passes_woken x e) (λ q g t. first_woken x q e g t) (λ z u. subst (λ (y : Row). stands_before y x ≡ false) (same_row p z (sym h ∙ u)) k)
 
-  none_wakes : (q : Row) → find (wakes now last) (in_order rows) ≡ None → InForest rows q → wakes now last q ≡ true → ⊥
+  none_wakes : (q : Row) → find (wakes sight last) (in_order rows) ≡ None → InForest rows q → wakes sight last q ≡ true → ⊥
   none_wakes q e g t =
-      let no = sym (found (λ x. wakes now last x ≡ false) q.id q rows (all_of_order (λ y. wakes now last y ≡ false) rows (find_none (wakes now last) (in_order rows) e)) g.is) ∙ t in cc
+      let no = sym (found (λ x. wakes sight last x ≡ false) q.id q rows (all_of_order (λ y. wakes sight last y ≡ false) rows (find_none (wakes sight last) (in_order rows) e)) g.is) ∙ t in cc
 
-  next_by : (o p : Option Row) → find (wakes now last) (in_order rows) ≡ o → parent_at rows last ≡ p → find (comes now rows last) (in_order rows) ≡ nearer o p
+  next_by : (o p : Option Row) → find (wakes sight last) (in_order rows) ≡ o → parent_at rows last ≡ p → find (comes sight rows last) (in_order rows) ≡ nearer o p
   next_by None None e h = nothing e h
   next_by None (Some p) e h =
       let is = parents p h in
@@ -291,29 +292,29 @@ module _ (rows : List Row) (forest : IsForest rows) (apart : AllApart rows) (now
 
 -- ---- the parent of the last
 
-pub parent_comes : (rows : List Row) → IsForest rows → AllApart rows → (now : ℕ) (r : Row) → InForest rows r → may_call now rows r ≡ true → (o : Option ℕ) → HasPlace rows o r → (p : Row) → parent_of rows o ≡ Some p
-    → InForest rows p × (comes now rows (Some r) p ≡ true)
-parent_comes rows forest apart now r g m None place p e = cc
-parent_comes rows forest apart now r g m (Some id) place p e =
+pub parent_comes : (rows : List Row) → IsForest rows → AllApart rows → (sight : Sight) (r : Row) → InForest rows r → may_call sight rows r ≡ true → (o : Option ℕ) → HasPlace rows o r → (p : Row) → parent_of rows o ≡ Some p
+    → InForest rows p × (comes sight rows (Some r) p ≡ true)
+parent_comes rows forest apart sight r g m None place p e = cc
+parent_comes rows forest apart sight r g m (Some id) place p e =
     let all = members rows forest in
     let fp = found (InForest rows) id p rows all e in
     let c : IsChildOf p r = subst (λ (x : Row). IsChildOf x r) (same_row place.0 p (sym place.1 ∙ e)) place.2 in
-    (fp, both_true _ _ (follows_before r p ∙ parent_behind rows forest apart p r fp g c) (parent_calls rows all now p r fp g c m))
+    (fp, both_true _ _ (follows_before r p ∙ parent_behind rows forest apart p r fp g c) (parent_calls rows all sight p r fp g c m))
 
-pub next_step : (rows : List Row) (now : ℕ) (last : Option Row) → IsStep rows now last → find (comes now rows last) (in_order rows) ≡ nearer (find (wakes now last) (in_order rows)) (parent_at rows last)
-next_step rows now None h = next_by rows h.forest h.apart now None tt (λ p e. cc) (find (wakes now None) (in_order rows)) None refl refl
-next_step rows now (Some r) h =
+pub next_step : (rows : List Row) (sight : Sight) (last : Option Row) → IsStep rows sight last → find (comes sight rows last) (in_order rows) ≡ nearer (find (wakes sight last) (in_order rows)) (parent_at rows last)
+next_step rows sight None h = next_by rows h.forest h.apart sight None tt (λ p e. cc) (find (wakes sight None) (in_order rows)) None refl refl
+next_step rows sight (Some r) h =
     let g = found (InForest rows) r.id r rows (members rows h.forest) h.valid.0 in
-    next_by rows h.forest h.apart now (Some r) g (λ p e. parent_comes rows h.forest h.apart now r g h.valid.1 r.parent g.place p e) (find (wakes now (Some r)) (in_order rows)) (parent_of rows r.parent) refl refl
+    next_by rows h.forest h.apart sight (Some r) g (λ p e. parent_comes rows h.forest h.apart sight r g h.valid.1 r.parent g.place p e) (find (wakes sight (Some r)) (in_order rows)) (parent_of rows r.parent) refl refl
 
 -- what comes is a step again
-pub stepped : (rows : List Row) (now : ℕ) (last : Option Row) (y : Row) → IsStep rows now last → find (comes now rows last) (in_order rows) ≡ Some y → IsStep rows now (Some y)
-stepped rows now last y h e = record {
+pub stepped : (rows : List Row) (sight : Sight) (last : Option Row) (y : Row) → IsStep rows sight last → find (comes sight rows last) (in_order rows) ≡ Some y → IsStep rows sight (Some y)
+stepped rows sight last y h e = record {
   forest = h.forest;
   apart = h.apart;
   valid =
-      let f = find_holds (InForest rows) (comes now rows last) y (in_order rows) (all_in_order (InForest rows) rows (members rows h.forest)) e in
-      (f.is, (and_both (follows last y) (may_call now rows y) (find_passes (comes now rows last) y (in_order rows) e)).1);
+      let f = find_holds (InForest rows) (comes sight rows last) y (in_order rows) (all_in_order (InForest rows) rows (members rows h.forest)) e in
+      (f.is, (and_both (follows last y) (may_call sight rows y) (find_passes (comes sight rows last) y (in_order rows) e)).1);
 }
 
 -- ---- the rows that are left
@@ -357,15 +358,15 @@ rises_in_order rows h = both_pairs (in_order rows) (sorted_in_order rows) (pairs
     both_pairs [] s a = tt
     both_pairs (x ∷ xs) s a = (all_both (λ y. stands_before y x ≡ false) (Apart x) (λ y. stands_before x y ≡ true) (λ y u v. must x y v u) xs s.0 a.0, both_pairs xs s.1 a.1)
 
-pub left_more : (rows : List Row) (now : ℕ) (last : Option Row) (y : Row) → AllApart rows → find (comes now rows last) (in_order rows) ≡ Some y → left_of now rows last ≡ y ∷ left_of now rows (Some y)
-left_more rows now last y apart e =
-    left_step (follows last) (may_call now rows) y (in_order rows) (follows_up last) (rises_in_order rows apart) e
-    ∙ ap (λ (ys : List Row). y ∷ ys) (same_filter (λ x. stands_before y x && may_call now rows x) (comes now rows (Some y)) (in_order rows)
-    (all_in_order (λ x. (stands_before y x && may_call now rows x) ≡ comes now rows (Some y) x) rows (each_same rows)))
+pub left_more : (rows : List Row) (sight : Sight) (last : Option Row) (y : Row) → AllApart rows → find (comes sight rows last) (in_order rows) ≡ Some y → left_of sight rows last ≡ y ∷ left_of sight rows (Some y)
+left_more rows sight last y apart e =
+    left_step (follows last) (may_call sight rows) y (in_order rows) (follows_up last) (rises_in_order rows apart) e
+    ∙ ap (λ (ys : List Row). y ∷ ys) (same_filter (λ x. stands_before y x && may_call sight rows x) (comes sight rows (Some y)) (in_order rows)
+    (all_in_order (λ x. (stands_before y x && may_call sight rows x) ≡ comes sight rows (Some y) x) rows (each_same rows)))
   where
-    each_same : (xs : List Row) → AllByRecursion (λ x. (stands_before y x && may_call now rows x) ≡ comes now rows (Some y) x) xs
+    each_same : (xs : List Row) → AllByRecursion (λ x. (stands_before y x && may_call sight rows x) ≡ comes sight rows (Some y) x) xs
     each_same [] = tt
-    each_same (x ∷ xs) = (ap (λ (b : Bool). b && may_call now rows x) (sym (follows_before y x)), each_same xs)
+    each_same (x ∷ xs) = (ap (λ (b : Bool). b && may_call sight rows x) (sym (follows_before y x)), each_same xs)
 
 pub left_none : (f : Row → Bool) (xs : List Row) → find f xs ≡ None → filter f xs ≡ []
 left_none f xs e = all_out xs (find_none f xs e)

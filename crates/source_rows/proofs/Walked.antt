@@ -2,6 +2,7 @@
 use Rattle.std.proofs.Common.{◌≡◌, ◌⊎◌, ℕ, ◌==◌, ◌&&◌, ◌||◌, Bool, true, false, not, cond, Option, Some, None, List, [], ◌∷◌, inl, inr, map, filter, option_map, refl, ap, sym, ◌∙◌, subst}
 use Rattle.std.specs.List.{AllByRecursion, find}
 use Rattle.source_rows.specs.declared.row.Row.{Row}
+use Rattle.source_rows.specs.declared.sight.Sight.{Sight}
 use Rattle.source_rows.specs.InOrder.{AllFound, ids_of, rows_of}
 use Rattle.source_rows.specs.declared.seats.Seat.{Seat}
 use Rattle.source_rows.specs.Rows.{key_of, row_of, in_order}
@@ -29,33 +30,33 @@ first_left : (f : Row → Bool) (r : Row) (rest xs : List Row) → filter f xs �
 first_left f r rest [] e = cc
 first_left f r rest (q ∷ xs) e = first_by q r rest (filter f xs) (filter f xs) (find f xs) (first_left f r rest xs) (f q) e
 
-pub ready_more : (rows : List Row) (now : ℕ) (r : Row) (e : Seat) (es : List Seat) → row_of e.id rows ≡ Some r → may_call now rows r ≡ true → ready_in now rows (e ∷ es) ≡ r ∷ ready_in now rows es
-ready_more rows now r e es is may = rw (is, may) refl
+pub ready_more : (rows : List Row) (sight : Sight) (r : Row) (e : Seat) (es : List Seat) → row_of e.id rows ≡ Some r → may_call sight rows r ≡ true → ready_in sight rows (e ∷ es) ≡ r ∷ ready_in sight rows es
+ready_more rows sight r e es is may = rw (is, may) refl
 
-pub ready_same : (rows : List Row) (now : ℕ) (r : Row) (e : Seat) (es : List Seat) → row_of e.id rows ≡ Some r → may_call now rows r ≡ false → ready_in now rows (e ∷ es) ≡ ready_in now rows es
-ready_same rows now r e es is may = rw (is, may) refl
+pub ready_same : (rows : List Row) (sight : Sight) (r : Row) (e : Seat) (es : List Seat) → row_of e.id rows ≡ Some r → may_call sight rows r ≡ false → ready_in sight rows (e ∷ es) ≡ ready_in sight rows es
+ready_same rows sight r e es is may = rw (is, may) refl
 
 -- ---- whether the next row may be ready
 
-above_calls : (rows : List Row) (now : ℕ) (last : Option Row) → IsStep rows now last → (r : Row) → row_of r.id rows ≡ Some r → is_above_last last r ≡ true → may_call now rows r ≡ true
-above_calls rows now None h r is a = cc
-above_calls rows now (Some l) h r is a = by_parent l.parent refl a
+above_calls : (rows : List Row) (sight : Sight) (last : Option Row) → IsStep rows sight last → (r : Row) → row_of r.id rows ≡ Some r → is_above_last last r ≡ true → may_call sight rows r ≡ true
+above_calls rows sight None h r is a = cc
+above_calls rows sight (Some l) h r is a = by_parent l.parent refl a
   where
-    by_parent : (o : Option ℕ) → l.parent ≡ o → is_parent o r ≡ true → may_call now rows r ≡ true
+    by_parent : (o : Option ℕ) → l.parent ≡ o → is_parent o r ≡ true → may_call sight rows r ≡ true
     by_parent None p k = cc
     by_parent (Some id) p k =
         let g = found (λ x. x ≡ x) l.id l rows (all_true (λ x. x ≡ x) (λ x. refl) rows) h.valid.0 in
         let there = found _ l.id l rows (members rows h.forest) h.valid.0 in
         let at : parent_of rows l.parent ≡ Some r = ap (parent_of rows) p ∙ (ap (λ (n : ℕ). row_of n rows) (are_same id r.id k) ∙ is) in
-        (and_both (follows (Some l) r) (may_call now rows r) (parent_comes rows h.forest h.apart now l there h.valid.1 l.parent there.place r at).1).1
+        (and_both (follows (Some l) r) (may_call sight rows r) (parent_comes rows h.forest h.apart sight l there h.valid.1 l.parent there.place r at).1).1
 
 -- a row that is awake, or the parent of the last, may be ready
-pub may : (rows : List Row) (now : ℕ) (last : Option Row) → IsStep rows now last → (r : Row) → row_of r.id rows ≡ Some r → (is_awake now r || is_above_last last r) ≡ true → may_call now rows r ≡ true
-may rows now last h r is a = by_awake (is_awake now r) refl a
+pub may : (rows : List Row) (sight : Sight) (last : Option Row) → IsStep rows sight last → (r : Row) → row_of r.id rows ≡ Some r → (is_awake sight r || is_above_last last r) ≡ true → may_call sight rows r ≡ true
+may rows sight last h r is a = by_awake (is_awake sight r) refl a
   where
-    by_awake : (b : Bool) → is_awake now r ≡ b → (b || is_above_last last r) ≡ true → may_call now rows r ≡ true
-    by_awake true w k = awake_calls rows (members rows h.forest) now r (found _ r.id r rows (members rows h.forest) is) w
-    by_awake false w k = above_calls rows now last h r is k
+    by_awake : (b : Bool) → is_awake sight r ≡ b → (b || is_above_last last r) ≡ true → may_call sight rows r ≡ true
+    by_awake true w k = awake_calls rows (members rows h.forest) sight r (found _ r.id r rows (members rows h.forest) is) w
+    by_awake false w k = above_calls rows sight last h r is k
 
 nearer_from : (o p : Option Row) (r : Row) → nearer o p ≡ Some r → (o ≡ Some r) ⊎ (p ≡ Some r)
 nearer_from None p r e = inr e
@@ -75,27 +76,27 @@ above_last rows (Some l) r e = by_parent l.parent e
     by_parent (Some id) k = subst (λ (n : ℕ). (id == n) ≡ true) (sym (found_id id r rows k)) (same_self id)
 
 -- the first of a part that has all that is left may not, where it is neither
-pub may_not : (rows : List Row) (now : ℕ) (last : Option Row) → IsStep rows now last → (r : Row) (e : Seat) (es : List Seat) → HasLeft rows now last (e ∷ es) → row_of e.id rows ≡ Some r
-    → (is_awake now r || is_above_last last r) ≡ false → may_call now rows r ≡ false
-may_not rows now last h r e es left is a = by_may (may_call now rows r) refl
+pub may_not : (rows : List Row) (sight : Sight) (last : Option Row) → IsStep rows sight last → (r : Row) (e : Seat) (es : List Seat) → HasLeft rows sight last (e ∷ es) → row_of e.id rows ≡ Some r
+    → (is_awake sight r || is_above_last last r) ≡ false → may_call sight rows r ≡ false
+may_not rows sight last h r e es left is a = by_may (may_call sight rows r) refl
   where
-    by_may : (b : Bool) → may_call now rows r ≡ b → b ≡ false
+    by_may : (b : Bool) → may_call sight rows r ≡ b → b ≡ false
     by_may false m = refl
     by_may true m =
-        let first = first_left (comes now rows last) r (ready_in now rows es) (in_order rows) (sym left.ready ∙ ready_more rows now r e es is m) in
-        let two = or_parts (is_awake now r) (is_above_last last r) a in
-        elim (nearer_from (find (wakes now last) (in_order rows)) (parent_at rows last) r (sym (next_step rows now last h) ∙ first)) [
-          | inl w ↦ let never = sym (and_both (follows last r) (is_awake now r) (find_passes (wakes now last) r (in_order rows) w)).1 ∙ two.0 in cc
+        let first = first_left (comes sight rows last) r (ready_in sight rows es) (in_order rows) (sym left.ready ∙ ready_more rows sight r e es is m) in
+        let two = or_parts (is_awake sight r) (is_above_last last r) a in
+        elim (nearer_from (find (wakes sight last) (in_order rows)) (parent_at rows last) r (sym (next_step rows sight last h) ∙ first)) [
+          | inl w ↦ let never = sym (and_both (follows last r) (is_awake sight r) (find_passes (wakes sight last) r (in_order rows) w)).1 ∙ two.0 in cc
           | inr p ↦ let never = sym (above_last rows last r p) ∙ two.1 in cc
         ]
 
 -- such a row is passed over
-pub dropped : (rows : List Row) (now : ℕ) (last : Option Row) → IsStep rows now last → (r : Row) (e : Seat) (all es : List Seat) → HasLeft rows now last all → all ≡ e ∷ es → row_of e.id rows ≡ Some r
-    → (is_awake now r || is_above_last last r) ≡ false → HasLeft rows now last es × (ready_in now rows all ≡ ready_in now rows es)
-dropped rows now last h r e all es left k is a =
-    let mine : HasLeft rows now last (e ∷ es) = subst (HasLeft rows now last) k left in
-    let same = ready_same rows now r e es is (may_not rows now last h r e es mine is a) in
-    (record { found = mine.found.1; ready = sym same ∙ mine.ready }, ap (ready_in now rows) k ∙ same)
+pub dropped : (rows : List Row) (sight : Sight) (last : Option Row) → IsStep rows sight last → (r : Row) (e : Seat) (all es : List Seat) → HasLeft rows sight last all → all ≡ e ∷ es → row_of e.id rows ≡ Some r
+    → (is_awake sight r || is_above_last last r) ≡ false → HasLeft rows sight last es × (ready_in sight rows all ≡ ready_in sight rows es)
+dropped rows sight last h r e all es left k is a =
+    let mine : HasLeft rows sight last (e ∷ es) = subst (HasLeft rows sight last) k left in
+    let same = ready_same rows sight r e es is (may_not rows sight last h r e es mine is a) in
+    (record { found = mine.found.1; ready = sym same ∙ mine.ready }, ap (ready_in sight rows) k ∙ same)
 
 pub own_row : (rows : List Row) (id : ℕ) (r : Row) → row_of id rows ≡ Some r → row_of r.id rows ≡ Some r
 own_row rows id r is = ap (λ (n : ℕ). row_of n rows) (found_id id r rows is) ∙ is
@@ -103,12 +104,12 @@ own_row rows id r is = ap (λ (n : ℕ). row_of n rows) (found_id id r rows is) 
 -- ---- after a row
 
 -- what is left of the part behind the row that came is what is left behind the row
-pub advanced : (rows : List Row) (now : ℕ) (last : Option Row) → IsStep rows now last → (r : Row) (es fs : List Seat) → HasLeft rows now last es → ready_in now rows es ≡ r ∷ ready_in now rows fs → AllFound rows (ids_of fs)
-    → HasLeft rows now (Some r) fs × IsStep rows now (Some r)
-advanced rows now last h r es fs left more there =
-    let first = first_left (comes now rows last) r (ready_in now rows fs) (in_order rows) (sym left.ready ∙ more) in
-    let both : r ∷ ready_in now rows fs ≡ r ∷ left_of now rows (Some r) = sym more ∙ (left.ready ∙ left_more rows now last r h.apart first) in
-    (record { found = there; ready = tails _ _ both }, stepped rows now last r h first)
+pub advanced : (rows : List Row) (sight : Sight) (last : Option Row) → IsStep rows sight last → (r : Row) (es fs : List Seat) → HasLeft rows sight last es → ready_in sight rows es ≡ r ∷ ready_in sight rows fs → AllFound rows (ids_of fs)
+    → HasLeft rows sight (Some r) fs × IsStep rows sight (Some r)
+advanced rows sight last h r es fs left more there =
+    let first = first_left (comes sight rows last) r (ready_in sight rows fs) (in_order rows) (sym left.ready ∙ more) in
+    let both : r ∷ ready_in sight rows fs ≡ r ∷ left_of sight rows (Some r) = sym more ∙ (left.ready ∙ left_more rows sight last r h.apart first) in
+    (record { found = there; ready = tails _ _ both }, stepped rows sight last r h first)
   where
     tails : (us vs : List Row) → r ∷ us ≡ r ∷ vs → us ≡ vs
     tails us vs k = cc
@@ -123,15 +124,15 @@ filter_twice f g (x ∷ xs) = by_test (f x) (filter_twice f g xs)
     by_test true ih = ap (λ (ys : List Row). cond (g x) (x ∷ ys) ys) ih
     by_test false ih = ih
 
-pub entered : (rows : List Row) (now : ℕ) (last : Option Row) → IsStep rows now last → HasLeft rows now last (map seat_of (rows_behind (option_map key_of last) rows))
-entered rows now last h =
+pub entered : (rows : List Row) (sight : Sight) (last : Option Row) → IsStep rows sight last → HasLeft rows sight last (map seat_of (rows_behind (option_map key_of last) rows))
+entered rows sight last h =
     let rest : List Row = filter (follows last) (in_order rows) in
     let ids : ids_of (map seat_of rest) ≡ map (λ (r : Row). r.id) rest = seat_ids rest in
     let each : AllByRecursion (λ r. row_of r.id rows ≡ Some r) rest =
     all_filter (λ r. row_of r.id rows ≡ Some r) (follows last) (in_order rows) (all_in_order (λ r. row_of r.id rows ≡ Some r) rows (all_found rows h.forest.rising)) in
     record {
       found = subst (AllFound rows) (sym ids) (each_there rows rest each);
-      ready = ap (λ (l : List ℕ). filter (may_call now rows) (rows_of rows l)) ids ∙ (ap (filter (may_call now rows)) (same_rows rows rest each) ∙ filter_twice (follows last) (may_call now rows) (in_order rows));
+      ready = ap (λ (l : List ℕ). filter (may_call sight rows) (rows_of rows l)) ids ∙ (ap (filter (may_call sight rows)) (same_rows rows rest each) ∙ filter_twice (follows last) (may_call sight rows) (in_order rows));
     }
 
 all_rows : (rows : List Row) → filter (λ r. not (is_passed None (key_of r))) rows ≡ rows

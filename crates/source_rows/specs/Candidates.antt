@@ -1,19 +1,29 @@
--- The rows that may be ready at a time, as far as kinds and ready times tell.
-use Rattle.std.specs.Prelude.{nat_lt, ◌&&◌, ◌^◌, Bool, true, false, not, ℤ, pos, negsuc, List, filter, if◌then◌else◌}
+-- The rows that may be ready in a sight, as far as kinds, marks and ready times tell.
+use Rattle.std.specs.Prelude.{nat_lt, ◌&&◌, ◌^◌, Bool, not, ℤ, pos, negsuc, List, filter}
 use Rattle.std.specs.List.{list_any}
+use Rattle.cancel_view.specs.Marks.{Marks, mark_of, meets}
 use Rattle.loop_script.specs.declared.Kind.{Kind}
 use Rattle.loop_script.specs.declared.Kind.TheVariants.{Idle, Timeout, ReadyTime, Fd, Cancel}
 use Rattle.source_rows.specs.declared.row.Row.{Row}
+use Rattle.source_rows.specs.declared.sight.Sight.{Sight}
 use Rattle.source_rows.specs.Rows.{in_order, is_under}
 use Rattle.loop_script.specs.Units.{Microseconds}
 
--- a source that may be ready whatever its ready time
-abbrev pub is_open : Kind → Bool
-is_open Idle = true
-is_open (Timeout ms) = false
-is_open (ReadyTime us) = false
-is_open (Fd fd bits) = true
-is_open (Cancel c) = true
+-- the mark of what is always open
+abbrev pub always : Marks
+always = 2 ^ 63
+
+-- the mark of what a descriptor may open
+abbrev pub descriptor : Marks
+descriptor = 2 ^ 62
+
+-- the marks by which a source is open: it may then be ready whatever its ready time
+abbrev pub opened_by : Kind → Marks
+opened_by Idle = always
+opened_by (Timeout ms) = 0
+opened_by (ReadyTime us) = 0
+opened_by (Fd fd bits) = descriptor
+opened_by (Cancel c) = mark_of c
 
 -- later than any ready time
 abbrev pub never : Microseconds
@@ -24,18 +34,18 @@ abbrev pub due_at : ℤ → Microseconds
 due_at (pos n) = n
 due_at (negsuc n) = never
 
--- from when on a source may be ready
-abbrev pub wakes_at : Kind → ℤ → Microseconds
-wakes_at kind ready = if is_open kind then 0 else due_at ready
+-- what is opened by some marks is closed, and is not due
+abbrev pub sleeps : Sight → Marks → Microseconds → Bool
+sleeps sight marks due = not (meets marks sight.marks) && nat_lt sight.now due
 
 -- a row that may be ready as far as its kind and its ready time tell
-abbrev pub is_awake : Microseconds → Row → Bool
-is_awake now r = not (nat_lt now (wakes_at r.kind r.ready))
+abbrev pub is_awake : Sight → Row → Bool
+is_awake sight r = not (sleeps sight (opened_by r.kind) (due_at r.ready))
 
 -- the row itself, or one under it, may be ready
-abbrev pub may_call : Microseconds → List Row → Row → Bool
-may_call now rows r = list_any (λ q. is_under r.id q && is_awake now q) rows
+abbrev pub may_call : Sight → List Row → Row → Bool
+may_call sight rows r = list_any (λ q. is_under r.id q && is_awake sight q) rows
 
 -- the rows that may be ready, and those above them, in order
-abbrev pub candidates : Microseconds → List Row → List Row
-candidates now rows = filter (may_call now rows) (in_order rows)
+abbrev pub candidates : Sight → List Row → List Row
+candidates sight rows = filter (may_call sight rows) (in_order rows)

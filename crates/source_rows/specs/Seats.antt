@@ -1,5 +1,5 @@
--- The seats of rows in their order: where a row stands, its id, from when on it may be ready, and when it is due.
-use Rattle.std.specs.Prelude.{ℕ, zero, suc, nat_lt, ◌+◌, length, ◌≡◌, ◌≤◌, ◌<◌, ◌⊎◌, Bool, false, not, Option, Some, None, List, [], ◌∷◌, map, filter, if◌then◌else◌}
+-- The seats of rows in their order: where a row stands, its id, the marks by which it is open, and when it is due.
+use Rattle.std.specs.Prelude.{ℕ, zero, suc, nat_lt, ◌+◌, length, ◌≡◌, ◌≤◌, ◌<◌, ◌⊎◌, Bool, false, not, Option, Some, None, List, [], ◌∷◌, map, filter, bit_or, if◌then◌else◌}
 use Rattle.std.specs.Ordering.{is_lt, is_eq, ordering_then, nat_cmp}
 use Rattle.std.specs.declared.cmp.Ordering.{Ordering}
 use Rattle.loop_script.specs.Bounds.{count_end}
@@ -8,12 +8,14 @@ use Rattle.source_rows.specs.declared.seats.Least.{Least}
 use Rattle.source_rows.specs.declared.seats.Seat.{Seat}
 use Rattle.source_rows.specs.Inserted.{inserted}
 use Rattle.source_rows.specs.Rows.{Key, key_cmp, key_of}
-use Rattle.source_rows.specs.Candidates.{never, due_at, wakes_at}
+use Rattle.source_rows.specs.Candidates.{never, due_at, opened_by, sleeps}
+use Rattle.source_rows.specs.declared.sight.Sight.{Sight}
+use Rattle.cancel_view.specs.Marks.{Marks}
 use Rattle.loop_script.specs.Units.{Microseconds, SourceId}
 
--- by key, then by id, then by the two times
+-- by key, then by id, then by marks and time
 abbrev pub seat_cmp : Seat → Seat → Ordering
-seat_cmp a b = ordering_then (key_cmp a.key b.key) (ordering_then (nat_cmp a.id b.id) (ordering_then (nat_cmp a.wake b.wake) (nat_cmp a.due b.due)))
+seat_cmp a b = ordering_then (key_cmp a.key b.key) (ordering_then (nat_cmp a.id b.id) (ordering_then (nat_cmp a.marks b.marks) (nat_cmp a.due b.due)))
 
 -- a seat stands before another
 abbrev pub is_ahead : Seat → Seat → Bool
@@ -56,20 +58,25 @@ abbrev pub least_by : (Seat → Microseconds) → List Seat → Microseconds
 least_by time [] = never
 least_by time (s ∷ seats) = lesser (time s) (least_by time seats)
 
--- the least times of seats
+-- the marks of seats, all together
+abbrev pub marks_of : List Seat → Marks
+marks_of [] = 0
+marks_of (s ∷ seats) = bit_or s.marks (marks_of seats)
+
+-- all marks of seats, and the least of their times
 abbrev pub least_of : List Seat → Least
-least_of seats = record { wake = least_by (λ s. s.wake) seats; due = least_by (λ s. s.due) seats }
+least_of seats = record { marks = marks_of seats; due = least_by (λ s. s.due) seats }
 
 -- the key does not stand behind the other
 abbrev pub is_passed : Option Key → Key → Bool
 is_passed None k = false
 is_passed (Some a) k = not (is_lt (key_cmp a k))
 
--- the id of the first seat behind a key that wakes by a time
-abbrev pub first_awake : Option Key → Microseconds → List Seat → Option SourceId
-first_awake after now [] = None
-first_awake after now (s ∷ seats) = if is_passed after s.key then first_awake after now seats
-    else if nat_lt now s.wake then first_awake after now seats
+-- the id of the first seat behind a key that does not sleep
+abbrev pub first_awake : Option Key → Sight → List Seat → Option SourceId
+first_awake after sight [] = None
+first_awake after sight (s ∷ seats) = if is_passed after s.key then first_awake after sight seats
+    else if sleeps sight s.marks s.due then first_awake after sight seats
     else Some s.id
 
 -- when a seat is due where that is after a time, else never
@@ -82,7 +89,7 @@ next_due now seats = least_by (due_after now) seats
 
 -- the seat of a row
 abbrev pub seat_of : Row → Seat
-seat_of r = record { key = key_of r; id = r.id; wake = wakes_at r.kind r.ready; due = due_at r.ready }
+seat_of r = record { key = key_of r; id = r.id; marks = opened_by r.kind; due = due_at r.ready }
 
 -- the seats of rows
 abbrev pub in_seats : List Row → List Seat

@@ -11,23 +11,24 @@ use Rattle.source_rows.specs.Tree.{IsForest, parent_of}
 use Rattle.source_rows.specs.Kept.{AllApart}
 use Rattle.source_rows.specs.Seats.{is_passed}
 use Rattle.source_rows.specs.Candidates.{is_awake, may_call}
-use Rattle.loop_script.specs.Units.{Microseconds, SourceId}
+use Rattle.source_rows.specs.declared.sight.Sight.{Sight}
+use Rattle.loop_script.specs.Units.{SourceId}
 
 -- a row stands behind the last one, if there was one
 abbrev pub follows : Option Row → Row → Bool
 follows last r = not (is_passed (option_map key_of last) (key_of r))
 
 -- a row behind the last one that may be ready, by itself or by one under it
-abbrev pub comes : Microseconds → List Row → Option Row → Row → Bool
-comes now rows last r = follows last r && may_call now rows r
+abbrev pub comes : Sight → List Row → Option Row → Row → Bool
+comes sight rows last r = follows last r && may_call sight rows r
 
 -- a row behind the last one that may be ready by itself
-abbrev pub wakes : Microseconds → Option Row → Row → Bool
-wakes now last r = follows last r && is_awake now r
+abbrev pub wakes : Sight → Option Row → Row → Bool
+wakes sight last r = follows last r && is_awake sight r
 
 -- the rows that are left behind the last one
-abbrev pub left_of : Microseconds → List Row → Option Row → List Row
-left_of now rows last = filter (comes now rows last) (in_order rows)
+abbrev pub left_of : Sight → List Row → Option Row → List Row
+left_of sight rows last = filter (comes sight rows last) (in_order rows)
 
 -- the parent of the last row
 abbrev pub parent_at : List Row → Option Row → Option Row
@@ -41,10 +42,10 @@ nearer (Some a) None = Some a
 nearer (Some a) (Some b) = if stands_before b a then Some b else Some a
 
 -- rows stand in trees, and the last one, if there was one, may be ready, by itself or by one under it
-pub record IsStep (rows : List Row) (now : Microseconds) (last : Option Row) : Type 0 where
+pub record IsStep (rows : List Row) (sight : Sight) (last : Option Row) : Type 0 where
   pub forest : IsForest rows
   pub apart : AllApart rows
-  pub valid : IfSome last (λ r. (row_of r.id rows ≡ Some r) × (may_call now rows r ≡ true))
+  pub valid : IfSome last (λ r. (row_of r.id rows ≡ Some r) × (may_call sight rows r ≡ true))
 
 -- ---- a part of the order that is left
 
@@ -59,21 +60,21 @@ is_above_last None r = false
 is_above_last (Some l) r = is_parent l.parent r
 
 -- the rows that may be ready of those whose seats a part of the order has
-abbrev pub ready_in : Microseconds → List Row → List Seat → List Row
-ready_in now rows seats = filter (may_call now rows) (rows_of rows (ids_of seats))
+abbrev pub ready_in : Sight → List Row → List Seat → List Row
+ready_in sight rows seats = filter (may_call sight rows) (rows_of rows (ids_of seats))
 
 -- a part of the order has all that is left behind the last row
-pub record HasLeft (rows : List Row) (now : Microseconds) (last : Option Row) (seats : List Seat) : Type 0 where
+pub record HasLeft (rows : List Row) (sight : Sight) (last : Option Row) (seats : List Seat) : Type 0 where
   pub found : AllFound rows (ids_of seats)
-  pub ready : ready_in now rows seats ≡ left_of now rows last
+  pub ready : ready_in sight rows seats ≡ left_of sight rows last
 
 -- what a look at the next rows of a part of the order tells, and the part that it leaves
-abbrev pub Looks : Microseconds → List Row → List Seat → List Seat → Near → Type 0
-Looks now rows before after (Came r) = ready_in now rows before ≡ r.now ∷ ready_in now rows after
-Looks now rows before after Sleep = ready_in now rows before ≡ ready_in now rows after
-Looks now rows before after Ended = (ready_in now rows before ≡ []) × (ready_in now rows after ≡ [])
+abbrev pub Looks : Sight → List Row → List Seat → List Seat → Near → Type 0
+Looks sight rows before after (Came r) = ready_in sight rows before ≡ r.now ∷ ready_in sight rows after
+Looks sight rows before after Sleep = ready_in sight rows before ≡ ready_in sight rows after
+Looks sight rows before after Ended = (ready_in sight rows before ≡ []) × (ready_in sight rows after ≡ [])
 
 -- the walk stands behind a row that may be ready, with a part of the order that has all that is left
-pub record IsWalk (rows : List Row) (now : Microseconds) (last : Option Row) (seats : List Seat) : Type 0 where
-  pub step : IsStep rows now last
-  pub left : HasLeft rows now last seats
+pub record IsWalk (rows : List Row) (sight : Sight) (last : Option Row) (seats : List Seat) : Type 0 where
+  pub step : IsStep rows sight last
+  pub left : HasLeft rows sight last seats

@@ -1,4 +1,4 @@
-//! The rows that may be ready at a time: an iterator over all of them, in order, by the walk of `walk`. A single search stands in `search`.
+//! The rows that may be ready in a sight: an iterator over all of them, in order, by the walk of `walk`. A single search stands in `search`.
 //!
 //! Rows are taken one after another from the order, and looked at. After some that sleep the next one that is awake is
 //! searched for in the tree of seats, and the order is entered again behind it: so a context whose rows are all awake costs
@@ -16,6 +16,7 @@ ghost use Rattle.source_rows.specs.Candidates.{is_awake};
 ghost use Rattle.source_rows.specs.Steps.{IsStep, IsWalk, HasLeft, Looks, left_of, comes, wakes, nearer, parent_at, is_above_last};
 
 use crate::row::{Key, Row};
+use crate::sight::Sight;
 use crate::table::Table;
 use crate::walk::Walk;
 use std::iter::Iterator;
@@ -24,13 +25,13 @@ use std::marker::Model;
 /// After how many rows that sleep the next one that is awake is searched for.
 const NEAR: u32 = 4;
 
-/// An iterator over the rows that may be ready at a time, and over those above them, in order.
+/// An iterator over the rows that may be ready in a sight, and over those above them, in order.
 #[derive(Drop)]
 pub struct Candidates<'a> {
     table: &'a Table,
     /// What of the order is left.
     seats: Walk<'a>,
-    now: u64,
+    sight: Sight,
     last: Option<&'a Row>,
 }
 
@@ -52,21 +53,21 @@ impl<'a> Model for Candidates<'a> {
 
     ghost Value = { List Row };
 
-    ghost view = { λ a. left_of a.now a.table.now (option_copied a.last) };
+    ghost view = { λ a. left_of a.sight a.table.now (option_copied a.last) };
 
-    ghost invariant = { λ a. IsWalk a.table.now a.now (option_copied a.last) a.seats };
+    ghost invariant = { λ a. IsWalk a.table.now a.sight (option_copied a.last) a.seats };
 }
 
 impl<'a> Candidates<'a> {
-    /// All that may be ready at a time.
-    pub(crate) fn new(table: &'a Table, now: u64) -> Candidates<'a>
-        requires { IsStep table.now now None }
-        ensures { result ≡ left_of now table.now None }
+    /// All that may be ready in a sight.
+    pub(crate) fn new(table: &'a Table, sight: Sight) -> Candidates<'a>
+        requires { IsStep table.now sight None }
+        ensures { result ≡ left_of sight table.now None }
     {
         Candidates {
             table,
             seats: table.walk(None),
-            now,
+            sight,
             last: None,
         }
     }
@@ -81,7 +82,7 @@ impl<'a> Iterator for Candidates<'a> {
 
     #[inline]
     fn next(&mut self) -> Option<&'a Row> {
-        let row = advance(&mut self.seats, self.table, self.last, self.now)?;
+        let row = advance(&mut self.seats, self.table, self.last, self.sight)?;
         self.last = Some(row);
         Some(row)
     }
@@ -101,10 +102,10 @@ fn is_above_last(last: Option<&Row>, row: &Row) -> bool
 }
 
 /// Looks at the next few rows of a part of the order.
-fn look<'a>(seats: &mut Walk<'a>, table: &'a Table, last: Option<&'a Row>, now: u64) -> Near<'a>
-    requires step { IsStep table.now now (option_copied last) }
-    requires left { HasLeft table.now now (option_copied last) seats.old }
-    ensures tells { Looks now table.now seats.old seats.new result }
+fn look<'a>(seats: &mut Walk<'a>, table: &'a Table, last: Option<&'a Row>, sight: Sight) -> Near<'a>
+    requires step { IsStep table.now sight (option_copied last) }
+    requires left { HasLeft table.now sight (option_copied last) seats.old }
+    ensures tells { Looks sight table.now seats.old seats.new result }
     ensures found { AllFound table.now (ids_of seats.new) }
 {
     let mut tries = NEAR;
@@ -114,7 +115,7 @@ fn look<'a>(seats: &mut Walk<'a>, table: &'a Table, last: Option<&'a Row>, now: 
             return Near::Ended;
         };
         if let Some(row) = table.found(seat.id) {
-            if row.is_awake(now) || is_above_last(last, row) {
+            if row.is_awake(sight) || is_above_last(last, row) {
                 return Near::Came(row);
             }
         }
@@ -133,12 +134,12 @@ fn last_key(last: Option<&Row>) -> Option<Key>
 }
 
 /// The first row behind the last that may be ready by itself.
-fn awake_row<'a>(table: &'a Table, last: Option<&'a Row>, now: u64) -> Option<&'a Row>
+fn awake_row<'a>(table: &'a Table, last: Option<&'a Row>, sight: Sight) -> Option<&'a Row>
     requires forest { IsForest table.now }
     requires apart { AllApart table.now }
-    ensures { option_copied result ≡ find (wakes now (option_copied last.entry)) (in_order table.now) }
+    ensures { option_copied result ≡ find (wakes sight (option_copied last.entry)) (in_order table.now) }
 {
-    match table.first_awake(last_key(last), now) {
+    match table.first_awake(last_key(last), sight) {
         None => None,
         Some(id) => table.found(id),
     }
@@ -171,11 +172,11 @@ fn nearer<'a>(a: Option<&'a Row>, b: Option<&'a Row>) -> Option<&'a Row>
 }
 
 /// The next row that may be ready, it or one under it.
-fn next_row<'a>(table: &'a Table, last: Option<&'a Row>, now: u64) -> Option<&'a Row>
-    requires { IsStep table.now now (option_copied last) }
-    ensures { option_copied result ≡ find (comes now table.now (option_copied last.entry)) (in_order table.now) }
+fn next_row<'a>(table: &'a Table, last: Option<&'a Row>, sight: Sight) -> Option<&'a Row>
+    requires { IsStep table.now sight (option_copied last) }
+    ensures { option_copied result ≡ find (comes sight table.now (option_copied last.entry)) (in_order table.now) }
 {
-    nearer(awake_row(table, last, now), parent_row(table, last))
+    nearer(awake_row(table, last, sight), parent_row(table, last))
 }
 
 /// The next row that may be ready, with the part of the order that stands behind it.
@@ -183,19 +184,19 @@ fn advance<'a>(
     seats: &mut Walk<'a>,
     table: &'a Table,
     last: Option<&'a Row>,
-    now: u64,
+    sight: Sight,
 ) -> Option<&'a Row>
-    requires { IsWalk table.now now (option_copied last) seats.old }
-    ensures some { IfSome result (λ row. left_of now table.now (option_copied last.entry) ≡ row.now ∷ left_of now table.now (Some row.now)) }
-    ensures walks { IfSome result (λ row. IsWalk table.now now (Some row.now) seats.new) }
-    ensures none { IfNone result (left_of now table.now (option_copied last.entry) ≡ []) }
-    ensures stays { IfNone result (IsWalk table.now now (option_copied last.entry) seats.new) }
+    requires { IsWalk table.now sight (option_copied last) seats.old }
+    ensures some { IfSome result (λ row. left_of sight table.now (option_copied last.entry) ≡ row.now ∷ left_of sight table.now (Some row.now)) }
+    ensures walks { IfSome result (λ row. IsWalk table.now sight (Some row.now) seats.new) }
+    ensures none { IfNone result (left_of sight table.now (option_copied last.entry) ≡ []) }
+    ensures stays { IfNone result (IsWalk table.now sight (option_copied last.entry) seats.new) }
 {
-    match look(seats, table, last, now) {
+    match look(seats, table, last, sight) {
         Near::Came(row) => Some(row),
         Near::Ended => None,
         Near::Sleep => {
-            let row = next_row(table, last, now)?;
+            let row = next_row(table, last, sight)?;
             *seats = table.walk(Some(row.key()));
             Some(row)
         }

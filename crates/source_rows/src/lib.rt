@@ -21,6 +21,7 @@ mod rows;
 mod search;
 mod seat_order;
 mod seats;
+mod sight;
 mod table;
 mod walk;
 
@@ -30,3 +31,4 @@ pub use in_order::{InOrder, Ordered};
 pub use levels::Levels;
 pub use row::Row;
 pub use rows::Rows;
+pub use sight::Sight;

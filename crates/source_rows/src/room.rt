@@ -16,7 +16,7 @@ impl Room {
         let nobody = Seat {
             key: (0, [0; 4]),
             id: 0,
-            wake: NEVER,
+            marks: 0,
             due: NEVER,
         };
         let fork = Box::new(alloc, Fork::alone(nobody))?;

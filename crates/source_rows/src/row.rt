@@ -6,10 +6,12 @@ ghost use Rattle.source_rows.specs.Band.{first_key, last_key};
 ghost use Rattle.source_rows.specs.Moves.{moved_row};
 ghost use Rattle.source_rows.specs.Slots.{asks};
 ghost use Rattle.source_rows.specs.Seats.{seat_of};
-ghost use Rattle.source_rows.specs.Candidates.{is_awake, due_at, wakes_at};
+ghost use Rattle.source_rows.specs.Candidates.{is_awake, due_at, opened_by};
 ghost use Rattle.source_rows.specs.Row.{ready_at, root_row, child_row, lineage_under, path_under};
 
 use crate::seats::{NEVER, Seat};
+use crate::sight::{ALWAYS, DESCRIPTOR, Sight};
+use cancel_view::mark_of;
 use loop_script::{Kind, SourceSpec};
 use std::cmp::Ordering;
 
@@ -74,30 +76,30 @@ impl Row {
         }
     }
 
-    /// Where the row stands, its id, from when on it may be ready, and when it is due.
+    /// Where the row stands, its id, the marks by which it is open, and when it is due.
     pub(crate) fn seat(&self) -> Seat
         ensures { result ≡ seat_of self.now }
     {
         Seat {
             key: self.key(),
             id: self.id,
-            wake: wakes_at(self.kind, self.ready),
+            marks: opened_by(self.kind),
             due: due_at(self.ready),
         }
     }
 
-    /// Whether the row keeps the times of its seat with another ready time: when it is due, and so from when on it may be ready.
+    /// Whether the row keeps the time of its seat with another ready time.
     pub(crate) fn keeps_times(&self, ready: i64) -> bool
         ensures { result ≡ (due_at self.now.ready == due_at ready) }
     {
         due_at(self.ready) == due_at(ready)
     }
 
-    /// Whether the source may be ready at a time, as far as its kind and its ready time tell.
-    pub(crate) fn is_awake(&self, now: u64) -> bool
-        ensures { result ≡ is_awake now self.now }
+    /// Whether the source may be ready, as far as its kind and its ready time tell.
+    pub(crate) fn is_awake(&self, sight: Sight) -> bool
+        ensures { result ≡ is_awake sight self.now }
     {
-        wakes_at(self.kind, self.ready) <= now
+        !sight.sleeps(opened_by(self.kind), due_at(self.ready))
     }
 
     /// The least and the greatest key of a row in the tree of a root.
@@ -132,14 +134,15 @@ fn due_at(ready: i64) -> u64
     if ready < 0 { NEVER } else { ready as u64 }
 }
 
-/// From when on a source may be ready.
-fn wakes_at(kind: Kind, ready: i64) -> u64
-    ensures { result ≡ wakes_at kind ready }
+/// The marks by which a source is open: it may then be ready whatever its ready time.
+fn opened_by(kind: Kind) -> u64
+    ensures { result ≡ opened_by kind }
 {
     match kind {
-        Kind::Timeout(_) => due_at(ready),
-        Kind::ReadyTime(_) => due_at(ready),
-        _ => 0,
+        Kind::Idle => ALWAYS,
+        Kind::Timeout(_) | Kind::ReadyTime(_) => 0,
+        Kind::Fd(_, _) => DESCRIPTOR,
+        Kind::Cancel(c) => mark_of(c),
     }
 }
 

@@ -19,6 +19,7 @@ use crate::levels::Levels;
 use crate::moves::move_rows;
 use crate::removal::remove_under;
 use crate::row::{Row, make_child, make_root};
+use crate::sight::Sight;
 use crate::table::Table;
 use loop_script::SourceSpec;
 use std::alloc::{AllocError, Global};
@@ -261,15 +262,16 @@ impl Rows {
         InOrder::new(self.table.walk(None), &self.table)
     }
 
-    /// The rows that may be ready at a time, as far as kinds and ready times tell, and those above them, in the order in
-    /// which an iteration dispatches them. It takes no memory.
-    pub fn candidates(&self, now: u64) -> Candidates<'_>
-        ensures rows { result ≡ candidates now self.now.rows }
+    /// The rows that may be ready, as far as kinds, ready times and a sight tell, and those above them, in the order in which an
+    /// iteration dispatches them. Of what is a source of a cancellable those whose cancellable may have been seen are among them. It
+    /// takes no memory.
+    pub fn candidates(&self, sight: Sight) -> Candidates<'_>
+        ensures rows { result ≡ candidates sight self.now.rows }
         ensures forest { IsForest self.now.rows }
         ensures one_tree { IsOneTree self.now.rows }
         ensures runs { ShowsInOrder (λ (r : Bor Row). r.now) }
     {
-        Candidates::new(&self.table, now)
+        Candidates::new(&self.table, sight)
     }
 
     /// The ids in the order in which an iteration dispatches their rows.

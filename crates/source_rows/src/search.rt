@@ -10,31 +10,32 @@ ghost use Rattle.source_rows.specs.LastTo.{stands_to, IsLastTo};
 
 use crate::row::Key;
 use crate::seats::{NEVER, Seat, Seats, lesser};
+use crate::sight::Sight;
 use std::alloc::AllocError;
 use std::cmp::Ordering;
 
 impl Seats {
-    /// The id of the first seat behind a key that wakes by a time.
-    pub fn first_awake(&self, after: Option<Key>, now: u64) -> Option<u64>
+    /// The id of the first seat behind a key that does not sleep.
+    pub fn first_awake(&self, after: Option<Key>, sight: Sight) -> Option<u64>
         requires { Rises is_ahead self.now.0 }
-        ensures { result ≡ first_awake after now self.now.0 }
+        ensures { result ≡ first_awake after sight self.now.0 }
     {
         match &self.root {
             None => None,
             Some(fork) => {
                 let fork = &**fork;
-                if now < fork.least.wake {
+                if sight.sleeps(fork.least.marks, fork.least.due) {
                     return None;
                 }
                 if is_passed(after, fork.seat.key) {
-                    return fork.later.first_awake(after, now);
+                    return fork.later.first_awake(after, sight);
                 }
-                match fork.sooner.first_awake(after, now) {
+                match fork.sooner.first_awake(after, sight) {
                     None => {
-                        if fork.seat.wake <= now {
-                            Some(fork.seat.id)
+                        if sight.sleeps(fork.seat.marks, fork.seat.due) {
+                            fork.later.first_awake(after, sight)
                         } else {
-                            fork.later.first_awake(after, now)
+                            Some(fork.seat.id)
                         }
                     }
                     first => first,

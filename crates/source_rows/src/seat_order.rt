@@ -15,6 +15,7 @@ use crate::room::Room;
 use crate::row::Key;
 use crate::search::is_passed;
 use crate::seats::{Seat, Seats, lesser};
+use crate::sight::Sight;
 use std::alloc::AllocError;
 use std::cmp::Ordering;
 use std::marker::Model;
@@ -180,13 +181,13 @@ impl SeatOrder {
         }
     }
 
-    /// The id of the first seat behind a key that wakes by a time.
-    pub fn first_awake(&self, after: Option<Key>, now: u64) -> Option<u64>
+    /// The id of the first seat behind a key that does not sleep.
+    pub fn first_awake(&self, after: Option<Key>, sight: Sight) -> Option<u64>
         requires { Rises is_ahead self.now.0 }
-        ensures { result ≡ first_awake after now self.now.0 }
+        ensures { result ≡ first_awake after sight self.now.0 }
     {
-        match self.front.first_awake(after, now) {
-            None => self.back.first_awake(after, now),
+        match self.front.first_awake(after, sight) {
+            None => self.back.first_awake(after, sight),
             first => first,
         }
     }

@@ -1,13 +1,13 @@
 //! The seats of rows in order, in a search tree whose nodes are taken beforehand: so a ready time is changed without memory.
 //!
-//! A node has the least times of the seats from there on: so the next row that may be ready and the next ready time are found
-//! without a look at the others.
-ghost use Rattle.std.specs.Prelude.{◌≡◌, ◌≤◌, ◌<◌, length, nat_lt, List, [], ◌∷◌, ◌++◌, true, false, Some, is_some, IfSome, IfNone};
+//! A node has all marks and the least time of the seats from there on: so the next row that may be ready and the next ready time
+//! are found without a look at the others.
+ghost use Rattle.std.specs.Prelude.{◌≡◌, ◌≤◌, ◌<◌, length, nat_lt, List, [], ◌∷◌, ◌++◌, true, false, Some, is_some, IfSome, IfNone, bit_or};
 ghost use Rattle.loop_script.specs.Bounds.{count_end};
 ghost use Rattle.std.specs.List.{list_any};
 ghost use Rattle.std.specs.Ordering.{is_eq};
 ghost use Rattle.source_rows.specs.Inserted.{inserted, Rises};
-ghost use Rattle.source_rows.specs.Seats.{seat_cmp, is_ahead, without, first_awake, next_due, due_after, least_of, lesser, is_passed, IsLater, swapped, IsLow};
+ghost use Rattle.source_rows.specs.Seats.{seat_cmp, is_ahead, without, next_due, due_after, least_of, lesser, is_passed, IsLater, swapped, IsLow};
 ghost use Rattle.source_rows.specs.Candidates.{never};
 ghost use Rattle.source_rows.specs.SeatTree.{seats_of, IsEvenFork, IsLowered};
 
@@ -18,14 +18,14 @@ use std::cmp::Ordering;
 use std::marker::Model;
 use std::mem;
 
-/// Where a row stands in the order, and its times in microseconds: `NEVER` where it has no ready time.
+/// Where a row stands in the order, and by what it may be ready.
 #[derive(Clone, Copy, PartialEq, Eq, PartialOrd, Ord)]
 pub(crate) struct Seat {
     pub(crate) key: Key,
     pub(crate) id: u64,
-    /// From when on the row may be ready.
-    pub(crate) wake: u64,
-    /// When the row is due.
+    /// The marks by which the row is open.
+    pub(crate) marks: u64,
+    /// When the row is due, in microseconds: `NEVER` where it has no ready time.
     pub(crate) due: u64,
 }
 
@@ -47,15 +47,15 @@ pub(crate) struct Fork {
     pub(crate) seat: Seat,
     /// How high the tree is from here.
     pub(crate) height: u64,
-    /// The least times from here.
+    /// All marks and the least time from here.
     pub(crate) least: Least,
     pub(crate) later: Seats,
 }
 
-/// The least times of some seats, `NEVER` where there are none.
+/// All marks of some seats, and the least of their times: `NEVER` where there are none.
 #[derive(Clone, Copy)]
 pub(crate) struct Least {
-    pub(crate) wake: u64,
+    pub(crate) marks: u64,
     pub(crate) due: u64,
 }
 
@@ -89,6 +89,7 @@ impl Model for Seats {
 
 impl Fork {
     /// A seat and nothing else.
+    #[tactic(auto, using(crate::proofs::AllMarks::or_zero))]
     pub(crate) fn alone(seat: Seat) -> Fork
         ensures seats { seats_of result ≡ seat ∷ [] }
         ensures even { IsEvenFork result }
@@ -99,29 +100,29 @@ impl Fork {
             seat,
             height: 1,
             least: Least {
-                wake: lesser(seat.wake, NEVER),
+                marks: seat.marks,
                 due: lesser(seat.due, NEVER),
             },
             later: Seats::new(),
         }
     }
 
-    /// Notes the least times anew, and answers whether they are others.
+    /// Notes marks and least time anew, and answers whether they are others.
     fn note_least(&mut self) -> bool
         ensures fork { self.new ≡ record self.old { least = least_of (seats_of self.old) } }
         ensures same { result ≡ false → self.old.least ≡ least_of (seats_of self.old) }
     {
         let least = least_over(&self.sooner, &self.seat, &self.later);
-        let is_other = least.wake != self.least.wake || least.due != self.least.due;
+        let is_other = least.marks != self.least.marks || least.due != self.least.due;
         self.least = least;
         is_other
     }
 
-    /// Notes the least times anew, once a seat was taken out.
+    /// Notes marks and least time anew, once a seat was taken out.
     fn leave_out(&mut self, seat: &Seat)
         ensures { (all : List Seat) → self.old.least ≡ least_of all → seats_of self.old ≡ without seat.now all → self.new ≡ record self.old { least = least_of (seats_of self.old) } }
     {
-        if is_later(seat.wake, self.least.wake) && is_later(seat.due, self.least.due) {
+        if seat.marks == 0 && is_later(seat.due, self.least.due) {
             return;
         }
         let _ = self.note_least();
@@ -139,13 +140,11 @@ impl Fork {
 }
 
 impl Least {
-    /// Notes the times of one more seat.
+    /// Notes one more seat.
     fn note(&mut self, seat: &Seat)
-        ensures { self.new ≡ record { wake = lesser seat.now.wake self.old.wake; due = lesser seat.now.due self.old.due } }
+        ensures { self.new ≡ record { marks = bit_or self.old.marks seat.now.marks; due = lesser seat.now.due self.old.due } }
     {
-        if seat.wake < self.wake {
-            self.wake = seat.wake;
-        }
+        self.marks |= seat.marks;
         if seat.due < self.due {
             self.due = seat.due;
         }
@@ -278,7 +277,7 @@ impl Seats {
         Taken { room, lower }
     }
 
-    /// Puts another seat where one stands, and answers whether the least times may be others.
+    /// Puts another seat where one stands, and answers whether marks or least time may be others.
     pub fn set(&mut self, before: &Seat, after: &Seat) -> bool
         requires { Rises is_ahead self.old.0 }
         ensures seats { self.new.0 ≡ swapped before.now after.now self.old.0 }
@@ -302,13 +301,13 @@ impl Seats {
         }
     }
 
-    /// The least times of the seats.
+    /// All marks of the seats, and their least time.
     fn least(&self) -> Least
         ensures { result ≡ least_of self.now.0 }
     {
         match &self.root {
             None => Least {
-                wake: NEVER,
+                marks: 0,
                 due: NEVER,
             },
             Some(fork) => fork.least,
@@ -340,13 +339,13 @@ fn is_later(time: u64, least: u64) -> bool
     least < time || time == NEVER
 }
 
-/// The least times of a seat and of those on its sides.
+/// All marks of a seat and of those on its sides, and their least time.
 pub(crate) fn least_over(sooner: &Seats, seat: &Seat, later: &Seats) -> Least
     ensures { result ≡ least_of (sooner.now.0 ++ seat.now ∷ later.now.0) }
 {
     let (before, behind) = (sooner.least(), later.least());
     Least {
-        wake: lesser(before.wake, lesser(seat.wake, behind.wake)),
+        marks: before.marks | seat.marks | behind.marks,
         due: lesser(before.due, lesser(seat.due, behind.due)),
     }
 }

@@ -20,6 +20,7 @@ use crate::room::Room;
 use crate::row::{Key, Row};
 use crate::seat_order::SeatOrder;
 use crate::seats::NEVER;
+use crate::sight::Sight;
 use crate::walk::Walk;
 use slab::Slab;
 use std::alloc::{AllocError, Global};
@@ -142,11 +143,11 @@ impl Table {
         if due < NEVER { Some(due as i64) } else { None }
     }
 
-    /// The id of the first row behind a key that may be ready at `now`.
-    pub fn first_awake(&self, after: Option<Key>, now: u64) -> Option<u64>
-        ensures { result ≡ first_awake after now (in_seats self.now) }
+    /// The id of the first row behind a key that may be ready.
+    pub fn first_awake(&self, after: Option<Key>, sight: Sight) -> Option<u64>
+        ensures { result ≡ first_awake after sight (in_seats self.now) }
     {
-        self.seats.first_awake(after, now)
+        self.seats.first_awake(after, sight)
     }
 
     /// The seats of the rows that stand behind a key, or of all, in order.

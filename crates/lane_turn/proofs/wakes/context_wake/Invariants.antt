@@ -1,8 +1,6 @@
 use Rattle.std.proofs.Common.{◌≡◌, ℕ, ◌≤◌}
 use Rattle.std.specs.List.{list_any}
 use Rattle.task_steps.specs.Run.{IsAfter}
-use Rattle.loop_script.specs.Parts.{time_of}
-use Rattle.source_rows.specs.Candidates.{candidates}
 use Rattle.context_core.specs.Ready.{is_callable}
 use Rattle.lane_turn.specs.Frames.{busy}
 use Rattle.lane_turn.specs.Sources.{own_ready_at}
@@ -10,4 +8,4 @@ use Rattle.lane_turn.proofs.wakes.context_wake.Given as goal
 
 abbrev pub invariant-rows : goal.invariant-rows
 invariant-rows l = (k : ℕ) → l.from ≤ k → IsAfter k l.wake
-    → list_any (is_callable (own_ready_at l.script k l.view) (busy l.number l.frames)) l.row-iterator ≡ list_any (is_callable (own_ready_at l.script k l.view) (busy l.number l.frames)) (candidates (time_of l.script l.from) l.context.rows.rows)
+    → list_any (is_callable (own_ready_at l.script k l.view) (busy l.number l.frames)) l.row-iterator ≡ list_any (is_callable (own_ready_at l.script k l.view) (busy l.number l.frames)) l.initial.row-iterator

@@ -4,4 +4,4 @@ use Rattle.source_rows.specs.Steps.{HasLeft, ready_in}
 use Rattle.source_rows.proofs.candidates.look.Given as goal
 
 abbrev pub invariant-near : goal.invariant-near
-invariant-near l = (goal.iterator-near).can_next l.seats × (goal.iterator-near).is_finite l.seats × HasLeft l.table l.now (option_copied l.last) l.seats × (ready_in l.now l.table l.initial.seats ≡ ready_in l.now l.table l.seats)
+invariant-near l = (goal.iterator-near).can_next l.seats × (goal.iterator-near).is_finite l.seats × HasLeft l.table l.sight (option_copied l.last) l.seats × (ready_in l.sight l.table l.initial.seats ≡ ready_in l.sight l.table l.seats)

@@ -4,7 +4,7 @@ use mir.Val.{SFits, to_z, of_z}
 use Rattle.source_rows.specs.Rows.{in_order}
 use Rattle.std.specs.List.{find}
 use Rattle.source_rows.specs.Candidates.{candidates}
-use Rattle.context_core.proofs.Candidates.{find_candidates}
+use Rattle.context_core.proofs.Candidates.{find_candidates, sees_quiet}
 use Rattle.context_core.specs.Ready.{in_view, own_ready, is_callable}
 use Rattle.context_core.specs.declared.interest.Shown.{Shown}
 use Rattle.context_core.specs.Phases.{shown}
@@ -30,6 +30,7 @@ returns-then-is_callable c =
 pub rows-init : goal.rows-init
 rows-init c =
     let rows = c.args.self.now.rows.rows in
-    let it : c.into_iter-row-iterator.result ≡ candidates c.args.now rows = search rules in
+    let it : c.into_iter-row-iterator.result ≡ candidates c.undisturbed-sight.result rows = search rules in
+    let sees = sees_quiet c.args.view.now c.args.now c.marks.result c.undisturbed-sight.result c.marks.ensures c.undisturbed-sight.ensures in
     ap (find (is_callable (own_ready (shown []) (in_view c.args.view.now) c.args.now) c.args.busy.now)) it
-    ∙ find_candidates (shown []) (in_view c.args.view.now) c.args.now c.args.busy.now rows c.candidates-row-items.ensures.forest
+    ∙ find_candidates (shown []) (in_view c.args.view.now) c.args.now c.undisturbed-sight.result sees c.args.busy.now rows c.candidates-row-items.ensures.forest

@@ -4,7 +4,7 @@ use mir.Val.{SFits, to_z, of_z}
 use Rattle.std.specs.Ordering.{nat_cmp}
 use Rattle.std.specs.BTreeSet.{contains}
 use Rattle.source_rows.specs.Candidates.{may_call, candidates}
-use Rattle.context_core.proofs.Candidates.{each_calls_may, walk_candidates}
+use Rattle.context_core.proofs.Candidates.{each_calls_may, walk_candidates, sees_view}
 use Rattle.source_rows.specs.declared.row.Row.{Row}
 use Rattle.context_core.specs.Ready.{in_view, own_ready, is_ready}
 use Rattle.context_core.specs.Phases.{shown, walk, less_urgent}
@@ -16,12 +16,16 @@ pub rows-preserved-in-Continue-branch-2 : goal.rows-preserved-in-Continue-branch
 rows-preserved-in-Continue-branch-2 c =
     let own = own_ready (shown c.args.polled.now) (in_view c.args.view.now) c.args.now in
     let rows = c.args.self.now.rows.rows in
+    let sight = c.rows.invariant.sight in
+    let sees = c.rows.invariant.sees in
     let row = c.in-Some.row.now in
     let fits : SFits w32 row.priority = search rules in
     let same : to_z w32 (of_z w32 row.priority) ≡ row.priority = simp to_z-of_z in
-    let step = stepped own c.args.busy.now (may_call c.args.now rows) rows c.rows.row-iterator c.next.new.self row (λ (id : ℕ). contains nat_cmp c.rows.lent id) (λ (id : ℕ). contains nat_cmp c.visit.new.lent id) _
-    c.candidates-row-items.ensures.forest (each_calls_may (shown c.args.polled.now) (in_view c.args.view.now) c.args.now c.args.busy.now rows c.candidates-row-items.ensures.forest) c.in-Some.ensures.steps c.in_ok-visit.ensures.lent c.in_ok-visit.ensures.ready c.rows.invariant.passed in
+    let step = stepped own c.args.busy.now (may_call sight rows) rows c.rows.row-iterator c.next.new.self row (λ (id : ℕ). contains nat_cmp c.rows.lent id) (λ (id : ℕ). contains nat_cmp c.visit.new.lent id) _
+    c.candidates-row-items.ensures.forest (each_calls_may (shown c.args.polled.now) (in_view c.args.view.now) c.args.now sight sees c.args.busy.now rows c.candidates-row-items.ensures.forest) c.in-Some.ensures.steps c.in_ok-visit.ensures.lent c.in_ok-visit.ensures.ready c.rows.invariant.passed in
     record {
+      sight = sight;
+      sees = sees;
       passed = step.0;
       ids = ap (λ (p : ℤ). c.push.new.self.items ++ walk (is_ready own c.args.busy.now rows) (Some p) c.next.new.self) same
           ∙ walk_taken (is_ready own c.args.busy.now rows) c.rows.bound row c.next.new.self c.rows.row-iterator c.rows.ids.items _ _
@@ -32,12 +36,16 @@ pub rows-preserved : goal.rows-preserved
 rows-preserved c =
     let own = own_ready (shown c.args.polled.now) (in_view c.args.view.now) c.args.now in
     let rows = c.args.self.now.rows.rows in
+    let sight = c.rows.invariant.sight in
+    let sees = c.rows.invariant.sees in
     let row = c.in-Some.row.now in
     let fits : SFits w32 row.priority = search rules in
     let same : to_z w32 (of_z w32 row.priority) ≡ row.priority = simp to_z-of_z in
-    let step = stepped own c.args.busy.now (may_call c.args.now rows) rows c.rows.row-iterator c.next.new.self row (λ (id : ℕ). contains nat_cmp c.rows.lent id) (λ (id : ℕ). contains nat_cmp c.visit.new.lent id) _
-    c.candidates-row-items.ensures.forest (each_calls_may (shown c.args.polled.now) (in_view c.args.view.now) c.args.now c.args.busy.now rows c.candidates-row-items.ensures.forest) c.in-Some.ensures.steps c.in_ok-visit.ensures.lent c.in_ok-visit.ensures.ready c.rows.invariant.passed in
+    let step = stepped own c.args.busy.now (may_call sight rows) rows c.rows.row-iterator c.next.new.self row (λ (id : ℕ). contains nat_cmp c.rows.lent id) (λ (id : ℕ). contains nat_cmp c.visit.new.lent id) _
+    c.candidates-row-items.ensures.forest (each_calls_may (shown c.args.polled.now) (in_view c.args.view.now) c.args.now sight sees c.args.busy.now rows c.candidates-row-items.ensures.forest) c.in-Some.ensures.steps c.in_ok-visit.ensures.lent c.in_ok-visit.ensures.ready c.rows.invariant.passed in
     record {
+      sight = sight;
+      sees = sees;
       passed = step.0;
       ids = walk_passed (is_ready own c.args.busy.now rows) c.rows.bound row c.next.new.self c.rows.row-iterator c.rows.ids.items _
           (ap (less_urgent c.rows.bound) (sym same) ∙ (sym c.is_beyond.ensures ∙ c.if-is_beyond.false)) (step.1 ∙ c.if-branch.false) c.in-Some.ensures.steps c.rows.invariant.ids;
@@ -47,9 +55,12 @@ pub rows-init : goal.rows-init
 rows-init c =
     let rows = c.args.self.now.rows.rows in
     let own = own_ready (shown c.args.polled.now) (in_view c.args.view.now) c.args.now in
-    let it : c.into_iter-row-iterator.result ≡ candidates c.args.now rows = search rules in
+    let sees = sees_view (shown c.args.polled.now) c.args.view.now c.args.now c.marks.result c.new-sight.result c.marks.ensures c.new-sight.ensures in
+    let it : c.into_iter-row-iterator.result ≡ candidates c.new-sight.result rows = search rules in
     let none : c.new-ids.result.items ≡ [] = c.new-ids.ensures.items in
     record {
+      sight = c.new-sight.result;
+      sees = sees;
       passed = record { seen = []; split = sym it; lends = λ id. search rules };
-      ids = rw none (ap (λ (l : List Row). walk (is_ready own c.args.busy.now rows) c.args.least l) it ∙ walk_candidates (shown c.args.polled.now) (in_view c.args.view.now) c.args.now c.args.busy.now c.args.least rows);
+      ids = rw none (ap (λ (l : List Row). walk (is_ready own c.args.busy.now rows) c.args.least l) it ∙ walk_candidates (shown c.args.polled.now) (in_view c.args.view.now) c.args.now c.new-sight.result sees c.args.busy.now c.args.least rows);
     }

@@ -1,11 +1,11 @@
-use Rattle.std.proofs.Common.{rules, ◌≡◌, ◌==◌, ◌-◌, true, false, cond, Some, List, [], ◌∷◌, ◌++◌, length, take, slice_get, option_map, subst, sym, ap, ◌∙◌}
+use Rattle.std.proofs.Common.{rules, ◌≡◌, ◌==◌, ◌-◌, true, false, cond, Some, [], ◌∷◌, ◌++◌, length, take, slice_get, option_map, subst, sym, ap, ◌∙◌}
 use Rattle.std.specs.Ordering.{nat_cmp}
 use Rattle.std.specs.Vec.{vec_len}
 use Rattle.std.specs.BTreeSet.{Updates}
 use Rattle.context_core.specs.declared.defaults.Pushed.{Pushed}
 use Rattle.context_core.specs.Defaults.{names, is_on_top, popped}
 use Rattle.context_core.specs.Pushed.{contexts_of, IsKnown}
-use Rattle.context_core.proofs.Pushing.{known_popped, known_again, popped_last, front_popped, on_top, top_of_all}
+use Rattle.context_core.proofs.Pushing.{known_popped, known_again, popped_last, front_popped, top_of_all}
 use Rattle.context_core.proofs.defaults.DefaultStack.pop.Goals as goal
 
 pub invariant_of-self : goal.invariant_of-self

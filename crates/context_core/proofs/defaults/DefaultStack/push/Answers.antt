@@ -1,4 +1,4 @@
-use Rattle.std.proofs.Common.{rules, ◌≡◌, true, not, List, [], ◌∷◌, ◌++◌, subst, sym}
+use Rattle.std.proofs.Common.{rules, ◌≡◌, true, not, [], ◌∷◌, ◌++◌, subst, sym}
 use Rattle.std.specs.Ordering.{nat_cmp}
 use Rattle.std.specs.BTreeSet.{contains, Updates}
 use Rattle.context_core.specs.declared.defaults.Pushed.{Pushed}

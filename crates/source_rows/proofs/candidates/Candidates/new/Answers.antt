@@ -9,5 +9,5 @@ walk-requires c = c.requires.apart
 pub invariant_of-result : goal.invariant_of-result
 invariant_of-result c = record {
   step = c.requires;
-  left = subst (HasLeft c.args.table.now c.args.now None) (sym c.walk.ensures) (entered c.args.table.now c.args.now None c.requires);
+  left = subst (HasLeft c.args.table.now c.args.sight None) (sym c.walk.ensures) (entered c.args.table.now c.args.sight None c.requires);
 }

@@ -1,7 +1,7 @@
 use Rattle.std.proofs.Common.{◌≡◌, ◌∙◌, ◌++◌, [], ℕ, List, sym, ap, subst, rules}
 use Rattle.source_rows.specs.Inserted.{Rises}
 use Rattle.source_rows.specs.declared.seats.Seat.{Seat}
-use Rattle.source_rows.specs.SeatOrder.{ArePassed, AreBehind}
+use Rattle.source_rows.specs.SeatOrder.{AreBehind}
 use Rattle.source_rows.specs.Seats.{is_ahead, IsLow}
 use Rattle.source_rows.proofs.Parts.{rises_behind, bound_passed}
 use Rattle.source_rows.proofs.seat_order.SeatOrder.join.Goals as goal

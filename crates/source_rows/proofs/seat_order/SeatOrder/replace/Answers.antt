@@ -1,4 +1,4 @@
-use Rattle.std.proofs.Common.{◌≡◌, ◌∙◌, true, sym, rules}
+use Rattle.std.proofs.Common.{◌≡◌, true, sym, rules}
 use Rattle.std.specs.Ordering.{is_eq}
 use Rattle.source_rows.specs.Rows.{key_cmp}
 use Rattle.source_rows.proofs.Ahead.{one_key}

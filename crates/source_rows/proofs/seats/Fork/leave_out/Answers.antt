@@ -1,13 +1,14 @@
-use Rattle.std.proofs.Common.{◌≡◌, ◌∙◌, ap, sym}
+use Rattle.std.proofs.Common.{◌≡◌, ◌∙◌, ap, sym, rules}
 use Rattle.source_rows.specs.declared.seats.Fork.{Fork}
 use Rattle.source_rows.specs.declared.seats.Least.{Least}
-use Rattle.source_rows.specs.Seats.{least_of, without}
+use Rattle.source_rows.specs.Seats.{least_of}
 use Rattle.source_rows.specs.SeatTree.{seats_of}
 use Rattle.source_rows.proofs.Left.{leasts_stay}
 use Rattle.source_rows.proofs.seats.Fork.leave_out.Goals as goal
 
-pub returns-then-is_later-2 : goal.returns-then-is_later-2
-returns-then-is_later-2 c = λ all least are.
+pub returns-then-is_later : goal.returns-then-is_later
+returns-then-is_later c = λ all least are.
     let f = c.args.self.now in
-    let is : f.least ≡ least_of (seats_of f) = least ∙ (sym (leasts_stay c.args.seat.now f.least all least (c.is_later.ensures c.if-is_later.true) (c.is_later-then-is_later.ensures c.if-is_later-2.true)) ∙ ap least_of (sym are)) in
+    let none : c.args.seat.now.marks ≡ 0 = search rules in
+    let is : f.least ≡ least_of (seats_of f) = least ∙ (sym (leasts_stay c.args.seat.now f.least all least none (c.is_later.ensures c.if-is_later.true)) ∙ ap least_of (sym are)) in
     ap (λ (l : Least). let g : Fork = record f { least = l } in g) is

@@ -1,23 +1,24 @@
-use Rattle.std.proofs.Common.{◌≡◌, ◌∙◌, Some, None, ℕ, Option, is_some, false, true, List, ◌∷◌, ◌++◌, sym, ap, rules, arith}
-use Rattle.std.proofs.lemmas.Bool.Decides.{nat_tests}
-use Rattle.std.specs.Prelude.{nat_lt}
+use Rattle.std.proofs.Common.{◌≡◌, ◌∙◌, Some, None, ℕ, Option, is_some, false, true, List, ◌∷◌, ◌++◌, sym, ap, rules}
 use Rattle.source_rows.specs.Rows.{Key}
 use Rattle.source_rows.specs.declared.seats.Seat.{Seat}
-use Rattle.source_rows.specs.Seats.{first_awake, least_by, least_of, is_passed}
+use Rattle.source_rows.specs.declared.sight.Sight.{Sight}
+use Rattle.source_rows.specs.Candidates.{sleeps}
+use Rattle.source_rows.specs.Seats.{first_awake, least_by, least_of, marks_of, is_passed}
 use Rattle.source_rows.specs.declared.seats.Least.{Least}
 use Rattle.source_rows.proofs.SeatTree.{at_Fork, even_at}
 use Rattle.source_rows.proofs.Ahead.{none_awake, awake_left, awake_here, awake_over, awake_right}
 use Rattle.source_rows.proofs.seats.Seats.+first_awake.Goals as goal
 
-pub returns-then-now-fork : goal.returns-then-now-fork
-returns-then-now-fork t c =
+pub returns-then-sleeps : goal.returns-then-sleeps
+returns-then-sleeps t c =
     let same : c.deref-fork.result.now ≡ c.in-Some.fork.value = search rules in
     let f = at_Fork c.self.view_is c.requires c.in-Some.is same in
     let even = even_at c.self.invariant c.in-Some.is same in
     let least : c.deref-fork.result.now.least ≡ least_of (c.deref-fork.result.now.sooner.0 ++ c.deref-fork.result.now.seat ∷ c.deref-fork.result.now.later.0) = even.4 in
-    let low : nat_lt c.args.now c.deref-fork.result.now.least.wake ≡ true = grind (arith, nat_tests, c.if-now-fork.true) in
-    let under : nat_lt c.args.now (least_by (λ s. s.wake) c.args.self.now.0) ≡ true = ap (nat_lt c.args.now) (ap (least_by (λ s. s.wake)) f.is ∙ sym (ap (λ (l : Least). l.wake) least)) ∙ low in
-    sym (none_awake c.args.after c.args.now c.args.self.now.0 under)
+    let low : sleeps c.args.sight c.deref-fork.result.now.least.marks c.deref-fork.result.now.least.due ≡ true = search rules in
+    let under : sleeps c.args.sight (marks_of c.args.self.now.0) (least_by (λ s. s.due) c.args.self.now.0) ≡ true =
+    ap (λ (l : Least). sleeps c.args.sight l.marks l.due) (ap least_of f.is ∙ sym least) ∙ low in
+    sym (none_awake c.args.after c.args.sight c.args.self.now.0 under)
 
 pub first_awake-requires : goal.first_awake-requires
 first_awake-requires t c =
@@ -31,8 +32,8 @@ first_awake-requires-in-Some t c =
     let f = at_Fork c.self.view_is c.requires c.in-Some.is same in
     search rules
 
-pub first_awake-requires-else-fork-now : goal.first_awake-requires-else-fork-now
-first_awake-requires-else-fork-now t c =
+pub first_awake-requires-then-sleeps-2 : goal.first_awake-requires-then-sleeps-2
+first_awake-requires-then-sleeps-2 t c =
     let same : c.deref-fork.result.now ≡ c.in-Some.fork.value = search rules in
     let f = at_Fork c.self.view_is c.requires c.in-Some.is same in
     search rules
@@ -43,38 +44,38 @@ returns-then-is_passed t c =
     let f = at_Fork c.self.view_is c.requires c.in-Some.is same in
     let e = c.first_awake.ensures in
     let passed : is_passed c.args.after c.deref-fork.result.now.seat.key ≡ true = search rules in
-    e ∙ sym (ap (first_awake c.args.after c.args.now) f.is ∙ awake_right c.args.after c.args.now c.deref-fork.result.now.sooner.0 c.deref-fork.result.now.seat c.deref-fork.result.now.later.0 f.rises passed)
+    e ∙ sym (ap (first_awake c.args.after c.args.sight) f.is ∙ awake_right c.args.after c.args.sight c.deref-fork.result.now.sooner.0 c.deref-fork.result.now.seat c.deref-fork.result.now.later.0 f.rises passed)
 
-pub returns-then-fork-now : goal.returns-then-fork-now
-returns-then-fork-now t c =
+pub returns-else-sleeps-2 : goal.returns-else-sleeps-2
+returns-else-sleeps-2 t c =
     let same : c.deref-fork.result.now ≡ c.in-Some.fork.value = search rules in
     let f = at_Fork c.self.view_is c.requires c.in-Some.is same in
     let e = c.first_awake-in-Some.ensures in
     let passed : is_passed c.args.after c.deref-fork.result.now.seat.key ≡ false = search rules in
-    let due : nat_lt c.args.now c.deref-fork.result.now.seat.wake ≡ false = grind (arith, nat_tests, c.if-fork-now.true) in
-    let none : first_awake c.args.after c.args.now c.deref-fork.result.now.sooner.0 ≡ None = sym e ∙ c.in-None-first_awake.is in
-    sym (ap (first_awake c.args.after c.args.now) f.is ∙ awake_here c.args.after c.args.now c.deref-fork.result.now.sooner.0 c.deref-fork.result.now.seat c.deref-fork.result.now.later.0 passed due none)
+    let due : sleeps c.args.sight c.deref-fork.result.now.seat.marks c.deref-fork.result.now.seat.due ≡ false = search rules in
+    let none : first_awake c.args.after c.args.sight c.deref-fork.result.now.sooner.0 ≡ None = sym e ∙ c.in-None-first_awake.is in
+    sym (ap (first_awake c.args.after c.args.sight) f.is ∙ awake_here c.args.after c.args.sight c.deref-fork.result.now.sooner.0 c.deref-fork.result.now.seat c.deref-fork.result.now.later.0 passed due none)
 
-pub returns-else-fork-now : goal.returns-else-fork-now
-returns-else-fork-now t c =
+pub returns-then-sleeps-2 : goal.returns-then-sleeps-2
+returns-then-sleeps-2 t c =
     let same : c.deref-fork.result.now ≡ c.in-Some.fork.value = search rules in
     let f = at_Fork c.self.view_is c.requires c.in-Some.is same in
     let e = c.first_awake-in-Some.ensures in
-    let g = c.first_awake-else-fork-now.ensures in
+    let g = c.first_awake-then-sleeps-2.ensures in
     let passed : is_passed c.args.after c.deref-fork.result.now.seat.key ≡ false = search rules in
-    let due : nat_lt c.args.now c.deref-fork.result.now.seat.wake ≡ true = grind (arith, nat_tests, c.if-fork-now.false) in
-    let none : first_awake c.args.after c.args.now c.deref-fork.result.now.sooner.0 ≡ None = sym e ∙ c.in-None-first_awake.is in
-    g ∙ sym (ap (first_awake c.args.after c.args.now) f.is ∙ awake_over c.args.after c.args.now c.deref-fork.result.now.sooner.0 c.deref-fork.result.now.seat c.deref-fork.result.now.later.0 passed due none)
+    let due : sleeps c.args.sight c.deref-fork.result.now.seat.marks c.deref-fork.result.now.seat.due ≡ true = search rules in
+    let none : first_awake c.args.after c.args.sight c.deref-fork.result.now.sooner.0 ≡ None = sym e ∙ c.in-None-first_awake.is in
+    g ∙ sym (ap (first_awake c.args.after c.args.sight) f.is ∙ awake_over c.args.after c.args.sight c.deref-fork.result.now.sooner.0 c.deref-fork.result.now.seat c.deref-fork.result.now.later.0 passed due none)
 
-left_is : (after : Option Key) (now : ℕ) (l : List Seat) (k : Seat) (r : List Seat) (o : Option ℕ) → is_some o ≡ true → first_awake after now l ≡ o → o ≡ first_awake after now (l ++ k ∷ r)
-left_is after now l k r None h e = cc
-left_is after now l k r (Some z) h e = sym (awake_left after now z l k r e)
+left_is : (after : Option Key) (sight : Sight) (l : List Seat) (k : Seat) (r : List Seat) (o : Option ℕ) → is_some o ≡ true → first_awake after sight l ≡ o → o ≡ first_awake after sight (l ++ k ∷ r)
+left_is after sight l k r None h e = cc
+left_is after sight l k r (Some z) h e = sym (awake_left after sight z l k r e)
 
 pub returns-in_default : goal.returns-in_default
 returns-in_default t c =
     let same : c.deref-fork.result.now ≡ c.in-Some.fork.value = search rules in
     let f = at_Fork c.self.view_is c.requires c.in-Some.is same in
     let e = c.first_awake-in-Some.ensures in
-    let found : first_awake c.args.after c.args.now c.deref-fork.result.now.sooner.0 ≡ c.first_awake-in-Some.result = sym e in
+    let found : first_awake c.args.after c.args.sight c.deref-fork.result.now.sooner.0 ≡ c.first_awake-in-Some.result = sym e in
     let some : is_some c.first_awake-in-Some.result ≡ true = search rules in
-    left_is c.args.after c.args.now c.deref-fork.result.now.sooner.0 c.deref-fork.result.now.seat c.deref-fork.result.now.later.0 c.first_awake-in-Some.result some found ∙ sym (ap (first_awake c.args.after c.args.now) f.is)
+    left_is c.args.after c.args.sight c.deref-fork.result.now.sooner.0 c.deref-fork.result.now.seat c.deref-fork.result.now.later.0 c.first_awake-in-Some.result some found ∙ sym (ap (first_awake c.args.after c.args.sight) f.is)
