@@ -17,7 +17,7 @@ use Rattle.source_rows.specs.declared.sight.Sight.{Sight}
 use Rattle.source_rows.specs.Candidates.{always, descriptor, due_at, opened_by, sleeps, is_awake, may_call, candidates}
 use Rattle.source_rows.proofs.Compared.{and_both}
 use Rattle.source_rows.proofs.Lists.{all_of, all_true}
-use Rattle.source_rows.proofs.Order.{all_in_order, sorted_in_order}
+use Rattle.source_rows.proofs.Order.{all_in_order}
 use Rattle.context_core.specs.Ready.{in_view, has_bit, always_told, own_ready, kind_ready, is_due, is_free, is_callable, is_ready}
 use Rattle.context_core.specs.Phases.{nothing_shown, less_urgent, walk, is_asked, is_fd}
 use Rattle.context_core.proofs.Walk.{not_more}
@@ -209,11 +209,6 @@ each_asked_may sight opens least busy rows forest =
     asked_by sight opens least busy rows rows (each_one (λ r q. is_under r.id q && is_awake sight q) rows rows (λ r h. h)) (each_under_self rows rows forest.placed)
 
 -- ---- the passes over candidates
-
-pub walk_candidates : (level : ℕ → ℕ) (view : ℕ → Bool) (now : ℕ) (sight : Sight) → Sees level view now sight → (busy : List ℕ) (bound : Option ℤ) (rows : List Row)
-    → walk (is_ready (own_ready level view now) busy rows) bound (candidates sight rows) ≡ walk (is_ready (own_ready level view now) busy rows) bound (in_order rows)
-walk_candidates level view now sight sees busy bound rows =
-    walk_kept (is_ready (own_ready level view now) busy rows) (may_call sight rows) bound (in_order rows) (sorted_in_order rows) (each_ready_may level view now sight sees busy rows (in_order rows))
 
 pub find_candidates : (level : ℕ → ℕ) (view : ℕ → Bool) (now : ℕ) (sight : Sight) → Sees level view now sight → (busy : List ℕ) (rows : List Row) → IsForest rows
     → find (is_callable (own_ready level view now) busy) (candidates sight rows) ≡ find (is_callable (own_ready level view now) busy) (in_order rows)

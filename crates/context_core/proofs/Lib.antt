@@ -8,6 +8,7 @@ pub mod Phased
 pub mod AtTwo
 pub mod InClasses
 pub mod Candidates
+pub mod Unblocked
 pub mod Standings
 pub mod AtFour
 mod Pushing

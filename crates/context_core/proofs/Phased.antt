@@ -2,7 +2,6 @@
 use Rattle.std.proofs.Common.{◌≡◌, ℕ, zero, suc, Bool, true, false, cond, ℤ, Option, Some, None, List, [], ◌∷◌, ◌++◌, map, filter, drop, length, length-append, refl, ap, sym, ◌∙◌, arith}
 use Rattle.std.specs.Prelude.{slice_get}
 use Rattle.std.proofs.lemmas.List.{append_assoc, append-nil}
-use Rattle.std.specs.List.{find}
 use Rattle.source_rows.specs.Tree.{IsOneTree}
 use Rattle.context_core.specs.declared.interest.Shown.{Shown}
 use Rattle.context_core.specs.Ready.{own_ready, is_ready, selected}
@@ -79,13 +78,6 @@ handed_over least busy levels rs it list all g h =
     let none = drop_over levels (length list) g in
     let both : (xs : List Row) → list ++ handed xs (drop (length list) levels) ≡ list = λ xs. ap (λ (l : List ℕ). list ++ handed xs l) none ∙ (ap (λ (l : List Shown). list ++ l) (handed_none xs) ∙ append-nil list) in
     both (filter (is_asked least busy) rs) ∙ (sym (both (filter (is_asked least busy) it)) ∙ h)
-
--- the first that is found
-pub found_here : (f : Row → Bool) (it rest whole : List Row) (r : Row) → f r ≡ true → it ≡ r ∷ rest → find f it ≡ find f whole → find f whole ≡ Some r
-found_here f it rest whole r t e h = sym h ∙ (ap (find f) e ∙ ap (λ (b : Bool). cond b (Some r) (find f rest)) t)
-
-pub none_here : (f : Row → Bool) (it whole : List Row) → it ≡ [] → find f it ≡ find f whole → find f whole ≡ None
-none_here f it whole e h = sym h ∙ ap (find f) e
 
 -- a walk that takes one more row
 pub walk_taken : (ready : Row → Bool) (bound : Option ℤ) (r : Row) (rs it : List Row) (ids now all : List ℕ) → less_urgent bound r.priority ≡ false → ready r ≡ true → it ≡ r ∷ rs → now ≡ ids ++ r.id ∷ []

@@ -9,3 +9,7 @@ use Rattle.loop_script.specs.Units.{SourceId}
 -- a child is callable, and it or one above it has the id
 abbrev pub lends : Own → List SourceId → SourceId → Row → Bool
 lends own busy id q = (is_some q.parent && is_under id q) && is_callable own busy q
+
+-- the same of one that is free
+abbrev pub lends_free : Own → SourceId → Row → Bool
+lends_free own id q = (is_some q.parent && is_under id q) && own q

@@ -11,16 +11,15 @@ ghost use Rattle.std.specs.List.{list_any};
 ghost use Rattle.std.specs.Ordering.{nat_cmp};
 ghost use Rattle.std.specs.BTreeSet.{contains};
 ghost use Rattle.context_core.specs.Ready.{in_view, own_ready, selected, is_free, is_ready, is_callable};
-ghost use Rattle.context_core.specs.Lent.{lends};
+ghost use Rattle.context_core.specs.Lent.{lends, lends_free};
 ghost use Rattle.context_core.specs.Standing.{standing, first_with};
 ghost use Rattle.context_core.specs.Phases.{ms_until, least_ready, wait_of, interests, asked_rows, levels_for, shown, handed, walk};
 
 use crate::busy::{Busy, classes_of_ids};
+use crate::free::FreeRows;
 use crate::interest::{Interest, Prepared, Shown};
 use crate::polled::{Polled, classes_of_shown};
-use crate::ready::{
-    interest, is_beyond, is_callable, is_free, level_at, ms_until, own_ready, sooner,
-};
+use crate::ready::{interest, is_beyond, is_free, level_at, ms_until, own_ready, sooner};
 use crate::standing::{Standing, stand};
 use cancel_view::View;
 use source_rows::{Levels, Row, Rows, Sight};
@@ -119,8 +118,8 @@ impl Context {
     {
         let polled = Polled::nothing();
         let sight = Sight::undisturbed(now, view.marks());
-        'rows: for row in self.rows.candidates(sight) {
-            if is_callable(row, &polled, now, busy, view) {
+        'rows: for row in FreeRows::new(self.rows.candidates(sight), busy) {
+            if own_ready(row, &polled, now, view) {
                 return Some(row.priority);
             }
         }
@@ -187,7 +186,7 @@ impl Context {
     {
         let mut list = Vec::new(alloc);
         let sight = Sight::of_descriptors();
-        'rows: for row in self.rows.candidates(sight) {
+        'rows: for row in FreeRows::new(self.rows.candidates(sight), busy) {
             if let Some(interest) = interest(row, least, busy) {
                 list.push(interest)?;
             }
@@ -210,7 +209,7 @@ impl Context {
             return Ok(list);
         }
         let sight = Sight::of_descriptors();
-        'rows: for row in self.rows.candidates(sight) {
+        'rows: for row in FreeRows::new(self.rows.candidates(sight), busy) {
             if let Some(interest) = interest(row, least, busy) {
                 if let Some(level) = level_at(levels, list.len()) {
                     list.push(Shown {
@@ -242,11 +241,11 @@ impl Context {
         let mut ids = Vec::new(alloc);
         let mut lent = BTreeSet::new(alloc);
         let sight = Sight::new(now, view.marks());
-        'rows: for row in self.rows.candidates(sight) {
+        'rows: for row in FreeRows::new(self.rows.candidates(sight), busy) {
             if is_beyond(bound, row.priority) {
                 break;
             }
-            if visit(&mut lent, row, polled, now, busy, view)? {
+            if visit_free(&mut lent, row, polled, now, view)? {
                 bound = Some(row.priority);
                 ids.push(row.id)?;
             }
@@ -355,6 +354,22 @@ fn visit(
     if !is_free(row, busy) {
         return Ok(false);
     }
+    visit_free(lent, row, polled, now, view)
+}
+
+/// The same of a row that is free.
+#[inline]
+fn visit_free(
+    lent: &mut BTreeSet<u64>,
+    row: &Row,
+    polled: &Polled,
+    now: u64,
+    view: &View,
+) -> Result<bool, AllocError>
+    requires { now ≤ latest }
+    ensures lent { OnOk result ((id : ℕ) → contains nat_cmp lent.new id ≡ (lends_free (own_ready (shown polled.now) (in_view view.now) now) id row.now || contains nat_cmp lent.old id)) }
+    ensures ready { IfOk result (λ ready. ready ≡ (own_ready (shown polled.now) (in_view view.now) now row.now || contains nat_cmp lent.old row.now.id)) }
+{
     if !own_ready(row, polled, now, view) {
         return Ok(lent.contains(&row.id));
     }

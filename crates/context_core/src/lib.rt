@@ -9,6 +9,7 @@ mod busy;
 mod classes;
 mod context;
 mod defaults;
+mod free;
 mod interest;
 pub mod laws;
 mod polled;

@@ -1,9 +1,11 @@
 //! Whether one source is ready, by its kind and the time, and whether it is blocked or beyond the level that is dispatched.
-ghost use Rattle.std.specs.Prelude.{◌≡◌, ◌≤◌, ◌^◌, ◌==◌, Some, None, IfSome, IsTrue, int_lt, slice_get, pos, if◌then◌else◌};
+ghost use Rattle.std.specs.Prelude.{◌≡◌, ◌≤◌, ◌^◌, ◌==◌, Some, None, IfSome, IsTrue, int_lt, slice_get, pos, true, if◌then◌else◌};
 ghost use Rattle.loop_script.specs.Bounds.{latest};
-ghost use Rattle.source_rows.specs.Rows.{sooner};
-ghost use Rattle.std.specs.List.{list_any};
-ghost use Rattle.context_core.specs.Ready.{in_view, is_due, has_bit, own_ready, is_blocked, is_free, is_callable};
+ghost use Rattle.source_rows.specs.Rows.{is_under, sooner};
+ghost use Rattle.std.specs.List.{find, list_any};
+ghost use Rattle.std.specs.Option.{is_some};
+ghost use Rattle.context_core.specs.Ready.{in_view, is_due, has_bit, own_ready, is_blocked, is_free};
+ghost use Rattle.context_core.specs.Standing.{is_in_call};
 ghost use Rattle.context_core.specs.Phases.{less_urgent, shown, is_asked, interest_of, ms_until};
 
 use crate::busy::Busy;
@@ -45,32 +47,33 @@ pub(crate) fn own_ready(row: &Row, polled: &Polled, now: u64, view: &View) -> bo
     }
 }
 
-/// Whether an id of a lineage is listed. A lineage is filled up with its last id, which is looked for once.
+/// The first id of a lineage that is listed. A lineage is filled up with its last id, which is looked for once.
 #[inline(never)]
-fn has_listed(lineage: &[u64], busy: &Busy) -> bool
-    ensures { result ≡ list_any (λ id. list_any (λ b. b == id) busy.now) lineage.now }
+fn first_listed(lineage: &[u64], busy: &Busy) -> Option<u64>
+    ensures { result ≡ find (is_in_call busy.now) lineage.now }
 {
     let mut last = None;
     for id in lineage {
         if last != Some(*id) {
             if busy.has(*id) {
-                return true;
+                return Some(*id);
             }
             last = Some(*id);
         }
     }
-    false
+    None
 }
 
-/// Whether a call of a source, or of one above it, is in progress.
+/// The outermost of a source and those above it of which a call is in progress.
 #[inline]
-fn is_blocked(row: &Row, busy: &Busy) -> bool
-    ensures { result ≡ is_blocked busy.now row.now }
+pub(crate) fn outermost_blocker(row: &Row, busy: &Busy) -> Option<u64>
+    ensures some { IfSome result (λ id. (is_in_call busy.now id ≡ true) × (is_under id row.now ≡ true)) }
+    ensures any { is_some result ≡ is_blocked busy.now row.now }
 {
     if busy.is_empty() {
-        return false;
+        return None;
     }
-    has_listed(&row.lineage, busy)
+    first_listed(&row.lineage, busy)
 }
 
 /// Whether no call of a source, or of one above it, is in progress.
@@ -78,16 +81,7 @@ fn is_blocked(row: &Row, busy: &Busy) -> bool
 pub(crate) fn is_free(row: &Row, busy: &Busy) -> bool
     ensures { result ≡ is_free busy.now row.now }
 {
-    !is_blocked(row, busy)
-}
-
-/// Whether a source is free, and ready by itself.
-#[inline]
-pub(crate) fn is_callable(row: &Row, polled: &Polled, now: u64, busy: &Busy, view: &View) -> bool
-    requires { now ≤ latest }
-    ensures { result ≡ is_callable (own_ready (shown polled.now) (in_view view.now) now) busy.now row.now }
-{
-    is_free(row, busy) && own_ready(row, polled, now, view)
+    outermost_blocker(row, busy).is_none()
 }
 
 /// Whether a priority is less urgent than the least known.

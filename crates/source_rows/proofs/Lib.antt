@@ -48,3 +48,4 @@ pub mod Parts
 pub mod Left
 pub mod TakenOut
 pub mod AllMarks
+pub mod LeftOut

@@ -134,10 +134,10 @@ any_here_by : (f : Row → Bool) (rows : List Row) (q : Row) → InForest rows q
 any_here_by f rows q g t true e = refl
 any_here_by f rows q g t false e = let never = sym (found (λ x. f x ≡ false) q.id q rows (any_none f rows e) g.is) ∙ t in cc
 
-any_here : (f : Row → Bool) (rows : List Row) (q : Row) → InForest rows q → f q ≡ true → list_any f rows ≡ true
+pub any_here : (f : Row → Bool) (rows : List Row) (q : Row) → InForest rows q → f q ≡ true → list_any f rows ≡ true
 any_here f rows q g t = any_here_by f rows q g t (list_any f rows) refl
 
-both_true : (a b : Bool) → a ≡ true → b ≡ true → (a && b) ≡ true
+pub both_true : (a b : Bool) → a ≡ true → b ≡ true → (a && b) ≡ true
 both_true a b h k = rw (h, k) refl
 
 -- ---- who may call
@@ -145,7 +145,7 @@ both_true a b h k = rw (h, k) refl
 pub awake_calls : (rows : List Row) → AllByRecursion (InForest rows) rows → (sight : Sight) (q : Row) → InForest rows q → is_awake sight q ≡ true → may_call sight rows q ≡ true
 awake_calls rows all sight q g h = any_here (λ x. is_under q.id x && is_awake sight x) rows q g (both_true _ _ (under_self q (shaped rows all q g)) h)
 
-under_all : (rows : List Row) → AllByRecursion (InForest rows) rows → (p r : Row) → InForest rows r → is_under p.id r ≡ true → (q : Row) → InForest rows q → is_under r.id q ≡ true → is_under p.id q ≡ true
+pub under_all : (rows : List Row) → AllByRecursion (InForest rows) rows → (p r : Row) → InForest rows r → is_under p.id r ≡ true → (q : Row) → InForest rows q → is_under r.id q ≡ true → is_under p.id q ≡ true
 under_all rows all p r g u = each rows (λ q. is_under r.id q ≡ true → is_under p.id q ≡ true) all
     (λ q f place h. subst (λ (x : Row). is_under p.id x ≡ true) (sym (same_id rows q r f g (under_root r.id q place h))) u)
     (λ w q fw f c ih h. elim (under_down r.id w q c f.level (shaped rows all w fw) h) [
@@ -177,7 +177,7 @@ twice : (b : Bool) → not (not b) ≡ b
 twice true = refl
 twice false = refl
 
-follows_before : (q r : Row) → follows (Some q) r ≡ stands_before q r
+pub follows_before : (q r : Row) → follows (Some q) r ≡ stands_before q r
 follows_before q r = twice (stands_before q r)
 
 -- ---- what comes stands no sooner than what wakes, or than the parent of the last
@@ -319,7 +319,7 @@ stepped rows sight last y h e = record {
 
 -- ---- the rows that are left
 
-same_filter : (f g : Row → Bool) (xs : List Row) → AllByRecursion (λ x. f x ≡ g x) xs → filter f xs ≡ filter g xs
+pub same_filter : (f g : Row → Bool) (xs : List Row) → AllByRecursion (λ x. f x ≡ g x) xs → filter f xs ≡ filter g xs
 same_filter f g [] h = refl
 same_filter f g (x ∷ xs) h = rw h.0 (ap (λ (ys : List Row). cond (g x) (x ∷ ys) ys) (same_filter f g xs h.1))
 

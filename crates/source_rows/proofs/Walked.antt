@@ -1,16 +1,17 @@
 -- A walk through a part of the order: what the next row of it tells, and where the walk enters the order again.
 use Rattle.std.proofs.Common.{◌≡◌, ◌⊎◌, ℕ, ◌==◌, ◌&&◌, ◌||◌, Bool, true, false, not, cond, Option, Some, None, List, [], ◌∷◌, inl, inr, map, filter, option_map, refl, ap, sym, ◌∙◌, subst}
 use Rattle.std.specs.List.{AllByRecursion, find}
+use Rattle.std.specs.Option.{IsSome}
 use Rattle.source_rows.specs.declared.row.Row.{Row}
 use Rattle.source_rows.specs.declared.sight.Sight.{Sight}
 use Rattle.source_rows.specs.InOrder.{AllFound, ids_of, rows_of}
 use Rattle.source_rows.specs.declared.seats.Seat.{Seat}
 use Rattle.source_rows.specs.Rows.{key_of, row_of, in_order}
 use Rattle.source_rows.specs.Tree.{parent_of}
-use Rattle.source_rows.specs.Candidates.{is_awake, may_call}
+use Rattle.source_rows.specs.Candidates.{is_awake, may_call, sleeps}
 use Rattle.source_rows.specs.Seats.{is_passed, seat_of}
 use Rattle.source_rows.specs.Walk.{rows_behind}
-use Rattle.source_rows.specs.Steps.{follows, comes, wakes, left_of, nearer, parent_at, is_parent, is_above_last, ready_in, HasLeft, IsStep}
+use Rattle.source_rows.specs.Steps.{follows, comes, wakes, left_of, nearer, parent_at, is_parent, is_parent_id, is_above_id, is_above_last, ready_in, IsOfRow, HasLeft, IsStep}
 use Rattle.source_rows.proofs.Compared.{same_self, are_same, and_both, or_parts}
 use Rattle.source_rows.proofs.Lists.{all_true, all_filter}
 use Rattle.source_rows.proofs.Order.{all_in_order}
@@ -96,7 +97,36 @@ pub dropped : (rows : List Row) (sight : Sight) (last : Option Row) → IsStep r
 dropped rows sight last h r e all es left k is a =
     let mine : HasLeft rows sight last (e ∷ es) = subst (HasLeft rows sight last) k left in
     let same = ready_same rows sight r e es is (may_not rows sight last h r e es mine is a) in
-    (record { found = mine.found.1; ready = sym same ∙ mine.ready }, ap (ready_in sight rows) k ∙ same)
+    (record { found = mine.found.1; are = mine.are.1; ready = sym same ∙ mine.ready }, ap (ready_in sight rows) k ∙ same)
+
+same_above : (last : Option Row) (r : Row) → is_above_id last r.id ≡ is_above_last last r
+same_above None r = refl
+same_above (Some l) r = by_parent l.parent
+  where
+    by_parent : (o : Option ℕ) → is_parent_id o r.id ≡ is_parent o r
+    by_parent None = refl
+    by_parent (Some id) = refl
+
+-- what a seat tells of its row
+pub told : (rows : List Row) (sight : Sight) (last : Option Row) (e : Seat) (r : Row) → IsOfRow rows e → row_of e.id rows ≡ Some r → (not (sleeps sight e.marks e.due) || is_above_id last e.id) ≡ (is_awake sight r || is_above_last last r)
+told rows sight last e r own is =
+    ap (λ (s : Seat). not (sleeps sight s.marks s.due) || is_above_id last s.id) (own r is)
+    ∙ ap (λ (b : Bool). is_awake sight r || b) (same_above last r)
+
+none_found : (rows : List Row) (id : ℕ) → IsSome (row_of id rows) → row_of id rows ≡ None → ⊥
+none_found rows id s e = let no : false ≡ true = subst IsSome e s in cc
+
+-- a seat that sleeps and is not that of the parent of the last row is passed over
+pub passed : (rows : List Row) (sight : Sight) (last : Option Row) → IsStep rows sight last → (e : Seat) (all es : List Seat) → HasLeft rows sight last all → all ≡ e ∷ es
+    → (not (sleeps sight e.marks e.due) || is_above_id last e.id) ≡ false → HasLeft rows sight last es × (ready_in sight rows all ≡ ready_in sight rows es)
+passed rows sight last h e all es left k a = by (row_of e.id rows) refl
+  where
+    mine : HasLeft rows sight last (e ∷ es)
+    mine = subst (HasLeft rows sight last) k left
+
+    by : (o : Option Row) → row_of e.id rows ≡ o → HasLeft rows sight last es × (ready_in sight rows all ≡ ready_in sight rows es)
+    by None is = absurd (none_found rows e.id mine.found.0 is)
+    by (Some r) is = dropped rows sight last h r e all es left k is (sym (told rows sight last e r mine.are.0 is) ∙ a)
 
 pub own_row : (rows : List Row) (id : ℕ) (r : Row) → row_of id rows ≡ Some r → row_of r.id rows ≡ Some r
 own_row rows id r is = ap (λ (n : ℕ). row_of n rows) (found_id id r rows is) ∙ is
@@ -105,24 +135,31 @@ own_row rows id r is = ap (λ (n : ℕ). row_of n rows) (found_id id r rows is) 
 
 -- what is left of the part behind the row that came is what is left behind the row
 pub advanced : (rows : List Row) (sight : Sight) (last : Option Row) → IsStep rows sight last → (r : Row) (es fs : List Seat) → HasLeft rows sight last es → ready_in sight rows es ≡ r ∷ ready_in sight rows fs → AllFound rows (ids_of fs)
-    → HasLeft rows sight (Some r) fs × IsStep rows sight (Some r)
-advanced rows sight last h r es fs left more there =
+    → AllByRecursion (IsOfRow rows) fs → HasLeft rows sight (Some r) fs × IsStep rows sight (Some r)
+advanced rows sight last h r es fs left more there are =
     let first = first_left (comes sight rows last) r (ready_in sight rows fs) (in_order rows) (sym left.ready ∙ more) in
     let both : r ∷ ready_in sight rows fs ≡ r ∷ left_of sight rows (Some r) = sym more ∙ (left.ready ∙ left_more rows sight last r h.apart first) in
-    (record { found = there; ready = tails _ _ both }, stepped rows sight last r h first)
+    (record { found = there; are = are; ready = tails _ _ both }, stepped rows sight last r h first)
   where
     tails : (us vs : List Row) → r ∷ us ≡ r ∷ vs → us ≡ vs
     tails us vs k = cc
 
 -- ---- the order entered behind a row
 
-filter_twice : (f g : Row → Bool) (xs : List Row) → filter g (filter f xs) ≡ filter (λ x. f x && g x) xs
+pub filter_twice : (f g : Row → Bool) (xs : List Row) → filter g (filter f xs) ≡ filter (λ x. f x && g x) xs
 filter_twice f g [] = refl
 filter_twice f g (x ∷ xs) = by_test (f x) (filter_twice f g xs)
   where
     by_test : (b : Bool) → filter g (filter f xs) ≡ filter (λ y. f y && g y) xs → filter g (cond b (x ∷ filter f xs) (filter f xs)) ≡ cond (b && g x) (x ∷ filter (λ y. f y && g y) xs) (filter (λ y. f y && g y) xs)
     by_test true ih = ap (λ (ys : List Row). cond (g x) (x ∷ ys) ys) ih
     by_test false ih = ih
+
+own_seat : (rows : List Row) (r : Row) → row_of r.id rows ≡ Some r → IsOfRow rows (seat_of r)
+own_seat rows r is q e = let same : r ≡ q = cc in ap seat_of same
+
+each_seat : (rows rest : List Row) → AllByRecursion (λ r. row_of r.id rows ≡ Some r) rest → AllByRecursion (IsOfRow rows) (map seat_of rest)
+each_seat rows [] k = tt
+each_seat rows (r ∷ rest) k = (own_seat rows r k.0, each_seat rows rest k.1)
 
 pub entered : (rows : List Row) (sight : Sight) (last : Option Row) → IsStep rows sight last → HasLeft rows sight last (map seat_of (rows_behind (option_map key_of last) rows))
 entered rows sight last h =
@@ -132,6 +169,7 @@ entered rows sight last h =
     all_filter (λ r. row_of r.id rows ≡ Some r) (follows last) (in_order rows) (all_in_order (λ r. row_of r.id rows ≡ Some r) rows (all_found rows h.forest.rising)) in
     record {
       found = subst (AllFound rows) (sym ids) (each_there rows rest each);
+      are = each_seat rows rest each;
       ready = ap (λ (l : List ℕ). filter (may_call sight rows) (rows_of rows l)) ids ∙ (ap (filter (may_call sight rows)) (same_rows rows rest each) ∙ filter_twice (follows last) (may_call sight rows) (in_order rows));
     }
 

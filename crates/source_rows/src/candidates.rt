@@ -3,19 +3,20 @@
 //! Rows are taken one after another from the order, and looked at. After some that sleep the next one that is awake is
 //! searched for in the tree of seats, and the order is entered again behind it: so a context whose rows are all awake costs
 //! a walk, and one in which few are costs a search for each of them.
-ghost use Rattle.std.specs.Prelude.{◌≡◌, ◌∷◌, [], Some, None, IfSome, IfNone, length};
+ghost use Rattle.std.specs.Prelude.{◌≡◌, ◌∷◌, ◌||◌, not, [], Some, None, IfSome, IfNone, filter, length, true, false};
 ghost use Rattle.std.specs.Iterator.{at_most};
-ghost use Rattle.std.specs.List.{find};
+ghost use Rattle.std.specs.List.{AllByRecursion, find};
 ghost use Rattle.std.specs.Map.Iter.{TakesFirst};
 ghost use Rattle.std.specs.Option.{option_copied, option_map};
 ghost use Rattle.source_rows.specs.InOrder.{AllFound, ids_of};
-ghost use Rattle.source_rows.specs.Rows.{in_order, key_of};
+ghost use Rattle.source_rows.specs.Rows.{in_order, is_under, key_of};
 ghost use Rattle.source_rows.specs.Kept.{AllApart};
 ghost use Rattle.source_rows.specs.Tree.{IsForest, parent_of};
-ghost use Rattle.source_rows.specs.Candidates.{is_awake};
-ghost use Rattle.source_rows.specs.Steps.{IsStep, IsWalk, HasLeft, Looks, left_of, comes, wakes, nearer, parent_at, is_above_last};
+ghost use Rattle.source_rows.specs.Candidates.{sleeps};
+ghost use Rattle.source_rows.specs.Steps.{IsStep, IsWalk, HasLeft, Looks, left_of, comes, wakes, nearer, parent_at, above_at, is_above_id, IsOfRow};
 
 use crate::row::{Key, Row};
+use crate::seats::Seat;
 use crate::sight::Sight;
 use crate::table::Table;
 use crate::walk::Walk;
@@ -71,6 +72,20 @@ impl<'a> Candidates<'a> {
             last: None,
         }
     }
+
+    /// Leaves out what stands under an id, by one search. It answers false, and leaves out nothing, where the row that came last does not
+    /// stand under it.
+    pub fn leave(&mut self, id: u64) -> bool
+        ensures left { result ≡ true → self.new ≡ filter (λ r. not (is_under id r)) self.old }
+        ensures same { result ≡ false → self.new ≡ self.old }
+    {
+        let Some(row) = above_last(self.table, self.last, id) else {
+            return false;
+        };
+        self.seats = self.table.walk(Some(row.key()));
+        self.last = Some(row);
+        true
+    }
 }
 
 impl<'a> Iterator for Candidates<'a> {
@@ -88,17 +103,41 @@ impl<'a> Iterator for Candidates<'a> {
     }
 }
 
-/// Whether the last row is a child of this one.
-fn is_above_last(last: Option<&Row>, row: &Row) -> bool
-    ensures { result ≡ is_above_last (option_copied last.entry) row.now }
+/// The row with an id, where the last one stands under it.
+fn above_last<'a>(table: &'a Table, last: Option<&'a Row>, id: u64) -> Option<&'a Row>
+    ensures { option_copied result ≡ above_at table.now (option_copied last.entry) id }
+{
+    match last {
+        None => None,
+        Some(last) => {
+            if last.lineage.contains(&id) {
+                table.found(id)
+            } else {
+                None
+            }
+        }
+    }
+}
+
+/// Whether the last row is a child of the one with an id.
+fn is_above_last(last: Option<&Row>, above: u64) -> bool
+    ensures { result ≡ is_above_id (option_copied last.entry) above }
 {
     match last {
         None => false,
         Some(last) => match last.parent {
             None => false,
-            Some(id) => id == row.id,
+            Some(id) => id == above,
         },
     }
+}
+
+/// Whether the row of a seat comes next, as the seat tells: it does not sleep, or the last row is a child of it.
+#[inline]
+fn comes_by(seat: &Seat, last: Option<&Row>, sight: Sight) -> bool
+    ensures { result ≡ (not (sleeps sight seat.now.marks seat.now.due) || is_above_id (option_copied last.entry) seat.now.id) }
+{
+    !sight.sleeps(seat.marks, seat.due) || is_above_last(last, seat.id)
 }
 
 /// Looks at the next few rows of a part of the order.
@@ -107,6 +146,7 @@ fn look<'a>(seats: &mut Walk<'a>, table: &'a Table, last: Option<&'a Row>, sight
     requires left { HasLeft table.now sight (option_copied last) seats.old }
     ensures tells { Looks sight table.now seats.old seats.new result }
     ensures found { AllFound table.now (ids_of seats.new) }
+    ensures are { AllByRecursion (IsOfRow table.now) seats.new }
 {
     let mut tries = NEAR;
     'near: while 0 < tries {
@@ -114,8 +154,8 @@ fn look<'a>(seats: &mut Walk<'a>, table: &'a Table, last: Option<&'a Row>, sight
         let Some(seat) = seats.next() else {
             return Near::Ended;
         };
-        if let Some(row) = table.found(seat.id) {
-            if row.is_awake(sight) || is_above_last(last, row) {
+        if comes_by(seat, last, sight) {
+            if let Some(row) = table.found(seat.id) {
                 return Near::Came(row);
             }
         }

@@ -17,7 +17,7 @@ returns-in_err-row-in-Sleep-clause-none c =
 
 came : (c : goal.In-Came) → HasLeft c.args.table.now c.args.sight (Some c.in-Came.row.now) c.look.new.seats × IsStep c.args.table.now c.args.sight (Some c.in-Came.row.now)
 came c =
-    advanced c.args.table.now c.args.sight (option_copied c.args.last) c.requires.step c.in-Came.row.now c.args.seats.now c.look.new.seats c.requires.left c.in-Came.ensures.tells c.in-Came.ensures.found
+    advanced c.args.table.now c.args.sight (option_copied c.args.last) c.requires.step c.in-Came.row.now c.args.seats.now c.look.new.seats c.requires.left c.in-Came.ensures.tells c.in-Came.ensures.found c.in-Came.ensures.are
 
 pub returns-in-Came-clause-some : goal.returns-in-Came-clause-some
 returns-in-Came-clause-some c =

@@ -1,27 +1,25 @@
-use Rattle.std.proofs.Common.{◌≡◌, ◌∷◌, ◌||◌, Some, true, false, ap, ◌∙◌, rules}
+use Rattle.std.proofs.Common.{◌≡◌, ◌∷◌, ◌||◌, not, Some, true, ap, sym, ◌∙◌, subst, rules}
 use Rattle.std.specs.Option.{option_copied}
 use Rattle.source_rows.specs.Rows.{row_of}
-use Rattle.source_rows.specs.Candidates.{is_awake}
-use Rattle.source_rows.specs.Steps.{is_above_last, ready_in}
-use Rattle.source_rows.proofs.Walked.{own_row, may, ready_more, dropped}
+use Rattle.source_rows.specs.Candidates.{sleeps}
+use Rattle.source_rows.specs.Steps.{HasLeft, is_above_id, ready_in}
+use Rattle.source_rows.proofs.Walked.{own_row, may, ready_more, told, passed}
 use Rattle.source_rows.proofs.candidates.look.Goals as goal
 
-pub returns-then-is_awake-clause-tells : goal.returns-then-is_awake-clause-tells
-returns-then-is_awake-clause-tells c =
+pub returns-in-Some-found-clause-tells : goal.returns-in-Some-found-clause-tells
+returns-in-Some-found-clause-tells c =
     let rows = c.args.table.now in
+    let last = option_copied c.args.last in
     let row = c.in-Some-found.row.now in
-    let is : row_of c.in-Some.seat.now.id rows ≡ Some row = search rules in
-    let comes : (is_awake c.args.sight row || is_above_last (option_copied c.args.last) row) ≡ true = search rules in
-    let e : c.near.seats ≡ c.in-Some.seat.now ∷ c.next.new.self = search rules in
+    let seat = c.in-Some.seat.now in
+    let is : row_of seat.id rows ≡ Some row = search rules in
+    let e : c.near.seats ≡ seat ∷ c.next.new.self = search rules in
+    let left : HasLeft rows c.args.sight last (seat ∷ c.next.new.self) = subst (HasLeft rows c.args.sight last) e c.near.invariant.2 in
+    let by_seat : (not (sleeps c.args.sight seat.marks seat.due) || is_above_id last seat.id) ≡ true = search rules in
     c.near.invariant.3 ∙ (ap (ready_in c.args.sight rows) e
-    ∙ ready_more rows c.args.sight row c.in-Some.seat.now c.next.new.self is (may rows c.args.sight (option_copied c.args.last) c.requires.step row (own_row rows c.in-Some.seat.now.id row is) comes))
+    ∙ ready_more rows c.args.sight row seat c.next.new.self is (may rows c.args.sight last c.requires.step row (own_row rows seat.id row is) (sym (told rows c.args.sight last seat row left.are.0 is) ∙ by_seat)))
 
-pub near-preserved-in-Some-found : goal.near-preserved-in-Some-found
-near-preserved-in-Some-found c =
-    let rows = c.args.table.now in
-    let row = c.in-Some-found.row.now in
-    let is : row_of c.in-Some.seat.now.id rows ≡ Some row = search rules in
-    let not : (is_awake c.args.sight row || is_above_last (option_copied c.args.last) row) ≡ false = search rules in
-    let e : c.near.seats ≡ c.in-Some.seat.now ∷ c.next.new.self = search rules in
-    let d = dropped rows c.args.sight (option_copied c.args.last) c.requires.step row c.in-Some.seat.now c.near.seats c.next.new.self c.near.invariant.2 e is not in
+pub near-preserved : goal.near-preserved
+near-preserved c =
+    let d = passed c.args.table.now c.args.sight (option_copied c.args.last) c.requires.step c.in-Some.seat.now c.near.seats c.next.new.self c.near.invariant.2 c.in-Some.ensures.steps (sym c.comes_by.ensures ∙ c.if-comes_by.false) in
     (tt, tt, d.0, c.near.invariant.3 ∙ d.1)

@@ -3,6 +3,8 @@ use Rattle.source_rows.specs.declared.row.Row.{Row}
 use Rattle.source_rows.specs.Candidates.{candidates}
 use Rattle.context_core.specs.Phases.{is_asked, interest_of}
 use Rattle.context_core.proofs.Candidates.{asked_candidates, sees_descriptors}
+use Rattle.context_core.proofs.Unblocked.{asked_free}
+use Rattle.context_core.specs.Ready.{is_free}
 use Rattle.context_core.proofs.Phased.{asked_more}
 use Rattle.context_core.proofs.context.Context.interests.Goals as goal
 
@@ -13,7 +15,7 @@ rows-preserved-in-Continue-1 c =
 pub rows-init : goal.rows-init
 rows-init c =
     let rows = c.args.self.now.rows.rows in
-    let it : c.into_iter-row-iterator.result ≡ candidates c.of_descriptors-sight.result rows = search rules in
+    let it : c.into_iter-row-iterator.result ≡ filter (is_free c.args.busy.now) (candidates c.of_descriptors-sight.result rows) = search rules in
     let none : c.new-list.result.items ≡ [] = c.new-list.ensures.items in
     rw none (ap (λ (l : List Row). map interest_of (filter (is_asked c.args.least c.args.busy.now) l)) it
-    ∙ ap (map interest_of) (asked_candidates c.of_descriptors-sight.result (sees_descriptors c.of_descriptors-sight.result c.of_descriptors-sight.ensures) c.args.least c.args.busy.now rows c.candidates-row-items.ensures.forest))
+    ∙ ap (map interest_of) (asked_free c.args.least c.args.busy.now (candidates c.of_descriptors-sight.result rows) ∙ asked_candidates c.of_descriptors-sight.result (sees_descriptors c.of_descriptors-sight.result c.of_descriptors-sight.ensures) c.args.least c.args.busy.now rows c.candidates.ensures.forest))

@@ -6,4 +6,4 @@ use Rattle.context_core.specs.Phases.{shown}
 use Rattle.context_core.proofs.context.Context.most_urgent.Given as goal
 
 abbrev pub invariant-rows : goal.invariant-rows
-invariant-rows l = find (is_callable (own_ready (shown []) (in_view l.view) l.now) l.busy) l.row-iterator ≡ find (is_callable (own_ready (shown []) (in_view l.view) l.now) l.busy) (in_order l.self.rows.rows)
+invariant-rows l = find (own_ready (shown []) (in_view l.view) l.now) l.row-iterator ≡ find (is_callable (own_ready (shown []) (in_view l.view) l.now) l.fn.busy) (in_order l.self.rows.rows)

@@ -4,6 +4,8 @@ use Rattle.source_rows.specs.declared.row.Row.{Row}
 use Rattle.source_rows.specs.Candidates.{candidates}
 use Rattle.context_core.specs.Phases.{is_asked, asked_rows, handed}
 use Rattle.context_core.proofs.Candidates.{asked_candidates, sees_descriptors}
+use Rattle.context_core.proofs.Unblocked.{asked_free}
+use Rattle.context_core.specs.Ready.{is_free}
 use Rattle.context_core.proofs.Phased.{handed_more, handed_over, handed_none}
 use Rattle.context_core.proofs.Wait.{none_if}
 use Rattle.context_core.proofs.context.Context.polled.Goals as goal
@@ -27,7 +29,7 @@ returns-then-is_empty c =
 pub rows-init : goal.rows-init
 rows-init c =
     let rows = c.args.self.now.rows.rows in
-    let it : c.into_iter-row-iterator.result ≡ candidates c.of_descriptors-sight.result rows = search rules in
+    let it : c.into_iter-row-iterator.result ≡ filter (is_free c.args.busy.now) (candidates c.of_descriptors-sight.result rows) = search rules in
     let none : c.new-list.result.items ≡ [] = c.new-list.ensures.items in
     rw none (ap (λ (l : List Row). handed (filter (is_asked c.args.least c.args.busy.now) l) c.args.levels.now) it
-    ∙ ap (λ (l : List Row). handed l c.args.levels.now) (asked_candidates c.of_descriptors-sight.result (sees_descriptors c.of_descriptors-sight.result c.of_descriptors-sight.ensures) c.args.least c.args.busy.now rows c.candidates-row-items.ensures.forest))
+    ∙ ap (λ (l : List Row). handed l c.args.levels.now) (asked_free c.args.least c.args.busy.now (candidates c.of_descriptors-sight.result rows) ∙ asked_candidates c.of_descriptors-sight.result (sees_descriptors c.of_descriptors-sight.result c.of_descriptors-sight.ensures) c.args.least c.args.busy.now rows c.candidates.ensures.forest))
