@@ -11,7 +11,14 @@ use Rattle.loop_script.specs.declared.level.Level.{Level}
 use Rattle.loop_script.specs.Level.{come, to_come, change_after, last, least}
 use Rattle.loop_script.specs.Parts.{levels_of, level_of, next_change_of}
 use Rattle.source_rows.specs.declared.row.Row.{Row}
-use Rattle.context_core.specs.Ready.{Own, is_due, is_blocked, is_callable}
+use Rattle.std.specs.Option.{is_some}
+use Rattle.std.proofs.lemmas.List.Filters.{length-filter_both}
+use Rattle.source_rows.specs.Rows.{is_under}
+use Rattle.source_rows.proofs.Compared.{and_both}
+use Rattle.source_rows.proofs.Lists.{all_of}
+use Rattle.context_core.specs.Ready.{Own, is_due, is_blocked, is_free, is_callable}
+use Rattle.context_core.proofs.Candidates.{any_kept}
+use Rattle.context_core.proofs.Unblocked.{Leaves, free_beside}
 
 -- ---- what a descriptor shows between two changes
 
@@ -94,3 +101,28 @@ pub none_got : {A : Type 0} (xs : List A) (i : ℕ) → length xs ≤ i → slic
 none_got [] i h = refl
 none_got (x ∷ xs) zero h = absurd (omega arith)
 none_got (x ∷ xs) (suc i) h = none_got xs i (omega arith)
+
+-- ---- rows that a call blocks
+
+-- what is left behind a blocked row has what is callable
+pub any_left : (own : Own) (busy : List ℕ) (id : ℕ) (left : Bool) (before after : List Row) → Leaves busy id left before after → list_any (is_callable own busy) after ≡ list_any (is_callable own busy) before
+any_left own busy id true before after h =
+    ap (list_any (is_callable own busy)) (h.1 refl)
+    ∙ any_kept (is_callable own busy) (λ r. not (is_under id r)) before
+    (all_of (λ r. is_free busy r ≡ true → not (is_under id r) ≡ true) (λ r. is_callable own busy r ≡ true → not (is_under id r) ≡ true) (λ r k t. k (and_both (is_free busy r) (own r) t).0) before (free_beside busy id h.0 before))
+any_left own busy id false before after h = ap (list_any (is_callable own busy)) (h.2 refl)
+
+pub fewer_behind : (busy : List ℕ) (id : ℕ) (left : Bool) (r : Row) (rows before after : List Row) → Leaves busy id left before after → rows ≡ r ∷ before → length after < length rows
+fewer_behind busy id true r rows before after h e =
+    let one = ap length e in
+    let same = ap length (h.1 refl) in
+    omega (arith, one, same, length-filter_both (λ q. not (is_under id q)) (λ q. not (not (is_under id q))) (λ _. refl) before)
+fewer_behind busy id false r rows before after h e =
+    let one = ap length e in
+    let same = ap length (h.2 refl) in
+    omega (arith, one, same)
+
+-- a source that has no wake is after any tick
+pub none_after : (k : ℕ) (o : Option ℕ) → false ≡ is_some o → IsAfter k o
+none_after k None e = tt
+none_after k (Some w) e = cc

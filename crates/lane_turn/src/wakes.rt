@@ -3,7 +3,9 @@ ghost use Rattle.std.specs.Prelude.{◌≡◌, ℕ, ◌<◌, ◌≤◌, ◌^◌,
 ghost use Rattle.task_steps.specs.Run.{IsAfter};
 ghost use Rattle.loop_script.specs.Parts.{level_of, time_of};
 ghost use Rattle.source_rows.specs.Rows.{next_ready};
-ghost use Rattle.context_core.specs.Ready.{in_view, is_due, has_bit, kind_ready, is_blocked};
+ghost use Rattle.std.specs.List.{find};
+ghost use Rattle.context_core.specs.Ready.{in_view, is_due, has_bit, kind_ready};
+ghost use Rattle.context_core.specs.Standing.{is_in_call};
 ghost use Rattle.lane_turn.specs.Sources.{own_ready_at, chosen_in};
 ghost use Rattle.lane_turn.specs.Frames.{busy};
 ghost use Rattle.lane_turn.specs.Lane.{chosen};
@@ -18,6 +20,7 @@ use cancel_view::View;
 use context_core::Context;
 use loop_script::{Kind, Script};
 use source_rows::{Row, Sight};
+use std::iter::Iterator;
 
 /// The sooner of two ticks, where none is never.
 pub(crate) fn sooner(a: Option<u64>, b: Option<u64>) -> Option<u64>
@@ -117,30 +120,14 @@ fn row_wake(script: &Script, row: &Row, from: u32, view: &View) -> Option<u64>
     )
 }
 
-/// Whether a call in progress blocks a source of a context.
-fn is_blocked(frames: &Frames, context: u32, row: &Row) -> bool
-    ensures { result ≡ is_blocked (busy context frames.now) row.now }
+/// The outermost of a source of a context and those above it of which a call in progress blocks.
+fn blocker(frames: &Frames, context: u32, row: &Row) -> Option<u64>
+    ensures { result ≡ find (is_in_call (busy context frames.now)) row.now.lineage }
 {
-    row.lineage.iter().any(|id| frames.blocks(context, *id))
-}
-
-/// When a source may be ready by itself, from a tick on, where no call in progress blocks it; never where one does.
-fn free_wake(
-    script: &Script,
-    frames: &Frames,
-    context: u32,
-    row: &Row,
-    from: u32,
-    view: &View,
-) -> Option<u64>
-    ensures { (k : ℕ) → from ≤ k → IsAfter k result → is_blocked (busy context frames.now) row.now ≡ false → own_ready_at script.now k view.now row.now ≡ false }
-{
-    let wake = row_wake(script, row, from, view);
-    if wake.is_some() && is_blocked(frames, context, row) {
-        None
-    } else {
-        wake
-    }
+    row.lineage
+        .iter()
+        .copied()
+        .find(|id| frames.blocks(context, *id))
 }
 
 /// When the next ready time of a context comes that has not come by a tick.
@@ -154,7 +141,7 @@ fn next_due(script: &Script, context: &Context, from: u32) -> Option<u64>
 }
 
 /// When an iteration of a context may select something, from a tick on, while calls in progress stay as they are: what may be
-/// ready at that tick is looked at, and of the others the next ready time.
+/// ready at that tick is looked at, but for what a call blocks, and of the others the next ready time.
 fn context_wake(
     script: &Script,
     frames: &Frames,
@@ -166,11 +153,23 @@ fn context_wake(
     ensures { (k : ℕ) → from ≤ k → IsAfter k result → chosen_in script.now k view.now (busy number frames.now) (Some context.now) ≡ [] }
 {
     let mut wake = None;
-    let sight = Sight::new(script.now(from), view.marks());
-    'rows: for row in context.rows().candidates(sight) {
-        wake = sooner(wake, free_wake(script, frames, number, row, from, view));
-        if is_by(wake, from) {
-            return wake;
+    let mut rows = context
+        .rows()
+        .candidates(Sight::new(script.now(from), view.marks()));
+    while let Some(row) = rows.next() {
+        let own = row_wake(script, row, from, view);
+        if own.is_some() {
+            match blocker(frames, number, row) {
+                Some(id) => {
+                    rows.leave(id);
+                }
+                None => {
+                    wake = sooner(wake, own);
+                    if is_by(wake, from) {
+                        return wake;
+                    }
+                }
+            }
         }
     }
     sooner(wake, next_due(script, context, from))
