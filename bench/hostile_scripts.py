@@ -107,6 +107,15 @@ def asked_when_children_blocked(n):
     return phases((1, 1, [["log", 0]]), start=start, procs=[call, children, asks]), n * 250
 
 
+def ticks_when_children_blocked(n):
+    """Ticks in which one source is ready, in a call whose source has children that are ready but for that call, which made them."""
+    call = {"do": [["invoke", 0, 4]] * 4 * n + [["run", 0]]}
+    start = [["attach", 0, 254, {"kind": ["idle"], "call": 3}], ["attach", 0, 253, {"kind": ["idle"], "priority": 300, "call": 5}]]
+    children = {"do": [["child", 254, 255, {"kind": ["idle"]}]] * 250}
+    it = phases((1, 1, [["log", 0]]), start=start, procs=[call, children, {"do": [], "keep": None}])
+    return longer(it, 1, 64 * n), 1064 * n
+
+
 def descriptors_asked(n):
     """`pending` where many sources ask for two descriptors that show nothing."""
     return phases((1, n, ["attach", 0, 255, {"kind": ["fd", 0, 1]}]), (1, n, ["attach", 0, 255, {"kind": ["fd", 1, 1]}]),
@@ -326,6 +335,7 @@ GROWTHS = {
     "pending beside sources that are ready": (asked_when_all_ready, 4, 16),
     "pending in calls, beside sources that sleep": (asked_when_none_ready, 1, 4),
     "pending in a call, beside its source's children": (asked_when_children_blocked, 4, 16),
+    "ticks in a call, beside its source's children": (ticks_when_children_blocked, 2, 8),
     "pending beside sources of descriptors": (descriptors_asked, 2, 8),
     "ticks beside sources of a descriptor that shows other bits": (ticks_of_other_bits, 2, 8),
     "ticks beside sources of a cancellable": (cancellables_looked_at, 1, 4),
@@ -363,7 +373,6 @@ GROWTHS = {
 # What grows worse, and what is looked at each time.
 KNOWN = {
     "children that it gives its priority": "each set_priority, its children",
-    "pending in a call, beside its source's children": "each pending and iteration, the sources that would be ready but for a call",
     "pending beside sources of descriptors": "each pending and iteration, the sources of descriptors",
     "ticks beside sources of a descriptor that shows other bits": "each tick with a turn, the sources of descriptors",
     "ticks beside sources of a cancellable with the mark of a cancelled one": "each tick with a turn, the sources of cancellables 62 from one that was cancelled",
