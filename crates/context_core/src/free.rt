@@ -1,8 +1,9 @@
 //! The rows that may be ready and are free, in order: an iterator over the candidates of a context. Where a call in progress blocks one,
 //! all that it blocks is left out by one search, so a context is looked at as if what is blocked were not there.
-ghost use Rattle.std.specs.Prelude.{◌≡◌, filter, length};
+ghost use Rattle.std.specs.Prelude.{◌≡◌, filter, length, not, true, false};
 ghost use Rattle.std.specs.Iterator.{at_most};
 ghost use Rattle.std.specs.Map.Iter.{TakesFirst};
+ghost use Rattle.source_rows.specs.Rows.{is_under};
 ghost use Rattle.context_core.specs.Ready.{is_free};
 
 use crate::busy::Busy;
@@ -48,9 +49,18 @@ impl<'a> Iterator for FreeRows<'a> {
     fn next(&mut self) -> Option<&'a Row> {
         let mut row = self.rows.next()?;
         while let Some(id) = outermost_blocker(row, self.busy) {
-            self.rows.leave(id);
+            leave_under(&mut self.rows, row, id);
             row = self.rows.next()?;
         }
         Some(row)
     }
+}
+
+/// Leaves out what stands under the blocker of the row that came last, where that is another one: what is under the row itself came before it.
+#[inline]
+fn leave_under(rows: &mut Candidates<'_>, row: &Row, id: u64) -> bool
+    ensures left { result ≡ true → rows.new ≡ filter (λ r. not (is_under id r)) rows.old }
+    ensures same { result ≡ false → rows.new ≡ rows.old }
+{
+    id != row.id && rows.leave(id)
 }

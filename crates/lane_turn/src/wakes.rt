@@ -161,7 +161,9 @@ fn context_wake(
         if own.is_some() {
             match blocker(frames, number, row) {
                 Some(id) => {
-                    rows.leave(id);
+                    if id != row.id {
+                        rows.leave(id);
+                    }
                 }
                 None => {
                     wake = sooner(wake, own);

@@ -27,8 +27,8 @@ loop-row-preserved c = λ k le after.
     ∙ (ap (list_any (is_callable own blocks)) (sym c.in-Some.ensures.steps) ∙ c.loop-row.invariant k le after)
 
 -- one that is blocked changes nothing, and what is left out is blocked too
-pub loop-row-preserved-in-Some-blocker : goal.loop-row-preserved-in-Some-blocker
-loop-row-preserved-in-Some-blocker c = λ k le after.
+pub loop-row-preserved-then-id-row : goal.loop-row-preserved-then-id-row
+loop-row-preserved-then-id-row c = λ k le after.
     let own : Own = own_ready_at c.args.script.now k c.args.view.now in
     let blocks : List ℕ = busy c.args.number c.args.frames.now in
     let row = c.in-Some.row.now in
@@ -39,8 +39,19 @@ loop-row-preserved-in-Some-blocker c = λ k le after.
     ∙ (any_free own blocks row c.next.new.self (λ free. let no = sym blocked ∙ free in cc)
     ∙ (ap (list_any (is_callable own blocks)) (sym c.in-Some.ensures.steps) ∙ c.loop-row.invariant k le after))
 
-pub loop-row-smaller-in-Some-blocker : goal.loop-row-smaller-in-Some-blocker
-loop-row-smaller-in-Some-blocker c =
+-- a row that blocks itself changes nothing
+pub loop-row-preserved-else-id-row : goal.loop-row-preserved-else-id-row
+loop-row-preserved-else-id-row c = λ k le after.
+    let own : Own = own_ready_at c.args.script.now k c.args.view.now in
+    let blocks : List ℕ = busy c.args.number c.args.frames.now in
+    let row = c.in-Some.row.now in
+    let there : Some c.in-Some-blocker.id ≡ find (is_in_call blocks) row.lineage = c.in-Some-blocker.ensures in
+    let blocked : is_blocked blocks row ≡ true = sym (some_any (is_in_call blocks) row.lineage) ∙ ap is_some (sym there) in
+    any_free own blocks row c.next.new.self (λ free. let no = sym blocked ∙ free in cc)
+    ∙ (ap (list_any (is_callable own blocks)) (sym c.in-Some.ensures.steps) ∙ c.loop-row.invariant k le after)
+
+pub loop-row-smaller-then-id-row : goal.loop-row-smaller-then-id-row
+loop-row-smaller-then-id-row c =
     let blocks : List ℕ = busy c.args.number c.args.frames.now in
     let there : Some c.in-Some-blocker.id ≡ find (is_in_call blocks) c.in-Some.row.now.lineage = c.in-Some-blocker.ensures in
     fewer_behind blocks c.in-Some-blocker.id c.leave.result c.in-Some.row.now c.loop-row.rows c.next.new.self c.leave.new.self
