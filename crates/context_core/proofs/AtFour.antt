@@ -16,6 +16,7 @@ use Rattle.source_rows.proofs.Order.{all_in_order}
 use Rattle.source_rows.proofs.Kept.{found_id}
 use Rattle.source_rows.proofs.Forest.{InForest, members, shaped, found, each, same_id, any_child, path_is, under_up, under_down, under_root, under_self}
 use Rattle.source_rows.proofs.AtTwo.{or_turned, any_root, filter_same, each_passed}
+use Rattle.context_core.proofs.Found.{or_left}
 use Rattle.context_core.specs.Ready.{Own, is_blocked, is_free, is_callable, is_ready, is_most_urgent, selected}
 use Rattle.context_core.specs.TwoLevels.{is_busy}
 use Rattle.context_core.specs.FourLevels.{is_blocked_within, is_blocked_at_four, is_ready_within, is_ready_at_four, ready_at_four, numbers_within, filled, before_at_four, in_order_at_four, selected_at_four}
@@ -26,9 +27,6 @@ All rows = AllByRecursion (InForest rows) rows
 
 some_level : (rows : List Row) → All rows → (r : Row) → InForest rows r → 1 ≤ r.level
 some_level rows all r f = each rows (λ r. 1 ≤ r.level) all (λ r f p. let at = p.level in omega (arith, at)) (λ q r g f c h. let up = c.level in omega (arith, up, h)) r f
-
-or_up : (a b : Bool) → a ≡ true → (a || b) ≡ true
-or_up a b h = rw h refl
 
 or_down : (a b : Bool) → (a || b) ≡ true → (a ≡ true) ⊎ (b ≡ true)
 or_down true b h = inl refl
@@ -134,7 +132,7 @@ under_too rows all r c f g e =
 
 blocked_too : (rows : List Row) → All rows → (busy : List ℕ) (c : Row) → InForest rows c → is_blocked busy c ≡ true → (q : Row) → InForest rows q → is_under c.id q ≡ true → is_blocked busy q ≡ true
 blocked_too rows all busy c g e =
-    below rows all (λ q. is_blocked busy q ≡ true) c g e (λ p q h k w u. any_child (is_busy busy) p q w k.level (shaped rows all p h) ∙ or_up (is_blocked busy p) (is_busy busy q.id) u)
+    below rows all (λ q. is_blocked busy q ≡ true) c g e (λ p q h k w u. any_child (is_busy busy) p q w k.level (shaped rows all p h) ∙ or_left (is_blocked busy p) (is_busy busy q.id) u)
 
 free_above : (rows : List Row) → All rows → (busy : List ℕ) (c q : Row) → InForest rows c → InForest rows q → is_under c.id q ≡ true → is_free busy q ≡ true → is_free busy c ≡ true
 free_above rows all busy c q g h u e = by (is_blocked busy c) refl
@@ -178,7 +176,7 @@ any_out rows (x ∷ xs) p h e = by (p x) refl (any_out rows xs p h.1) e
 each_any : (p : Row → Bool) (xs : List Row) → AllByRecursion (λ x. p x ≡ true → list_any p xs ≡ true) xs
 each_any p [] = tt
 each_any p (x ∷ xs) = (
-  λ e. or_up (p x) (list_any p xs) e,
+  λ e. or_left (p x) (list_any p xs) e,
   all_of (λ y. p y ≡ true → list_any p xs ≡ true) (λ y. p y ≡ true → (p x || list_any p xs) ≡ true) (λ y f e. ap (λ (b : Bool). p x || b) (f e) ∙ or_true (p x)) xs (each_any p xs),
 )
 
@@ -200,7 +198,7 @@ abbrev Lends : Own → List ℕ → List Row → Row → Row → Bool
 Lends own busy rows r q = is_child_of r.id q && is_ready own busy rows q
 
 lends_by : (rows : List Row) → All rows → (own : Own) (busy : List ℕ) (r q : Row) → InForest rows q → is_callable own busy q ≡ true → Down rows r q → (own r || list_any (Lends own busy rows r) rows) ≡ true
-lends_by rows all own busy r q g e (inl s) = or_up (own r) _ (ap own (sym s) ∙ (and_both (is_free busy q) (own q) e).1)
+lends_by rows all own busy r q g e (inl s) = or_left (own r) _ (ap own (sym s) ∙ (and_both (is_free busy q) (own q) e).1)
 lends_by rows all own busy r q g e (inr d) =
     let c : Row = d.0 in
     let some : list_any (Calls own busy c) rows ≡ true = any_in rows (Calls own busy c) q g (both (is_under c.id q) (is_callable own busy q) d.3 e) in

@@ -11,31 +11,22 @@ use Rattle.source_rows.specs.Tree.{IsForest, IsOneTree, HasPlace}
 use Rattle.source_rows.proofs.Order.{sorted_in_order}
 use Rattle.context_core.specs.Ready.{Own, is_free, is_callable, is_ready, ready_rows}
 use Rattle.context_core.specs.Phases.{least_of}
+use Rattle.source_rows.proofs.Compared.{same_self}
+use Rattle.context_core.proofs.Found.{or_left, or_right}
 use Rattle.context_core.proofs.Walk.{not_more, SomeAt}
 use Rattle.context_core.proofs.Cutoff.{all_of_order, HasAt, least_has, least_none, least_above}
 
 -- ---- a row is under itself
 
-same_id : (id : ℕ) → (id == id) ≡ true
-same_id id = elim (eqb_tells id id) [ inl t ↦ t.0 | inr f ↦ absurd (f.1 refl) ]
-
-or_true : (a b : Bool) → b ≡ true → (a || b) ≡ true
-or_true true b h = refl
-or_true false b h = h
-
-or_first : (a b : Bool) → a ≡ true → (a || b) ≡ true
-or_first true b h = refl
-or_first false b h = let no : false ≡ true = h in cc
-
 lineage_by : (a b id : ℕ) (one two : Bool) (lineage : List ℕ)
     → list_any (λ i. i == id) (cond one (slice_index lineage 0 ∷ id ∷ id ∷ id ∷ []) (cond two (slice_index lineage 0 ∷ slice_index lineage 1 ∷ id ∷ id ∷ []) (slice_index lineage 0 ∷ slice_index lineage 1 ∷ slice_index lineage 2 ∷ id ∷ []))) ≡ true
-lineage_by a b id true two lineage = or_true (slice_index lineage 0 == id) _ (or_first (id == id) _ (same_id id))
-lineage_by a b id false true lineage = or_true (slice_index lineage 0 == id) _ (or_true (slice_index lineage 1 == id) _ (or_first (id == id) _ (same_id id)))
+lineage_by a b id true two lineage = or_right (slice_index lineage 0 == id) _ (or_left (id == id) _ (same_self id))
+lineage_by a b id false true lineage = or_right (slice_index lineage 0 == id) _ (or_right (slice_index lineage 1 == id) _ (or_left (id == id) _ (same_self id)))
 lineage_by a b id false false lineage =
-    or_true (slice_index lineage 0 == id) _ (or_true (slice_index lineage 1 == id) _ (or_true (slice_index lineage 2 == id) _ (or_first (id == id) _ (same_id id))))
+    or_right (slice_index lineage 0 == id) _ (or_right (slice_index lineage 1 == id) _ (or_right (slice_index lineage 2 == id) _ (or_left (id == id) _ (same_self id))))
 
 under_self : (rows : List Row) (r : Row) (parent : Option ℕ) → HasPlace rows parent r → is_under r.id r ≡ true
-under_self rows r None h = ap (list_any (λ i. i == r.id)) h.lineage ∙ or_first (r.id == r.id) _ (same_id r.id)
+under_self rows r None h = ap (list_any (λ i. i == r.id)) h.lineage ∙ or_left (r.id == r.id) _ (same_self r.id)
 under_self rows r (Some id) h =
     let p = h.0 in
     ap (list_any (λ i. i == r.id)) h.2.lineage ∙ lineage_by 0 0 r.id (p.level == 1) (p.level == 2) p.lineage
@@ -48,7 +39,7 @@ each_under_self whole (r ∷ rows) h = (under_self whole r r.parent h.0, each_un
 
 each_any : (g : Row → Row → Bool) (xs whole : List Row) → ((r : Row) → list_any (g r) xs ≡ true → list_any (g r) whole ≡ true) → AllByRecursion (λ r. g r r ≡ true → list_any (g r) whole ≡ true) xs
 each_any g [] whole f = tt
-each_any g (x ∷ xs) whole f = (λ h. f x (or_first (g x x) _ h), each_any g xs whole (λ r k. f r (or_true (g r x) _ k)))
+each_any g (x ∷ xs) whole f = (λ h. f x (or_left (g x x) _ h), each_any g xs whole (λ r k. f r (or_right (g r x) _ k)))
 
 and_both : (a b : Bool) → a ≡ true → b ≡ true → (a && b) ≡ true
 and_both a b h k = rw (h, k) refl

@@ -22,6 +22,7 @@ use Rattle.context_core.specs.Ready.{in_view, has_bit, always_told, own_ready, k
 use Rattle.context_core.specs.Phases.{nothing_shown, less_urgent, walk, is_asked, is_fd}
 use Rattle.context_core.proofs.Walk.{not_more}
 use Rattle.context_core.proofs.Cutoff.{any_more, and_more}
+use Rattle.context_core.proofs.Found.{or_left, or_right}
 use Rattle.context_core.proofs.Called.{called_ready, each_under_self}
 
 -- ---- rows that are left out
@@ -181,14 +182,6 @@ fd_open (Cancel c) h = let no : false ≡ true = h in cc
 
 fd_awake : (sight : Sight) → meets descriptor sight.marks ≡ true → (r : Row) → is_fd r.kind ≡ true → is_awake sight r ≡ true
 fd_awake sight opens r h = awake_open (meets (opened_by r.kind) sight.marks) (nat_lt sight.now (due_at r.ready)) (ap (λ (n : ℕ). meets n sight.marks) (fd_open r.kind h) ∙ opens)
-
-or_right : (a b : Bool) → b ≡ true → (a || b) ≡ true
-or_right true b h = refl
-or_right false b h = h
-
-or_left : (a b : Bool) → a ≡ true → (a || b) ≡ true
-or_left true b h = refl
-or_left false b h = let no : false ≡ true = h in cc
 
 -- one that is awake may call
 each_one : (g : Row → Row → Bool) (xs whole : List Row) → ((r : Row) → list_any (g r) xs ≡ true → list_any (g r) whole ≡ true) → AllByRecursion (λ r. g r r ≡ true → list_any (g r) whole ≡ true) xs

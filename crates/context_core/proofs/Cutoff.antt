@@ -12,6 +12,7 @@ use Rattle.source_rows.specs.Rows.{in_order, placed, stands_before, is_under}
 use Rattle.source_rows.proofs.Order.{in_order-filter, sorted_in_order, all_in_order}
 use Rattle.std.specs.Int.Bits.{and_zero_l}
 use Rattle.source_rows.specs.Tree.{IsOneTree}
+use Rattle.context_core.proofs.Found.{or_right}
 use Rattle.context_core.specs.declared.interest.Shown.{Shown}
 use Rattle.context_core.specs.Ready.{own_ready, kind_ready, is_due, always_told, has_bit, is_blocked, is_callable, is_ready, is_most_urgent, selected}
 use Rattle.context_core.specs.Phases.{least_of, less_urgent, nothing_shown, least_ready, is_asked, is_fd, fd_of, asked_rows, levels_for, level_of, shown, handed, walk}
@@ -263,10 +264,6 @@ own_by f g view d (Cancel c) h = refl
 
 nothing_set : (bits : ℕ) → has_bit 0 bits ≡ false
 nothing_set bits = ap (λ (n : ℕ). not (n == 0)) (and_zero_l (bit_or bits always_told))
-
-or_right : (a d : Bool) → d ≡ true → (a || d) ≡ true
-or_right true d e = refl
-or_right false d e = e
 
 pub own_more : (g : ℕ → ℕ) (view : ℕ → Bool) (d : Bool) (k : Kind) → (kind_ready nothing_shown view k || d) ≡ true → (kind_ready g view k || d) ≡ true
 own_more g view d Idle h = refl

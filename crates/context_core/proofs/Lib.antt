@@ -1,3 +1,4 @@
+pub mod Found
 pub mod Walk
 pub mod Cutoff
 pub mod Selects

@@ -17,6 +17,7 @@ use Rattle.context_core.specs.declared.interest.Shown.{Shown}
 use Rattle.context_core.specs.declared.standing.Standing.TheVariants.{Selected, LessUrgent, NotShown}
 use Rattle.context_core.specs.Phases.{is_asked, asked_rows, levels_for, shown, handed, is_fd, fd_of}
 use Rattle.context_core.proofs.Cutoff.{ShownAs, handed_is, each_ready, if_passes, all_of_order, any_same, urgent_by}
+use Rattle.context_core.proofs.Found.{find_or, found_in}
 use Rattle.context_core.proofs.Called.{first_least, found_some, some_of_order, has_passed, all_passed, none_found, called_ready}
 use Rattle.source_rows.specs.declared.row.Row.{Row}
 use Rattle.source_rows.specs.Rows.{in_order, row_of}
@@ -66,14 +67,6 @@ told_more level cancelled now busy rows it rest r first next ready list more e k
     )
 
 -- ---- what blocks a row
-
-find_or : {A : Type 0} (f : A → Bool) (xs : List A) → is_some (find f xs) ≡ list_any f xs
-find_or f [] = refl
-find_or f (x ∷ xs) = by_one (f x) (find_or f xs)
-  where
-    by_one : (b : Bool) → is_some (find f xs) ≡ list_any f xs → is_some (cond b (Some x) (find f xs)) ≡ (b || list_any f xs)
-    by_one true h = refl
-    by_one false h = h
 
 any_reversed : {A : Type 0} (f : A → Bool) (xs : List A) → list_any f (reverse xs) ≡ list_any f xs
 any_reversed f xs = sym (list_any-IsPermutation f xs (reverse xs) (IsPermutation-reverse xs))
@@ -298,28 +291,8 @@ both_false false false e = (refl, refl)
 both_false false true e = let no : true ≡ false = e in cc
 both_false true b e = let no : true ≡ false = e in cc
 
-same_id : (a b : ℕ) → Some a ≡ Some b → a ≡ b
-same_id a b e = cc
-
 same_found : (a b : Row) → Some a ≡ Some b → a ≡ b
 same_found a b e = cc
-
-or_true : (b : Bool) → (b || true) ≡ true
-or_true true = refl
-or_true false = refl
-
-is_itself : (y : ℕ) (b : Bool) → ((y == y) || b) ≡ true
-is_itself y b = elim (eqb_tells y y) [ inl t ↦ rw t.0 refl | inr f ↦ absurd (f.1 refl) ]
-
-found_by : (f : ℕ → Bool) (y x : ℕ) (ys : List ℕ) (b : Bool) → f y ≡ b → (find f ys ≡ Some x → (list_any (λ i. i == x) ys ≡ true) × (f x ≡ true)) → cond b (Some y) (find f ys) ≡ Some x
-    → (((y == x) || list_any (λ i. i == x) ys) ≡ true) × (f x ≡ true)
-found_by f y x ys true k ih h =
-    subst (λ (z : ℕ). (((y == z) || list_any (λ i. i == z) ys) ≡ true) × (f z ≡ true)) (same_id y x h) (is_itself y (list_any (λ i. i == y) ys), k)
-found_by f y x ys false k ih h = let t = ih h in (ap (λ (b : Bool). (y == x) || b) t.0 ∙ or_true (y == x), t.1)
-
-found_in : (f : ℕ → Bool) (xs : List ℕ) (x : ℕ) → find f xs ≡ Some x → (list_any (λ i. i == x) xs ≡ true) × (f x ≡ true)
-found_in f [] x e = let no : None ≡ Some x = e in cc
-found_in f (y ∷ ys) x e = found_by f y x ys (f y) refl (found_in f ys x) e
 
 row_by : (f : Row → Bool) (P : Row → Type 0) (y q : Row) (ys : List Row) (b : Bool) → f y ≡ b → P y → (find f ys ≡ Some q → (f q ≡ true) × P q) → cond b (Some y) (find f ys) ≡ Some q → (f q ≡ true) × P q
 row_by f P y q ys true k p ih h = subst (λ (z : Row). (f z ≡ true) × P z) (same_found y q h) (k, p)
@@ -364,7 +337,7 @@ told_by : (level : ℕ → ℕ) (cancelled : ℕ → Bool) (now : ℕ) (busy : L
     → (b : Option ℕ) → blocker busy r ≡ b → (v : Bool) → is_ready (own_ready level cancelled now) busy rows r ≡ v → (o : Option Row) → first_ready (own_ready level cancelled now) busy rows ≡ o
     → IsTold level cancelled now busy rows r (standing_by level b v o r)
 told_by level cancelled now busy rows r rise all calls (Some by) e v k o f =
-    let t = found_in (is_in_call busy) (reverse r.lineage) by e in (sym (any_reversed (λ (i : ℕ). i == by) r.lineage) ∙ t.0, t.1)
+    let t = found_in (is_in_call busy) (reverse r.lineage) by e in (sym (any_reversed (λ (i : ℕ). i == by) r.lineage) ∙ t.1, t.0)
 told_by level cancelled now busy rows r rise all calls None e true k None f = k
 told_by level cancelled now busy rows r rise all calls None e true k (Some q) f =
     let own = own_ready level cancelled now in

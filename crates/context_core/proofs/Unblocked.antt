@@ -14,53 +14,22 @@ use Rattle.source_rows.proofs.Compared.{and_both}
 use Rattle.source_rows.proofs.Lists.{all_true, all_of, all_passed}
 use Rattle.source_rows.proofs.Order.{sorted_in_order}
 use Rattle.source_rows.proofs.Walked.{filter_twice}
-use Rattle.context_core.specs.Ready.{Own, own_ready, is_free, is_callable, is_ready}
+use Rattle.context_core.specs.Ready.{Own, own_ready, is_free, is_blocked, is_callable, is_ready}
 use Rattle.context_core.specs.Lent.{lends, lends_free}
 use Rattle.context_core.specs.Phases.{is_asked, is_fd, walk}
 use Rattle.context_core.specs.Standing.{is_in_call}
+use Rattle.context_core.proofs.Found.{find_or, found_in, or_left, or_right}
 use Rattle.context_core.proofs.Candidates.{Keeps, Sees, filter_kept, walk_kept, each_calls_may, each_ready_may}
 
 -- ---- who blocks
 
-pub some_any : (f : ℕ → Bool) (xs : List ℕ) → is_some (find f xs) ≡ list_any f xs
-some_any f [] = refl
-some_any f (x ∷ xs) = some_by (f x) (some_any f xs)
-  where
-    some_by : (b : Bool) → is_some (find f xs) ≡ list_any f xs → is_some (cond b (Some x) (find f xs)) ≡ (b || list_any f xs)
-    some_by true ih = refl
-    some_by false ih = ih
-
-same_number : (x y : ℕ) → Some x ≡ Some y → x ≡ y
-same_number x y e = cc
-
-same_id : (id : ℕ) → (id == id) ≡ true
-same_id id = elim (eqb_tells id id) [ inl t ↦ t.0 | inr f ↦ absurd (f.1 refl) ]
-
-or_right : (a b : Bool) → b ≡ true → (a || b) ≡ true
-or_right true b h = refl
-or_right false b h = h
-
-or_left : (a b : Bool) → a ≡ true → (a || b) ≡ true
-or_left true b h = refl
-or_left false b h = let no : false ≡ true = h in cc
-
-found_by : (f : ℕ → Bool) (x : ℕ) (xs : List ℕ) (id : ℕ) → (find f xs ≡ Some id → (f id ≡ true) × (list_any (λ i. i == id) xs ≡ true)) → (b : Bool) → f x ≡ b → cond b (Some x) (find f xs) ≡ Some id
-    → (f id ≡ true) × (list_any (λ i. i == id) (x ∷ xs) ≡ true)
-found_by f x xs id ih true t h =
-    let same = same_number x id h in
-    (ap f (sym same) ∙ t, or_left (x == id) (list_any (λ i. i == id) xs) (ap (λ (n : ℕ). x == n) (sym same) ∙ same_id x))
-found_by f x xs id ih false t h =
-    let two = ih h in
-    (two.0, or_right (x == id) (list_any (λ i. i == id) xs) two.1)
-
--- what is found in a list passes, and is in it
-found_in : (f : ℕ → Bool) (xs : List ℕ) (id : ℕ) → find f xs ≡ Some id → (f id ≡ true) × (list_any (λ i. i == id) xs ≡ true)
-found_in f [] id e = let no : None ≡ Some id = e in cc
-found_in f (x ∷ xs) id e = found_by f x xs id (found_in f xs id) (f x) refl e
-
 pub some_in : (busy lineage : List ℕ) (o : Option ℕ) → o ≡ find (is_in_call busy) lineage → IfSome o (λ id. (is_in_call busy id ≡ true) × (list_any (λ i. i == id) lineage ≡ true))
 some_in busy lineage None e = tt
 some_in busy lineage (Some id) e = found_in (is_in_call busy) lineage id (sym e)
+
+-- one that has what blocks it is blocked
+pub has_blocker : (busy : List ℕ) (r : Row) (id : ℕ) → Some id ≡ find (is_in_call busy) r.lineage → is_blocked busy r ≡ true
+has_blocker busy r id there = sym (find_or (is_in_call busy) r.lineage) ∙ ap is_some (sym there)
 
 -- ---- what a call blocks
 

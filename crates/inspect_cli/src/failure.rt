@@ -1,6 +1,6 @@
 //! Why `mainctx_inspect` gave no answer: the exit status, and the line on standard error.
 use account::AccountFault;
-use script_report::InputFault;
+use program_input::InputFault;
 use std::alloc::AllocError;
 use std::io::Write;
 
@@ -25,8 +25,8 @@ impl Numbered {
 /// Why there is no answer, or no whole one.
 #[derive(Clone, Copy, Debug, Drop, PartialEq, Eq)]
 pub(crate) enum Failure {
-    /// Other arguments, which have a text of their own.
-    Usage,
+    /// Words or script were not read, or memory was refused.
+    Input(InputFault),
     /// The arguments name a thread or a context that the script does not have.
     NotThere,
     /// The arguments name one by a number behind the last.
@@ -39,33 +39,26 @@ pub(crate) enum Failure {
     Ended {
         lines: u32,
     },
-    Memory,
-    Read,
-    TooLong,
     Write,
     /// The reader of the output has closed it: nothing is said.
     Closed,
 }
 
 impl From<AllocError> for Failure {
-    fn from(_: AllocError) -> Self {
-        Failure::Memory
+    fn from(fault: AllocError) -> Self {
+        Failure::Input(fault.into())
     }
 }
 
 impl From<AccountFault> for Failure {
     fn from(_: AccountFault) -> Self {
-        Failure::Memory
+        Failure::Input(InputFault::OutOfMemory)
     }
 }
 
 impl From<InputFault> for Failure {
     fn from(fault: InputFault) -> Self {
-        match fault {
-            InputFault::Unreadable => Failure::Read,
-            InputFault::TooLong => Failure::TooLong,
-            InputFault::OutOfMemory => Failure::Memory,
-        }
+        Failure::Input(fault)
     }
 }
 
@@ -74,9 +67,9 @@ impl Failure {
     pub(crate) fn status(self) -> u8 {
         match self {
             Failure::Ended { .. } => 0,
-            Failure::Usage | Failure::NotThere | Failure::Beyond { .. } => 1,
-            Failure::Memory => 3,
-            Failure::Read | Failure::TooLong | Failure::Write | Failure::Closed => 4,
+            Failure::NotThere | Failure::Beyond { .. } => 1,
+            Failure::Write | Failure::Closed => 4,
+            Failure::Input(fault) => fault.status(),
         }
     }
 
@@ -101,11 +94,8 @@ impl Failure {
     /// The line on standard error, where it has no number.
     fn line(self) -> &'static str {
         match self {
-            Failure::Usage => "error: the arguments are not in UTF-8\n",
             Failure::NotThere => "usage: the script has no such thread or context\n",
-            Failure::Memory => "memory\n",
-            Failure::Read => "read\n",
-            Failure::TooLong => "read: a script has 4194304 bytes at most\n",
+            Failure::Input(fault) => fault.line(),
             Failure::Write => "write\n",
             Failure::Closed | Failure::Beyond { .. } | Failure::Ended { .. } => "",
         }

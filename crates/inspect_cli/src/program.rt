@@ -11,12 +11,14 @@ use inspect_words::{Run, Words, follow_names};
 use loop_script::{Script, ScriptFault};
 use mainctx::{MainFault, OverWrite, run_alone};
 use named::translate_bytes;
+use program_input::{InputFault, read_script, read_words};
 use run_names::RunNames;
-use script_report::{Form, Language, check_either, read_input, read_toml};
-use std::fs::File;
-use std::io::Write;
+use script_report::{Form, Language, check_either, read_toml};
+use std::io::{self, Write};
 use std::str::from_utf8;
-use std::{env, io};
+
+/// The status where the arguments are wrong.
+const USAGE: u8 = 1;
 
 /// The status where the script is refused.
 const REFUSED: u8 = 2;
@@ -65,11 +67,11 @@ pub(crate) fn run(rt: &HostRuntime) -> u8 {
 }
 
 fn attempt(rt: &HostRuntime) -> Result<u8, Failure> {
-    let words = words(rt)?;
+    let words = read_words(rt)?;
     match read_inspect_words(rt.alloc(), words.as_slice())? {
         Asked::Wrong(text) => {
             let _ = rt.stderr().write_all(text.as_bytes());
-            Ok(Failure::Usage.status())
+            Ok(USAGE)
         }
         Asked::Help(text) => {
             write_out(rt, text.as_str())?;
@@ -94,28 +96,9 @@ fn attempt(rt: &HostRuntime) -> Result<u8, Failure> {
     }
 }
 
-fn words(rt: &HostRuntime) -> Result<Vec<String>, Failure> {
-    let args = match env::args(rt) {
-        Ok(args) => args,
-        Err(fault) if fault.kind() == io::ErrorKind::OutOfMemory => return Err(Failure::Memory),
-        Err(_) => return Err(Failure::Usage),
-    };
-    Ok(args.skip(1).collect::<Vec<String>>(rt.alloc())?)
-}
-
-fn bytes_of(rt: &HostRuntime, file: Option<&str>) -> Result<Vec<u8>, Failure> {
-    match file {
-        Some(path) if path != "-" => match File::open(rt, path) {
-            Ok(mut opened) => Ok(read_input(rt.alloc(), &mut opened)?),
-            Err(_) => Err(Failure::Read),
-        },
-        _ => Ok(read_input(rt.alloc(), &mut rt.stdin())?),
-    }
-}
-
 /// The bytes of a script, in JSON. With None they are TOML that stands for none, and what is wrong was written.
 fn script_of(rt: &HostRuntime, order: &Order<'_>) -> Result<Option<Vec<u8>>, Failure> {
-    let bytes = bytes_of(rt, order.file)?;
+    let bytes = read_script(rt, order.file)?;
     let form = form_of(order);
     match form.language {
         Language::Json => Ok(Some(bytes)),
@@ -159,7 +142,7 @@ fn write_out(rt: &HostRuntime, text: &str) -> Result<(), Failure> {
 fn write_numbered(rt: &HostRuntime, order: &Order<'_>, given: &Given<'_>) -> Result<u8, Failure> {
     match Script::read(rt.alloc(), given.numbered) {
         Ok(_) => {}
-        Err(ScriptFault::OutOfMemory) => return Err(Failure::Memory),
+        Err(ScriptFault::OutOfMemory) => return Err(InputFault::OutOfMemory.into()),
         Err(_) => return refuse(rt, order, given),
     }
     let mut text = String::from_str(rt.alloc(), from_utf8(given.numbered).unwrap_or(""))?;
@@ -181,7 +164,7 @@ fn write_text(rt: &HostRuntime, order: &Order<'_>, given: &Given<'_>) -> Result<
             Some(lines) => Err(Failure::Ended { lines }),
             None => Err(Failure::Write),
         },
-        Err(MainFault::Setup(_)) | Err(MainFault::OutOfMemory) => Err(Failure::Memory),
+        Err(MainFault::Setup(_)) | Err(MainFault::OutOfMemory) => Err(InputFault::OutOfMemory.into()),
     }
 }
 
@@ -197,7 +180,7 @@ fn refuse(rt: &HostRuntime, order: &Order<'_>, given: &Given<'_>) -> Result<u8, 
 fn tell(rt: &HostRuntime, order: &Order<'_>, given: &Given<'_>) -> Result<u8, Failure> {
     let script = match Script::read(rt.alloc(), given.numbered) {
         Ok(script) => script,
-        Err(ScriptFault::OutOfMemory) => return Err(Failure::Memory),
+        Err(ScriptFault::OutOfMemory) => return Err(InputFault::OutOfMemory.into()),
         Err(_) => return refuse(rt, order, given),
     };
     let names = if given.has_names {

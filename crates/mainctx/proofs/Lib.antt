@@ -1,7 +1,6 @@
 pub mod Alike
 pub mod Asking
 pub mod Endings
-pub mod Inputs
 pub mod Parts
 pub mod Prefixes
 pub mod Setups

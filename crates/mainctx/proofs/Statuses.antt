@@ -6,7 +6,8 @@ use Rattle.mainctx.specs.declared.status.Refusal.TheVariants.{Usage, Script, Set
 use Rattle.mainctx.specs.Run.{IsRunFaultOf}
 use Rattle.mainctx.specs.declared.run.MainFault.TheVariants as run_faults
 use Rattle.loop_script.specs.declared.fault.ScriptFault.{ScriptFault}
-use Rattle.mainctx.specs.Serving.{IsRestOf, Leaves, Refuses, ServesPrefix, HasNoCrew, status_of}
+use Rattle.program_input.specs.Input.{IsRestOf}
+use Rattle.mainctx.specs.Serving.{Leaves, Refuses, ServesPrefix, HasNoCrew, status_of}
 use Rattle.mainctx.specs.declared.arguments.Asked.{Asked}
 use Rattle.mainctx.specs.Arguments.{AskFor, IsWordOf}
 use Rattle.std.specs.Prelude.{String, string_bytes, nat_le}

@@ -1,7 +1,8 @@
 -- What the program does with its input, by its status.
-use Rattle.std.specs.Prelude.{◌≡◌, ℕ, List, Option, Some, IfSome, String}
+use Rattle.std.specs.Prelude.{◌≡◌, ℕ, List, Option, Some, String}
 use Rattle.loop_script.specs.declared.fault.ScriptFault.{ScriptFault}
 use Rattle.loop_script.specs.declared.fault.ScriptFault.TheVariants as faults
+use Rattle.program_input.specs.Input.{IsRestOf}
 use Rattle.mainctx.specs.Run.{Writes, WritesPrefix, HoldsText, IsFaultOf, IsScriptOf}
 use Rattle.std.specs.declared.alloc.Global.{Global}
 use Rattle.loop_script.specs.declared.plan.Plan.{Plan}
@@ -11,14 +12,6 @@ use Rattle.mainctx.specs.declared.arguments.Asked.{Asked}
 use Rattle.mainctx.specs.Arguments.{AskFor}
 use Rattle.mainctx.specs.declared.status.Refusal.{Refusal}
 use Rattle.mainctx.specs.declared.status.Refusal.TheVariants.{Usage, Script, Setup, Memory, Read, Write}
-
--- the bytes are all that the input has left, where that is known
-abbrev pub IsRestOf : Option (List ℕ) → List ℕ → Type 0
-IsRestOf left bytes = IfSome left (λ known. bytes ≡ known)
-
--- the most bytes that the program reads
-abbrev pub input_limit : ℕ
-input_limit = 4194304
 
 -- the text of the script that the input has left was written
 pub record Serves (left : Option (List ℕ)) (old new : List ℕ) : Type 0 where

@@ -5,7 +5,6 @@ mod arguments;
 mod buffer;
 mod ended;
 mod ending;
-mod input;
 mod last_dispatch;
 pub mod laws;
 mod printed;
@@ -15,7 +14,6 @@ mod text;
 mod words;
 mod writer;
 
-pub use input::INPUT_LIMIT;
 pub use run::{MainFault, run_alone, run_bytes};
 pub use status::{Refusal, refuse, serve};
 pub use text::{OutOfMemory, add_text};

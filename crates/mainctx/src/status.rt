@@ -6,10 +6,10 @@ ghost use Rattle.mainctx.specs.Serving.{Serves, ServesPrefix, ServesHolder, HasF
 ghost use Rattle.mainctx.specs.Writing.{GrowAlike};
 
 use crate::arguments::Asked;
-use crate::input::{InputFault, read_input};
 use crate::run::{MainFault, run_bytes};
 use crate::writer::Out;
 use loop_script::ScriptFault;
+use program_input::{InputFault, read_input};
 use std::alloc::Global;
 use std::io::{Read, Write};
 use std::sync::Wait;
@@ -91,8 +91,8 @@ fn attempt<X: Threads + Wait + Sync, R: Read, W: Out>(
     };
     let script = match read_input(alloc, input) {
         Ok(script) => script,
-        Err(InputFault::Unreadable) => return Err(Refusal::Read),
         Err(InputFault::OutOfMemory) => return Err(Refusal::Memory),
+        Err(_) => return Err(Refusal::Read),
     };
     match run_bytes(
         rt,

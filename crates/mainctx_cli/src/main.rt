@@ -2,20 +2,17 @@
 #![tactic(auto)]
 
 use mainctx::{OverWrite, Refusal, refuse, serve};
+use program_input::{InputFault, read_words};
 use std::process::ExitCode;
-use std::{env, io};
 
 fn main(rt: HostRuntime) -> ExitCode {
     let mut errors = rt.stderr();
-    let args = match env::args(&rt) {
-        Ok(args) => args,
-        Err(fault) if fault.kind() == io::ErrorKind::OutOfMemory => {
+    let words = match read_words(&rt) {
+        Ok(words) => words,
+        Err(InputFault::OutOfMemory) => {
             return ExitCode::from(refuse(Refusal::Memory, &mut errors));
         }
         Err(_) => return ExitCode::from(refuse(Refusal::Usage, &mut errors)),
-    };
-    let Ok(words) = args.skip(1).collect::<Vec<String>>(rt.alloc()) else {
-        return ExitCode::from(refuse(Refusal::Memory, &mut errors));
     };
     let status = serve(
         &rt,

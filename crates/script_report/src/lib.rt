@@ -1,11 +1,10 @@
-//! The faults of a script in words, each with its place in the bytes, and the reading of the bytes.
+//! The faults of a script in words, each with its place in the bytes.
 #![tactic(auto)]
 
 mod check;
 mod cursor;
 mod excerpt;
 mod forms;
-mod input;
 mod layout;
 mod lead;
 mod named_entries;
@@ -23,6 +22,5 @@ mod words;
 
 pub use check::check_script;
 pub use forms::{Either, check_either, read_either};
-pub use input::{InputFault, read_input};
 pub use report::{Form, Language};
 pub use toml_script::{check_file, read_toml};

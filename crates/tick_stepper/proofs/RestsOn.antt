@@ -230,6 +230,11 @@ known_lanes tick letters done resting =
 empty_some : (i : ℕ) (o : Option Rested) → slice_get {X = Option Rested} [] i ≡ Some o → ⊥
 empty_some i o e = cc
 
+-- where nothing is known, each rests as it is found
+pub none_known : (script : Plan) (tick : ℕ) (lanes : List State) → AreKnown script tick lanes []
+none_known script tick [] = tt
+none_known script tick (lane ∷ lanes) = tt
+
 -- the one in a place
 pub known_there : (script : Plan) (tick : ℕ) (front : List State) (lane : State) (back : List State) (rested : List (Option Rested)) (o : Option Rested)
     → AreKnown script tick (front ++ lane ∷ back) rested → slice_get rested (length front) ≡ Some o → IsKnown script tick lane o

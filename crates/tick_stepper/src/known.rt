@@ -137,8 +137,8 @@ fn rest_on(script: &Script, tick: u32, lane: LaneState, rested: Option<Rested>) 
     rest(script, tick, lane)
 }
 
-/// Lanes after a tick, each with the tick of its next turn.
-pub(crate) fn settle_known(
+/// Lanes after a tick, each with the tick of its next turn; `rested` has how they rested, in their order, as far as that is known.
+pub(crate) fn settle(
     alloc: Global,
     script: &Script,
     tick: u32,

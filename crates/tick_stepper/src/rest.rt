@@ -5,7 +5,7 @@ ghost use Rattle.std.specs.List.Sorted.{IsNonDecreasingBy};
 ghost use Rattle.loop_script.specs.Bounds.{most_ticks};
 ghost use Rattle.tick_stepper.specs.declared.rest.Resting.{Resting};
 ghost use Rattle.tick_stepper.specs.Share.{IsReadyOne};
-ghost use Rattle.tick_stepper.specs.Rest.{is_due, woken, all_woken, HasPassed, Rests, IsSettled};
+ghost use Rattle.tick_stepper.specs.Rest.{is_due, woken, all_woken, HasPassed, Rests};
 
 use crate::fault::OutOfMemory;
 use lane_turn::{LaneFault, LaneState};
@@ -99,24 +99,6 @@ pub(crate) fn any_due(ones: &[Resting], tick: u32) -> bool
     ensures { result ≡ list_any (is_due tick) ones.now }
 {
     ones.iter().any(|one| one.is_due(tick))
-}
-
-/// Lanes after a tick, each with the tick of its next turn.
-pub(crate) fn settle(
-    alloc: Global,
-    script: &Script,
-    tick: u32,
-    lanes: Vec<LaneState>,
-) -> Result<Vec<Resting>, AllocError>
-    requires tick { tick < most_ticks }
-    requires ready { All (IsReadyOne script.now (tick + 1)) lanes.items }
-    ensures { IfOk result (λ ones. IsSettled script.now tick lanes.items ones.items) }
-{
-    let mut ones = Vec::with_capacity(alloc, lanes.len())?;
-    for lane in lanes {
-        ones.push(rest(script, tick, lane))?;
-    }
-    Ok(ones)
 }
 
 /// Lanes that rest, by their numbers.

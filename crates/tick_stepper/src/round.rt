@@ -14,9 +14,9 @@ use crate::deal::{deal, gather};
 use crate::fault::OutOfMemory;
 use crate::gate::{Gate, OpenGate};
 use crate::hand::bring;
-use crate::known::{apart, awake, by_lane, cancel_nothing, settle_known};
+use crate::known::{apart, awake, by_lane, cancel_nothing, settle};
 use crate::queue::turn_by_queue;
-use crate::rest::{Resting, by_number, part, settle, wake_all};
+use crate::rest::{Resting, by_number, part, wake_all};
 use crate::share::{Share, in_order, take_turns, turn_share};
 use crate::side_by_side::map_side_by_side;
 use lane_turn::{LaneFault, LaneState};
@@ -118,7 +118,7 @@ fn deliver_to_all(
     let lanes = wake_all(tick + 1, done, resting)?;
     let mut lanes = in_order(lanes)?;
     bring(script, tick, lanes.as_mut_slice(), letters)?;
-    Ok(settle(alloc, script, tick, lanes)?)
+    Ok(settle(alloc, script, tick, lanes, &[])?)
 }
 
 /// Lanes after their turns, where the letters that these posted tell no cancellation: a lane that rested and to which nothing is
@@ -142,7 +142,7 @@ fn deliver_quietly(
     let all = awake(alloc, tick + 1, done, resting, letters)?;
     let (mut lanes, rested) = apart(alloc, by_lane(all)?)?;
     bring(script, tick, lanes.as_mut_slice(), letters)?;
-    Ok(settle_known(alloc, script, tick, lanes, rested.as_slice())?)
+    Ok(settle(alloc, script, tick, lanes, rested.as_slice())?)
 }
 
 /// Lanes after their turns, where these posted no letter, among those that rested.
@@ -161,7 +161,7 @@ fn put_back(
     ensures { IfOk result (λ ones. AreAt script.now (tick + 1) ones.items) }
 {
     let mut resting = resting;
-    let mut ones = settle(alloc, script, tick, done)?;
+    let mut ones = settle(alloc, script, tick, done, &[])?;
     ones.append(&mut resting)?;
     Ok(by_number(ones)?)
 }

@@ -1,6 +1,5 @@
 use Rattle.std.proofs.Common.{rules, ◌∙◌, ℕ, ap, sym, subst, ◌≡◌, List, Some, true}
 use Rattle.std.specs.List.{find, list_any}
-use Rattle.std.specs.Option.{is_some}
 use Rattle.loop_script.specs.Parts.{level_of, time_of}
 use Rattle.context_core.specs.Ready.{Own, is_blocked, is_callable, in_view}
 use Rattle.context_core.specs.Standing.{is_in_call}
@@ -8,7 +7,7 @@ use Rattle.std.specs.Prelude.{bit_or}
 use Rattle.source_rows.specs.declared.sight.Sight.{Sight}
 use Rattle.source_rows.specs.Candidates.{always, candidates, descriptor}
 use Rattle.context_core.proofs.Candidates.{sees_view}
-use Rattle.context_core.proofs.Unblocked.{Leaves, some_any, some_in}
+use Rattle.context_core.proofs.Unblocked.{Leaves, has_blocker, some_in}
 use Rattle.source_rows.specs.Rows.{RowSet}
 use Rattle.source_rows.specs.Tree.{IsForest}
 use Rattle.lane_turn.specs.Frames.{busy}
@@ -33,10 +32,9 @@ loop-row-preserved-then-id-row c = λ k le after.
     let blocks : List ℕ = busy c.args.number c.args.frames.now in
     let row = c.in-Some.row.now in
     let there : Some c.in-Some-blocker.id ≡ find (is_in_call blocks) row.lineage = c.in-Some-blocker.ensures in
-    let blocked : is_blocked blocks row ≡ true = sym (some_any (is_in_call blocks) row.lineage) ∙ ap is_some (sym there) in
     let left : Leaves blocks c.in-Some-blocker.id c.leave.result c.next.new.self c.leave.new.self = ((some_in blocks row.lineage (Some c.in-Some-blocker.id) there).0, c.leave.ensures.left, c.leave.ensures.same) in
     any_left own blocks c.in-Some-blocker.id c.leave.result c.next.new.self c.leave.new.self left
-    ∙ (any_free own blocks row c.next.new.self (λ free. let no = sym blocked ∙ free in cc)
+    ∙ (any_free own blocks row c.next.new.self (λ free. let no = sym (has_blocker blocks row c.in-Some-blocker.id there) ∙ free in cc)
     ∙ (ap (list_any (is_callable own blocks)) (sym c.in-Some.ensures.steps) ∙ c.loop-row.invariant k le after))
 
 -- a row that blocks itself changes nothing
@@ -46,8 +44,7 @@ loop-row-preserved-else-id-row c = λ k le after.
     let blocks : List ℕ = busy c.args.number c.args.frames.now in
     let row = c.in-Some.row.now in
     let there : Some c.in-Some-blocker.id ≡ find (is_in_call blocks) row.lineage = c.in-Some-blocker.ensures in
-    let blocked : is_blocked blocks row ≡ true = sym (some_any (is_in_call blocks) row.lineage) ∙ ap is_some (sym there) in
-    any_free own blocks row c.next.new.self (λ free. let no = sym blocked ∙ free in cc)
+    any_free own blocks row c.next.new.self (λ free. let no = sym (has_blocker blocks row c.in-Some-blocker.id there) ∙ free in cc)
     ∙ (ap (list_any (is_callable own blocks)) (sym c.in-Some.ensures.steps) ∙ c.loop-row.invariant k le after)
 
 pub loop-row-smaller-then-id-row : goal.loop-row-smaller-then-id-row

@@ -30,16 +30,16 @@ turns c =
 pub bring-requires-clause-lanes : goal.bring-requires-clause-lanes
 bring-requires-clause-lanes c = c.as_mut_slice.ensures.value ∙ (c.in_ok-lanes.ensures.lanes ∙ turns c)
 
-pub settle_known-requires-clause-ready : goal.settle_known-requires-clause-ready
-settle_known-requires-clause-ready c =
+pub settle-requires-clause-ready : goal.settle-requires-clause-ready
+settle-requires-clause-ready c =
     let script = c.args.script.now in
     let tick = c.args.tick in
     let P : State → Type 0 = IsReadyOne script (tick + 1) in
     let all = take_at c.bring.new.lanes _ c.in_ok-lanes.lanes.len (omega (arith, c.bring.auto.lanes, c.as_mut_slice.ensures.len)) ∙ c.in_ok-bring.ensures in
     of_rec P _ (subst (AllByRecursion P) (sym all) (ready_next script tick c.requires.few c.requires.tick))
 
-pub settle_known-requires-clause-known : goal.settle_known-requires-clause-known
-settle_known-requires-clause-known c =
+pub settle-requires-clause-known : goal.settle-requires-clause-known
+settle-requires-clause-known c =
     let script = c.args.script.now in
     let tick = c.args.tick in
     let P : Known → Type 0 = Was script tick c.args.letters.now in
@@ -55,4 +55,4 @@ returns c =
     let script = c.args.script.now in
     let tick = c.args.tick in
     let all = take_at c.bring.new.lanes _ c.in_ok-lanes.lanes.len (omega (arith, c.bring.auto.lanes, c.as_mut_slice.ensures.len)) ∙ c.in_ok-bring.ensures in
-    settled_at script tick c.in_ok-settle_known.field-0.items c.requires.few c.requires.tick (subst (λ (l : List State). IsSettled script tick l c.in_ok-settle_known.field-0.items) all c.in_ok-settle_known.ensures)
+    settled_at script tick c.in_ok-settle.field-0.items c.requires.few c.requires.tick (subst (λ (l : List State). IsSettled script tick l c.in_ok-settle.field-0.items) all c.in_ok-settle.ensures)

@@ -8,6 +8,7 @@ use Rattle.tick_stepper.specs.Share.{unspent_all, IsReadyOne}
 use Rattle.tick_stepper.specs.Rest.{IsSettled}
 use Rattle.tick_stepper.proofs.Handed.{of_rec}
 use Rattle.tick_stepper.proofs.Rounds.{ready_next}
+use Rattle.tick_stepper.proofs.RestsOn.{none_known}
 use Rattle.tick_stepper.proofs.Resting.{sorted_turns, settled_at}
 use Rattle.tick_stepper.proofs.round.deliver_to_all.Goals as goal
 
@@ -25,6 +26,9 @@ settle-requires-clause-ready c =
     let P : State → Type 0 = IsReadyOne script (tick + 1) in
     let all = take_at c.bring.new.lanes _ c.in_ok-lanes-2.lanes.len (omega (arith, c.bring.auto.lanes, c.as_mut_slice.ensures.len)) ∙ c.in_ok-bring.ensures in
     of_rec P _ (subst (AllByRecursion P) (sym all) (ready_next script tick c.requires.few c.requires.tick))
+
+pub settle-requires-clause-known : goal.settle-requires-clause-known
+settle-requires-clause-known c = none_known c.args.script.now c.args.tick _
 
 pub returns : goal.returns
 returns c =

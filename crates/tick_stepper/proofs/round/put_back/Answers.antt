@@ -4,6 +4,7 @@ use Rattle.tick_stepper.specs.Share.{IsReadyOne}
 use Rattle.tick_stepper.specs.Rest.{all_woken}
 use Rattle.tick_stepper.specs.declared.rest.Resting.{Resting}
 use Rattle.tick_stepper.proofs.Handed.{of_rec}
+use Rattle.tick_stepper.proofs.RestsOn.{none_known}
 use Rattle.tick_stepper.proofs.Resting.{done_ready, put_back_at}
 use Rattle.tick_stepper.proofs.round.put_back.Goals as goal
 
@@ -11,6 +12,9 @@ pub settle-requires-clause-ready : goal.settle-requires-clause-ready
 settle-requires-clause-ready c =
     let script = c.args.script.now in
     of_rec (IsReadyOne script (c.args.tick + 1)) c.args.done.items (done_ready script c.args.tick c.args.done.items (all_woken (c.args.tick + 1) c.args.resting.items) c.requires.few c.requires.tick c.requires.lanes)
+
+pub settle-requires-clause-known : goal.settle-requires-clause-known
+settle-requires-clause-known c = none_known c.args.script.now c.args.tick _
 
 pub returns : goal.returns
 returns c =

@@ -4,8 +4,8 @@ use Rattle.std.proofs.lemmas.Bool.{ltb-true}
 use Rattle.std.proofs.lemmas.Option.{slice_get_read}
 use Rattle.tick_stepper.specs.Known.{AreKnown}
 use Rattle.tick_stepper.proofs.RestsOn.{known_there}
-use Rattle.tick_stepper.proofs.known.settle_known.Goals as goal
-use Rattle.tick_stepper.proofs.known.settle_known.Goals.{in-Some-get, in-None-get}
+use Rattle.tick_stepper.proofs.known.settle.Goals as goal
+use Rattle.tick_stepper.proofs.known.settle.Goals.{in-Some-get, in-None-get}
 
 pub rest_on-requires-clause-known : goal.rest_on-requires-clause-known
 rest_on-requires-clause-known c =

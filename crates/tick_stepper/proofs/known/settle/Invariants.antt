@@ -1,6 +1,6 @@
 use Rattle.std.proofs.Common.{◌≡◌, ◌++◌, length}
 use Rattle.tick_stepper.specs.Rest.{IsSettled}
-use Rattle.tick_stepper.proofs.known.settle_known.Given as goal
+use Rattle.tick_stepper.proofs.known.settle.Given as goal
 
 abbrev pub invariant-loop-lane : goal.invariant-loop-lane
 invariant-loop-lane l =

@@ -1,6 +1,6 @@
 use Rattle.std.proofs.Common.{◌≡◌, ◌<◌, ◌++◌, [], take, length, arith, ap}
-use Rattle.mainctx.proofs.Inputs.{consumes_nothing, consumes_more, consumes_all}
-use Rattle.mainctx.proofs.input.read_input.Goals as goal
+use Rattle.program_input.proofs.Inputs.{consumes_nothing, consumes_more, consumes_all}
+use Rattle.program_input.proofs.bytes.read_input.Goals as goal
 
 pub input-init : goal.input-init
 input-init g c = consumes_nothing (g.R.Read.remaining c.args.input.now) c.new-bytes.result.items c.new-bytes.ensures.items

@@ -1,6 +1,6 @@
 use Rattle.std.proofs.Common.{◌-◌}
 use Rattle.std.specs.Io.KnownBytes.{Consumes}
-use Rattle.mainctx.proofs.input.read_input.Given as goal
+use Rattle.program_input.proofs.bytes.read_input.Given as goal
 
 abbrev pub invariant-input : goal.invariant-input
 invariant-input g l = Consumes (g.R.Read.remaining l.fn.input) (g.R.Read.remaining l.input) l.bytes.items

@@ -1,7 +1,7 @@
 -- What a reader whose bytes are known has given so far.
 use Rattle.std.proofs.Common.{◌≡◌, ℕ, List, [], ◌++◌, Option, Some, None, sym, ap, ◌∙◌, append_assoc, append-nil}
 use Rattle.std.specs.Io.KnownBytes.{Consumes, IsAtEnd}
-use Rattle.mainctx.specs.Serving.{IsRestOf}
+use Rattle.program_input.specs.Input.{IsRestOf}
 
 pub consumes_nothing : (left : Option (List ℕ)) (bytes : List ℕ) → bytes ≡ [] → Consumes left left bytes
 consumes_nothing None bytes none = tt
