@@ -1,7 +1,8 @@
 //! What GLib does otherwise where a context is acquired, released, given or invoked in.
 use crate::difference::Difference;
 use crate::notes::{Kept, Note, Scene, add_note};
-use crate::shared::{default_of, is_free, is_owned};
+use crate::shared::{is_free, is_owned};
+use crate::stack::default_of;
 use crate::stack::reply_of;
 use lane_turn::{Activity, Event, Invoked, LaneState, Origin, Word};
 use std::alloc::AllocError;

@@ -109,11 +109,3 @@ pub(crate) fn is_owned(lane: &LaneState, context: u32) -> bool {
         None => false,
     }
 }
-
-/// The thread-default context.
-pub(crate) fn default_of(lane: &LaneState) -> u32 {
-    match lane.defaults().last() {
-        Some(pushed) => pushed.context,
-        None => 0,
-    }
-}

@@ -2,9 +2,17 @@
 use crate::difference::Difference;
 use crate::kept::{ReplyKept, ThreadKept, hold};
 use crate::notes::{Kept, Note, Scene, add_note};
-use crate::shared::{default_of, is_free};
-use lane_turn::Word;
+use crate::shared::is_free;
+use lane_turn::{LaneState, Word};
 use std::alloc::AllocError;
+
+/// The thread-default context of a thread.
+pub(crate) fn default_of(lane: &LaneState) -> u32 {
+    match lane.defaults().last() {
+        Some(pushed) => pushed.context,
+        None => 0,
+    }
+}
 
 /// The innermost call of a reply of the thread.
 pub(crate) fn reply_of(kept: &Kept, scene: &Scene<'_>) -> Option<ReplyKept> {

@@ -1,4 +1,4 @@
-//! How an iteration began, in words: who asked for it, of which context.
+//! How an iteration began, in words: who asked for it, of which context, and what made the call that asked.
 use crate::action_words::push_list;
 use crate::window::SourceName;
 use account::{Account, Deed, Moment};
@@ -144,7 +144,7 @@ impl AskedBy {
 }
 
 impl Caller {
-    /// Adds what made the call, where that is not the thread itself.
+    /// Adds to the words what made the call that asked, where that is not the thread itself.
     fn push(self, out: &mut String, names: &RunNames) -> Result<(), AllocError> {
         match self {
             Caller::Start => Ok(()),
