@@ -2,8 +2,7 @@
 use crate::difference::Difference;
 use crate::notes::{Kept, Note, Scene, add_note};
 use crate::shared::{is_free, is_owned};
-use crate::stack::default_of;
-use crate::stack::reply_of;
+use crate::stack::{default_of, reply_of};
 use lane_turn::{Activity, Event, Invoked, LaneState, Origin, Word};
 use std::alloc::AllocError;
 
