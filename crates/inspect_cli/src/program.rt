@@ -164,9 +164,7 @@ fn write_text(rt: &HostRuntime, order: &Order<'_>, given: &Given<'_>) -> Result<
             Some(lines) => Err(Failure::Ended { lines }),
             None => Err(Failure::Write),
         },
-        Err(MainFault::Setup(_)) | Err(MainFault::OutOfMemory) => Err(
-            InputFault::OutOfMemory.into(),
-        ),
+        Err(MainFault::Setup(_) | MainFault::OutOfMemory) => Err(InputFault::OutOfMemory.into()),
     }
 }
 
