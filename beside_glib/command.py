@@ -2,7 +2,8 @@
 
 Runs each script here and on the real GLib of this machine, in virtual time. Where the two texts part it shows them side by side, the
 first difference marked by '>' and the others by '*', and names the rows of docs/GLIB.md that explain it: the least set of known
-differences with which a model of this project's rules writes GLib's text.
+differences with which a model of this project's rules writes GLib's text. Of a script with names both run the script of numbers that
+it stands for, and the texts have these numbers.
 
   --why               also where in GLib's source each row has its cause, its script of beside_glib/differences, and what the library
                       said on standard error
@@ -22,12 +23,16 @@ from dataclasses import dataclass, field
 from pathlib import Path
 from threading import Timer
 
+sys.path.append(str(Path(__file__).resolve().parents[1] / "vectors" / "names"))
+
 from explain import explain
 from programs import GLIB_RUN, MAINCTX, CannotCompare, Ran, library_of, run_here, run_on_glib
 from rows import ROWS, Library
 from show import first_difference, side_by_side
+from translate import Refused, read, translated
 
 EQUAL, EXPLAINED, UNEXPLAINED, NOT_COMPARED = range(4)
+NAMED = {"form", "threads"}  # the keys by which a script is one with names
 
 
 class WrongUsage(Exception):
@@ -64,10 +69,25 @@ def read_words(words: list[str]) -> Wanted:
 
 
 def read_script(name: str) -> bytes:
+    """The script of numbers that is to be run."""
     try:
-        return sys.stdin.buffer.read() if name == "-" else Path(name).read_bytes()
+        return in_numbers(sys.stdin.buffer.read() if name == "-" else Path(name).read_bytes())
     except OSError as error:
         raise CannotCompare(f"it can't be read: {error.strerror}") from error
+
+
+def in_numbers(script: bytes) -> bytes:
+    """What a script with names stands for; anything else as it is, which mainctx refuses where it is no script."""
+    try:
+        value = read(script.decode())
+    except ValueError:
+        return script
+    if not isinstance(value, dict) or not NAMED & value.keys():
+        return script
+    try:
+        return json.dumps(translated(value)).encode()
+    except Refused as why:
+        raise CannotCompare(f"{why} (docs/NAMES.md; ./mainctx_check says more)") from why
 
 
 def tell_row(row: str, why: bool) -> list[str]:
