@@ -63,6 +63,7 @@ pub mod Giving
 pub mod Between
 pub mod Homes
 pub mod Holds
+pub mod Holders
 pub mod Sums
 pub mod GoingOver
 pub mod Staying

@@ -1,10 +1,11 @@
 -- The run of a script that gives no context is that in which none goes over.
-use Rattle.std.proofs.Common.{◌≡◌, ℕ, zero, suc, true, false, Option, Some, None, List, [], ◌∷◌, map, refl, ap, sym, ◌∙◌}
+use Rattle.std.proofs.Common.{◌≡◌, ℕ, zero, suc, true, false, cond, Option, Some, None, List, [], ◌∷◌, map, refl, ap, sym, ◌∙◌}
 use Rattle.std.specs.List.{list_any, cons_option}
 use Rattle.std.proofs.lemmas.Bool.{eq-eqb}
 use Rattle.std.proofs.lemmas.List.Folds.{list_any-append}
 use Rattle.loop_script.specs.declared.plan.Plan.{Plan}
 use Rattle.loop_script.specs.Gives.{GivesNone}
+use Rattle.loop_script.specs.Parts.{home_of}
 use Rattle.post_office.specs.declared.letter.Letter.{Letter}
 use Rattle.post_office.specs.declared.letter.Body.{Body as Mail}
 use Rattle.post_office.specs.declared.letter.Body.TheVariants as mails
@@ -14,7 +15,7 @@ use Rattle.lane_turn.specs.Turn.{begun, turned, out_of}
 use Rattle.lane_turn.specs.Handover.{Handing, all_handed, handing_by, moved, handings, handed_over}
 use Rattle.lane_turn.specs.Deliver.{received_all}
 use Rattle.lane_turn.specs.Tick.{posted_at, lanes_at}
-use Rattle.lane_turn.specs.Holding.{gives_context, RunsStay}
+use Rattle.lane_turn.specs.Holding.{gives_context, given_by, given_to, holder_at, RunsStay}
 use Rattle.lane_turn.proofs.Owning.{gives_maybe}
 use Rattle.lane_turn.proofs.Sends.{Sends, step_tells}
 use Rattle.lane_turn.proofs.Turns.{kept_finished}
@@ -64,6 +65,25 @@ none_goes : (tick : ℕ) (letters : List Letter) (lanes : List Lane) → GiveNon
 none_goes tick letters lanes n = ap (λ (hs : List Handing). map (all_handed tick hs) lanes) (no_handings tick letters lanes n) ∙ none_left tick lanes
 
 -- ---- a run
+
+-- letters that do not give a context leave it with its lane
+kept_by : (context : ℕ) (body : Mail) (holder : ℕ) → gives_context context body ≡ false → given_by context body holder ≡ holder
+kept_by context (mails.Give c to) holder n = ap (λ b. cond b to holder) n
+kept_by context (mails.Attach c spec) holder n = refl
+kept_by context (mails.Complete reply) holder n = refl
+kept_by context (mails.Cancelled c) holder n = refl
+
+kept_by_all : (context : ℕ) (letters : List Letter) (holder : ℕ) → list_any (gives_one context) letters ≡ false → given_to context letters holder ≡ holder
+kept_by_all context [] holder n = refl
+kept_by_all context (l ∷ letters) holder n =
+    ap (given_to context letters) (kept_by context l.body holder (or_left (gives_one context l) (list_any (gives_one context) letters) n))
+    ∙ kept_by_all context letters holder (or_right (gives_one context l) (list_any (gives_one context) letters) n)
+
+pub holder_stays : (script : Plan) (tick context : ℕ) → GivesNone script → holder_at script context tick ≡ home_of script context
+holder_stays script zero context g = refl
+holder_stays script (suc tick) context g =
+    let lanes : List Lane = lanes_at script tick in
+    kept_by_all context (posted_at script tick lanes) (holder_at script context tick) (turns_give_none script tick lanes g context) ∙ holder_stays script tick context g
 
 pub runs_stay : RunsStay
 runs_stay script zero g = refl

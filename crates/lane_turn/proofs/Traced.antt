@@ -1,5 +1,5 @@
--- How traces grow over turns, deliveries and runs.
-use Rattle.std.proofs.Common.{◌≡◌, ℕ, suc, ◌<◌, ◌≤◌, ◌++◌, Some, List, [], ◌∷◌, refl, sym, arith, subst}
+-- How traces grow over turns, contexts that go over, deliveries and runs.
+use Rattle.std.proofs.Common.{◌≡◌, ℕ, suc, ◌<◌, ◌≤◌, ◌==◌, ◌++◌, Bool, true, false, cond, Some, List, [], ◌∷◌, refl, ap, sym, ◌∙◌, arith, subst}
 use Rattle.std.specs.List.{AllByRecursion}
 use Rattle.loop_script.specs.declared.plan.Plan.{Plan}
 use Rattle.loop_script.specs.Parts.{time_of}
@@ -13,14 +13,14 @@ use Rattle.lane_turn.specs.declared.line.Event.TheVariants as events
 use Rattle.lane_turn.specs.Lane.{Lane, Turn, context_at, next_id, edited, written, is_own}
 use Rattle.lane_turn.specs.Step.{step}
 use Rattle.lane_turn.specs.Turn.{begun, turned}
-use Rattle.lane_turn.specs.Handover.{taken_over}
+use Rattle.lane_turn.specs.Handover.{Handing, without_context, taken_over, let_go, handed, all_handed}
 use Rattle.lane_turn.specs.Deliver.{reply_spec, holding, received_body, received, received_all}
 use Rattle.lane_turn.specs.Tick.{lanes_at, lane_within}
 use Rattle.lane_turn.specs.Traces.{Grows, IsOf, NoTickFalls, IsBefore}
 use Rattle.lane_turn.specs.Depths.{TellsDepth, IsShallow, HaltsOver}
-use Rattle.lane_turn.specs.Rest.{IsBrought}
+use Rattle.lane_turn.specs.Rest.{IsBrought, IsHold}
 use Rattle.lane_turn.proofs.Counts.{edits_attached}
-use Rattle.lane_turn.proofs.Adds.{grows_none, grows_trans, grows_as, each_joined, each_as, same, BroughtAt, Brings, b_line, b_edit, b_trans, b_either, b_none, b_cancel}
+use Rattle.lane_turn.proofs.Adds.{grows_none, grows_line, grows_trans, grows_as, each_joined, each_as, same, BroughtAt, Brings, b_line, b_edit, b_trans, b_either, b_none, b_cancel}
 use Rattle.lane_turn.proofs.Added.{Told, does}
 use Rattle.lane_turn.proofs.Turns.{kept_finish, kept_finished}
 use Rattle.lane_turn.proofs.EachLane.{each_lane}
@@ -33,6 +33,43 @@ of_tick script tick t u e = grows_as (Told tick t.lane u.lane) (IsOf tick) (λ l
 pub turn_grows : (script : Plan) (tick : ℕ) (lane : Lane) → Grows (IsOf tick) lane.trace (turned script tick lane).trace
 turn_grows script tick lane =
     kept_finished script tick (λ t. Grows (IsOf tick) lane.trace t.lane.trace) (λ t u e h. grows_trans (IsOf tick) lane.trace t.lane.trace u.lane.trace h (of_tick script tick t u e)) (begun tick lane) (grows_none (IsOf tick) lane.trace)
+
+-- ---- what goes over
+
+-- a line of the tick that tells that a context was taken over
+abbrev pub HoldAt : ℕ → Line → Type 0
+HoldAt tick line = IsOf tick line × IsHold line.event
+
+-- contexts went from a lane or came to it, and nothing else of it is changed
+pub record Goes (tick : ℕ) (before now : Lane) : Type 0 where
+  pub lines : Grows (HoldAt tick) before.trace now.trace
+  pub rest : now ≡ record before { contexts = now.contexts; given = now.given; replies = now.replies; trace = now.trace }
+
+goes_none : (tick : ℕ) (lane : Lane) → Goes tick lane lane
+goes_none tick lane = record { lines = grows_none (HoldAt tick) lane.trace; rest = refl }
+
+goes_trans : (tick : ℕ) (a b c : Lane) → Goes tick a b → Goes tick b c → Goes tick a c
+goes_trans tick a b c h g = record {
+  lines = grows_trans (HoldAt tick) a.trace b.trace c.trace h.lines g.lines;
+  rest = g.rest ∙ ap (λ (l : Lane). record l { contexts = c.contexts; given = c.given; replies = c.replies; trace = c.trace }) h.rest;
+}
+
+lets_go : (tick context : ℕ) (lane : Lane) (b : Bool) → Goes tick lane (cond b (without_context context lane) lane)
+lets_go tick context lane true = record { lines = grows_none (HoldAt tick) lane.trace; rest = refl }
+lets_go tick context lane false = goes_none tick lane
+
+takes_over : (tick : ℕ) (h : Handing) (lane : Lane) (b : Bool) → Goes tick lane (cond b (taken_over tick h.kept lane) lane)
+takes_over tick h lane true = record { lines = grows_line (HoldAt tick) lane.trace (record { tick = tick; event = events.Hold h.kept.number }) (refl, tt); rest = refl }
+takes_over tick h lane false = goes_none tick lane
+
+pub goes_all : (tick : ℕ) (hs : List Handing) (lane : Lane) → Goes tick lane (all_handed tick hs lane)
+goes_all tick [] lane = goes_none tick lane
+goes_all tick (h ∷ hs) lane =
+    let here : Goes tick lane (handed tick h lane) = goes_trans tick lane (let_go h lane) (handed tick h lane) (lets_go tick h.kept.number lane (lane.number == h.sender)) (takes_over tick h (let_go h lane) ((let_go h lane).number == h.to)) in
+    goes_trans tick lane (handed tick h lane) (all_handed tick hs (handed tick h lane)) here (goes_all tick hs (handed tick h lane))
+
+pub handover_grows : (tick : ℕ) (hs : List Handing) (lane : Lane) → Grows (IsOf tick) lane.trace (all_handed tick hs lane).trace
+handover_grows tick hs lane = grows_as (HoldAt tick) (IsOf tick) (λ l p. p.0) lane.trace (all_handed tick hs lane).trace (goes_all tick hs lane).lines
 
 -- ---- deliveries
 

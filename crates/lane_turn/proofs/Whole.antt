@@ -12,6 +12,11 @@ set_here [] i v h = absurd (omega (arith, h))
 set_here (x ∷ xs) zero v h = refl
 set_here (x ∷ xs) (suc i) v h = set_here xs i v (omega (arith, h))
 
+index_here : {X : Type 0} (xs : List X) (i : ℕ) (v d : X) → i < length xs → slice_index_or (slice_set xs i v) i d ≡ v
+index_here [] i v d h = absurd (omega (arith, h))
+index_here (x ∷ xs) zero v d h = refl
+index_here (x ∷ xs) (suc i) v d h = index_here xs i v d (omega (arith, h))
+
 pub set_other : {X : Type 0} (xs : List X) (i j : ℕ) (v : X) → j ≢ i → slice_get (slice_set xs i v) j ≡ slice_get xs j
 set_other [] i j v h = refl
 set_other (x ∷ xs) zero zero v h = absurd (h refl)
@@ -48,6 +53,7 @@ pub contexts_move : ContextsMove
 contexts_move = record {
   whole = whole;
   taken = λ tick kept lane h. ap present (set_here lane.contexts kept.number (Some kept.context) h);
+  replies = λ tick kept lane h. index_here lane.replies kept.number kept.replies [] h;
   others = λ tick kept lane context h. stands_other lane kept.number context (Some kept.context) kept.replies (taken_over tick kept lane) h refl refl;
   left = λ lane given context h. stands_other lane given context None [] (without_context given lane) h refl refl;
 }

@@ -9,6 +9,9 @@ use Rattle.context_core.specs.declared.context.Context.{Context}
 use Rattle.post_office.specs.declared.letter.Letter.{Letter}
 use Rattle.post_office.specs.declared.letter.Body.{Body as Mail}
 use Rattle.post_office.specs.declared.letter.Body.TheVariants as mails
+use Rattle.lane_turn.specs.declared.line.Line.{Line}
+use Rattle.lane_turn.specs.declared.line.Event.{Event}
+use Rattle.lane_turn.specs.declared.line.Event.TheVariants as events
 use Rattle.lane_turn.specs.Replies.{replies_at}
 use Rattle.lane_turn.specs.Lane.{Lane, Turn, Kept, context_at, is_given, is_own}
 use Rattle.lane_turn.specs.Turn.{turned}
@@ -45,6 +48,15 @@ abbrev pub holder_at : Plan → ContextNumber → Tick → LaneNumber
 holder_at script context zero = home_of script context
 holder_at script context (suc k) = given_to context (posted_at script k (lanes_at script k)) (holder_at script context k)
 
+-- what a lane writes at a tick: where a source is dispatched, that the lane had its context when the tick began
+abbrev pub TellsHolder : Plan → LaneNumber → Tick → Event → Type 0
+TellsHolder script lane tick (events.Dispatch context id priority depth) = holder_at script context tick ≡ lane
+TellsHolder script lane tick _ = Unit {0}
+
+-- the same of a line
+abbrev pub IsOfHolder : Plan → LaneNumber → Line → Type 0
+IsOfHolder script lane line = TellsHolder script lane line.tick line.event
+
 -- each context is one lane's
 pub record ContextsAreHeld : Type 0 where
   -- at the beginning of each tick a context is the lane's to which it was given last, and no other's
@@ -52,6 +64,10 @@ pub record ContextsAreHeld : Type 0 where
       → map (is_own context) (lanes_at script tick) ≡ map (λ n. n == holder_at script context tick) (range_with_len 0 (length script.lanes))
   -- that is a lane of the script
   pub lane : (script : Plan) (tick : Tick) (context : ContextNumber) → context < (sizes script).contexts → holder_at script context tick < length script.lanes
+  -- where no list gives a context that is the lane to which the script gives it, at each tick
+  pub home : (script : Plan) (tick : Tick) (context : ContextNumber) → GivesNone script → holder_at script context tick ≡ home_of script context
+  -- no other lane ever dispatches its sources
+  pub dispatched : (script : Plan) (tick : Tick) → AllByRecursion (λ lane. AllByRecursion (IsOfHolder script lane.number) lane.trace) (lanes_at script tick)
   -- none is on its way then
   pub none : (script : Plan) (tick : Tick) → AllByRecursion (λ lane. (context : ContextNumber) → is_given context lane ≡ false) (lanes_at script tick)
 
@@ -66,8 +82,9 @@ pub record Stands (context : ContextNumber) (before now : Lane) : Type 0 where
 pub record ContextsMove : Type 0 where
   -- what is handed over is the context as it stands, with its replies
   pub whole : (context : ContextNumber) (lane : Lane) (kept : Kept) → handed_of context lane ≡ Some kept → (context_at context lane ≡ Some kept.context) × (replies_at context lane.replies ≡ kept.replies)
-  -- the lane that takes it over has the context so, and its others as before
+  -- the lane that takes it over has the context so, with these replies, and its others as before
   pub taken : (tick : Tick) (kept : Kept) (lane : Lane) → kept.number < length lane.contexts → context_at kept.number (taken_over tick kept lane) ≡ Some kept.context
+  pub replies : (tick : Tick) (kept : Kept) (lane : Lane) → kept.number < length lane.replies → replies_at kept.number (taken_over tick kept lane).replies ≡ kept.replies
   pub others : (tick : Tick) (kept : Kept) (lane : Lane) (context : ContextNumber) → context ≢ kept.number → Stands context lane (taken_over tick kept lane)
   -- the lane that hands it over has its others as before
   pub left : (lane : Lane) (given context : ContextNumber) → context ≢ given → Stands context lane (without_context given lane)

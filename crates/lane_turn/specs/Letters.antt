@@ -4,6 +4,7 @@ use Rattle.loop_script.specs.declared.plan.Plan.{Plan}
 use Rattle.post_office.specs.declared.letter.Letter.{Letter}
 use Rattle.lane_turn.specs.Lane.{Lane}
 use Rattle.lane_turn.specs.Turn.{turned, out_of}
+use Rattle.lane_turn.specs.Handover.{Handing, all_handed}
 use Rattle.lane_turn.specs.Deliver.{received_all}
 use Rattle.loop_script.specs.Units.{Tick, LaneNumber}
 
@@ -19,4 +20,5 @@ pub record LettersTell : Type 0 where
   pub numbered : (script : Plan) (tick : Tick) (lane : Lane) → AreNumbered tick lane.number 0 (out_of script tick lane)
   -- no lane changes its number
   pub turned : (script : Plan) (tick : Tick) (lane : Lane) → (turned script tick lane).number ≡ lane.number
+  pub handed : (tick : Tick) (hs : List Handing) (lane : Lane) → (all_handed tick hs lane).number ≡ lane.number
   pub received : (script : Plan) (tick : Tick) (letters : List Letter) (lane : Lane) → (received_all script tick letters lane).number ≡ lane.number

@@ -7,6 +7,7 @@ use Rattle.lane_turn.specs.declared.line.Line.{Line}
 use Rattle.lane_turn.specs.Lane.{Lane, Turn}
 use Rattle.lane_turn.specs.Step.{step}
 use Rattle.lane_turn.specs.Turn.{turned}
+use Rattle.lane_turn.specs.Handover.{Handing, all_handed}
 use Rattle.lane_turn.specs.Deliver.{received_all}
 use Rattle.lane_turn.specs.Tick.{lanes_at}
 use Rattle.loop_script.specs.Units.{Tick}
@@ -33,9 +34,10 @@ pub record IsBefore (tick : Tick) (lines : List Line) : Type 0 where
 
 -- a trace only grows, by lines of the tick
 pub record TracesGrow : Type 0 where
-  -- a step, a turn and a delivery leave the lines that there are, and add lines of their own tick alone
+  -- a step, a turn, what goes over at the end of a tick, and a delivery leave the lines that there are, and add lines of their own tick alone
   pub steps : (script : Plan) (tick : Tick) (t u : Turn) → step script tick t ≡ Some u → Grows (IsOf tick) t.lane.trace u.lane.trace
   pub turns : (script : Plan) (tick : Tick) (lane : Lane) → Grows (IsOf tick) lane.trace (turned script tick lane).trace
+  pub handovers : (tick : Tick) (hs : List Handing) (lane : Lane) → Grows (IsOf tick) lane.trace (all_handed tick hs lane).trace
   pub deliveries : (script : Plan) (tick : Tick) (letters : List Letter) (lane : Lane) → Grows (IsOf tick) lane.trace (received_all script tick letters lane).trace
   -- so what the lanes of a run have written when a tick begins is of the ticks before it, in their order
   pub run : (script : Plan) (tick : Tick) → AllByRecursion (λ lane. IsBefore tick lane.trace) (lanes_at script tick)

@@ -40,8 +40,8 @@ pub fn levels_go_by_version()
     ensures { LevelsHold }
 {}
 
-/// The letters of a turn carry its tick, its lane's number, and their own from 0 on; neither turns nor deliveries change
-/// the number of a lane.
+/// The letters of a turn carry its tick, its lane's number, and their own from 0 on; neither turns, nor contexts that go over, nor
+/// deliveries change the number of a lane.
 pub fn letters_tell()
     ensures { LettersTell }
 {}
@@ -73,14 +73,16 @@ pub fn replies_are_taken_once()
     ensures { RepliesAreTakenOnce }
 {}
 
-/// A trace only grows, by lines of the tick: a step, a turn and a delivery leave the lines that there are, and add lines of
-/// their own tick behind them. So the lines of each lane of a run stand by their ticks.
+/// A trace only grows, by lines of the tick: a step, a turn, contexts that go over, and a delivery leave the lines that there are, and
+/// add lines of their own tick behind them. So the lines of each lane of a run stand by their ticks.
 pub fn traces_grow()
     ensures { TracesGrow }
 {}
 
 /// A lane that has ended or is halted takes no step: its turns poll its tasks, and write no other line than that one is late.
-/// Deliveries write what comes with letters, take no step of a lane, and let none go on.
+/// Where contexts go over at the end of a tick, the lines that a lane takes one over are written and nothing else of a lane is changed
+/// than what it has. Deliveries write what comes with letters, take no step of a lane, and let none go on. So
+/// in a run such a lane stays as it is in each tick that comes, but for its tasks, its contexts, and what it sees cancelled.
 pub fn ended_lanes_rest()
     ensures { EndedLanesRest }
 {}
@@ -122,7 +124,7 @@ pub fn standings_stay()
 {}
 
 /// At the beginning of each tick each context is the lane's to which it was given last, at first the one to which the script gives
-/// it, and no other's; none is on its way then.
+/// it, and no other's; none is on its way then. A script in whose lists no context is given leaves each where it was.
 pub fn contexts_are_held()
     ensures { ContextsAreHeld }
 {}

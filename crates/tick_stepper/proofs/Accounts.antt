@@ -87,14 +87,14 @@ at_held : (tick : ℕ) (over waiting : List Lane) (t u : Turn) → Grows (IsOf t
 at_held tick over waiting t u g = record { before = over; lane = t.lane; next = u.lane; behind = waiting; was = refl; is = refl; lines = g.more; grows = g.lines; ticks = g.each }
 
 by_step : (script : Plan) (tick : ℕ) (over : List Lane) (t : Turn) (waiting : List Lane) (posted : List Letter) (o : Option Turn) → step script tick t ≡ o
-    → (lanes_in (turned_on over t waiting posted o) ≡ lanes_in (Turning over (Some t) waiting posted)) ⊎ (OneChanges tick (lanes_in (Turning over (Some t) waiting posted)) (lanes_in (turned_on over t waiting posted o)) ⊎ OneGoesOver tick (lanes_in (Turning over (Some t) waiting posted)) (lanes_in (turned_on over t waiting posted o)))
+    → (lanes_in (turned_on over t waiting posted o) ≡ lanes_in (Turning over (Some t) waiting posted)) ⊎ (OneChanges tick (lanes_in (Turning over (Some t) waiting posted)) (lanes_in (turned_on over t waiting posted o)) ⊎ OneGoesOver tick (Turning over (Some t) waiting posted) (turned_on over t waiting posted o))
 by_step script tick over t waiting posted (Some u) e = inr (inl (at_held tick over waiting t u (of_tick script tick t u e)))
 by_step script tick over t waiting posted None e = inl (append_assoc over (t.lane ∷ []) waiting)
 
 abbrev Tells : (tick : ℕ) (p q : Place) → Type 0
-Tells tick p q = (lanes_in q ≡ lanes_in p) ⊎ (OneChanges tick (lanes_in p) (lanes_in q) ⊎ OneGoesOver tick (lanes_in p) (lanes_in q))
+Tells tick p q = (lanes_in q ≡ lanes_in p) ⊎ (OneChanges tick (lanes_in p) (lanes_in q) ⊎ OneGoesOver tick p q)
 
-pub changes_one : (script : Plan) (tick : ℕ) (p q : Place) → moved script tick p ≡ Some q → (lanes_in q ≡ lanes_in p) ⊎ (OneChanges tick (lanes_in p) (lanes_in q) ⊎ OneGoesOver tick (lanes_in p) (lanes_in q))
+pub changes_one : (script : Plan) (tick : ℕ) (p q : Place) → moved script tick p ≡ Some q → (lanes_in q ≡ lanes_in p) ⊎ (OneChanges tick (lanes_in p) (lanes_in q) ⊎ OneGoesOver tick p q)
 changes_one script tick (Turning over (Some t) waiting posted) q e =
     subst (Tells tick (Turning over (Some t) waiting posted)) (same_place _ q e) (by_step script tick over t waiting posted (step script tick t) refl)
 changes_one script tick (Turning over None (lane ∷ waiting) posted) q e =
@@ -103,7 +103,7 @@ changes_one script tick (Turning over None (lane ∷ waiting) posted) q e =
 changes_one script tick (Turning over None [] posted) q e =
     subst (Tells tick (Turning over None [] posted)) (same_place _ q e) (inl (sym (append-nil over)))
 changes_one script tick (Giving lanes (letter ∷ left) letters) q e =
-    subst (Tells tick (Giving lanes (letter ∷ left) letters)) (same_place _ q e) (inr (inr (record { letter = letter; is = refl })))
+    subst (Tells tick (Giving lanes (letter ∷ left) letters)) (same_place _ q e) (inr (inr (record { lanes = lanes; letter = letter; left = left; letters = letters; was = refl; is = refl })))
 changes_one script tick (Giving lanes [] letters) q e = subst (Tells tick (Giving lanes [] letters)) (same_place _ q e) (inl refl)
 changes_one script tick (Bringing over (lane ∷ waiting) (letter ∷ left) letters) q e =
     let g = delivery_grows script tick (letter ∷ []) lane in

@@ -100,12 +100,16 @@ pub record MovesLead : Type 0 where
   -- and when no move is left the lanes are there
   pub ends : (script : Plan) (tick : Tick) (p : Place) → moved script tick p ≡ None → lanes_in p ≡ end_of script tick p
 
--- lanes between which the context that a letter gives goes over
-pub record OneGoesOver (tick : Tick) (lanes now : List Lane) : Type 0 where
+-- while contexts go over, the one that the next letter gives goes from lane to lane, if that gives one
+pub record OneGoesOver (tick : Tick) (p q : Place) : Type 0 where
+  pub lanes : List Lane
   pub letter : Letter
-  pub is : now ≡ gone_over tick (handing_of letter lanes) lanes
+  pub left : List Letter
+  pub letters : List Letter
+  pub was : p ≡ Giving lanes (letter ∷ left) letters
+  pub is : lanes_in q ≡ gone_over tick (handing_of letter lanes) lanes
 
--- each move changes one lane at most, whose new lines are those of the move, or hands one context over
+-- each move changes one lane at most, whose new lines are those of the move, or hands over the context that comes next
 abbrev pub MovesChangeOne : Type 0
 MovesChangeOne = (script : Plan) (tick : Tick) (p q : Place) → moved script tick p ≡ Some q
-    → (lanes_in q ≡ lanes_in p) ⊎ (OneChanges tick (lanes_in p) (lanes_in q) ⊎ OneGoesOver tick (lanes_in p) (lanes_in q))
+    → (lanes_in q ≡ lanes_in p) ⊎ (OneChanges tick (lanes_in p) (lanes_in q) ⊎ OneGoesOver tick p q)
