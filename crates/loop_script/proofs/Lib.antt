@@ -1,5 +1,6 @@
 pub mod Keys
 pub mod Gives
+pub mod GivesRead
 pub mod Counts
 pub mod Named
 pub mod Rising

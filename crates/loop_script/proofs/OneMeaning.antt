@@ -3,6 +3,7 @@ use Rattle.std.proofs.Common.{◌≡◌, refl, sym, subst, ap, ap₂, ◌∙◌,
 use Rattle.std.specs.Str.{bytes_eq}
 use Rattle.std.proofs.lemmas.Slice.Eq.{bytes_eq-Decides}
 use Rattle.serde_json.specs.Data.{Data, null, boolean, number, array, unsigned, Items, no_items, item}
+use Rattle.loop_script.specs.Gives.{is_give}
 use Rattle.loop_script.specs.Place.{front}
 use Rattle.loop_script.specs.Meaning.{under, nth, IsWhole, IsInteger, IsTruth, Or, OrNull, EachIs, IsList, IsKind, usual, IsSource, IsChild, IsTree, IsTask, IsAction, IsLevel, IsProc, IsLane, Denotes}
 use Rattle.loop_script.specs.Tree.{Tree, value, fail, sleep, check, seq, both, first, within}
@@ -184,7 +185,7 @@ action_word (Invoke context proc) = codes "invoke"
 action_word (Give context lane) = codes "give"
 action_word (Log n) = codes "log"
 
-action_begins : (o : Option Data) (a : Action) → IsAction o a → option_and_then front o ≡ Some (action_word a)
+pub action_begins : (o : Option Data) (a : Action) → IsAction o a → option_and_then front o ≡ Some (action_word a)
 action_begins o (Attach context slot spec) h = h.0.0
 action_begins o (Child parent slot spec) h = h.0.0
 action_begins o (Destroy slot) h = h.0.0
@@ -206,6 +207,30 @@ action_begins o (Release context) h = h.0.0
 action_begins o (Invoke context proc) h = h.0.0
 action_begins o (Give context lane) h = h.0.0
 action_begins o (Log n) h = h.0.0
+
+-- the word says whether it hands a context over
+pub gives_by_word : (a : Action) → bytes_eq (action_word a) (codes "give") ≡ is_give a
+gives_by_word (Attach context slot spec) = refl
+gives_by_word (Child parent slot spec) = refl
+gives_by_word (Destroy slot) = refl
+gives_by_word (SetReady slot us) = refl
+gives_by_word (SetPriority slot priority) = refl
+gives_by_word (Iterate context) = refl
+gives_by_word (Pending context) = refl
+gives_by_word (Run loop) = refl
+gives_by_word (Quit loop) = refl
+gives_by_word (Cancel c) = refl
+gives_by_word (Connect c slot proc) = refl
+gives_by_word (Disconnect slot) = refl
+gives_by_word (Task spec) = refl
+gives_by_word (Push context) = refl
+gives_by_word (Pop context) = refl
+gives_by_word ShowDefault = refl
+gives_by_word (Acquire context) = refl
+gives_by_word (Release context) = refl
+gives_by_word (Invoke context proc) = refl
+gives_by_word (Give context lane) = refl
+gives_by_word (Log n) = refl
 
 one_action : One IsAction
 one_action o (Attach a b c) (Attach x y z) h k = let p = one_whole _ a x h.1 k.1 in let q = one_whole _ b y h.2 k.2 in let r = one_source _ c z h.3 k.3 in λ i. Attach (p i) (q i) (r i)

@@ -188,6 +188,10 @@ well d e m = not_both ((seen d).1 m) e
 within : (d : Data) → (IsMisshapen (an script) d → ⊥) → (faults d).limit ≡ false → IsBeyond (an script) d → ⊥
 within d n e b = not_both ((over d n).1 b) e
 
+-- so what is read with no fault is what the value denotes
+pub denoted_where_sound : (d : Data) → (faults d).shape ≡ false → (faults d).limit ≡ false → Denotes (Some d) (plan (Some d)).value
+denoted_where_sound d s l = let m = well d s in (script_at d).value tt m (within d m l)
+
 -- the reading, by whether some action is one that the version has not
 abbrev read_of : Bool → Data → Result Plan ScriptFault
 read_of g d = cond g (Err Shape) (verdict (faults d) (plan (Some d)).value)

@@ -56,7 +56,7 @@ fn read_each<T: Form + Drop>(
     ensures value { IfOk result (λ xs. xs ≡ (each T.form (items_view values.now)).value) }
     ensures faults { OnOk result (faults.new ≡ after faults.old (each T.form (items_view values.now))) }
 {
-    let mut items = Vec::new(alloc);
+    let mut items = Vec::with_capacity(alloc, values.len())?;
     for value in values {
         items.push(T::read(alloc, Some(value), faults)?)?;
     }

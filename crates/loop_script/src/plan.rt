@@ -18,7 +18,7 @@ use crate::number::{index_number, optional_count, whole_number};
 use crate::object::only_keys;
 use crate::part::field_of;
 use crate::references::context_count;
-use crate::version::gives_outside_version_2;
+use crate::version::gives_too_early;
 use serde_json::Value;
 use std::alloc::{AllocError, Global};
 
@@ -168,15 +168,12 @@ impl Plan {
         ensures plan { IfOk result (λ found. found ≡ sound_plan (view value.now)) }
         ensures bounded { IfOk result (λ found. IfSome found IsBounded) }
     {
-        if gives_outside_version_2(value) {
-            return Ok(None);
-        }
         let mut faults = Faults {
             shape: false,
             limit: false,
         };
         let plan = Plan::read(alloc, Some(value), &mut faults)?;
-        Ok(if faults.shape || faults.limit {
+        Ok(if gives_too_early(value, &plan, faults) || faults.shape || faults.limit {
             None
         } else {
             Some(plan)

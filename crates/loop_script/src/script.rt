@@ -16,7 +16,7 @@ use crate::faults::Faults;
 use crate::level::{Level, bits_at, change_after};
 use crate::plan::{LaneSpec, Plan, Proc};
 use crate::references::context_count;
-use crate::version::gives_outside_version_2;
+use crate::version::gives_too_early;
 use serde_json::Value;
 use std::alloc::Global;
 use std::marker::Model;
@@ -49,14 +49,14 @@ impl Script {
         ensures { Answers bytes.now result }
     {
         let value = read_value(alloc, bytes)?;
-        if gives_outside_version_2(&value) {
-            return Err(ScriptFault::Shape);
-        }
         let mut faults = Faults {
             shape: false,
             limit: false,
         };
         let plan = Plan::read(alloc, Some(&value), &mut faults)?;
+        if gives_too_early(&value, &plan, faults) {
+            return Err(ScriptFault::Shape);
+        }
         judged(plan, faults)
     }
 

@@ -1,16 +1,69 @@
-//! Whether a script gives contexts where its version allows it: the word that version 2 alone has.
+//! Whether a script gives contexts where its version allows it: the word that version 2 alone has. It is looked for in what was
+//! read of the script, and in the script itself where that has faults.
 ghost use Rattle.std.specs.Prelude.{◌≡◌, map, Some};
+ghost use Rattle.loop_script.specs.Gives.{is_give, gives};
+ghost use Rattle.loop_script.specs.Plan.{plan};
+ghost use Rattle.loop_script.specs.Script.{none_seen};
 ghost use Rattle.std.specs.List.{list_any};
 ghost use Rattle.serde_json.specs.Find.{get};
 ghost use Rattle.serde_json.specs.View.{view};
 ghost use Rattle.loop_script.specs.Seen.{seen};
 ghost use Rattle.loop_script.specs.Version.{is_version_2, begins_give, listed, list_gives, some_gives, gives_outside_version_2};
 
+use crate::action::Action;
+use crate::faults::Faults;
 use crate::part::{field_of, word_of};
+use crate::plan::{LaneSpec, Plan, Proc};
 use serde_json::Value;
 
+/// Whether some action of a script begins with the word `give`, and its version is not 2, where this was read of it with these faults.
+#[tactic(auto, using(crate::proofs::GivesRead::read_with_no_fault))]
+pub(crate) fn gives_too_early(script: &Value, read: &Plan, faults: Faults) -> bool
+    requires plan { read.now ≡ (plan (Some (view script.now))).value }
+    requires faults { faults ≡ (plan (Some (view script.now))).faults none_seen }
+    ensures { result ≡ gives_outside_version_2 (view script.now) }
+{
+    if faults.shape || faults.limit {
+        gives_outside_version_2(script)
+    } else {
+        !is_version_2(script) && gives(read)
+    }
+}
+
+/// Whether some list of actions hands a context over.
+fn gives(plan: &Plan) -> bool
+    ensures { result ≡ gives plan.now }
+{
+    some_lane_gives(plan.lanes.as_slice()) || some_proc_gives(plan.procs.as_slice())
+}
+
+fn some_lane_gives(lanes: &[LaneSpec]) -> bool
+    ensures { result ≡ list_any (λ l. list_any is_give l.start) lanes.now }
+{
+    lanes.iter().any(|lane| some_give(lane.start.as_slice()))
+}
+
+fn some_proc_gives(procs: &[Proc]) -> bool
+    ensures { result ≡ list_any (λ q. list_any is_give q.actions) procs.now }
+{
+    procs.iter().any(|proc| some_give(proc.actions.as_slice()))
+}
+
+fn some_give(actions: &[Action]) -> bool
+    ensures { result ≡ list_any is_give actions.now }
+{
+    actions.iter().any(is_give)
+}
+
+/// Whether an action hands a context over.
+fn is_give(action: &Action) -> bool
+    ensures { result ≡ is_give action.now }
+{
+    matches!(action, Action::Give { .. })
+}
+
 /// Whether some action of a script begins with the word `give`, and its version is not 2.
-pub(crate) fn gives_outside_version_2(script: &Value) -> bool
+fn gives_outside_version_2(script: &Value) -> bool
     ensures { result ≡ gives_outside_version_2 (view script.now) }
 {
     !is_version_2(script)

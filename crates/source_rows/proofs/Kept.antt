@@ -188,7 +188,7 @@ stays_at id f h = record {
 }
 
 -- what a put of the found row, changed, does
-pub put_one : (id : ℕ) (x : Row) (f : Row → Row) → Stays f → (rows new : List Row) → IdsRise rows → row_of id rows ≡ Some x → new ≡ changed (f x).id (λ _. f x) rows → new ≡ changed id f rows
+pub put_one : (id : ℕ) (x : Row) (f : Row → Row) → (f x).id ≡ x.id → (rows new : List Row) → IdsRise rows → row_of id rows ≡ Some x → new ≡ changed (f x).id (λ _. f x) rows → new ≡ changed id f rows
 put_one id x f h rows new r k e =
-    let same : (f x).id ≡ id = h.id x ∙ found_id id x rows k in
+    let same : (f x).id ≡ id = h ∙ found_id id x rows k in
     e ∙ (ap (λ (i : ℕ). changed i (λ _. f x) rows) same ∙ one_changed id x f rows r k)

@@ -1,5 +1,5 @@
 -- What is left behind a row, where the row that came last stands under it: all but what stands under it too.
-use Rattle.std.proofs.Common.{◌≡◌, ◌==◌, ◌&&◌, ℕ, Bool, true, false, not, cond, Option, Some, None, List, [], ◌∷◌, ◌⊎◌, inl, inr, filter, refl, ap, sym, ◌∙◌}
+use Rattle.std.proofs.Common.{◌≡◌, ◌==◌, ◌&&◌, ℕ, Bool, true, false, not, cond, Option, Some, None, List, inl, inr, filter, refl, ap, sym, ◌∙◌}
 use Rattle.std.proofs.lemmas.Bool.Decides.{eqb_tells}
 use Rattle.std.specs.List.{AllByRecursion}
 use Rattle.source_rows.specs.declared.row.Row.{Row}

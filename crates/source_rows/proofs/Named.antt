@@ -5,7 +5,7 @@ use Rattle.std.specs.List.{AllByRecursion, cons_option}
 use Rattle.source_rows.specs.declared.row.Row.{Row}
 use Rattle.source_rows.specs.Rows.{row_of, changed}
 use Rattle.source_rows.specs.InOrder.{rows_of}
-use Rattle.source_rows.specs.Moves.{with_each, moved_row, NoneTwice}
+use Rattle.source_rows.specs.Moves.{with_each, moved_row, with_moved, NoneTwice}
 use Rattle.source_rows.proofs.Compared.{are_same, not_same}
 use Rattle.source_rows.proofs.Kept.{found_id}
 
@@ -31,7 +31,7 @@ pub record Moves (root : ℕ) (z : ℤ) (order : ℕ) (all rows now : List Row) 
   pub apart : NoneTwice ids
   pub same : with_each (map (moved_row root z order) (rows_of now ids)) now ≡ with_each (map (moved_row root z order) all) rows
 
-pub moves_one : (root : ℕ) (z : ℤ) (order : ℕ) (rows : List Row) (ids : List ℕ) (i : ℕ) (r : Row) → i < length ids → NoneTwice (drop i ids) → row_of (get_or ids i 0) rows ≡ Some r
+moves_one : (root : ℕ) (z : ℤ) (order : ℕ) (rows : List Row) (ids : List ℕ) (i : ℕ) (r : Row) → i < length ids → NoneTwice (drop i ids) → row_of (get_or ids i 0) rows ≡ Some r
     → Moves root z order (rows_of rows (drop i ids)) rows (changed r.id (λ _. moved_row root z order r) rows) (drop (i + 1) ids)
 moves_one root z order rows ids i r less apart is =
     let e = drop_more ids i 0 less in
@@ -47,9 +47,17 @@ moves_one root z order rows ids i r less apart is =
           ∙ sym (ap (λ (xs : List Row). with_each (map (moved_row root z order) xs) rows) all);
     }
 
-pub moves_none : (root : ℕ) (z : ℤ) (order : ℕ) (rows : List Row) (ids : List ℕ) (i : ℕ) → i < length ids → NoneTwice (drop i ids) → row_of (get_or ids i 0) rows ≡ None
+moves_none : (root : ℕ) (z : ℤ) (order : ℕ) (rows : List Row) (ids : List ℕ) (i : ℕ) → i < length ids → NoneTwice (drop i ids) → row_of (get_or ids i 0) rows ≡ None
     → Moves root z order (rows_of rows (drop i ids)) rows rows (drop (i + 1) ids)
 moves_none root z order rows ids i less apart is =
     let e = drop_more ids i 0 less in
     let all : rows_of rows (drop i ids) ≡ rows_of rows (drop (i + 1) ids) = ap (rows_of rows) e ∙ ap (λ (o : Option Row). cons_option o (rows_of rows (drop (i + 1) ids))) is in
     record { apart = (subst NoneTwice e apart).1; same = sym (ap (λ (xs : List Row). with_each (map (moved_row root z order) xs) rows) all) }
+
+pub moves_next : (root : ℕ) (z : ℤ) (order : ℕ) (rows : List Row) (ids : List ℕ) (i : ℕ) → i < length ids → NoneTwice (drop i ids)
+    → Moves root z order (rows_of rows (drop i ids)) rows (with_moved root z order (row_of (get_or ids i 0) rows) rows) (drop (i + 1) ids)
+moves_next root z order rows ids i less apart = by (row_of (get_or ids i 0) rows) refl
+  where
+    by : (o : Option Row) → row_of (get_or ids i 0) rows ≡ o → Moves root z order (rows_of rows (drop i ids)) rows (with_moved root z order o rows) (drop (i + 1) ids)
+    by None e = moves_none root z order rows ids i less apart e
+    by (Some r) e = moves_one root z order rows ids i r less apart e

@@ -39,15 +39,10 @@ fn joined(mut fork: Box<Fork>, sooner: Seats, later: Seats) -> Box<Fork>
     ensures least { result.value.least ≡ least_of (sooner.0 ++ fork.value.seat ∷ later.0) }
     ensures later { result.value.later ≡ later }
 {
-    let height = sooner.height().max(later.height()) + 1;
-    let least = least_over(&sooner, &fork.seat, &later);
-    *fork = Fork {
-        sooner,
-        seat: fork.seat,
-        height,
-        least,
-        later,
-    };
+    fork.height = sooner.height().max(later.height()) + 1;
+    fork.least = least_over(&sooner, &fork.seat, &later);
+    fork.sooner = sooner;
+    fork.later = later;
     fork
 }
 

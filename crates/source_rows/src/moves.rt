@@ -11,8 +11,6 @@ pub(crate) fn move_rows(table: &mut Table, ids: &[u64], root: u64, priority: i32
     ensures { table.new ≡ with_each (map (moved_row root priority order) (rows_of table.old ids.now)) table.old }
 {
     for id in ids {
-        if let Some(row) = table.row(*id) {
-            table.put(row.moved(root, priority, order));
-        }
+        table.move_row(*id, root, priority, order);
     }
 }

@@ -198,7 +198,7 @@ impl Rows {
             move_rows(&mut self.table, ids.as_slice(), root.id, priority, order);
         } else {
             // the root stands alone
-            self.table.put(root.moved(root.id, priority, order));
+            self.table.move_row(root.id, root.id, priority, order);
         }
         self.next_order += 1;
         Ok(())

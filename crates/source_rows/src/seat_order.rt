@@ -118,9 +118,9 @@ impl SeatOrder {
         ensures low { IsLow self.new }
     {
         if is_passed(self.bound, seat.key) {
-            self.front.take(seat).room
+            self.front.take(seat)
         } else {
-            self.back.take(seat).room
+            self.back.take(seat)
         }
     }
 

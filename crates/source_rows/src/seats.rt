@@ -59,13 +59,13 @@ pub(crate) struct Least {
     pub(crate) due: u64,
 }
 
-/// The room of a seat that was taken out of a tree.
+/// The room of a seat that was taken out of a side of a tree.
 #[derive(Drop)]
-pub(crate) struct Taken {
+struct Taken {
     /// None where the seat was not there.
-    pub(crate) room: Option<Room>,
-    /// Whether the tree is lower without it.
-    pub(crate) lower: bool,
+    room: Option<Room>,
+    /// Whether the side is lower without it.
+    lower: bool,
 }
 
 impl Model for Seats {
@@ -236,45 +236,43 @@ impl Seats {
 
     /// Takes a seat out, and hands its room out; none where it is not there.
     #[tactic(auto, using(crate::proofs::Low::low_even))]
-    pub fn take(&mut self, seat: &Seat) -> Taken
+    pub fn take(&mut self, seat: &Seat) -> Option<Room>
         requires rises { Rises is_ahead self.old.0 }
         requires few { length self.old.0 ≤ count_end }
         requires low { IsLow self.old }
-        ensures there { is_some result.room ≡ list_any (λ u. is_eq (seat_cmp seat.now u)) self.old.0 }
+        ensures there { is_some result ≡ list_any (λ u. is_eq (seat_cmp seat.now u)) self.old.0 }
         ensures seats { self.new.0 ≡ without seat.now self.old.0 }
         ensures low { IsLow self.new }
         ensures height { IsLowered self.old.1 self.new.1 }
-        ensures lower { result.lower ≡ nat_lt self.new.1 self.old.1 }
     {
-        let height = self.height();
-        let room = match &mut self.root {
-            None => {
-                return Taken {
-                    room: None,
-                    lower: false,
-                };
-            }
+        let taken = match &mut self.root {
+            None => return None,
             Some(fork) => {
                 let fork = &mut **fork;
                 let taken = match seat.cmp(&fork.seat) {
-                    Ordering::Less => fork.sooner.take(seat),
-                    Ordering::Greater => fork.later.take(seat),
-                    Ordering::Equal => {
-                        let room = remove_root(&mut self.root);
-                        let lower = self.height() < height;
-                        return Taken { room, lower };
+                    Ordering::Less => {
+                        let height = fork.sooner.height();
+                        let room = fork.sooner.take(seat);
+                        let lower = fork.sooner.height() < height;
+                        Taken { room, lower }
                     }
+                    Ordering::Greater => {
+                        let height = fork.later.height();
+                        let room = fork.later.take(seat);
+                        let lower = fork.later.height() < height;
+                        Taken { room, lower }
+                    }
+                    Ordering::Equal => return remove_root(&mut self.root),
                 };
                 if !taken.lower {
                     fork.leave_out(seat);
-                    return taken;
+                    return taken.room;
                 }
-                taken.room
+                taken
             }
         };
         balance(&mut self.root);
-        let lower = self.height() < height;
-        Taken { room, lower }
+        taken.room
     }
 
     /// Puts another seat where one stands, and answers whether marks or least time may be others.

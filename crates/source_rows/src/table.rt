@@ -9,6 +9,7 @@ ghost use Rattle.loop_script.specs.Bounds.{count_end, latest};
 ghost use Rattle.source_rows.specs.Band.{stands_between};
 ghost use Rattle.source_rows.specs.Kept.{AllApart};
 ghost use Rattle.source_rows.specs.LastTo.{IsLastRow};
+ghost use Rattle.source_rows.specs.Moves.{with_moved};
 ghost use Rattle.source_rows.specs.Rows.{key_cmp, key_of, row_of, has_id, in_order, changed, next_ready};
 ghost use Rattle.source_rows.specs.Seats.{first_awake, in_seats, seat_of};
 ghost use Rattle.source_rows.specs.Slots.{AllNamed, MayAsk, MayNest, asks};
@@ -205,20 +206,16 @@ impl Table {
         }
     }
 
-    /// Puts a row in the place of the one that has its id.
-    pub fn put(&mut self, row: Row)
-        requires { IsSome (row_of row.id self.old) }
-        ensures { self.new ≡ changed row.id (λ _. row) self.old }
+    /// Gives the row of an id, where there is one, the priority and the order number that the root over it gets, and the place that goes with them.
+    pub fn move_row(&mut self, id: u64, root: u64, priority: i32, order: u64)
+        ensures { self.new ≡ with_moved root priority order (row_of id self.old) self.old }
     {
-        if let Some(key) = slot_of(&self.slots, &self.keys, &self.guesses, row.id) {
+        if let Some(key) = slot_of(&self.slots, &self.keys, &self.guesses, id) {
             if let Some(slot) = self.slots.get_mut(key) {
-                let may_ask = may_ask_with(self.may_ask, &row);
-                let may_nest = may_nest_with(self.may_nest, &row);
-                let seat = slot.seat();
-                *slot = row;
-                self.seats.replace(&seat, &row.seat());
-                self.may_ask = may_ask;
-                self.may_nest = may_nest;
+                let before = slot.seat();
+                *slot = slot.moved(root, priority, order);
+                let after = slot.seat();
+                self.seats.replace(&before, &after);
             }
         }
     }

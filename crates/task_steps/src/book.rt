@@ -5,7 +5,7 @@ use crate::entries::new_entry;
 use crate::entry::Reply;
 use crate::heeded::{forget_seen, heed, some_came};
 use crate::look::TaskShown;
-use crate::tasks::{Round, Tasks};
+use crate::tasks::{Place, Round, Tasks};
 use cancel_view::View;
 use loop_script::{Items, TaskSpec};
 use std::alloc::{AllocError, Global};
@@ -189,7 +189,7 @@ impl TaskBook {
             came: some_came(&self.heeded, view),
         };
         let mut tasks = mem::replace(&mut self.tasks, Tasks::Gone);
-        let Ok(()) = tasks.poll(round, view, &mut replies, &mut late) else {
+        let Ok(()) = tasks.poll(Place::Before, round, view, &mut replies, &mut late) else {
             self.exhaust();
             return Err(BookFault::OutOfMemory);
         };

@@ -1,5 +1,5 @@
 //! Tasks in start order, of which a poll looks at those alone that wake or are cancelled.
-ghost use Rattle.std.specs.Prelude.{◌≡◌, ◌+◌, ◌<◌, ◌++◌, [], IsOk, IfOk, OnOk, false, true, IsTrue, ◌↔◌, map};
+ghost use Rattle.std.specs.Prelude.{◌≡◌, ◌+◌, ◌<◌, ◌++◌, [], IsOk, IfOk, OnOk, IfSome, IfNone, false, true, IsTrue, ◌↔◌, map};
 ghost use Rattle.std.specs.List.{list_any};
 ghost use Rattle.task_steps.specs.BookInside.{entries_of, mark_of, joined_mark, shown, IsMarked, IsQuiet};
 ghost use Rattle.task_steps.specs.Wake.{sooner};
@@ -77,6 +77,15 @@ pub(crate) enum Tasks {
     },
 }
 
+/// Where a tree of tasks stands.
+#[derive(Clone, Copy)]
+pub(crate) enum Place {
+    /// It is all tasks, or those that stand before the last trees.
+    Before,
+    /// It stands within one of the trees, or is one.
+    Within,
+}
+
 /// Two lists of tasks as one.
 #[tactic(auto, using(crate::proofs::Marks::mark_joined))]
 fn two(alloc: Global, left: Tasks, right: Tasks) -> Result<Tasks, AllocError>
@@ -106,11 +115,22 @@ fn pair(left: Box<Tasks>, right: Box<Tasks>) -> Tasks
     Tasks::Two { mark, left, right }
 }
 
-/// Whether neither has a task, as far as that is known without a look below.
-fn are_gone(left: &Tasks, right: &Tasks) -> bool
-    ensures { result ≡ true → entries_of left.now ++ entries_of right.now ≡ [] }
+/// What stands for two lists of which one has no task; none, and both are left, where a node has to stand. The last trees hang one
+/// below the other on nodes that `append` counts: such a node goes only with both of its sides.
+fn left_over(place: Place, left: &mut Tasks, right: &mut Tasks) -> Option<Tasks>
+    requires left { IsMarked left.old }
+    requires right { IsMarked right.old }
+    ensures entries { IfSome result (λ t. entries_of t ≡ entries_of left.old ++ entries_of right.old) }
+    ensures marked { IfSome result (λ t. IsMarked t) }
+    ensures same_left { IfNone result (left.new ≡ left.old) }
+    ensures same_right { IfNone result (right.new ≡ right.old) }
 {
-    left.is_gone() && right.is_gone()
+    match (place, left.is_gone(), right.is_gone()) {
+        (_, true, true) => Some(Tasks::Gone),
+        (Place::Within, true, false) => Some(mem::replace(right, Tasks::Gone)),
+        (Place::Within, false, true) => Some(mem::replace(left, Tasks::Gone)),
+        _ => None,
+    }
 }
 
 impl Tasks {
@@ -172,6 +192,7 @@ impl Tasks {
     /// Polls the tasks that wake or may be seen as cancelled, and adds their replies and late numbers. Those that end go.
     pub(crate) fn poll(
         &mut self,
+        place: Place,
         round: Round,
         view: &View,
         replies: &mut Vec<Reply>,
@@ -195,11 +216,11 @@ impl Tasks {
                 }
             }
             Tasks::Two { mark, left, right } => {
-                left.poll(round, view, replies, late)?;
-                right.poll(round, view, replies, late)?;
+                left.poll(place, round, view, replies, late)?;
+                right.poll(Place::Within, round, view, replies, late)?;
                 *mark = left.mark().join(right.mark());
-                if are_gone(left, right) {
-                    *self = Tasks::Gone;
+                if let Some(tasks) = left_over(place, left, right) {
+                    *self = tasks;
                 }
             }
         }

@@ -1,4 +1,4 @@
-use Rattle.std.proofs.Common.{◌≡◌, ◌<◌, ◌+◌, ◌^◌, Some, List, map, refl, ap, sym, subst, ◌∙◌, arith, rules, w32}
+use Rattle.std.proofs.Common.{◌≡◌, ◌<◌, ◌+◌, ◌^◌, Option, Some, List, map, refl, ap, sym, subst, ◌∙◌, arith, rules, w32}
 use Rattle.std.proofs.lemmas.Int.{to_z-of_z}
 use mir.Val.{SFits}
 use Rattle.std.specs.List.{AllByRecursion}
@@ -8,7 +8,7 @@ use Rattle.source_rows.specs.Kept.{IsSound}
 use Rattle.source_rows.specs.Rows.{RowSet, row_of, moved, changed, reprioritised, level_count}
 use Rattle.source_rows.specs.Band.{stands_between}
 use Rattle.source_rows.specs.InOrder.{rows_of}
-use Rattle.source_rows.specs.Moves.{moved_row}
+use Rattle.source_rows.specs.Moves.{moved_row, with_moved}
 use Rattle.source_rows.proofs.MayBe.{NoParent}
 use Rattle.source_rows.proofs.TreeMoves.{none_twice, tree_picked, tree_moves, root_moves, TreeMoves}
 use Rattle.source_rows.proofs.rows.Rows.move_tree.Goals as goal
@@ -43,8 +43,10 @@ moves c =
           (ap (rows_of inside.table) ids ∙ picked) made)
       | else-may_nest w ↦
           let flat : AllByRecursion NoParent inside.table = c.may_nest.ensures w.if-may_nest.false in
-          let made : w.put.new.self ≡ changed c.args.root.id (λ _. moved_row c.args.root.id c.args.priority inside.next_order c.args.root) inside.table = w.put.ensures ∙ ap (λ (r : Row). changed r.id (λ _. r) inside.table) (simp to_z-of_z at w.moved.ensures) in
-          rw w.self-inside-is (root_moves c.args.root c.args.priority inside.table inside.next_id inside.next_order (level_count inside.levels) w.put.new.self (small before) c.self.invariant (root before) c.requires.level flat made)
+          let priority : SFits w32 c.args.priority = search rules in
+          let made : w.move_row.new.self ≡ changed c.args.root.id (λ _. moved_row c.args.root.id c.args.priority inside.next_order c.args.root) inside.table
+          = (simp to_z-of_z at w.move_row.ensures) ∙ ap (λ (o : Option Row). with_moved c.args.root.id c.args.priority inside.next_order o inside.table) (root before) in
+          rw w.self-inside-is (root_moves c.args.root c.args.priority inside.table inside.next_id inside.next_order (level_count inside.levels) w.move_row.new.self (small before) c.self.invariant (root before) c.requires.level flat made)
     ]
 
 -- the rows alone were changed

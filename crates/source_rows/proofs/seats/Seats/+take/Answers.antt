@@ -1,5 +1,4 @@
-use Rattle.std.proofs.Common.{◌≡◌, ◌∙◌, ◌<◌, ◌≤◌, ◌^◌, ℕ, List, ◌∷◌, ◌++◌, true, false, length, is_some, nat_lt, sym, ap, subst, arith, rules}
-use Rattle.std.proofs.lemmas.Bool.Decides.{nat_tests}
+use Rattle.std.proofs.Common.{◌≡◌, ◌∙◌, ◌<◌, ◌≤◌, ◌^◌, ℕ, List, ◌∷◌, ◌++◌, true, false, length, is_some, nat_lt, sym, ap, ap₂, subst, arith, rules}
 use Rattle.std.specs.List.{list_any}
 use Rattle.std.specs.declared.cmp.Ordering.TheVariants.{Less, Equal, Greater}
 use Rattle.std.specs.Ordering.{is_eq}
@@ -15,8 +14,8 @@ use Rattle.source_rows.proofs.TakenOut.{TakenOut, taken_sooner, taken_later, tak
 use Rattle.source_rows.proofs.seats.Seats.+take.Goals as goal
 use Rattle.source_rows.proofs.seats.Seats.+take.Goals.{in-Less, in-Greater, Joined-cmp}
 
-pub take-taken-requires : goal.take-taken-requires
-take-taken-requires t c =
+pub take-room-requires : goal.take-room-requires
+take-room-requires t c =
     let same : c.deref_mut-fork.result.now ≡ c.in-Some.fork.value = search rules in
     let f = at_Fork c.self.view_is c.requires.rises c.in-Some.is same in
     let even = even_at c.self.invariant c.in-Some.is same in
@@ -24,8 +23,8 @@ take-taken-requires t c =
     let fewer : length c.deref_mut-fork.result.now.sooner.0 < length c.args.self.now.0 = omega (arith, f.parts) in
     search rules
 
-pub take-taken-requires-in-Greater : goal.take-taken-requires-in-Greater
-take-taken-requires-in-Greater t c =
+pub take-room-requires-in-Greater : goal.take-room-requires-in-Greater
+take-room-requires-in-Greater t c =
     let same : c.deref_mut-fork.result.now ≡ c.in-Some.fork.value = search rules in
     let f = at_Fork c.self.view_is c.requires.rises c.in-Some.is same in
     let even = even_at c.self.invariant c.in-Some.is same in
@@ -42,7 +41,7 @@ returns-in-Equal-clause-there t c =
     let k = c.deref_mut-fork.result.now.seat in
     let r = c.deref_mut-fork.result.now.later.0 in
     let o : seat_cmp x k ≡ Equal = search rules in
-    let is : is_some c.remove_root-room.result ≡ true = search rules in
+    let is : is_some c.remove_root.result ≡ true = search rules in
     is ∙ sym (ap (list_any (λ u. is_eq (seat_cmp x u))) f.is ∙ there_here x l k r (same_from_equal x k o))
 
 pub returns-in-Equal-clause-seats : goal.returns-in-Equal-clause-seats
@@ -54,7 +53,7 @@ returns-in-Equal-clause-seats t c =
     let k = c.deref_mut-fork.result.now.seat in
     let r = c.deref_mut-fork.result.now.later.0 in
     let o : seat_cmp x k ≡ Equal = search rules in
-    let is : (seen_of c.remove_root-room.new.root).0 ≡ l ++ r = search rules in
+    let is : (seen_of c.remove_root.new.root).0 ≡ l ++ r = search rules in
     is ∙ sym (ap (without x) f.is ∙ (ap (λ u. without u (l ++ k ∷ r)) (same_from_equal x k o) ∙ without_here l k r f.rises))
 
 -- what is left of the fork once a side has lost the seat
@@ -67,12 +66,12 @@ taken t c =
     elim c.match-cmp.branch [
       | in-Less w ↦
           let o : seat_cmp x c.deref_mut-fork.result.now.seat ≡ Less = search rules in
-          let a = w.take-taken.ensures in
-          rw (w.fork-is, w.taken-is) (taken_sooner c.deref_mut-fork.result.now x _ _ even f.rises (less_sooner x _ o) a.seats a.low a.height a.lower)
+          let a = w.take-room.ensures in
+          rw (w.fork-is, w.taken-is) (taken_sooner c.deref_mut-fork.result.now x _ _ even f.rises (less_sooner x _ o) a.seats a.low a.height (ap₂ nat_lt w.height.ensures.height w.height-height.ensures.height))
       | in-Greater w ↦
           let o : seat_cmp x c.deref_mut-fork.result.now.seat ≡ Greater = search rules in
-          let a = w.take-taken-in-Greater.ensures in
-          rw (w.fork-is, w.taken-is) (taken_later c.deref_mut-fork.result.now x _ _ even f.rises (greater_back x _ o) a.seats a.low a.height a.lower)
+          let a = w.take-room-in-Greater.ensures in
+          rw (w.fork-is, w.taken-is) (taken_later c.deref_mut-fork.result.now x _ _ even f.rises (greater_back x _ o) a.seats a.low a.height (ap₂ nat_lt w.height-in-Greater.ensures.height w.height-height-in-Greater.ensures.height))
     ]
 
 there : (t : ℕ) (c : Joined-cmp t) → is_some c.match-cmp.taken.room ≡ list_any (λ u. is_eq (seat_cmp c.args.seat.now u)) c.args.self.now.0
@@ -86,10 +85,10 @@ there t c =
     elim c.match-cmp.branch [
       | in-Less w ↦
           let o : seat_cmp x k ≡ Less = search rules in
-          ap (λ (k : Taken). is_some k.room) w.taken-is ∙ (w.take-taken.ensures.there ∙ sym (ap (list_any (λ u. is_eq (seat_cmp x u))) f.is ∙ there_left x l k r f.rises (less_sooner x k o)))
+          ap (λ (k : Taken). is_some k.room) w.taken-is ∙ (w.take-room.ensures.there ∙ sym (ap (list_any (λ u. is_eq (seat_cmp x u))) f.is ∙ there_left x l k r f.rises (less_sooner x k o)))
       | in-Greater w ↦
           let o : seat_cmp x k ≡ Greater = search rules in
-          ap (λ (k : Taken). is_some k.room) w.taken-is ∙ (w.take-taken-in-Greater.ensures.there ∙ sym (ap (list_any (λ u. is_eq (seat_cmp x u))) f.is ∙ there_right x l k r f.rises (greater_back x k o)))
+          ap (λ (k : Taken). is_some k.room) w.taken-is ∙ (w.take-room-in-Greater.ensures.there ∙ sym (ap (list_any (λ u. is_eq (seat_cmp x u))) f.is ∙ there_right x l k r f.rises (greater_back x k o)))
     ]
 
 -- the fork once its least times are noted
@@ -127,15 +126,6 @@ returns-then-not-taken-clause-height t c =
     let is : c.leave_out.new.self.height ≡ c.args.self.now.1 = ap (λ (g : Fork). g.height) (noted t c) ∙ ((taken t c.before.before.before.before).height ∙ sym old) in
     (omega (arith, is), omega (arith, is))
 
-pub returns-then-not-taken-clause-lower : goal.returns-then-not-taken-clause-lower
-returns-then-not-taken-clause-lower t c =
-    let same : c.deref_mut-fork.result.now ≡ c.in-Some.fork.value = search rules in
-    let old : c.args.self.now.1 ≡ c.deref_mut-fork.result.now.height = ap (λ (v : List Seat × ℕ). v.1) (sym c.self.view_is ∙ ap seen_of c.in-Some.is) ∙ sym (ap (λ (g : Fork). g.height) same) in
-    let is : c.leave_out.new.self.height ≡ c.args.self.now.1 = ap (λ (g : Fork). g.height) (noted t c) ∙ ((taken t c.before.before.before.before).height ∙ sym old) in
-    let kept : c.match-cmp.taken.lower ≡ false = search rules in
-    let level : nat_lt c.leave_out.new.self.height c.args.self.now.1 ≡ false = grind (arith, nat_tests, is) in
-    kept ∙ sym level
-
 pub balance-requires : goal.balance-requires
 balance-requires t c =
     let same : c.deref_mut-fork.result.now ≡ c.in-Some.fork.value = search rules in
@@ -145,10 +135,10 @@ balance-requires t c =
     taken_near c.deref_mut-fork.result.now c.match-cmp.fork c.args.seat.now c.match-cmp.taken.lower even (taken t c.before.before.before.before) few
 
 pub returns-clause-there : goal.returns-clause-there
-returns-clause-there t c = there t c.before.before.before.before.before.before
+returns-clause-there t c = there t c.before.before.before.before.before
 
 pub returns-clause-seats : goal.returns-clause-seats
 returns-clause-seats t c =
     let same : c.deref_mut-fork.result.now ≡ c.in-Some.fork.value = search rules in
     let f = at_Fork c.self.view_is c.requires.rises c.in-Some.is same in
-    c.balance.ensures.1 ∙ ((taken t c.before.before.before.before.before.before).seats ∙ sym (ap (without c.args.seat.now) f.is))
+    c.balance.ensures.1 ∙ ((taken t c.before.before.before.before.before).seats ∙ sym (ap (without c.args.seat.now) f.is))

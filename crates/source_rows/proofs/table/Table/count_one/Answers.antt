@@ -4,7 +4,6 @@ use Rattle.slab.specs.Slab.{get}
 use Rattle.source_rows.specs.declared.row.Row.{Row}
 use Rattle.source_rows.specs.Rows.{row_of, changed}
 use Rattle.source_rows.specs.Slots.{rows_at, IsTime}
-use Rattle.source_rows.proofs.Edits.{Stays}
 use Rattle.source_rows.proofs.Forest.{found}
 use Rattle.source_rows.proofs.Kept.{none_changed}
 use Rattle.source_rows.proofs.InPlace.{InPlace, in_place, kept_in_place, held_in_place}
@@ -15,13 +14,10 @@ use Rattle.source_rows.proofs.table.Table.count_one.Goals.{In-Some-get_mut}
 abbrev count_one : Row → Row
 count_one r = record r { count = r.count + 1 }
 
-stays : Stays count_one
-stays = record { key = λ r. refl; id = λ r. refl; level = λ r. refl; order = λ r. refl; parent = λ r. refl; lineage = λ r. refl }
-
 counts : (c : In-Some-get_mut) → InPlace count_one c.self.inside.slots c.self.inside.keys c.args.id c.in-Some.key c.in-Some-get_mut.slot.now
 counts c =
     let at : get c.self.inside.slots c.in-Some.key ≡ Some c.in-Some-get_mut.slot.now = search rules in
-    in_place count_one stays c.self.inside.slots c.self.inside.keys c.args.id c.in-Some.key c.in-Some-get_mut.slot.now c.self.invariant.filled.table (sym c.slot_of.ensures ∙ c.in-Some.is) at
+    in_place count_one (λ r. refl) c.self.inside.slots c.self.inside.keys c.args.id c.in-Some.key c.in-Some-get_mut.slot.now c.self.invariant.filled.table (sym c.slot_of.ensures ∙ c.in-Some.is) at
 
 pub invariant_of-self : goal.invariant_of-self
 invariant_of-self c =
@@ -29,7 +25,7 @@ invariant_of-self c =
     let old = c.in-Some-get_mut.slot.now in
     let at : get i.slots c.in-Some.key ≡ Some old = search rules in
     let p = counts c.before.before in
-    held_in_place count_one stays (λ r. refl) i.slots i.keys c.args.id c.in-Some.key old i.seats i.seats i.may_ask i.may_nest c.self.invariant at p
+    held_in_place count_one (λ r. refl) (λ r. refl) i.slots i.keys c.args.id c.in-Some.key old i.seats i.seats i.may_ask i.may_nest c.self.invariant at p
     (found IsTime c.args.id old (rows_at i.slots i.keys) c.self.invariant.times p.there)
     (kept_in_place count_one i.slots i.keys c.args.id c.in-Some.key old i.seats c.self.invariant.filled.table c.self.invariant.seated p refl)
 

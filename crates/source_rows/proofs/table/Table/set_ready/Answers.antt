@@ -9,7 +9,6 @@ use Rattle.source_rows.specs.Rows.{row_of, changed}
 use Rattle.source_rows.specs.Seats.{seat_of, swapped}
 use Rattle.source_rows.specs.Slots.{IsTime}
 use Rattle.source_rows.proofs.Compared.{are_same}
-use Rattle.source_rows.proofs.Edits.{Stays}
 use Rattle.source_rows.proofs.InPlace.{InPlace, in_place, kept_in_place, set_in_place, held_in_place}
 use Rattle.source_rows.proofs.Kept.{none_changed}
 use Rattle.source_rows.proofs.Seated.{rises_seats, seat_kept}
@@ -20,19 +19,16 @@ use Rattle.source_rows.proofs.table.Table.set_ready.Goals.{In-Some-get_mut, Afte
 abbrev ready_at : ℤ → Row → Row
 ready_at t r = record r { ready = t }
 
-stays : (t : ℤ) → Stays (ready_at t)
-stays t = record { key = λ r. refl; id = λ r. refl; level = λ r. refl; order = λ r. refl; parent = λ r. refl; lineage = λ r. refl }
-
 set : (c : In-Some-get_mut) → InPlace (ready_at c.args.ready) c.self.inside.slots c.self.inside.keys c.args.id c.in-Some.key c.in-Some-get_mut.slot.now
 set c =
     let at : get c.self.inside.slots c.in-Some.key ≡ Some c.in-Some-get_mut.slot.now = search rules in
-    in_place (ready_at c.args.ready) (stays c.args.ready) c.self.inside.slots c.self.inside.keys c.args.id c.in-Some.key c.in-Some-get_mut.slot.now c.self.invariant.filled.table
+    in_place (ready_at c.args.ready) (λ r. refl) c.self.inside.slots c.self.inside.keys c.args.id c.in-Some.key c.in-Some-get_mut.slot.now c.self.invariant.filled.table
     (sym c.slot_of.ensures ∙ c.in-Some.is) at
 
 set_else : (c : After-set) → InPlace (ready_at c.args.ready) c.self.inside.slots c.self.inside.keys c.args.id c.in-Some.key c.in-Some-get_mut.slot.now
 set_else c =
     let at : get c.self.inside.slots c.in-Some.key ≡ Some c.in-Some-get_mut.slot.now = search rules in
-    in_place (ready_at c.args.ready) (stays c.args.ready) c.self.inside.slots c.self.inside.keys c.args.id c.in-Some.key c.in-Some-get_mut.slot.now c.self.invariant.filled.table
+    in_place (ready_at c.args.ready) (λ r. refl) c.self.inside.slots c.self.inside.keys c.args.id c.in-Some.key c.in-Some-get_mut.slot.now c.self.invariant.filled.table
     (sym c.slot_of.ensures ∙ c.in-Some.is) at
 
 pub set-requires-clause-rises : goal.set-requires-clause-rises
@@ -48,7 +44,7 @@ invariant_of-self c =
     let tested : (due_at old.ready == due_at c.args.ready) ≡ true = search (rules, to_z-of_z, c.if-keeps_times.true) in
     let at : get i.slots c.in-Some.key ≡ Some old = search rules in
     let p = set c.before.before.before.before in
-    rw to_z-of_z (held_in_place f (stays c.args.ready) (λ r. refl) i.slots i.keys c.args.id c.in-Some.key old i.seats i.seats i.may_ask i.may_nest c.self.invariant at p time
+    rw to_z-of_z (held_in_place f (λ r. refl) (λ r. refl) i.slots i.keys c.args.id c.in-Some.key old i.seats i.seats i.may_ask i.may_nest c.self.invariant at p time
     (kept_in_place f i.slots i.keys c.args.id c.in-Some.key old i.seats c.self.invariant.filled.table c.self.invariant.seated p (seat_kept old c.args.ready (are_same (due_at old.ready) (due_at c.args.ready) tested))))
 
 pub invariant_of-self-else-keeps_times : goal.invariant_of-self-else-keeps_times
@@ -61,8 +57,8 @@ invariant_of-self-else-keeps_times c =
     let seats : c.set.new.self.0 ≡ swapped (seat_of old) (seat_of (f old)) i.seats.0 = search (rules, to_z-of_z) in
     let at : get i.slots c.in-Some.key ≡ Some old = search rules in
     let p = set_else c in
-    rw to_z-of_z (held_in_place f (stays c.args.ready) (λ r. refl) i.slots i.keys c.args.id c.in-Some.key old i.seats c.set.new.self i.may_ask i.may_nest c.self.invariant at p time
-    (set_in_place f (stays c.args.ready) i.slots i.keys c.args.id c.in-Some.key old i.seats c.set.new.self c.self.invariant.filled.table c.self.invariant.seated p seats c.set.ensures.height))
+    rw to_z-of_z (held_in_place f (λ r. refl) (λ r. refl) i.slots i.keys c.args.id c.in-Some.key old i.seats c.set.new.self i.may_ask i.may_nest c.self.invariant at p time
+    (set_in_place f (λ r. refl) i.slots i.keys c.args.id c.in-Some.key old i.seats c.set.new.self c.self.invariant.filled.table c.self.invariant.seated p seats c.set.ensures.height))
 
 pub returns-then-keeps_times-clause-there : goal.returns-then-keeps_times-clause-there
 returns-then-keeps_times-clause-there c = sym (ap (λ (rows : List Row). is_some (row_of c.args.id rows)) (sym c.self.view_is) ∙ ap is_some (set c.before.before.before.before).there)

@@ -1,4 +1,6 @@
-use Rattle.std.proofs.Common.{◌≡◌, ◌∙◌, ◌++◌, ◌+◌, [], List, ap, sym, subst, arith, rules}
+use Rattle.std.proofs.Common.{◌≡◌, ◌∙◌, ◌++◌, ◌+◌, ℕ, Option, List, ap, sym, subst, arith, rules}
+use Rattle.cancel_view.specs.Seen.{Seen}
+use Rattle.task_steps.specs.declared.entry.Reply.{Reply}
 use Rattle.task_steps.specs.declared.entry.Entry.{Entry}
 use Rattle.task_steps.specs.declared.tasks.Tasks.{Tasks}
 use Rattle.task_steps.specs.BookInside.{entries_of, mark_of, joined_mark, IsMarked}
@@ -49,36 +51,49 @@ poll-requires-in-Two t c =
       ),
     )
 
-pub returns-then-are_gone-clause-polled : goal.returns-then-are_gone-clause-polled
-returns-then-are_gone-clause-polled t c =
-    let is : entries_of c.args.self.now ≡ entries_of c.in-Two.left.value ++ entries_of c.in-Two.right.value = ap entries_of c.in-Two.is in
+-- what is polled of both sides is polled of a node
+polled_sides : (tick : ℕ) (polled : Option ℕ) (view : Seen) (node left right one other : Tasks) (rs ss us : List Reply) (ls ms ns : List ℕ) → entries_of node ≡ entries_of left ++ entries_of right
+    → HasPolledAll tick polled view (entries_of left) (entries_of one) rs ss ls ms → HasPolledAll tick polled view (entries_of right) (entries_of other) ss us ms ns
+    → HasPolledAll tick polled view (entries_of node) (entries_of one ++ entries_of other) rs us ls ns
+polled_sides tick polled view node left right one other rs ss us ls ms ns is a b =
+    subst (λ (l : List Entry). HasPolledAll tick polled view l (entries_of one ++ entries_of other) rs us ls ns) (sym is) (polled_joined a b)
+
+pub returns-in-Some-clause-polled : goal.returns-in-Some-clause-polled
+returns-in-Some-clause-polled t c =
     let same : c.deref_mut-in-Two.result.now ≡ c.in-Two.left.value = search rules in
     let same_right : c.deref_mut-in-Two-2.result.now ≡ c.in-Two.right.value = search rules in
-    let one = subst (λ (x : Tasks). HasPolledAll c.args.round.tick c.args.round.polled c.args.view.now (entries_of x) (entries_of c.poll.new.self) c.args.replies.now.items c.poll.new.replies.items c.args.late.now.items c.poll.new.late.items) same c.in_ok-poll-in-Two.ensures.polled in
-    let other = subst (λ (x : Tasks). HasPolledAll c.args.round.tick c.args.round.polled c.args.view.now (entries_of x) (entries_of c.poll-in-Two.new.self) c.poll.new.replies.items c.poll-in-Two.new.replies.items c.poll.new.late.items c.poll-in-Two.new.late.items) same_right c.in_ok-poll-in-Two-2.ensures.polled in
-    let all = subst (λ (l : List Entry). HasPolledAll c.args.round.tick c.args.round.polled c.args.view.now l (entries_of c.poll.new.self ++ entries_of c.poll-in-Two.new.self) c.args.replies.now.items c.poll-in-Two.new.replies.items c.args.late.now.items c.poll-in-Two.new.late.items) (sym is) (polled_joined one other) in
-    let d : c.deref-in-Two-2.result.now ≡ c.poll.new.self = search rules in
-    let e : c.deref-in-Two-3.result.now ≡ c.poll-in-Two.new.self = search rules in
-    let gone : entries_of c.deref-in-Two-2.result.now ++ entries_of c.deref-in-Two-3.result.now ≡ [] = c.are_gone.ensures c.if-are_gone.true in
-    let none : entries_of c.poll.new.self ++ entries_of c.poll-in-Two.new.self ≡ [] = rw (d, e) at gone in
-    subst (λ (l : List Entry). HasPolledAll c.args.round.tick c.args.round.polled c.args.view.now (entries_of c.args.self.now) l c.args.replies.now.items c.poll-in-Two.new.replies.items c.args.late.now.items c.poll-in-Two.new.late.items) none all
+    let is : entries_of c.args.self.now ≡ entries_of c.deref_mut-in-Two.result.now ++ entries_of c.deref_mut-in-Two-2.result.now = rw (same, same_right) (ap entries_of c.in-Two.is) in
+    let both = polled_sides c.args.round.tick c.args.round.polled c.args.view.now c.args.self.now c.deref_mut-in-Two.result.now c.deref_mut-in-Two-2.result.now c.poll.new.self c.poll-in-Two.new.self
+    c.args.replies.now.items c.poll.new.replies.items c.poll-in-Two.new.replies.items c.args.late.now.items c.poll.new.late.items c.poll-in-Two.new.late.items is c.in_ok-poll-in-Two.ensures.polled c.in_ok-poll-in-Two-2.ensures.polled in
+    let d : c.deref_mut-in-Two-3.result.now ≡ c.poll.new.self = search rules in
+    let e : c.deref_mut-in-Two-4.result.now ≡ c.poll-in-Two.new.self = search rules in
+    let left : entries_of c.in-Some.tasks ≡ entries_of c.deref_mut-in-Two-3.result.now ++ entries_of c.deref_mut-in-Two-4.result.now = c.in-Some.ensures.entries in
+    let over : entries_of c.in-Some.tasks ≡ entries_of c.poll.new.self ++ entries_of c.poll-in-Two.new.self = rw (d, e) at left in
+    subst (λ (l : List Entry). HasPolledAll c.args.round.tick c.args.round.polled c.args.view.now (entries_of c.args.self.now) l c.args.replies.now.items c.poll-in-Two.new.replies.items c.args.late.now.items c.poll-in-Two.new.late.items) (sym over) both
 
-pub returns-else-are_gone-clause-polled : goal.returns-else-are_gone-clause-polled
-returns-else-are_gone-clause-polled t c =
-    let is : entries_of c.args.self.now ≡ entries_of c.in-Two.left.value ++ entries_of c.in-Two.right.value = ap entries_of c.in-Two.is in
+pub returns-in_default-clause-polled : goal.returns-in_default-clause-polled
+returns-in_default-clause-polled t c =
     let same : c.deref_mut-in-Two.result.now ≡ c.in-Two.left.value = search rules in
     let same_right : c.deref_mut-in-Two-2.result.now ≡ c.in-Two.right.value = search rules in
-    let one = subst (λ (x : Tasks). HasPolledAll c.args.round.tick c.args.round.polled c.args.view.now (entries_of x) (entries_of c.poll.new.self) c.args.replies.now.items c.poll.new.replies.items c.args.late.now.items c.poll.new.late.items) same c.in_ok-poll-in-Two.ensures.polled in
-    let other = subst (λ (x : Tasks). HasPolledAll c.args.round.tick c.args.round.polled c.args.view.now (entries_of x) (entries_of c.poll-in-Two.new.self) c.poll.new.replies.items c.poll-in-Two.new.replies.items c.poll.new.late.items c.poll-in-Two.new.late.items) same_right c.in_ok-poll-in-Two-2.ensures.polled in
-    let all = subst (λ (l : List Entry). HasPolledAll c.args.round.tick c.args.round.polled c.args.view.now l (entries_of c.poll.new.self ++ entries_of c.poll-in-Two.new.self) c.args.replies.now.items c.poll-in-Two.new.replies.items c.args.late.now.items c.poll-in-Two.new.late.items) (sym is) (polled_joined one other) in
-    all
+    let is : entries_of c.args.self.now ≡ entries_of c.deref_mut-in-Two.result.now ++ entries_of c.deref_mut-in-Two-2.result.now = rw (same, same_right) (ap entries_of c.in-Two.is) in
+    let both = polled_sides c.args.round.tick c.args.round.polled c.args.view.now c.args.self.now c.deref_mut-in-Two.result.now c.deref_mut-in-Two-2.result.now c.poll.new.self c.poll-in-Two.new.self
+    c.args.replies.now.items c.poll.new.replies.items c.poll-in-Two.new.replies.items c.args.late.now.items c.poll.new.late.items c.poll-in-Two.new.late.items is c.in_ok-poll-in-Two.ensures.polled c.in_ok-poll-in-Two-2.ensures.polled in
+    let d : c.deref_mut-in-Two-3.result.now ≡ c.poll.new.self = search rules in
+    let e : c.deref_mut-in-Two-4.result.now ≡ c.poll-in-Two.new.self = search rules in
+    let left : c.left_over.new.left ≡ c.deref_mut-in-Two-3.result.now = c.in_default.ensures.same_left in
+    let right : c.left_over.new.right ≡ c.deref_mut-in-Two-4.result.now = c.in_default.ensures.same_right in
+    rw (left, d, right, e) both
 
-pub returns-else-are_gone-clause-marked : goal.returns-else-are_gone-clause-marked
-returns-else-are_gone-clause-marked t c =
-    let d : c.deref.result.now ≡ c.poll.new.self = search rules in
-    let e : c.deref-in-Two.result.now ≡ c.poll-in-Two.new.self = search rules in
+pub returns-in_default-clause-marked : goal.returns-in_default-clause-marked
+returns-in_default-clause-marked t c =
+    let a : c.deref.result.now ≡ c.poll.new.self = search rules in
+    let b : c.deref-in-Two.result.now ≡ c.poll-in-Two.new.self = search rules in
     let m : c.mark-in-Two.result ≡ mark_of (entries_of c.deref.result.now) = c.mark-in-Two.ensures in
     let n : c.mark-in-Two-2.result ≡ mark_of (entries_of c.deref-in-Two.result.now) = c.mark-in-Two-2.ensures in
     let j : c.join.result ≡ joined_mark c.mark-in-Two.result c.mark-in-Two-2.result = c.join.ensures in
     let mark : c.join.result ≡ joined_mark (mark_of (entries_of c.poll.new.self)) (mark_of (entries_of c.poll-in-Two.new.self)) = cc in
-    (mark ∙ sym (mark_joined (entries_of c.poll.new.self) (entries_of c.poll-in-Two.new.self)), c.in_ok-poll-in-Two.ensures.marked, c.in_ok-poll-in-Two-2.ensures.marked)
+    let d : c.deref_mut-in-Two-3.result.now ≡ c.poll.new.self = search rules in
+    let e : c.deref_mut-in-Two-4.result.now ≡ c.poll-in-Two.new.self = search rules in
+    let left : c.left_over.new.left ≡ c.deref_mut-in-Two-3.result.now = c.in_default.ensures.same_left in
+    let right : c.left_over.new.right ≡ c.deref_mut-in-Two-4.result.now = c.in_default.ensures.same_right in
+    rw (left, d, right, e) (mark ∙ sym (mark_joined (entries_of c.poll.new.self) (entries_of c.poll-in-Two.new.self)), c.in_ok-poll-in-Two.ensures.marked, c.in_ok-poll-in-Two-2.ensures.marked)
