@@ -21,6 +21,36 @@ pub enum Command {
 }
 
 impl Command {
+    /// Each of them, in the order of the program's help.
+    pub(crate) const EACH: [Command; 9] = [
+        Command::Text,
+        Command::Why,
+        Command::Summary,
+        Command::Account,
+        Command::Steps,
+        Command::Stack,
+        Command::Timeline,
+        Command::Notes,
+        Command::Translate,
+    ];
+
+    /// Its word.
+    pub(crate) fn word<'a>(self) -> &'a str
+        ensures { result.now ≡ word_of self }
+    {
+        match self {
+            Command::Text => "text",
+            Command::Why => "why",
+            Command::Summary => "summary",
+            Command::Account => "account",
+            Command::Steps => "steps",
+            Command::Stack => "stack",
+            Command::Timeline => "timeline",
+            Command::Notes => "notes",
+            Command::Translate => "translate",
+        }
+    }
+
     /// That of a word.
     pub(crate) fn of_word(word: &str) -> Option<Command>
         ensures word { IfSome result (λ command. word_of command ≡ word.now) }

@@ -1,5 +1,5 @@
 //! The action `give`, and a context with its sources as it leaves one lane and comes into another at the end of a tick.
-ghost use Rattle.std.specs.Prelude.{◌≡◌, [], true, None, OnOk, is_none};
+ghost use Rattle.std.specs.Prelude.{◌≡◌, [], true, None, Some, OnOk, is_none};
 ghost use Rattle.loop_script.specs.References.{sizes};
 ghost use Rattle.lane_turn.specs.Lane.{context_at, is_given};
 ghost use Rattle.lane_turn.specs.Handover.{may_give, give, with_given, with_place, with_replies, handed_of, left_by, taken_over};
@@ -120,6 +120,24 @@ impl Lane {
         }
     }
 
+    /// A context that comes into its place.
+    fn put_context(&mut self, number: u32, context: Context)
+        ensures { lane_of self.new ≡ with_place number (Some context) (lane_of self.old) }
+    {
+        if let Some(place) = self.contexts.get_mut(number as usize) {
+            *place = Some(context);
+        }
+    }
+
+    /// The replies that the sources of a context hold from now on.
+    fn put_replies(&mut self, number: u32, replies: Replies)
+        ensures { lane_of self.new ≡ with_replies number replies (lane_of self.old) }
+    {
+        if let Some(held) = self.replies.get_mut(number as usize) {
+            *held = replies;
+        }
+    }
+
     /// Takes a context over, and writes so.
     pub(crate) fn take_over(&mut self, tick: u32, held: Held) -> Result<(), AllocError>
         ensures { OnOk result (lane_of self.new ≡ taken_over tick held (lane_of self.old)) }
@@ -129,12 +147,8 @@ impl Lane {
             context,
             replies,
         } = held;
-        if let Some(slot) = self.contexts.get_mut(number as usize) {
-            *slot = Some(context);
-        }
-        if let Some(slot) = self.replies.get_mut(number as usize) {
-            *slot = replies;
-        }
+        self.put_context(number, context);
+        self.put_replies(number, replies);
         self.write(tick, Event::Hold(number))
     }
 }

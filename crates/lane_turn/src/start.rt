@@ -1,5 +1,8 @@
 //! A lane as it is opened: it holds its start call, and nothing else.
-ghost use Rattle.std.specs.Prelude.{◌≡◌, IfOk, false};
+ghost use Rattle.std.specs.Prelude.{◌≡◌, ◌∷◌, [], IfOk, OnOk, false};
+ghost use Rattle.lane_turn.specs.Frames.{CallOf};
+ghost use Rattle.lane_turn.specs.declared.layer.Origin.TheVariants as origins;
+ghost use Rattle.loop_script.specs.declared.body.Body.TheVariants as bodies;
 ghost use Rattle.lane_turn.specs.Turn.{opening, open_context, open_contexts, open_slots, open_loops, open_replies};
 ghost use Rattle.lane_turn.specs.Sources.{tree_levels};
 ghost use Rattle.lane_turn.specs.Meaning.{lane_of};
@@ -98,29 +101,48 @@ fn open_replies(alloc: Global, contexts: u32) -> Result<Vec<Replies>, AllocError
     Ok(replies)
 }
 
+/// A lane with nothing in progress and no room for anything yet.
+fn bare_lane(alloc: Global, lane: u32, watch: Watch) -> Lane
+    ensures { lane_of result ≡ record { number = lane; contexts = []; given = []; slots = []; view = watch.view; tasks = watch.tasks; frames = []; running = []; defaults = []; replies = []; trace = []; status = Status.GoesOn } }
+{
+    Lane {
+        number: lane,
+        contexts: Vec::new(alloc),
+        given: Vec::new(alloc),
+        slots: Vec::new(alloc),
+        watch,
+        frames: Frames::new(alloc),
+        running: Vec::new(alloc),
+        defaults: DefaultStack::new(alloc),
+        replies: Vec::new(alloc),
+        trace: Vec::new(alloc),
+        status: Status::GoesOn,
+    }
+}
+
+/// Gives a lane its contexts, room for what comes, and its start call.
+fn fill(alloc: Global, script: &Script, lane: &mut Lane) -> Result<(), AllocError>
+    ensures { OnOk result (lane_of lane.new ≡ record (opening script.now lane.old.number) { view = lane.old.watch.view; tasks = lane.old.watch.tasks; frames = CallOf (record { origin = origins.Start; body = bodies.Start lane.old.number; place = 0 }) ∷ lane.old.frames; defaults = lane.old.defaults; trace = lane.old.trace.items; status = lane.old.status }) }
+{
+    lane.contexts = open_contexts(alloc, script, lane.number)?;
+    lane.given = open_loops(alloc, script.contexts())?;
+    lane.slots = open_slots(alloc, SLOTS)?;
+    lane.running = open_loops(alloc, script.loops())?;
+    lane.replies = open_replies(alloc, script.contexts())?;
+    lane.frames.begin_call(Call {
+        origin: Origin::Start,
+        body: Body::Start(lane.number),
+        place: 0,
+    })
+}
+
 /// A lane that holds its start call.
 fn open_lane(alloc: Global, script: &Script, lane: u32) -> Result<Lane, AllocError>
     ensures { IfOk result (λ opened. lane_of opened ≡ opening script.now lane) }
 {
-    let mut frames = Frames::new(alloc);
-    frames.begin_call(Call {
-        origin: Origin::Start,
-        body: Body::Start(lane),
-        place: 0,
-    })?;
-    Ok(Lane {
-        number: lane,
-        contexts: open_contexts(alloc, script, lane)?,
-        given: open_loops(alloc, script.contexts())?,
-        slots: open_slots(alloc, SLOTS)?,
-        watch: open_watch(alloc, script)?,
-        frames,
-        running: open_loops(alloc, script.loops())?,
-        defaults: DefaultStack::new(alloc),
-        replies: open_replies(alloc, script.contexts())?,
-        trace: Vec::new(alloc),
-        status: Status::GoesOn,
-    })
+    let mut opened = bare_lane(alloc, lane, open_watch(alloc, script)?);
+    fill(alloc, script, &mut opened)?;
+    Ok(opened)
 }
 
 /// The same in a box.

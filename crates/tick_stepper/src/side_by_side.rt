@@ -1,10 +1,10 @@
 //! Calls of one function in several threads, which all are started by the thread that asks for them.
-ghost use Rattle.std.specs.Prelude.{◌≡◌, IfOk, vec_len};
+ghost use Rattle.std.specs.Prelude.{◌≡◌, ◌∷◌, [], IfOk, vec_len};
 ghost use Rattle.std.specs.Fork.{AcceptsJobs, GivesJobs};
 ghost use Rattle.std.specs.Fork.Halves.{GivesFor};
 ghost use denote.Param.Send.{IsSync, IsSend};
 
-use std::alloc::AllocError;
+use std::alloc::{AllocError, Global};
 use std::thread::{Threads, join};
 
 /// Calls `f` with each job: with the first in this thread, with each other in a thread of its own, which this one
@@ -34,13 +34,12 @@ fn call_each<R: Threads + Sync, J: Send + Drop, X: Send + Drop, F: Fn(J) -> X + 
     requires { AcceptsJobs F.Fn f.now jobs.items }
     ensures { IfOk result (λ v. GivesFor F.Fn f.now jobs.items v.items) }
 {
-    let mut results = Vec::new(*jobs.allocator());
+    let alloc = *jobs.allocator();
     let Some(last) = jobs.pop() else {
-        return Ok(results);
+        return Ok(Vec::new(alloc));
     };
     if jobs.is_empty() {
-        results.push(f(last))?;
-        return Ok(results);
+        return alone(alloc, f(last));
     }
     let there = move || -> X
         requires { F.pre f.now last }
@@ -53,5 +52,14 @@ fn call_each<R: Threads + Sync, J: Send + Drop, X: Send + Drop, F: Fn(J) -> X + 
     let (from_there, from_here) = join(rt, there, here);
     let mut all = from_here?;
     all.push(from_there)?;
+    Ok(all)
+}
+
+/// One result alone.
+fn alone<X: Drop>(alloc: Global, one: X) -> Result<Vec<X>, AllocError>
+    ensures { IfOk result (λ all. all.items ≡ one ∷ []) }
+{
+    let mut all = Vec::new(alloc);
+    all.push(one)?;
     Ok(all)
 }
