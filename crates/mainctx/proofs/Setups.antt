@@ -7,7 +7,7 @@ use Rattle.tick_stepper.specs.declared.fault.StepFault.TheVariants as steps
 use Rattle.tick_stepper.specs.Crew.{refusal_of}
 use Rattle.mainctx.specs.declared.run.MainFault.{MainFault}
 use Rattle.mainctx.specs.declared.run.MainFault.TheVariants as faults
-use Rattle.mainctx.specs.Run.{IsSetup, IsSetupFaultOf, IsRunFaultOf, IsScriptOf}
+use Rattle.mainctx.specs.Run.{IsSetup, IsSetupFaultOf, IsRunFaultOf, IsLoneFaultOf, IsWriteFault, IsScriptOf}
 
 pub setup_is : (script : Plan) (workers : ℕ) (sharing : Sharing) (fault : StepFault) (answer : MainFault) → IsSetup fault answer → (fault ≢ steps.OutOfMemory → refusal_of script workers sharing ≡ Some fault) → IsSetupFaultOf script workers sharing answer
 setup_is script workers sharing steps.Workers answer e cause = subst (IsSetupFaultOf script workers sharing) (sym e) (cause (λ no. cc))
@@ -27,3 +27,17 @@ no_write script workers sharing (faults.Script fault) is e = absurd is
 no_write script workers sharing (faults.Setup fault) is e = cc
 no_write script workers sharing faults.OutOfMemory is e = cc
 no_write script workers sharing faults.Write is e = absurd is
+
+-- a fault once a run has ended is one of the run of its bytes
+pub run_fault : (bytes : List ℕ) (script : Plan) (workers : ℕ) (sharing : Sharing) (fault : MainFault) → IsScriptOf bytes script → IsWriteFault fault → IsRunFaultOf bytes workers sharing fault
+run_fault bytes script workers sharing (faults.Script fault) read is = absurd is
+run_fault bytes script workers sharing (faults.Setup fault) read is = absurd is
+run_fault bytes script workers sharing faults.OutOfMemory read is = tt
+run_fault bytes script workers sharing faults.Write read is = (script, read)
+
+-- and of a run by the caller alone
+pub lone_fault : (bytes : List ℕ) (script : Plan) (fault : MainFault) → IsScriptOf bytes script → IsWriteFault fault → IsLoneFaultOf bytes fault
+lone_fault bytes script (faults.Script fault) read is = absurd is
+lone_fault bytes script (faults.Setup fault) read is = absurd is
+lone_fault bytes script faults.OutOfMemory read is = tt
+lone_fault bytes script faults.Write read is = (script, read)

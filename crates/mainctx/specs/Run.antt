@@ -42,6 +42,13 @@ IsLoneFaultOf bytes (faults.Setup fault) = ⊥
 IsLoneFaultOf bytes faults.OutOfMemory = Unit {0}
 IsLoneFaultOf bytes faults.Write = (script : Plan) × IsScriptOf bytes script
 
+-- what is left to go wrong once a run has ended
+abbrev pub IsWriteFault : MainFault → Type 0
+IsWriteFault (faults.Script fault) = ⊥
+IsWriteFault (faults.Setup fault) = ⊥
+IsWriteFault faults.OutOfMemory = Unit {0}
+IsWriteFault faults.Write = Unit {0}
+
 -- a run of a script may end with this fault before anything is written
 abbrev pub IsSetupFaultOf : Plan → (workers : ℕ) → Sharing → MainFault → Type 0
 IsSetupFaultOf script workers sharing (faults.Script fault) = ⊥

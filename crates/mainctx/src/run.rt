@@ -1,7 +1,8 @@
 //! The public calls: from the bytes of a script to the bytes of its text, by workers or on one thread.
-ghost use Rattle.std.specs.Prelude.{◌≡◌, ◌≢◌, ◌<◌, ◌↔◌, OnOk, OnErr, IfOk, IfErr, Err};
-ghost use Rattle.mainctx.specs.Run.{IsCrewFor, IsLoneFaultOf, IsRunFaultOf, IsScriptOf, Writes, WritesPrefix, HoldsText};
-ghost use Rattle.mainctx.specs.Writing.{GrowAlike};
+ghost use Rattle.std.specs.Prelude.{◌≡◌, ◌≢◌, ◌<◌, ◌++◌, ◌↔◌, OnOk, OnErr, IfOk, IfErr, Err};
+ghost use Rattle.mainctx.specs.Run.{IsCrewFor, IsLoneFaultOf, IsRunFaultOf, IsScriptOf, IsWriteFault, Writes, WritesPrefix, HoldsText};
+ghost use Rattle.mainctx.specs.Text.{text_of};
+ghost use Rattle.mainctx.specs.Writing.{AddsPrefix, GrowAlike};
 
 use crate::buffer::Buffer;
 use crate::ended::Ended;
@@ -63,10 +64,27 @@ fn run_to_end<R: Threads + Wait + Sync, G: Gate>(
     Ended::new(rt, alloc, script, workers, sharing, gate)
 }
 
+/// Writes the text of a run that has ended.
+#[tactic(auto, using(crate::proofs::Alike::alike_none))]
+fn write_ended<W: Out>(alloc: Global, ended: &Ended, out: &mut W) -> Result<(), MainFault>
+    ensures text { OnOk result (W.taken out.new ≡ W.taken out.old ++ text_of ended.now) }
+    ensures fault { IfErr result IsWriteFault }
+    ensures write { (result ≡ Err MainFault.Write) ↔ (W.failures out.old < W.failures out.new) }
+    ensures prefix { result ≡ Err MainFault.Write → AddsPrefix (W.taken out.old) (W.taken out.new) (text_of ended.now) }
+    ensures nothing { OnErr result (result ≢ Err MainFault.Write → W.taken out.new ≡ W.taken out.old) }
+    ensures known { GrowAlike (W.taken out.old) (W.taken out.new) (W.contents out.old) (W.contents out.new) }
+{
+    let mut buffer = Buffer::new(alloc)?;
+    match ended.write(&mut buffer, out) {
+        Ok(()) => Ok(()),
+        Err(OutFault) => Err(MainFault::Write),
+    }
+}
+
 /// Reads a script, runs it with the turns of its lanes shared out among workers, each taken through the gate, and writes
 /// its text when the run has ended. What the writer itself holds,
 /// where that is known, grows by what it is told to have taken.
-#[tactic(auto, using(crate::proofs::Alike::alike_none))]
+#[tactic(auto, using(crate::proofs::Alike::alike_none, crate::proofs::Setups::run_fault))]
 pub fn run_bytes<R: Threads + Wait + Sync, G: Gate, W: Out>(
     rt: &R,
     alloc: Global,
@@ -86,11 +104,8 @@ pub fn run_bytes<R: Threads + Wait + Sync, G: Gate, W: Out>(
     ensures holds { OnOk result (HoldsText bytes.now (W.contents out.old) (W.contents out.new)) }
 {
     let ended = run_to_end(rt, alloc, bytes, workers, sharing, gate)?;
-    let mut buffer = Buffer::new(alloc)?;
-    match ended.write(&mut buffer, out) {
-        Ok(()) => Ok(()),
-        Err(OutFault) => Err(MainFault::Write),
-    }
+    write_ended(alloc, &ended, out)?;
+    Ok(())
 }
 
 /// Reads a script and runs it to its end, in the caller's thread alone.
@@ -109,7 +124,7 @@ fn run_to_end_alone(alloc: Global, bytes: &[u8]) -> Result<Ended, MainFault>
 
 /// Does what `run_bytes` does, for any number of workers: the caller takes each turn itself, and needs no handle for it. No
 /// fault is `Setup`.
-#[tactic(auto, using(crate::proofs::Alike::alike_none))]
+#[tactic(auto, using(crate::proofs::Alike::alike_none, crate::proofs::Setups::lone_fault))]
 pub fn run_alone<W: Out>(alloc: Global, bytes: &[u8], out: &mut W) -> Result<(), MainFault>
     ensures text { OnOk result (Writes bytes.now (W.taken out.old) (W.taken out.new)) }
     ensures script { IfErr result (λ fault. IsLoneFaultOf bytes.now fault) }
@@ -120,9 +135,6 @@ pub fn run_alone<W: Out>(alloc: Global, bytes: &[u8], out: &mut W) -> Result<(),
     ensures holds { OnOk result (HoldsText bytes.now (W.contents out.old) (W.contents out.new)) }
 {
     let ended = run_to_end_alone(alloc, bytes)?;
-    let mut buffer = Buffer::new(alloc)?;
-    match ended.write(&mut buffer, out) {
-        Ok(()) => Ok(()),
-        Err(OutFault) => Err(MainFault::Write),
-    }
+    write_ended(alloc, &ended, out)?;
+    Ok(())
 }
