@@ -119,12 +119,16 @@ abbrev pub word_pieces : Choice → Json → Option Word → List Piece
 word_pieces c j None = one token.null ∷ []
 word_pieces c j (Some w) = in_list (one (token.string (text_of (numbered_word w))) ∷ part_pieces (parts c w) j)
 
+-- what stands in a list: a tick and bits, the items of a list or the members of an object
+abbrev pub listed_pieces : Sort → Json → List Piece
+listed_pieces sorts.Pair j = part_pieces pair j
+listed_pieces sorts.Actions j = item_pieces 0 (each sorts.Actions) (items_in (Some j))
+listed_pieces sorts.Levels j = item_pieces 0 (each sorts.Levels) (items_in (Some j))
+listed_pieces s j = member_pieces (each s) (members_in (Some j))
+
 -- what j is made of
 abbrev pub pieces : Sort → Names → Json → List Piece
 pieces (sorts.Leaf l) ns j = or_null (leaf l ns j) ∷ []
 pieces (sorts.OneOf c) ns j = word_pieces c j (chosen c j)
 pieces (sorts.An o) ns j = in_object (field_pieces (fields o) j)
-pieces sorts.Pair ns j = in_list (part_pieces pair j)
-pieces sorts.Actions ns j = in_list (item_pieces 0 (each sorts.Actions) (items_in (Some j)))
-pieces sorts.Levels ns j = in_list (item_pieces 0 (each sorts.Levels) (items_in (Some j)))
-pieces s ns j = in_list (member_pieces (each s) (members_in (Some j)))
+pieces s ns j = in_list (listed_pieces s j)

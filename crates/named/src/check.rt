@@ -1,7 +1,7 @@
 //! The faults of a script with names, gathered place by place through all of it.
 ghost use Rattle.std.specs.Prelude.{◌≡◌, ◌++◌, ◌∷◌, [], map, IfOk, OnOk};
 ghost use Rattle.json.specs.Value.{value_view};
-ghost use Rattle.named.specs.Faults.{found_at, faults_in, within, own};
+ghost use Rattle.named.specs.Faults.{found_at, faults_in, together, within, own};
 ghost use Rattle.named.specs.Views.{names_of, step_view, piece_view, found_of};
 ghost use Rattle.named.specs.Written.{levels};
 
@@ -55,8 +55,23 @@ fn check<'a>(
     }
     push_own(alloc, names, sort, value, place, faults)?;
     let pieces = pieces_of(alloc, names, sort, value)?;
-    for piece in pieces.as_slice() {
-        check_piece(alloc, names, piece, levels - 1, place, faults)?;
+    check_each(alloc, names, pieces.as_slice(), levels - 1, place, faults)
+}
+
+#[cycle(check)]
+fn check_each<'a>(
+    alloc: Global,
+    names: &Names<'_>,
+    pieces: &[Piece<'_, 'a>],
+    levels: u32,
+    place: &mut Vec<Step<'a>>,
+    faults: &mut Vec<Fault<'a>>,
+) -> Result<(), AllocError>
+    ensures faults { OnOk result (map found_of faults.new.items ≡ map found_of faults.old.items ++ together (within (λ step. faults_in levels (names_of names.now) (map step_view place.old.items ++ step ∷ []))) (map piece_view pieces.now)) }
+    ensures place { OnOk result (map step_view place.new.items ≡ map step_view place.old.items) }
+{
+    for piece in pieces {
+        check_piece(alloc, names, piece, levels, place, faults)?;
     }
     Ok(())
 }

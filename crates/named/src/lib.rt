@@ -3,6 +3,7 @@
 
 mod bits;
 mod check;
+mod count;
 mod fault;
 mod field;
 mod names;

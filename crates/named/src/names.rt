@@ -1,11 +1,13 @@
 //! The names of a script, in the order that gives them their numbers: declared ones, those that are said, and contexts.
-ghost use Rattle.std.specs.Prelude.{◌≡◌, ◌==◌, [], ℕ, List, length, IfOk, OnOk};
+ghost use Rattle.std.specs.Prelude.{◌≡◌, [], option_and_then, option_map, option_to_list, IfOk, OnOk};
 ghost use Rattle.std.specs.List.{list_any};
 ghost use Rattle.std.specs.Str.{bytes_eq};
+ghost use Rattle.json.specs.Find.{as_str};
 ghost use Rattle.json.specs.Value.{value_view, items_view, members_view};
-ghost use Rattle.named.specs.Names.{of_kind, most, number_of, added, all_added, items_in, members_in, texts_of, keys_of, contexts_or, contexts_of, said, said_in, said_by, names_in, has_all};
+ghost use Rattle.named.specs.Names.{of_kind, most, number_of, added, all_added, items_in, members_in, texts_of, keys_of, under, contexts_or, contexts_of, said, said_in, said_by, names_in, has_all};
 ghost use Rattle.named.specs.Views.{names_of, texts, seen};
 
+use crate::count::{have_contexts, keys_count, texts_count};
 use crate::sort::Kind;
 use crate::word::Word;
 use json::Value;
@@ -95,77 +97,6 @@ impl<'a> Names<'a> {
     }
 }
 
-fn keys_count(value: Option<&Value<'_>>) -> usize
-    ensures { result ≡ length (keys_of (members_in (seen value.entry))) }
-{
-    match value {
-        Some(Value::Object(members)) => count_members(members.as_slice()),
-        _ => 0,
-    }
-}
-
-#[tactic(auto, using(crate::proofs::Adding::keys_length))]
-fn count_members(members: &[(&str, Value<'_>)]) -> usize
-    ensures { result ≡ length (keys_of (members_view members.now)) }
-{
-    members.len()
-}
-
-fn texts_count(value: Option<&Value<'_>>) -> usize
-    ensures { result ≡ length (texts_of (items_in (seen value.entry))) }
-{
-    match value {
-        Some(Value::Array(items)) => count_texts(items.as_slice()),
-        _ => 0,
-    }
-}
-
-fn count_texts(items: &[Value<'_>]) -> usize
-    ensures { result ≡ length (texts_of (items_view items.now)) }
-{
-    let mut count = 0;
-    for item in items {
-        if item.as_str().is_some() {
-            count += 1;
-        }
-    }
-    count
-}
-
-/// How many contexts a thread has; one that names none has one of its own name.
-fn contexts_count(contexts: Option<&Value<'_>>) -> usize
-    ensures { (thread : List ℕ) → result ≡ length (contexts_or thread (seen contexts.entry)) }
-{
-    match contexts {
-        None => 1,
-        Some(_) => texts_count(contexts),
-    }
-}
-
-/// Whether threads have so many contexts together.
-fn have_contexts(value: Option<&Value<'_>>, count: usize) -> bool
-    ensures { result ≡ (length (contexts_of (members_in (seen value.entry))) == count) }
-{
-    match value {
-        Some(Value::Object(threads)) => have_contexts_together(threads.as_slice(), count),
-        _ => count == 0,
-    }
-}
-
-fn have_contexts_together(threads: &[(&str, Value<'_>)], count: usize) -> bool
-    ensures { result ≡ (length (contexts_of (members_view threads.now)) == count) }
-{
-    let mut left = count;
-    for thread in threads {
-        let own = contexts_count(thread.1.get(Word::Contexts.text()));
-        if left < own {
-            return false;
-        }
-        left -= own;
-    }
-    left == 0
-}
-
 fn number_among(names: &[&str], name: &str) -> Option<usize>
     ensures { result ≡ number_of name.now (texts names.now) }
 {
@@ -204,6 +135,20 @@ fn add<'a>(names: &mut Vec<&'a str>, limit: usize, name: &'a str) -> Result<(), 
         names.push(name)?;
     }
     Ok(())
+}
+
+/// Adds a name, where one is given.
+fn add_given<'a>(
+    names: &mut Vec<&'a str>,
+    limit: usize,
+    name: Option<&'a str>,
+) -> Result<(), AllocError>
+    ensures { OnOk result (texts names.new.items ≡ all_added limit (texts names.old.items) (option_to_list (option_map (λ s. s.now) name.entry))) }
+{
+    match name {
+        Some(name) => add(names, limit, name),
+        None => Ok(()),
+    }
 }
 
 fn keys<'a>(
@@ -262,9 +207,7 @@ fn add_texts<'a>(
     ensures { OnOk result (texts names.new.items ≡ all_added limit (texts names.old.items) (texts_of (items_view items.now))) }
 {
     for item in items {
-        if let Some(name) = item.as_str() {
-            add(names, limit, name)?;
-        }
+        add_given(names, limit, item.as_str())?;
     }
     Ok(())
 }
@@ -390,9 +333,14 @@ fn add_said<'a>(
     ensures { OnOk result (texts names.new.items ≡ all_added limit (texts names.old.items) (said words.now (value_view action.now))) }
 {
     for word in words {
-        if let Some(name) = action.get(word.text()).and_then(Value::as_str) {
-            add(names, limit, name)?;
-        }
+        add_given(names, limit, text_under(*word, action))?;
     }
     Ok(())
+}
+
+/// The text that stands under a key.
+fn text_under<'a>(key: Word, value: &Value<'a>) -> Option<&'a str>
+    ensures { option_map (λ s. s.now) result ≡ option_and_then as_str (under key (value_view value.now)) }
+{
+    value.get(key.text())?.as_str()
 }

@@ -1,9 +1,9 @@
 //! Writing a value with names as one of numbers.
-ghost use Rattle.std.specs.Prelude.{◌≡◌, ◌++◌, IfOk, OnOk};
+ghost use Rattle.std.specs.Prelude.{◌≡◌, ◌++◌, map, IfOk, OnOk};
 ghost use Rattle.json.specs.Print.{print};
 ghost use Rattle.json.specs.Value.{value_view};
 ghost use Rattle.named.specs.Views.{names_of, piece_view, tokens_of};
-ghost use Rattle.named.specs.Written.{filled, levels, written};
+ghost use Rattle.named.specs.Written.{filled, levels, together, written};
 
 use crate::names::Names;
 use crate::piece::{Piece, pieces_of};
@@ -47,8 +47,22 @@ fn write(
         return writer.null();
     }
     let pieces = pieces_of(alloc, names, sort, value)?;
-    for piece in pieces.as_slice() {
-        write_piece(alloc, names, piece, levels - 1, writer)?;
+    write_each(alloc, names, pieces.as_slice(), levels - 1, writer)
+}
+
+#[cycle(write)]
+fn write_each(
+    alloc: Global,
+    names: &Names<'_>,
+    pieces: &[Piece<'_, '_>],
+    levels: u32,
+    writer: &mut Writer,
+) -> Result<(), AllocError>
+    ensures tokens { OnOk result (writer.new.tokens ≡ writer.old.tokens ++ together (filled (written levels (names_of names.now))) (map piece_view pieces.now)) }
+    ensures before { OnOk result (writer.new.before ≡ writer.old.before) }
+{
+    for piece in pieces {
+        write_piece(alloc, names, piece, levels, writer)?;
     }
     Ok(())
 }

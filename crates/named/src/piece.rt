@@ -3,7 +3,7 @@ ghost use Rattle.std.specs.Prelude.{◌≡◌, ◌∷◌, ◌++◌, [], Some, ma
 ghost use Rattle.std.specs.List.{list_any};
 ghost use Rattle.json.specs.Value.{value_view, items_view, members_view};
 ghost use Rattle.named.specs.Names.{items_in, members_in};
-ghost use Rattle.named.specs.Pieces.{step_of, found, stands, only, spelt, chosen, part_piece, part_pieces, absent_pieces, field_piece, field_pieces, item_pieces, member_pieces, word_pieces, pieces, in_list, in_object, or_null};
+ghost use Rattle.named.specs.Pieces.{step_of, found, stands, only, spelt, chosen, part_piece, part_pieces, absent_pieces, field_piece, field_pieces, item_pieces, member_pieces, word_pieces, listed_pieces, pieces, in_list, in_object, or_null};
 ghost use Rattle.named.specs.Leaf.{leaf};
 ghost use Rattle.named.specs.Tables.{fields, pair};
 ghost use Rattle.named.specs.Views.{names_of, seen, step_view, piece_view};
@@ -131,15 +131,34 @@ pub(crate) fn pieces_of<'v, 'a>(
     ensures { IfOk result (λ found. map piece_view found.items ≡ pieces sort (names_of names.now) (value_view value.now)) }
 {
     let mut found = Vec::new(alloc);
-    match sort {
-        Sort::Leaf(leaf) => found.push(scalar_piece(names, leaf, value))?,
-        Sort::OneOf(choice) => push_word(choice, value, chosen(choice, value), &mut found)?,
-        Sort::An(object) => push_object(object, value, &mut found)?,
-        Sort::Pair => push_pair(value, &mut found)?,
-        Sort::Actions | Sort::Levels => push_items(each(sort), value, &mut found)?,
-        _ => push_members(each(sort), value, &mut found)?,
-    }
+    push_pieces(names, sort, value, &mut found)?;
     Ok(found)
+}
+
+fn push_pieces<'v, 'a>(
+    names: &Names<'_>,
+    sort: Sort,
+    value: &'v Value<'a>,
+    found: &mut Vec<Piece<'v, 'a>>,
+) -> Result<(), AllocError>
+    ensures { OnOk result (map piece_view found.new.items ≡ map piece_view found.old.items ++ pieces sort (names_of names.now) (value_view value.now)) }
+{
+    match sort {
+        Sort::Leaf(leaf) => push_piece(scalar_piece(names, leaf, value), found),
+        Sort::OneOf(choice) => push_word(choice, value, chosen(choice, value), found),
+        Sort::An(object) => push_object(object, value, found),
+        _ => push_list(sort, value, found),
+    }
+}
+
+fn push_piece<'v, 'a>(
+    piece: Piece<'v, 'a>,
+    found: &mut Vec<Piece<'v, 'a>>,
+) -> Result<(), AllocError>
+    ensures { OnOk result (map piece_view found.new.items ≡ map piece_view found.old.items ++ piece_view piece.entry ∷ []) }
+{
+    found.push(piece)?;
+    Ok(())
 }
 
 fn scalar_piece<'v, 'a>(names: &Names<'_>, asked: Leaf, value: &Value<'a>) -> Piece<'v, 'a>
@@ -160,14 +179,11 @@ fn push_word<'v, 'a>(
     ensures { OnOk result (map piece_view found.new.items ≡ map piece_view found.old.items ++ word_pieces choice (value_view value.now) word) }
 {
     let Some(word) = word else {
-        found.push(Piece::Scalar(Scalar::Null))?;
-        return Ok(());
+        return push_piece(Piece::Scalar(Scalar::Null), found);
     };
-    found.push(Piece::BeginArray)?;
-    found.push(Piece::Text(numbered_word(word)))?;
+    found.extend_from_slice(&[Piece::BeginArray, Piece::Text(numbered_word(word))])?;
     push_parts(parts(choice, word), value, found)?;
-    found.push(Piece::EndArray)?;
-    Ok(())
+    push_piece(Piece::EndArray, found)
 }
 
 fn push_parts<'v, 'a>(
@@ -178,7 +194,7 @@ fn push_parts<'v, 'a>(
     ensures { OnOk result (map piece_view found.new.items ≡ map piece_view found.old.items ++ part_pieces parts.now (value_view value.now)) }
 {
     for part in parts {
-        found.push(part_piece(part, part.at.find(value)))?;
+        push_piece(part_piece(part, part.at.find(value)), found)?;
     }
     Ok(())
 }
@@ -196,15 +212,6 @@ fn part_piece<'v, 'a>(part: &Part, value: Option<&'v Value<'a>>) -> Piece<'v, 'a
     }
 }
 
-fn push_pair<'v, 'a>(value: &'v Value<'a>, found: &mut Vec<Piece<'v, 'a>>) -> Result<(), AllocError>
-    ensures { OnOk result (map piece_view found.new.items ≡ map piece_view found.old.items ++ in_list (part_pieces pair (value_view value.now))) }
-{
-    found.push(Piece::BeginArray)?;
-    push_parts(pair(), value, found)?;
-    found.push(Piece::EndArray)?;
-    Ok(())
-}
-
 fn push_object<'v, 'a>(
     object: Object,
     value: &'v Value<'a>,
@@ -212,10 +219,9 @@ fn push_object<'v, 'a>(
 ) -> Result<(), AllocError>
     ensures { OnOk result (map piece_view found.new.items ≡ map piece_view found.old.items ++ in_object (field_pieces (fields object) (value_view value.now))) }
 {
-    found.push(Piece::BeginObject)?;
+    push_piece(Piece::BeginObject, found)?;
     push_fields(fields(object), value, found)?;
-    found.push(Piece::EndObject)?;
-    Ok(())
+    push_piece(Piece::EndObject, found)
 }
 
 fn push_fields<'v, 'a>(
@@ -247,9 +253,34 @@ fn push_field<'v, 'a>(
         (None, Absent::Number(n)) => Piece::Scalar(Scalar::Whole(n)),
         (None, _) => return Ok(()),
     };
-    found.push(Piece::Key(field.key))?;
-    found.push(piece)?;
-    Ok(())
+    found.extend_from_slice(&[Piece::Key(field.key), piece])
+}
+
+fn push_list<'v, 'a>(
+    sort: Sort,
+    value: &'v Value<'a>,
+    found: &mut Vec<Piece<'v, 'a>>,
+) -> Result<(), AllocError>
+    ensures { OnOk result (map piece_view found.new.items ≡ map piece_view found.old.items ++ in_list (listed_pieces sort (value_view value.now))) }
+{
+    push_piece(Piece::BeginArray, found)?;
+    push_listed(sort, value, found)?;
+    push_piece(Piece::EndArray, found)
+}
+
+/// Adds what stands in a list: a tick and bits, the items of a list or the members of an object.
+fn push_listed<'v, 'a>(
+    sort: Sort,
+    value: &'v Value<'a>,
+    found: &mut Vec<Piece<'v, 'a>>,
+) -> Result<(), AllocError>
+    ensures { OnOk result (map piece_view found.new.items ≡ map piece_view found.old.items ++ listed_pieces sort (value_view value.now)) }
+{
+    match sort {
+        Sort::Pair => push_parts(pair(), value, found),
+        Sort::Actions | Sort::Levels => push_items(each(sort), value, found),
+        _ => push_members(each(sort), value, found),
+    }
 }
 
 fn push_items<'v, 'a>(
@@ -257,14 +288,12 @@ fn push_items<'v, 'a>(
     value: &'v Value<'a>,
     found: &mut Vec<Piece<'v, 'a>>,
 ) -> Result<(), AllocError>
-    ensures { OnOk result (map piece_view found.new.items ≡ map piece_view found.old.items ++ in_list (item_pieces 0 sort (items_in (Some (value_view value.now))))) }
+    ensures { OnOk result (map piece_view found.new.items ≡ map piece_view found.old.items ++ item_pieces 0 sort (items_in (Some (value_view value.now)))) }
 {
-    found.push(Piece::BeginArray)?;
-    if let Value::Array(items) = value {
-        push_each_item(sort, items.as_slice(), found)?;
+    match value {
+        Value::Array(items) => push_each_item(sort, items.as_slice(), found),
+        _ => Ok(()),
     }
-    found.push(Piece::EndArray)?;
-    Ok(())
 }
 
 fn push_each_item<'v, 'a>(
@@ -275,11 +304,8 @@ fn push_each_item<'v, 'a>(
     ensures { OnOk result (map piece_view found.new.items ≡ map piece_view found.old.items ++ item_pieces 0 sort (items_view items.now)) }
 {
     for (n, value) in items.iter().enumerate() {
-        found.push(Piece::Inner(Inner {
-            step: Step::Item(n),
-            sort,
-            value,
-        }))?;
+        let step = Step::Item(n);
+        push_piece(Piece::Inner(Inner { step, sort, value }), found)?;
     }
     Ok(())
 }
@@ -289,14 +315,12 @@ fn push_members<'v, 'a>(
     value: &'v Value<'a>,
     found: &mut Vec<Piece<'v, 'a>>,
 ) -> Result<(), AllocError>
-    ensures { OnOk result (map piece_view found.new.items ≡ map piece_view found.old.items ++ in_list (member_pieces sort (members_in (Some (value_view value.now))))) }
+    ensures { OnOk result (map piece_view found.new.items ≡ map piece_view found.old.items ++ member_pieces sort (members_in (Some (value_view value.now)))) }
 {
-    found.push(Piece::BeginArray)?;
-    if let Value::Object(members) = value {
-        push_each_member(sort, members.as_slice(), found)?;
+    match value {
+        Value::Object(members) => push_each_member(sort, members.as_slice(), found),
+        _ => Ok(()),
     }
-    found.push(Piece::EndArray)?;
-    Ok(())
 }
 
 fn push_each_member<'v, 'a>(
@@ -307,11 +331,9 @@ fn push_each_member<'v, 'a>(
     ensures { OnOk result (map piece_view found.new.items ≡ map piece_view found.old.items ++ member_pieces sort (members_view members.now)) }
 {
     for member in members {
-        found.push(Piece::Inner(Inner {
-            step: Step::Key(member.0),
-            sort,
-            value: &member.1,
-        }))?;
+        let step = Step::Key(member.0);
+        let value = &member.1;
+        push_piece(Piece::Inner(Inner { step, sort, value }), found)?;
     }
     Ok(())
 }

@@ -2,7 +2,7 @@
 use crate::field::{each, fields, pair};
 use crate::piece::{Step, chosen};
 use crate::sort::{Object, Sort};
-use crate::table::{At, parts};
+use crate::table::{At, Part, parts};
 use json::Value;
 use std::alloc::{AllocError, Global};
 
@@ -34,83 +34,68 @@ pub fn origin<'a>(
         value: script,
     };
     for step in steps {
-        match enter(here, *step, &mut place)? {
-            Some(next) => here = next,
-            None => break,
-        }
+        let Some((step, next)) = enter(here, *step) else {
+            break;
+        };
+        place.push(step)?;
+        here = next;
     }
     Ok(place)
 }
 
-/// Goes a step further, where there is what it leads to.
-fn enter<'v, 'a>(
-    here: Here<'v, 'a>,
-    step: Numbered,
-    place: &mut Vec<Step<'a>>,
-) -> Result<Option<Here<'v, 'a>>, AllocError> {
+/// A step further, and what it leads to, where there is that.
+fn enter<'v, 'a>(here: Here<'v, 'a>, step: Numbered) -> Option<(Step<'a>, Here<'v, 'a>)> {
+    let value = here.value;
     match (here.sort, step) {
         (Sort::An(object), Numbered::Key(key)) => {
             for field in fields(object) {
                 if field.key.text() == key {
-                    return enter_at(here, field.at, field.sort, place);
+                    return enter_at(value, field.at, field.sort);
                 }
             }
-            Ok(None)
+            None
         }
-        (Sort::OneOf(choice), Numbered::Item(n)) => match chosen(choice, here.value) {
-            Some(word) => match parts(choice, word).get(n.saturating_sub(1)) {
-                Some(part) => enter_at(here, part.at, part.sort, place),
-                None => Ok(None),
-            },
-            None => Ok(None),
-        },
-        (Sort::Pair, Numbered::Item(n)) => match pair().get(n) {
-            Some(part) => enter_at(here, part.at, part.sort, place),
-            None => Ok(None),
-        },
-        (sort, Numbered::Item(n)) => enter_nth(here.value, each(sort), n, place),
-        _ => Ok(None),
+        (Sort::OneOf(choice), Numbered::Item(n)) => {
+            let word = chosen(choice, value)?;
+            enter_part(value, parts(choice, word), n.saturating_sub(1))
+        }
+        (Sort::Pair, Numbered::Item(n)) => enter_part(value, pair(), n),
+        (sort, Numbered::Item(n)) => enter_nth(value, each(sort), n),
+        _ => None,
     }
 }
 
-fn enter_at<'v, 'a>(
-    here: Here<'v, 'a>,
-    at: At,
-    sort: Sort,
-    place: &mut Vec<Step<'a>>,
-) -> Result<Option<Here<'v, 'a>>, AllocError> {
-    let Some(value) = at.find(here.value) else {
-        return Ok(None);
-    };
-    place.push(at.step())?;
-    Ok(Some(Here { sort, value }))
+/// To the n-th of some parts.
+fn enter_part<'v, 'a>(
+    value: &'v Value<'a>,
+    parts: &[Part],
+    n: usize,
+) -> Option<(Step<'a>, Here<'v, 'a>)> {
+    let part = parts.get(n)?;
+    enter_at(value, part.at, part.sort)
 }
 
-/// Goes to the n-th item of a list, or to the n-th member of an object.
+fn enter_at<'v, 'a>(value: &'v Value<'a>, at: At, sort: Sort) -> Option<(Step<'a>, Here<'v, 'a>)> {
+    let value = at.find(value)?;
+    Some((at.step(), Here { sort, value }))
+}
+
+/// To the n-th item of a list, or to the n-th member of an object.
 fn enter_nth<'v, 'a>(
     value: &'v Value<'a>,
     sort: Sort,
     n: usize,
-    place: &mut Vec<Step<'a>>,
-) -> Result<Option<Here<'v, 'a>>, AllocError> {
+) -> Option<(Step<'a>, Here<'v, 'a>)> {
     match value {
         Value::Array(items) => {
-            let Some(value) = items.as_slice().get(n) else {
-                return Ok(None);
-            };
-            place.push(Step::Item(n))?;
-            Ok(Some(Here { sort, value }))
+            let value = items.as_slice().get(n)?;
+            Some((Step::Item(n), Here { sort, value }))
         }
         Value::Object(members) => {
-            let Some(member) = members.as_slice().get(n) else {
-                return Ok(None);
-            };
-            place.push(Step::Key(member.0))?;
-            Ok(Some(Here {
-                sort,
-                value: &member.1,
-            }))
+            let member = members.as_slice().get(n)?;
+            let value = &member.1;
+            Some((Step::Key(member.0), Here { sort, value }))
         }
-        _ => Ok(None),
+        _ => None,
     }
 }

@@ -1,7 +1,10 @@
 //! A script with names translated, from a value or from bytes, by public calls.
-ghost use Rattle.std.specs.Prelude.{◌≡◌, option_map, IfOk};
+ghost use Rattle.std.specs.Prelude.{◌≡◌, ℕ, List, Some, option_map, IfOk, IsUtf8};
+ghost use Rattle.json.specs.Json.{document};
 ghost use Rattle.json.specs.Value.{value_view};
 ghost use Rattle.named.specs.Answer.{StandsForAny, Translates, is_named, is_meant_named};
+ghost use Rattle.named.specs.Names.{names_in};
+ghost use Rattle.named.specs.Views.{names_of};
 
 use crate::check::script_faults;
 use crate::fault::Fault;
@@ -43,11 +46,23 @@ pub fn translate<'a>(alloc: Global, script: &Value<'a>) -> Result<Translation<'a
     ensures { IfOk result (Translates (value_view script.now)) }
 {
     let names = Names::of(alloc, script)?;
-    let faults = script_faults(alloc, &names, script)?;
+    translate_with(alloc, &names, script)
+}
+
+/// The translation of a script whose names these are.
+fn translate_with<'a>(
+    alloc: Global,
+    names: &Names<'_>,
+    script: &Value<'a>,
+) -> Result<Translation<'a>, AllocError>
+    requires { names_of names.now ≡ names_in (value_view script.now) }
+    ensures { IfOk result (Translates (value_view script.now)) }
+{
+    let faults = script_faults(alloc, names, script)?;
     if !faults.is_empty() {
         return Ok(Translation::Faults(faults));
     }
-    Ok(Translation::Script(numbered_text(alloc, &names, script)?))
+    Ok(Translation::Script(numbered_text(alloc, names, script)?))
 }
 
 /// The script of numbers that bytes stand for which are a script with names without a fault. None where they are no JSON, or do not say
@@ -57,15 +72,21 @@ pub fn translate_bytes(alloc: Global, bytes: &[u8]) -> Result<Option<Vec<u8>>, A
     ensures { IfOk result (λ script. StandsForAny bytes.now (option_map (λ numbered. numbered.items) script)) }
 {
     let mut scratch = Scratch::new(alloc);
-    let script = match Value::from_slice(alloc, bytes, &mut scratch) {
-        Ok(script) => script,
-        Err(Error::OutOfMemory) => return Err(AllocError),
-        Err(_) => return Ok(None),
-    };
-    if !is_named(&script) {
+    match Value::from_slice(alloc, bytes, &mut scratch) {
+        Ok(script) => translate_named(alloc, &script),
+        Err(Error::OutOfMemory) => Err(AllocError),
+        Err(_) => Ok(None),
+    }
+}
+
+/// The script of numbers that a document stands for which is a script with names without a fault.
+fn translate_named(alloc: Global, script: &Value<'_>) -> Result<Option<Vec<u8>>, AllocError>
+    ensures { (bytes : List ℕ) → IsUtf8 bytes → document bytes ≡ Some (value_view script.now) → IfOk result (λ found. StandsForAny bytes (option_map (λ numbered. numbered.items) found)) }
+{
+    if !is_named(script) {
         return Ok(None);
     }
-    match translate(alloc, &script)? {
+    match translate(alloc, script)? {
         Translation::Script(numbered) => Ok(Some(numbered)),
         Translation::Faults(_) => Ok(None),
     }

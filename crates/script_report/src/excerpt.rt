@@ -34,8 +34,14 @@ pub(crate) fn push_excerpt(
     if is_cut(bytes, to) {
         out.push_str("..")?;
     }
+    let indent = if from > at.line_start { "  " } else { "" };
+    push_marks(out, indent, before, here)
+}
+
+/// Adds the line with the marks: below a text, with a space for each character before it.
+fn push_marks(out: &mut String, indent: &str, before: &str, here: &str) -> Result<(), AllocError> {
     out.push_str("\n       ")?;
-    out.push_str(if from > at.line_start { "  " } else { "" })?;
+    out.push_str(indent)?;
     push_many(out, " ", before.chars().count())?;
     push_many(out, "^", here.chars().count().max(1))?;
     out.push_str("\n")

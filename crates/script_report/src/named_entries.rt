@@ -3,7 +3,7 @@ use crate::lead::value_at;
 use crate::named_keys::{SCRIPT, has_any, nth_key, slip_among, slip_for};
 use crate::named_words::{class_of, form_found, named_found, named_wanted};
 use crate::report::class_text;
-use crate::twice::second;
+use crate::twice::{Standing, second};
 use crate::words::{found_text, push_quoted, wanted_text};
 use json::Value;
 use named::{
@@ -61,7 +61,7 @@ fn form_entry<'a>(alloc: Global, document: &Value<'a>) -> Result<Entry<'a>, Allo
     })
 }
 
-/// Adds the faults of the form. What is missing is not told where a key that is told may be meant to be it.
+/// Adds the faults of the form.
 fn push_named_entries<'a>(
     alloc: Global,
     document: &Value<'a>,
@@ -71,10 +71,23 @@ fn push_named_entries<'a>(
     let names = Names::of(alloc, document)?;
     let form = slip_for(alloc, SCRIPT, document, Word::Form)?;
     for fault in faults {
-        let value = reached(document, fault.place.as_slice());
-        if !is_of_form(fault, value, form) && !is_misspelled(alloc, fault, value)? {
-            entries.push(named_entry(alloc, document, &names, fault, value)?)?;
-        }
+        push_named_entry(alloc, document, &names, form, fault, entries)?;
+    }
+    Ok(())
+}
+
+/// Adds a fault of the form. What is missing is not told where a key that is told may be meant to be it.
+fn push_named_entry<'a>(
+    alloc: Global,
+    document: &Value<'a>,
+    names: &Names<'_>,
+    form: Option<&str>,
+    fault: &Fault<'a>,
+    entries: &mut Vec<Entry<'a>>,
+) -> Result<(), AllocError> {
+    let value = reached(document, fault.place.as_slice());
+    if !is_of_form(fault, value, form) && !is_misspelled(alloc, fault, value)? {
+        entries.push(named_entry(alloc, document, names, fault, value)?)?;
     }
     Ok(())
 }
@@ -105,24 +118,46 @@ fn named_entry<'a>(
     fault: &Fault<'a>,
     value: &Value<'a>,
 ) -> Result<Entry<'a>, AllocError> {
+    if let Cause::Twice(kind) = fault.cause {
+        if let Some(standing) = second(alloc, document, kind)? {
+            return twice_entry(alloc, fault, value, standing);
+        }
+    }
+    Ok(Entry {
+        place: place_of(alloc, fault, value)?,
+        class: class_of(fault, value),
+        wanted: named_wanted(alloc, fault, value)?,
+        found: named_found(alloc, names, fault, value)?,
+    })
+}
+
+/// The steps to the value of a fault; where it is an unknown key, to what stands under that.
+fn place_of<'a>(
+    alloc: Global,
+    fault: &Fault<'a>,
+    value: &Value<'a>,
+) -> Result<Vec<Step<'a>>, AllocError> {
     let mut place = Vec::from_slice(alloc, fault.place.as_slice())?;
     if let Cause::OtherKey(n) = fault.cause {
         if let Some(key) = nth_key(value, n) {
             place.push(Step::Key(key))?;
         }
     }
-    let mut found = named_found(alloc, names, fault, value)?;
-    if let Cause::Twice(kind) = fault.cause {
-        if let Some(standing) = second(alloc, document, kind)? {
-            place = standing.place;
-            found = twice_found(alloc, standing.name)?;
-        }
-    }
+    Ok(place)
+}
+
+/// The fault of a name that stands for the second time.
+fn twice_entry<'a>(
+    alloc: Global,
+    fault: &Fault<'a>,
+    value: &Value<'a>,
+    standing: Standing<'a>,
+) -> Result<Entry<'a>, AllocError> {
     Ok(Entry {
-        place,
+        place: standing.place,
         class: class_of(fault, value),
         wanted: named_wanted(alloc, fault, value)?,
-        found,
+        found: twice_found(alloc, standing.name)?,
     })
 }
 
@@ -151,22 +186,37 @@ fn push_numbered_entries<'a>(
     };
     let faults = script_faults(alloc, &value)?;
     for fault in faults.as_slice() {
-        let here = value_at(&value, fault.place.steps());
-        let mut steps = Vec::new(alloc);
-        for step in fault.place.steps() {
-            steps.push(match step {
-                NumberedStep::Key(name) => Numbered::Key(name.text()),
-                NumberedStep::Item(n) => Numbered::Item(*n),
-            })?;
-        }
-        entries.push(Entry {
-            place: origin(alloc, document, steps.as_slice())?,
-            class: class_text(fault.cause.class()),
-            wanted: wanted_text(alloc, fault, here)?,
-            found: found_text(alloc, fault, here)?,
-        })?;
+        entries.push(numbered_entry(alloc, document, &value, fault)?)?;
     }
     Ok(())
+}
+
+/// A fault of the script of numbers, with the steps to the value that it comes from.
+fn numbered_entry<'a>(
+    alloc: Global,
+    document: &Value<'a>,
+    numbered: &serde_json::Value,
+    fault: &script_check::Fault,
+) -> Result<Entry<'a>, AllocError> {
+    let here = value_at(numbered, fault.place.steps());
+    let steps = numbered_steps(alloc, fault.place.steps())?;
+    Ok(Entry {
+        place: origin(alloc, document, steps.as_slice())?,
+        class: class_text(fault.cause.class()),
+        wanted: wanted_text(alloc, fault, here)?,
+        found: found_text(alloc, fault, here)?,
+    })
+}
+
+fn numbered_steps(alloc: Global, steps: &[NumberedStep]) -> Result<Vec<Numbered>, AllocError> {
+    let mut numbered = Vec::new(alloc);
+    for step in steps {
+        numbered.push(match step {
+            NumberedStep::Key(name) => Numbered::Key(name.text()),
+            NumberedStep::Item(n) => Numbered::Item(*n),
+        })?;
+    }
+    Ok(numbered)
 }
 
 /// What is wrong where the script of numbers is not read: a number of it is beyond every double, or it nests too deep.

@@ -40,22 +40,45 @@ fn push_entries(
     let Some(layout) = layout_of(alloc, text)? else {
         return Ok(());
     };
+    let lying = lying_in_order(alloc, &layout, entries)?;
+    push_first(alloc, form, text, entries, lying.as_slice(), out)?;
+    if form.json {
+        return Ok(());
+    }
+    push_count(out, entries.len())
+}
+
+/// Where the values of the faults lie, in the order of their places.
+fn lying_in_order(
+    alloc: Global,
+    layout: &Layout,
+    entries: &[Entry<'_>],
+) -> Result<Vec<Lying>, AllocError> {
     let mut lying = Vec::new(alloc);
     for (n, entry) in entries.iter().enumerate() {
-        lying.push(lying_of(&layout, entry.place.as_slice(), n))?;
+        lying.push(lying_of(layout, entry.place.as_slice(), n))?;
     }
     lying.sort_by_key(|one| one.start)?;
+    Ok(lying)
+}
+
+/// Adds the first faults, as many as are told.
+fn push_first(
+    alloc: Global,
+    form: &Form<'_>,
+    text: &str,
+    entries: &[Entry<'_>],
+    lying: &[Lying],
+    out: &mut String,
+) -> Result<(), AllocError> {
     let mut cursor = Cursor::start();
-    for each in lying.as_slice().iter().take(MOST_TOLD) {
+    for each in lying.iter().take(MOST_TOLD) {
         if let Some(entry) = entries.get(each.entry) {
             cursor = cursor.to(text.as_bytes(), each.start);
             push_entry(alloc, form, text, entry, cursor, each.marked, out)?;
         }
     }
-    if form.json {
-        return Ok(());
-    }
-    push_count(out, entries.len())
+    Ok(())
 }
 
 fn push_count(out: &mut String, count: usize) -> Result<(), AllocError> {

@@ -97,7 +97,7 @@ fn push_texts<'a>(
     Ok(())
 }
 
-/// The contexts of each thread; one that names none has one of its own name.
+/// The contexts of each thread.
 fn push_contexts<'a>(
     alloc: Global,
     script: &Value<'a>,
@@ -105,18 +105,27 @@ fn push_contexts<'a>(
 ) -> Result<(), AllocError> {
     if let Some(Value::Object(threads)) = script.get("threads") {
         for thread in threads.as_slice().iter().take(LOOKED_AT) {
-            let mut place = Vec::from_slice(alloc, &[Step::Key("threads"), Step::Key(thread.0)])?;
-            let contexts = thread.1.get("contexts");
-            if contexts.is_none() {
-                found.push(Standing {
-                    name: thread.0,
-                    place,
-                })?;
-            } else {
-                place.push(Step::Key("contexts"))?;
-                push_texts(alloc, contexts, &place, found)?;
-            }
+            push_contexts_of(alloc, thread.0, thread.1.get("contexts"), found)?;
         }
     }
     Ok(())
+}
+
+/// The contexts of a thread; one that names none has one of its own name.
+fn push_contexts_of<'a>(
+    alloc: Global,
+    thread: &'a str,
+    contexts: Option<&Value<'a>>,
+    found: &mut Vec<Standing<'a>>,
+) -> Result<(), AllocError> {
+    let mut place = Vec::from_slice(alloc, &[Step::Key("threads"), Step::Key(thread)])?;
+    if contexts.is_none() {
+        found.push(Standing {
+            name: thread,
+            place,
+        })?;
+        return Ok(());
+    }
+    place.push(Step::Key("contexts"))?;
+    push_texts(alloc, contexts, &place, found)
 }

@@ -1,5 +1,6 @@
-use Rattle.std.proofs.Common.{◌≡◌, ◌++◌, ◌-◌, [], ◌∷◌, List, drop, map, ap, sym, ◌∙◌, append_assoc, arith}
-use Rattle.std.proofs.lemmas.List.{drop_all, append-nil}
+use Rattle.std.proofs.Common.{◌≡◌, ◌++◌, ◌-◌, [], ◌∷◌, List, map, ap, sym, ◌∙◌, append_assoc}
+use Rattle.std.proofs.lemmas.List.{append-nil}
+use Rattle.std.proofs.lemmas.Result.{on_ok_weaker}
 use Rattle.json.specs.Value.{value_view}
 use Rattle.named.specs.Faults.{Found, own, found_at, faults_in, together, within}
 use Rattle.named.specs.Pieces.{Piece, pieces}
@@ -20,13 +21,12 @@ check-returns-clause-faults t c =
     let s = c.args.sort in
     let d = value_view c.args.value.now in
     let each : Piece → List Found = within (λ step. faults_in (c.args.levels - 1) ns (place ++ step ∷ [])) in
-    let xs = c.as_slice-piece-items.result.now in
+    let xs = c.as_slice.result.now in
     let before = map found_of c.args.faults.now.items in
-    let last = map found_of c.loop-piece.faults.items in
-    let none : drop c.loop-piece.piece-index xs ≡ [] = drop_all c.loop-piece.piece-index xs (omega arith) in
-    let same : map piece_view xs ≡ pieces s ns d = ap (map piece_view) c.as_slice-piece-items.ensures.value ∙ c.in_ok-pieces.ensures in
     let own_first : map found_of c.push_own.new.faults.items ≡ before ++ found_at place s (own s ns d) = c.in_ok-push_own.ensures in
+    let same : map piece_view xs ≡ pieces s ns d = ap (map piece_view) c.as_slice.ensures.value ∙ c.in_ok-pieces.ensures in
     let step = faults_step c.args.levels ns place s d (λ z. c.if-levels-eq0.false z) in
-    sym (append-nil last) ∙ ap (λ ys. last ++ together each (map piece_view ys)) (sym none) ∙ c.loop-piece.invariant.found
-    ∙ ap (λ ys. ys ++ together each (map piece_view xs)) own_first ∙ ap (λ q. (before ++ found_at place s (own s ns d)) ++ together each q) same
-    ∙ append_assoc before (found_at place s (own s ns d)) (together each (pieces s ns d)) ∙ ap (λ ys. before ++ ys) (sym step)
+    on_ok_weaker c.check_each.result
+    (λ h. h ∙ ap (λ ys. ys ++ together each (map piece_view xs)) own_first ∙ ap (λ q. (before ++ found_at place s (own s ns d)) ++ together each q) same
+    ∙ append_assoc before (found_at place s (own s ns d)) (together each (pieces s ns d)) ∙ ap (λ ys. before ++ ys) (sym step))
+    c.check_each.ensures.faults

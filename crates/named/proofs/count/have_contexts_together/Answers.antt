@@ -5,7 +5,7 @@ use Rattle.json.specs.Value.{value_view}
 use Rattle.named.specs.Names.{contexts_or, under}
 use Rattle.named.specs.declared.word.Word.TheVariants as word
 use Rattle.named.proofs.Adding.{contexts_next}
-use Rattle.named.proofs.names.have_contexts_together.Goals as goal
+use Rattle.named.proofs.count.have_contexts_together.Goals as goal
 
 pub returns-then-left-own : goal.returns-then-left-own
 returns-then-left-own c =

@@ -7,7 +7,7 @@ use Rattle.named.specs.Views.{found_of}
 use Rattle.named.specs.Written.{levels, written}
 use Rattle.named.specs.declared.sort.Object.TheVariants as objects
 use Rattle.named.specs.declared.sort.Sort.TheVariants as sorts
-use Rattle.named.proofs.translation.translate.Goals as goal
+use Rattle.named.proofs.translation.translate_with.Goals as goal
 
 pub returns : goal.returns
 returns c =
@@ -15,5 +15,5 @@ returns c =
     let s = sorts.An objects.Script in
     let size : length c.in_ok-faults.faults.items ≡ 0 = search rules in
     let nil = nil_from_length c.in_ok-faults.faults.items size in
-    let none = sym (c.in_ok-faults.ensures ∙ ap (λ ns. faults_in levels ns [] s d) c.in_ok-names.ensures) ∙ ap (map found_of) nil in
-    (none, c.in_ok-numbered_text.ensures ∙ ap (λ ns. print (written levels ns s d)) c.in_ok-names.ensures)
+    let none = sym (c.in_ok-faults.ensures ∙ ap (λ ns. faults_in levels ns [] s d) c.requires) ∙ ap (map found_of) nil in
+    (none, c.in_ok-numbered_text.ensures ∙ ap (λ ns. print (written levels ns s d)) c.requires)

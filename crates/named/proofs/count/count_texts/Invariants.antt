@@ -2,7 +2,7 @@
 use Rattle.std.proofs.Common.{◌≡◌, ◌≤◌, ◌+◌, drop, length}
 use Rattle.json.specs.Value.{items_view}
 use Rattle.named.specs.Names.{texts_of}
-use Rattle.named.proofs.names.count_texts.Given as goal
+use Rattle.named.proofs.count.count_texts.Given as goal
 
 abbrev pub invariant-loop-item : goal.invariant-loop-item
 invariant-loop-item l = record {
