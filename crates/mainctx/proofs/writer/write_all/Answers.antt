@@ -10,3 +10,6 @@ rest-preserved g c = record {
   clean = grind (arith, common_steps);
   alike = alike_more _ _ _ _ _ _ (take c.in_ok-n.n c.rest.rest.now) c.rest.invariant.alike c.in_ok-n.ensures.taken c.in_ok-n.ensures.known;
 }
+
+pub returns-clause-whole : goal.returns-clause-whole
+returns-clause-whole g c = grind (arith, common_steps)

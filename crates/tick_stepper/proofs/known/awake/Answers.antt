@@ -1,0 +1,9 @@
+use Rattle.std.proofs.Common.{arith}
+use Rattle.std.proofs.lemmas.Grind.{common_steps}
+use Rattle.tick_stepper.proofs.known.awake.Goals as goal
+
+pub loop-lane-preserved : goal.loop-lane-preserved
+loop-lane-preserved c = grind (arith, common_steps)
+
+pub loop-one-preserved : goal.loop-one-preserved
+loop-one-preserved c = grind (arith, common_steps)
