@@ -1,4 +1,5 @@
-use Rattle.std.proofs.Common.{◌≡◌, [], ◌∷◌, ◌++◌, ap, ◌∙◌, option_map, string_bytes}
+use Rattle.std.proofs.Common.{arith, ◌≡◌, [], ◌∷◌, ◌++◌, ap, ◌∙◌, option_map, string_bytes}
+use Rattle.std.proofs.lemmas.Grind.{common_steps}
 use Rattle.json.specs.Token.{key}
 use Rattle.json.specs.Tree.{members_tokens}
 use Rattle.toml.specs.View.{view, members_view}
@@ -17,3 +18,6 @@ write_members-members-preserved t c =
           ∙ ap (λ es. option_map (λ ms. done ++ members_tokens ms) (members_of (members_view es))) c.in-Some.ensures.steps
           ∙ add_member done c.key.new.self.tokens c.write_value.new.writer.tokens name (json_of (view c.in-Some.member.now)) (members_of (members_view c.next.new.self)) named c.in_ok-write_value.ensures.ok,
     )
+
+pub write_items-items-preserved : goal.write_items-items-preserved
+write_items-items-preserved t c = grind (arith, common_steps)
