@@ -1,3 +1,4 @@
+use Rattle.std.proofs.lemmas.Grind.{common_steps}
 use Rattle.std.proofs.Common.{◌≡◌, ◌+◌, List, length, is_some, ap, sym, ◌∙◌, subst, arith, take_at}
 use Rattle.std.specs.Vec.{with_items}
 use Rattle.lane_turn.specs.Lane.{State}
@@ -59,3 +60,21 @@ returns-clause-moment c script =
     let went = sym (c.in_ok-move_context.ensures.went ∙ ap (λ (ss : List State). is_some (handing_by gift.from (mails.Give gift.context gift.to) (lanes_of ss))) was) ∙ c.if-not-branch.false in
     let found = c.moment.ensures ∙ (λ j. record { tick = tick; lane = gift.to; deed = deeds.HandedOver gift.context gift.from; from = c.lines_of-from.ensures j; to = length (trace_at gift.to (lanes_of h.lanes.items)) }) in
     subst (IsMoment script tick (place_of g) (place_of h)) (sym found) (hand_moment script tick k g h one gift c.requires.phase c.requires.place gives went goes there (stand_from 0 (lanes_of g.lanes.items) (counted_in g.lanes.items c.requires.lined)))
+
+pub returns-in_default-clause-moved : goal.returns-in_default-clause-moved
+returns-in_default-clause-moved c = grind (arith, common_steps)
+
+pub returns-in_default-clause-quiet : goal.returns-in_default-clause-quiet
+returns-in_default-clause-quiet c = grind (arith, common_steps)
+
+pub returns-then-not-branch-clause-count : goal.returns-then-not-branch-clause-count
+returns-then-not-branch-clause-count c = grind (arith, common_steps)
+
+pub returns-then-not-branch-clause-quiet : goal.returns-then-not-branch-clause-quiet
+returns-then-not-branch-clause-quiet c = grind (arith, common_steps)
+
+pub returns-then-not-branch-clause-still : goal.returns-then-not-branch-clause-still
+returns-then-not-branch-clause-still c = grind (arith, common_steps)
+
+pub returns-clause-count : goal.returns-clause-count
+returns-clause-count c = grind (arith, common_steps)
