@@ -1,4 +1,5 @@
-use Rattle.std.proofs.Common.{rules, ◌≡◌, [], ◌+◌, ◌++◌, ◌∙◌, take}
+use Rattle.std.proofs.lemmas.Grind.{common_steps}
+use Rattle.std.proofs.Common.{rules, ◌≡◌, [], ◌+◌, ◌++◌, ◌∙◌, take, arith}
 use Rattle.mainctx.specs.Text.{lane_text}
 use Rattle.mainctx.proofs.Prefixes.{prefix_heading, prefix_line, line_more, passes_then}
 use Rattle.mainctx.proofs.Alike.{alike_then}
@@ -27,3 +28,9 @@ returns-in_err-add-2-clause-prefix g c =
     let more : lane_text c.args.lane (take (i + 1) c.args.lines.now) ≡ lane_text c.args.lane (take i c.args.lines.now) ++ c.bytes-in-loop-line.result.now = line_more c.args.lane i c.args.lines.now _ c.bytes-in-loop-line.result.now c.loop-line-test.true (c.bytes-in-loop-line.ensures.value ∙ c.print.ensures) in
     let prefix = prefix_line (g.W.Out.taken c.args.out.now) (g.W.Out.taken c.loop-line.out) (g.W.Out.taken c.add-in-loop-line.new.out) c.args.buffer.now c.loop-line.buffer c.bytes-in-loop-line.result.now c.args.lane i c.args.lines.now c.loop-line.invariant.passes more c.in_err-add-2.ensures.prefix in
     search (rules, prefix)
+
+pub returns-in_err-add-2-clause-known : goal.returns-in_err-add-2-clause-known
+returns-in_err-add-2-clause-known g c = grind (arith, common_steps)
+
+pub returns-clause-passes : goal.returns-clause-passes
+returns-clause-passes g c = grind (arith, common_steps)
