@@ -76,10 +76,12 @@ def functions_of(texts):
 
 
 def hole(crate, path):
-    """A proof of a function that leaves all of it open: what calls the function goes by its contract."""
+    """A proof of a function that leaves all of it open: what calls the function goes by its contract. (The hole is of any type, since the
+    prover writes out that of each, and a statement is long.)"""
     name = path.rpartition("::")[2]
     return (f"use Rattle.{crate}.proofs.{path.replace('::', '.')}.Statement as stated\n"
-            f"pub {name}_spec : {{M : Type 1}} → stated.statement M\n{name}_spec = ?\n")
+            f"given : {{A : Type 2}} → A\ngiven = ?\n\n"
+            f"pub {name}_spec : {{M : Type 1}} → stated.statement M\n{name}_spec = given\n")
 
 
 def cut(crate, folder, kept):
