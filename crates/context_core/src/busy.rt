@@ -6,11 +6,11 @@ ghost use Rattle.context_core.specs.Classes.{TellsOfIds};
 use crate::classes::{Classes, next_place};
 use std::marker::Model;
 
-/// The ids of sources whose calls are in progress, seen as their list.
+/// The ids of sources whose calls are in progress, seen as their list, with one table for all that looks them up in an iteration.
 #[derive(Drop)]
-pub(crate) struct Busy<'a> {
+pub struct Busy<'a> {
     ids: &'a [u64],
-    classes: &'a Classes,
+    classes: Classes,
 }
 
 impl<'a> Model for Busy<'a> {
@@ -22,21 +22,23 @@ impl<'a> Model for Busy<'a> {
 
     ghost view = { λ b. b.ids.now };
 
-    ghost invariant = { λ b. TellsOfIds b.ids.now b.classes.now };
+    ghost invariant = { λ b. TellsOfIds b.ids.now b.classes };
 }
 
 impl<'a> Busy<'a> {
-    /// Calls of the sources with these ids, which are of these classes, are in progress.
-    pub fn new(ids: &'a [u64], classes: &'a Classes) -> Busy<'a>
-        requires { TellsOfIds ids.now classes.now }
+    /// Calls of the sources with these ids are in progress.
+    pub fn new(ids: &'a [u64]) -> Busy<'a>
         ensures { result ≡ ids.now }
     {
-        Busy { ids, classes }
+        Busy {
+            ids,
+            classes: classes_of_ids(ids),
+        }
     }
 
     /// Whether no call is in progress.
     #[inline]
-    pub fn is_empty(&self) -> bool
+    pub(crate) fn is_empty(&self) -> bool
         ensures { result ≡ (length self.now == 0) }
     {
         self.ids.is_empty()
@@ -44,7 +46,7 @@ impl<'a> Busy<'a> {
 
     /// Whether an id is listed.
     #[inline]
-    pub fn has(&self, id: u64) -> bool
+    pub(crate) fn has(&self, id: u64) -> bool
         ensures { result ≡ list_any (λ b. b == id) self.now }
     {
         let place = self.classes.place(id);
@@ -74,7 +76,8 @@ fn is_listed(ids: &[u64], id: u64) -> bool
 }
 
 /// The classes of ids.
-pub(crate) fn classes_of_ids(ids: &[u64]) -> Classes
+#[inline]
+fn classes_of_ids(ids: &[u64]) -> Classes
     ensures { TellsOfIds ids.now result }
 {
     let mut classes = Classes::new();

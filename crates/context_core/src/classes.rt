@@ -26,6 +26,7 @@ impl Model for Classes {
 
 impl Classes {
     /// No class has a place.
+    #[inline]
     pub fn new() -> Classes
         ensures { result ≡ no_places }
     {

@@ -1,5 +1,5 @@
 //! A context: who owns it and how often, its rows, how long it may wait, its three phases, and what it shows of each source.
-ghost use Rattle.std.specs.Prelude.{◌≡◌, false, ◌≤◌, ◌<◌, ◌^◌, ◌==◌, ◌&&◌, ◌||◌, IfOk, OnOk, IsSome, ℕ, ◌≢◌, [], filter, map, None};
+ghost use Rattle.std.specs.Prelude.{◌≡◌, false, ◌≤◌, ◌<◌, ◌==◌, ◌&&◌, IfOk, IsSome, ℕ, ◌≢◌, [], filter, map, None};
 ghost use Rattle.std.specs.Borrow.{sem};
 ghost use Rattle.loop_script.specs.Bounds.{count_end, latest};
 ghost use Rattle.loop_script.specs.Units.{Descriptor, Bits};
@@ -7,24 +7,24 @@ ghost use Rattle.context_core.specs.Lending.{LendsRows};
 ghost use Rattle.context_core.specs.Defaults.{acquired, released, is_acquired};
 ghost use Rattle.source_rows.specs.Rows.{no_rows, level_count, next_ready, in_order};
 ghost use Rattle.source_rows.specs.Tree.{IsOneTree};
-ghost use Rattle.std.specs.List.{list_any};
-ghost use Rattle.std.specs.Ordering.{nat_cmp};
-ghost use Rattle.std.specs.BTreeSet.{contains};
-ghost use Rattle.context_core.specs.Ready.{in_view, own_ready, selected, is_free, is_ready, is_callable};
-ghost use Rattle.context_core.specs.Lent.{lends, lends_free};
+ghost use Rattle.context_core.specs.Ready.{in_view, own_ready, selected, is_free, is_ready};
 ghost use Rattle.context_core.specs.Standing.{standing, first_with};
 ghost use Rattle.context_core.specs.Phases.{ms_until, least_ready, wait_of, interests, asked_rows, levels_for, shown, handed, walk};
 
-use crate::busy::{Busy, classes_of_ids};
+use crate::busy::Busy;
 use crate::free::FreeRows;
 use crate::interest::{Interest, Prepared, Shown};
 use crate::polled::{Polled, classes_of_shown};
 use crate::ready::{interest, is_beyond, is_free, level_at, ms_until, own_ready, sooner};
 use crate::standing::{Standing, stand};
+use crate::visit::{visit, visit_free};
 use cancel_view::View;
 use source_rows::{Levels, Row, Rows, Sight};
 use std::alloc::{AllocError, Global};
 use std::collections::BTreeSet;
+
+/// For how many ids an iteration that dispatches something has room at first.
+const FEW: usize = 32;
 
 /// A context: its sources, and how often it was acquired and not released.
 #[derive(Drop)]
@@ -128,14 +128,12 @@ impl Context {
 
     /// The least priority of what is ready before any descriptor is asked, as `prepare` tells it: for who does not wait, and needs no
     /// time for a poll. Where there is one, an iteration would dispatch something, whatever descriptors show.
-    pub fn ready_priority(&self, now: u64, busy: &[u64], view: &View) -> Option<i32>
+    pub fn ready_priority(&self, now: u64, busy: &Busy, view: &View) -> Option<i32>
         requires { now ≤ latest }
         ensures priority { result ≡ least_ready (in_view view.now) now busy.now self.now.rows.rows }
         ensures some { IsSome result → (level : Descriptor → Bits) → selected (own_ready level (in_view view.now) now) busy.now self.now.rows.rows ≢ [] }
     {
-        let classes = classes_of_ids(busy);
-        let busy = Busy::new(busy, &classes);
-        self.most_urgent(now, &busy, view)
+        self.most_urgent(now, busy, view)
     }
 
     /// What is ready before any descriptor is asked, at a time in microseconds, with the ids of the sources of this
@@ -145,8 +143,7 @@ impl Context {
         ensures priority { result.priority ≡ least_ready (in_view view.now) now busy.now self.now.rows.rows }
         ensures timeout { result.timeout_ms ≡ wait_of now busy.now self.now.rows.rows result.priority }
     {
-        let classes = classes_of_ids(busy);
-        let busy = Busy::new(busy, &classes);
+        let busy = Busy::new(busy);
         match self.most_urgent(now, &busy, view) {
             Some(priority) => Prepared {
                 priority: Some(priority),
@@ -168,15 +165,26 @@ impl Context {
     ) -> Result<Vec<Interest>, AllocError>
         ensures { IfOk result (λ list. list.items ≡ interests prepared.now.priority busy.now self.now.rows.rows) }
     {
+        self.interests(alloc, prepared.priority, &Busy::new(busy))
+    }
+
+    /// What `query` tells where a priority is the least of what is ready.
+    pub fn interests(
+        &self,
+        alloc: Global,
+        least: Option<i32>,
+        busy: &Busy,
+    ) -> Result<Vec<Interest>, AllocError>
+        ensures { IfOk result (λ list. list.items ≡ interests least busy.now self.now.rows.rows) }
+    {
         if !self.rows.may_ask() {
             return Ok(Vec::new(alloc));
         }
-        let classes = classes_of_ids(busy);
-        self.interests(alloc, prepared.priority, &Busy::new(busy, &classes))
+        self.all_interests(alloc, least, busy)
     }
 
-    /// What the free sources that are not less urgent than a priority ask of descriptors, in order.
-    fn interests(
+    /// The same, of rows of which one may ask.
+    fn all_interests(
         &self,
         alloc: Global,
         least: Option<i32>,
@@ -237,11 +245,12 @@ impl Context {
         ensures ids { IfOk result (λ ids. ids.items
             ≡ walk (is_ready (own_ready (shown polled.now) (in_view view.now) now) busy.now self.now.rows.rows) least (in_order self.now.rows.rows)) }
     {
-        let mut bound = least;
-        let mut ids = Vec::new(alloc);
-        let mut lent = BTreeSet::new(alloc);
         let sight = Sight::new(now, view.marks());
-        'rows: for row in FreeRows::new(self.rows.candidates(sight), busy) {
+        let rows = FreeRows::new(self.rows.candidates(sight), busy);
+        let mut ids = few_ids(alloc, least)?;
+        let mut bound = least;
+        let mut lent = BTreeSet::new(alloc);
+        'rows: for row in rows {
             if is_beyond(bound, row.priority) {
                 break;
             }
@@ -269,12 +278,38 @@ impl Context {
         ensures { (level : ℕ → ℕ) → levels.now ≡ levels_for level (asked_rows prepared.now.priority busy.now self.now.rows.rows)
             → IfOk result (λ ids. ids.items ≡ selected (own_ready level (in_view view.now) now) busy.now self.now.rows.rows) }
     {
-        let classes = classes_of_ids(busy);
-        let busy = Busy::new(busy, &classes);
-        let list = self.polled(alloc, prepared.priority, &busy, levels)?;
+        self.select(
+            alloc,
+            prepared.priority,
+            now,
+            &Busy::new(busy),
+            view,
+            levels,
+        )
+    }
+
+    /// What `check` tells where a priority is the least of what is ready.
+    pub fn select(
+        &self,
+        alloc: Global,
+        least: Option<i32>,
+        now: u64,
+        busy: &Busy,
+        view: &View,
+        levels: &[u8],
+    ) -> Result<Vec<u64>, AllocError>
+        requires now { now ≤ latest }
+        requires least { least ≡ least_ready (in_view view.now) now busy.now self.now.rows.rows }
+        ensures { (level : ℕ → ℕ) → levels.now ≡ levels_for level (asked_rows least busy.now self.now.rows.rows)
+            → IfOk result (λ ids. ids.items ≡ selected (own_ready level (in_view view.now) now) busy.now self.now.rows.rows) }
+    {
+        if levels.is_empty() {
+            return self.walk(alloc, least, &Polled::nothing(), now, busy, view);
+        }
+        let list = self.polled(alloc, least, busy, levels)?;
         let classes = classes_of_shown(&list);
         let polled = Polled::new(&list, &classes);
-        self.walk(alloc, prepared.priority, &polled, now, &busy, view)
+        self.walk(alloc, least, &polled, now, busy, view)
     }
 
     /// What an iteration begun now would do with each source, in the order of dispatch, where descriptors are known by a list.
@@ -315,12 +350,21 @@ impl Context {
         ensures { (level : ℕ → ℕ) → levels.now ≡ levels_for level (asked_rows None busy.now self.now.rows.rows)
             → IfOk result (λ list. list.items ≡ map (standing level (in_view view.now) now busy.now self.now.rows.rows) (in_order self.now.rows.rows)) }
     {
-        let classes = classes_of_ids(busy);
-        let busy = Busy::new(busy, &classes);
+        let busy = Busy::new(busy);
         let list = self.polled(alloc, None, &busy, levels)?;
         let classes = classes_of_shown(&list);
         let polled = Polled::new(&list, &classes);
         self.all_standings(alloc, &polled, now, &busy, view)
+    }
+}
+
+/// No ids, with room for a few where something is ready: so they are not moved again and again as they come.
+fn few_ids(alloc: Global, least: Option<i32>) -> Result<Vec<u64>, AllocError>
+    ensures { IfOk result (λ ids. ids.items ≡ []) }
+{
+    match least {
+        Some(_) => Vec::with_capacity(alloc, FEW),
+        None => Ok(Vec::new(alloc)),
     }
 }
 
@@ -333,64 +377,4 @@ fn first_of(first: Option<Row>, row: &Row, ready: bool) -> Option<Row>
     } else {
         first
     }
-}
-
-/// Whether a row is ready, where `lent` has the ids that the rows before it lend to. A child that is free and ready by itself then lends
-/// to those above it.
-fn visit(
-    lent: &mut BTreeSet<u64>,
-    row: &Row,
-    polled: &Polled,
-    now: u64,
-    busy: &Busy,
-    view: &View,
-) -> Result<bool, AllocError>
-    requires { now ≤ latest }
-    ensures lent { OnOk result ((id : ℕ) → contains nat_cmp lent.new id
-        ≡ (lends (own_ready (shown polled.now) (in_view view.now) now) busy.now id row.now || contains nat_cmp lent.old id)) }
-    ensures ready { IfOk result (λ ready. ready
-        ≡ (is_free busy.now row.now && (is_callable (own_ready (shown polled.now) (in_view view.now) now) busy.now row.now || contains nat_cmp lent.old row.now.id))) }
-{
-    if !is_free(row, busy) {
-        return Ok(false);
-    }
-    visit_free(lent, row, polled, now, view)
-}
-
-/// The same of a row that is free.
-#[inline]
-fn visit_free(
-    lent: &mut BTreeSet<u64>,
-    row: &Row,
-    polled: &Polled,
-    now: u64,
-    view: &View,
-) -> Result<bool, AllocError>
-    requires { now ≤ latest }
-    ensures lent { OnOk result ((id : ℕ) → contains nat_cmp lent.new id ≡ (lends_free (own_ready (shown polled.now) (in_view view.now) now) id row.now || contains nat_cmp lent.old id)) }
-    ensures ready { IfOk result (λ ready. ready ≡ (own_ready (shown polled.now) (in_view view.now) now row.now || contains nat_cmp lent.old row.now.id)) }
-{
-    if !own_ready(row, polled, now, view) {
-        return Ok(lent.contains(&row.id));
-    }
-    if row.parent.is_some() {
-        lend(lent, &row.lineage)?;
-    }
-    Ok(true)
-}
-
-/// Puts the ids of a lineage into a set. A lineage is filled up with its last id, which is put in once.
-fn lend(ids: &mut BTreeSet<u64>, lineage: &[u64]) -> Result<(), AllocError>
-    ensures { OnOk result ((id : ℕ) → contains nat_cmp ids.new id ≡ (list_any (λ i. i == id) lineage.now || contains nat_cmp ids.old id)) }
-{
-    let mut last = None;
-    for id in lineage {
-        if last != Some(*id) {
-            if ids.insert(*id).is_err() {
-                return Err(AllocError);
-            }
-            last = Some(*id);
-        }
-    }
-    Ok(())
 }

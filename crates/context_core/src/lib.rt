@@ -2,7 +2,8 @@
 //!
 //! A context has sources, and counts how often it was acquired; `DefaultStack` has the contexts that a lane pushed as its
 //! thread-default ones. `prepare` tells what is ready before any descriptor is asked, `query` what descriptors to ask
-//! for what, and `check` the sources that are dispatched next.
+//! for what, and `check` the sources that are dispatched next; `ready_priority`, `interests` and `select` are the same three
+//! over one table of the calls in progress, for who takes them in one go.
 #![tactic(auto)]
 
 mod busy;
@@ -15,7 +16,9 @@ pub mod laws;
 mod polled;
 mod ready;
 mod standing;
+mod visit;
 
+pub use busy::Busy;
 pub use context::Context;
 pub use defaults::{DefaultStack, Pushed};
 pub use interest::{Interest, Prepared};

@@ -5,7 +5,7 @@ ghost use Rattle.lane_turn.specs.Lane.{is_any};
 ghost use Rattle.lane_turn.specs.Sources.{chosen_in, standings_in};
 
 use cancel_view::View;
-use context_core::{Context, Interest, Prepared, Standing};
+use context_core::{Busy, Context, Interest, Prepared, Standing};
 use loop_script::Script;
 use std::alloc::{AllocError, Global};
 
@@ -39,14 +39,11 @@ pub(crate) fn select(
     ensures { IfOk result (λ ids. ids.items ≡ chosen_in script.now tick view.now busy.now (Some context.now)) }
 {
     let now = script.now(tick);
-    let priority = context.ready_priority(now, busy, view);
-    let prepared = Prepared {
-        priority,
-        timeout_ms: NO_WAIT,
-    };
-    let interests = context.query(alloc, &prepared, busy)?;
+    let busy = Busy::new(busy);
+    let priority = context.ready_priority(now, &busy, view);
+    let interests = context.interests(alloc, priority, &busy)?;
     let levels = poll(alloc, script, tick, &interests)?;
-    context.check(alloc, &prepared, now, busy, view, &levels)
+    context.select(alloc, priority, now, &busy, view, &levels)
 }
 
 /// Whether an iteration of a context would dispatch anything at a tick. Where something is ready before any descriptor is asked, that is
@@ -61,8 +58,9 @@ pub(crate) fn selects_any(
 ) -> Result<bool, AllocError>
     ensures { IfOk result (λ any. any ≡ is_any (chosen_in script.now tick view.now busy.now (Some context.now))) }
 {
+    let now = script.now(tick);
     if context
-        .ready_priority(script.now(tick), busy, view)
+        .ready_priority(now, &Busy::new(busy), view)
         .is_some()
     {
         return Ok(true);

@@ -10,6 +10,9 @@ any_of (id ∷ ids) f = refl
 
 pub returns-then-is_some : goal.returns-then-is_some
 returns-then-is_some c =
-    let script = c.args.script.now in
-    any_of _ (λ e. c.ready_priority.ensures.some (sym c.is_some.ensures ∙ c.if-is_some.true) (λ fd. level_of script fd c.args.tick)
-    (ap (λ (now : ℕ). selected (own_ready (λ fd. level_of script fd c.args.tick) (in_view c.args.view.now) now) c.args.busy.now c.args.context.now.rows.rows) c.now.ensures.now ∙ e))
+    let level = λ (fd : ℕ). level_of c.args.script.now fd c.args.tick in
+    let rows = c.args.context.now.rows.rows in
+    let seen = in_view c.args.view.now in
+    any_of _ (λ e. c.ready_priority.ensures.some (sym c.is_some.ensures ∙ c.if-is_some.true) level
+    (ap (λ (l : List ℕ). selected (own_ready level seen c.now-now.result) l rows) c.new.ensures
+    ∙ (ap (λ (now : ℕ). selected (own_ready level seen now) c.args.busy.now rows) c.now-now.ensures.now ∙ e)))

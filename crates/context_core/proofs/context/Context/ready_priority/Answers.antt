@@ -1,13 +1,7 @@
-use Rattle.std.proofs.Common.{ℕ, List, ap, ◌∙◌}
 use Rattle.context_core.specs.Ready.{in_view}
-use Rattle.context_core.specs.Phases.{least_ready}
 use Rattle.context_core.proofs.Selects.{whatever_shows}
 use Rattle.context_core.proofs.context.Context.ready_priority.Goals as goal
 
-pub returns-clause-priority : goal.returns-clause-priority
-returns-clause-priority c = c.most_urgent.ensures ∙ ap (λ (l : List ℕ). least_ready (in_view c.args.view.now) c.args.now l c.args.self.now.rows.rows) c.new-busy.ensures
-
 pub returns-clause-some : goal.returns-clause-some
 returns-clause-some c =
-    whatever_shows (in_view c.args.view.now) c.args.now c.args.busy.now c.args.self.now.rows.rows c.most_urgent.result
-    (c.most_urgent.ensures ∙ ap (λ (l : List ℕ). least_ready (in_view c.args.view.now) c.args.now l c.args.self.now.rows.rows) c.new-busy.ensures)
+    whatever_shows (in_view c.args.view.now) c.args.now c.args.busy.now c.args.self.now.rows.rows c.most_urgent.result c.most_urgent.ensures

@@ -13,8 +13,8 @@ use Rattle.context_core.proofs.Lent.{stepped}
 use Rattle.context_core.proofs.Phased.{walk_taken, walk_passed}
 use Rattle.context_core.proofs.context.Context.walk.Goals as goal
 
-pub rows-preserved-in-Continue-branch-2 : goal.rows-preserved-in-Continue-branch-2
-rows-preserved-in-Continue-branch-2 c =
+pub rows-preserved-in-Continue-branch-3 : goal.rows-preserved-in-Continue-branch-3
+rows-preserved-in-Continue-branch-3 c =
     let own = own_ready (shown c.args.polled.now) (in_view c.args.view.now) c.args.now in
     let rows = c.args.self.now.rows.rows in
     let sight = c.rows.invariant.sight in
@@ -64,7 +64,7 @@ rows-init c =
     let own = own_ready (shown c.args.polled.now) (in_view c.args.view.now) c.args.now in
     let sees = sees_view (shown c.args.polled.now) c.args.view.now c.args.now c.marks.result c.new-sight.result c.marks.ensures c.new-sight.ensures in
     let it : c.into_iter-row-iterator.result ≡ filter (is_free c.args.busy.now) (candidates c.new-sight.result rows) = search rules in
-    let none : c.new-ids.result.items ≡ [] = c.new-ids.ensures.items in
+    let none = c.in_ok-ids.ensures in
     record {
       sight = c.new-sight.result;
       sees = sees;
