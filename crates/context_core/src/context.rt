@@ -111,10 +111,12 @@ impl Context {
         ms_until(now, least)
     }
 
-    /// The least priority of what is ready before any descriptor is asked.
-    fn most_urgent(&self, now: u64, busy: &Busy, view: &View) -> Option<i32>
+    /// The least priority of what is ready before any descriptor is asked, at a time in microseconds, as `prepare` tells it: for who
+    /// does not wait, and needs no time for a poll. Where there is one, an iteration would dispatch something, whatever descriptors show.
+    pub fn ready_priority(&self, now: u64, busy: &Busy, view: &View) -> Option<i32>
         requires { now ≤ latest }
-        ensures { result ≡ least_ready (in_view view.now) now busy.now self.now.rows.rows }
+        ensures priority { result ≡ least_ready (in_view view.now) now busy.now self.now.rows.rows }
+        ensures some { IsSome result → (level : Descriptor → Bits) → selected (own_ready level (in_view view.now) now) busy.now self.now.rows.rows ≢ [] }
     {
         let polled = Polled::nothing();
         let sight = Sight::undisturbed(now, view.marks());
@@ -126,16 +128,6 @@ impl Context {
         None
     }
 
-    /// The least priority of what is ready before any descriptor is asked, as `prepare` tells it: for who does not wait, and needs no
-    /// time for a poll. Where there is one, an iteration would dispatch something, whatever descriptors show.
-    pub fn ready_priority(&self, now: u64, busy: &Busy, view: &View) -> Option<i32>
-        requires { now ≤ latest }
-        ensures priority { result ≡ least_ready (in_view view.now) now busy.now self.now.rows.rows }
-        ensures some { IsSome result → (level : Descriptor → Bits) → selected (own_ready level (in_view view.now) now) busy.now self.now.rows.rows ≢ [] }
-    {
-        self.most_urgent(now, busy, view)
-    }
-
     /// What is ready before any descriptor is asked, at a time in microseconds, with the ids of the sources of this
     /// context whose calls are in progress and may not be dispatched again.
     pub fn prepare(&self, now: u64, busy: &[u64], view: &View) -> Prepared
@@ -144,7 +136,7 @@ impl Context {
         ensures timeout { result.timeout_ms ≡ wait_of now busy.now self.now.rows.rows result.priority }
     {
         let busy = Busy::new(busy);
-        match self.most_urgent(now, &busy, view) {
+        match self.ready_priority(now, &busy, view) {
             Some(priority) => Prepared {
                 priority: Some(priority),
                 timeout_ms: 0,
@@ -156,7 +148,7 @@ impl Context {
         }
     }
 
-    /// What the free sources that are not less urgent than what is ready ask of descriptors, in order.
+    /// What the free sources that are not less urgent than what is ready ask of descriptors, in order. Its one refusal is want of memory.
     pub fn query(
         &self,
         alloc: Global,
@@ -168,7 +160,7 @@ impl Context {
         self.interests(alloc, prepared.priority, &Busy::new(busy))
     }
 
-    /// What `query` tells where a priority is the least of what is ready.
+    /// What `query` tells where a priority is the least of what is ready. Its one refusal is want of memory.
     pub fn interests(
         &self,
         alloc: Global,
@@ -177,22 +169,10 @@ impl Context {
     ) -> Result<Vec<Interest>, AllocError>
         ensures { IfOk result (λ list. list.items ≡ interests least busy.now self.now.rows.rows) }
     {
-        if !self.rows.may_ask() {
-            return Ok(Vec::new(alloc));
-        }
-        self.all_interests(alloc, least, busy)
-    }
-
-    /// The same, of rows of which one may ask.
-    fn all_interests(
-        &self,
-        alloc: Global,
-        least: Option<i32>,
-        busy: &Busy,
-    ) -> Result<Vec<Interest>, AllocError>
-        ensures { IfOk result (λ list. list.items ≡ interests least busy.now self.now.rows.rows) }
-    {
         let mut list = Vec::new(alloc);
+        if !self.rows.may_ask() {
+            return Ok(list);
+        }
         let sight = Sight::of_descriptors();
         'rows: for row in FreeRows::new(self.rows.candidates(sight), busy) {
             if let Some(interest) = interest(row, least, busy) {
@@ -247,7 +227,7 @@ impl Context {
     {
         let sight = Sight::new(now, view.marks());
         let rows = FreeRows::new(self.rows.candidates(sight), busy);
-        let mut ids = few_ids(alloc, least)?;
+        let mut ids = room_for_ids(alloc, least)?;
         let mut bound = least;
         let mut lent = BTreeSet::new(alloc);
         'rows: for row in rows {
@@ -288,7 +268,7 @@ impl Context {
         )
     }
 
-    /// What `check` tells where a priority is the least of what is ready.
+    /// What `check` tells where a priority is the least of what is ready. Its one refusal is want of memory, after which all is as before.
     pub fn select(
         &self,
         alloc: Global,
@@ -359,7 +339,7 @@ impl Context {
 }
 
 /// No ids, with room for a few where something is ready: so they are not moved again and again as they come.
-fn few_ids(alloc: Global, least: Option<i32>) -> Result<Vec<u64>, AllocError>
+fn room_for_ids(alloc: Global, least: Option<i32>) -> Result<Vec<u64>, AllocError>
     ensures { IfOk result (λ ids. ids.items ≡ []) }
 {
     match least {
