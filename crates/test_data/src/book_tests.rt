@@ -1,12 +1,11 @@
 //! The book alone: single calls, the tasks of a worked script, and memory refused.
-ghost use Rattle.std.specs.Prelude.{IfOk, ◌≤◌};
-ghost use Rattle.loop_script.specs.Bounds.{longest_time};
+ghost use Rattle.std.specs.Prelude.{IfOk};
 ghost use Rattle.test_data.specs.Going.{GoesOn, IsKnown};
 
-use crate::trees::{first, seq, sleep, value, within};
+use crate::trees::value;
 use cancel_view::{OutOfMemory, View};
-use loop_script::{Outcome, TaskSpec, TaskTree};
-use std::alloc::{AllocError, Global};
+use loop_script::{Action, Body, Outcome, Script, TaskSpec};
+use std::alloc::Global;
 use std::process::Abort;
 use std::test::Fail;
 use task_steps::{BookFault, Polled, Reply, TaskBook};
@@ -82,37 +81,120 @@ fn expect_known(rt: &impl Abort, cancel: Option<u32>, cancellables: u32)
     }
 }
 
-/// A task that calls procedure 5, with priority -1.
-fn task(tree: TaskTree, cancel: Option<u32>, check: bool, return_on_cancel: bool) -> TaskSpec {
-    TaskSpec {
-        tree,
-        call: 5,
-        cancel,
-        check,
-        return_on_cancel,
-        priority: -1,
-    }
+/// Tasks that call procedure 5, with priority -1: two that end at once; a sleep; a tie; an end at the limit; two of the same end, of which
+/// the first has no check; and three more sleeps.
+fn tasks() -> &'static str {
+    r#"{"version":1,"ticks":1,"tick_us":1000,"cancellables":2,"procs":[{"do":[]},{"do":[]},{"do":[]},{"do":[]},{"do":[]},{"do":[]}],"lanes":[{"contexts":1,"start":[["task",{"tree":["value",1],"call":5,"priority":-1}],["task",{"tree":["value",2],"call":5,"priority":-1}],["task",{"tree":["sleep",3000],"call":5,"priority":-1,"cancel":0,"return_on_cancel":true}],["task",{"tree":["first",["seq",["sleep",1000],["value",1]],["seq",["sleep",1000],["value",2]]],"call":5,"priority":-1}],["task",{"tree":["within",2000,["seq",["sleep",2000],["value",3]]],"call":5,"priority":-1}],["task",{"tree":["seq",["sleep",2000],["value",4]],"call":5,"priority":-1,"cancel":0,"check":false}],["task",{"tree":["seq",["sleep",2000],["value",4]],"call":5,"priority":-1,"cancel":0}],["task",{"tree":["sleep",2000],"call":5,"priority":-1,"cancel":0,"return_on_cancel":true}],["task",{"tree":["sleep",9000],"call":5,"priority":-1,"cancel":1,"return_on_cancel":true}],["task",{"tree":["sleep",7000],"call":5,"priority":-1,"cancel":1}]]}]}"#
 }
 
-fn reply(task: u64, outcome: Outcome, cancel: Option<u32>, check: bool) -> Reply {
-    Reply {
-        task,
-        ctx: 7,
-        outcome,
-        call: 5,
-        priority: -1,
-        cancel,
-        check,
-    }
+/// A step of a lane, and what it has to give.
+#[derive(Clone, Copy)]
+enum Step {
+    /// When the next task wakes.
+    Wake(Option<u64>),
+    /// Starts the task of an action, which is to have a number.
+    Begin(usize, u64),
+    Cancel(u32),
+    /// Polls in the next tick, for these replies, and for these tasks that end late.
+    Poll(&'static [Reply], &'static [u64]),
 }
+
+use Step::{Begin, Cancel, Poll, Wake};
+
+/// The reply of a task that ended at once.
+const ENDED: Reply = Reply {
+    task: 0,
+    ctx: 7,
+    outcome: Outcome::Ok(1),
+    call: 5,
+    priority: -1,
+    cancel: None,
+    check: true,
+};
+
+/// The reply of a task that was cancelled.
+const CUT: Reply = Reply {
+    outcome: Outcome::Cancelled,
+    cancel: Some(0),
+    ..ENDED
+};
+
+/// A task that ends at once, and another after it.
+const ONE_TASK: [Step; 7] = [
+    Wake(None),
+    Begin(0, 0),
+    Wake(Some(1)),
+    Poll(&[ENDED], &[]),
+    Wake(None),
+    Poll(&[], &[]),
+    Begin(1, 1),
+];
+
+/// Five tasks, of which three end before one is cancelled; the last is started in the turn of tick 3, after the polls and the cancel.
+/// Replies of what is cancelled come at once, and then the ends.
+const SOME_CANCELLED: [Step; 19] = [
+    Begin(2, 0),
+    Begin(3, 1),
+    Begin(4, 2),
+    Begin(5, 3),
+    Begin(6, 4),
+    Wake(Some(1)),
+    Poll(&[], &[]),
+    Wake(Some(2)),
+    Poll(&[Reply { task: 1, ..ENDED }], &[]),
+    Wake(Some(3)),
+    Poll(
+        &[
+            Reply {
+                task: 2,
+                outcome: Outcome::Ok(3),
+                ..ENDED
+            },
+            Reply {
+                task: 3,
+                outcome: Outcome::Ok(4),
+                cancel: Some(0),
+                check: false,
+                ..ENDED
+            },
+            Reply {
+                task: 4,
+                outcome: Outcome::Ok(4),
+                cancel: Some(0),
+                ..ENDED
+            },
+        ],
+        &[],
+    ),
+    Cancel(0),
+    Begin(7, 5),
+    Wake(Some(4)),
+    Poll(&[CUT, Reply { task: 5, ..CUT }], &[0]),
+    Wake(Some(6)),
+    Poll(&[], &[]),
+    Poll(&[], &[5]),
+    Wake(None),
+];
+
+/// A cancellation is due in the next tick, before every sleep's end, and moves nothing after its reply.
+const ONE_OF_TWO_CANCELLED: [Step; 8] = [
+    Begin(8, 0),
+    Begin(9, 1),
+    Poll(&[], &[]),
+    Wake(Some(8)),
+    Cancel(1),
+    Wake(Some(2)),
+    Poll(
+        &[Reply {
+            cancel: Some(1),
+            ..CUT
+        }],
+        &[],
+    ),
+    Wake(Some(8)),
+];
 
 // (a proof grows faster than the length of its function, and most by assertions: each kind stands in a function of its own)
-
-/// What a poll of a tick gave is what it had to.
-fn expect_polled(rt: &impl Abort, tick: u32, polled: &Polled, replies: &[Reply], late: &[u64]) {
-    expect_replies(rt, tick, polled.replies.as_slice(), replies);
-    assert_eq!(rt; polled.late.as_slice(), late, "late in {tick}");
-}
 
 fn expect_replies(rt: &impl Abort, tick: u32, found: &[Reply], wanted: &[Reply]) {
     assert_eq!(rt; found, wanted, "the replies in {tick}");
@@ -129,200 +211,112 @@ fn expect(
     ensures { GoesOn lane.new.book lane.new.view lane.new.cancellables lane.new.started lane.new.tick }
 {
     let polled = lane.poll(rt)?;
-    expect_polled(rt, lane.tick, &polled, replies, late);
+    expect_replies(rt, lane.tick, polled.replies.as_slice(), replies);
+    assert_eq!(rt; polled.late.as_slice(), late);
     Ok(())
 }
 
 fn expect_wake(rt: &impl Abort, lane: &Lane, wake: Option<u64>)
     requires { GoesOn lane.now.book lane.now.view lane.now.cancellables lane.now.started lane.now.tick }
 {
-    assert_eq!(rt; lane.wake(), wake);
-}
-
-/// Starts a task, polls it to its end and starts another.
-fn start_and_end(rt: &impl Abort, lane: &mut Lane) -> Result<(), BookFault>
-    requires { GoesOn lane.old.book lane.old.view lane.old.cancellables lane.old.started lane.old.tick }
-    ensures { GoesOn lane.new.book lane.new.view lane.new.cancellables lane.new.started lane.new.tick }
-{
-    expect_wake(rt, lane, None);
-    begin(rt, lane, &task(value(1), None, true, false), 0)?;
-    expect_wake(rt, lane, Some(1));
-    expect(rt, lane, &[reply(0, Outcome::Ok(1), None, true)], &[])?;
-    expect_wake(rt, lane, None);
-    expect(rt, lane, &[], &[])?;
-    begin(rt, lane, &task(value(2), None, true, false), 1)
-}
-
-#[test]
-fn one_task(rt: HostRuntime) -> Result<(), Fail> {
-    let mut lane = Lane::new(rt.alloc(), 0)?;
-    start_and_end(&rt, &mut lane)?;
-    Ok(())
-}
-
-fn after_sleep(alloc: Global, us: u64, number: i64) -> Result<TaskTree, AllocError>
-    requires { us ≤ longest_time }
-{
-    seq(alloc, sleep(us), value(number))
-}
-
-fn tie(alloc: Global) -> Result<TaskTree, AllocError> {
-    let one = after_sleep(alloc, 1000, 1)?;
-    let other = after_sleep(alloc, 1000, 2)?;
-    first(alloc, one, other)
-}
-
-fn end_at_the_limit(alloc: Global) -> Result<TaskTree, AllocError> {
-    let body = after_sleep(alloc, 2000, 3)?;
-    within(alloc, 2000, body)
-}
-
-/// Starts a task that is to have a number.
-fn begin(rt: &impl Abort, lane: &mut Lane, spec: &TaskSpec, number: u64) -> Result<(), BookFault>
-    requires { GoesOn lane.old.book lane.old.view lane.old.cancellables lane.old.started lane.old.tick }
-    ensures { GoesOn lane.new.book lane.new.view lane.new.cancellables lane.new.started lane.new.tick }
-{
-    let started = lane.start(rt, spec)?;
-    expect_number(rt, started, number);
-    Ok(())
+    assert_eq!(rt; lane.wake(), wake, "the wake in {}", lane.tick);
 }
 
 fn expect_number(rt: &impl Abort, found: u64, wanted: u64) {
     assert_eq!(rt; found, wanted);
 }
 
-/// Starts a task of a tree that was made, which a cancellation does not end, and which is to have a number.
-fn begin_made(
+/// Starts the task of an action, which is to have a number.
+fn begin(
     rt: &impl Abort,
     lane: &mut Lane,
-    made: Result<TaskTree, AllocError>,
-    cancel: Option<u32>,
-    check: bool,
+    action: Option<&Action>,
     number: u64,
-) -> Result<(), Fail>
+) -> Result<(), BookFault>
     requires { GoesOn lane.old.book lane.old.view lane.old.cancellables lane.old.started lane.old.tick }
     ensures { GoesOn lane.new.book lane.new.view lane.new.cancellables lane.new.started lane.new.tick }
 {
-    let tree = made?;
-    begin(rt, lane, &task(tree, cancel, check, false), number)?;
+    match action {
+        Some(Action::Task(spec)) => expect_number(rt, lane.start(rt, spec)?, number),
+        _ => assert!(rt; false, "no task"),
+    }
     Ok(())
 }
 
-/// Starts the first five tasks of the script.
-fn begin_five(rt: &impl Abort, lane: &mut Lane) -> Result<(), Fail>
+fn take(rt: &impl Abort, lane: &mut Lane, tasks: &[Action], step: &Step) -> Result<(), BookFault>
     requires { GoesOn lane.old.book lane.old.view lane.old.cancellables lane.old.started lane.old.tick }
     ensures { GoesOn lane.new.book lane.new.view lane.new.cancellables lane.new.started lane.new.tick }
 {
-    let alloc = lane.alloc;
-    begin(rt, lane, &task(sleep(3000), Some(0), true, true), 0)?;
-    begin_made(rt, lane, tie(alloc), None, true, 1)?;
-    begin_made(rt, lane, end_at_the_limit(alloc), None, true, 2)?;
-    begin_made(rt, lane, after_sleep(alloc, 2000, 4), Some(0), false, 3)?;
-    begin_made(rt, lane, after_sleep(alloc, 2000, 4), Some(0), true, 4)
+    match *step {
+        Wake(wake) => {
+            expect_wake(rt, lane, wake);
+            Ok(())
+        }
+        Begin(task, number) => begin(rt, lane, tasks.get(task), number),
+        Cancel(c) => lane.cancel(rt, c).map_err(|_| BookFault::OutOfMemory),
+        Poll(replies, late) => expect(rt, lane, replies, late),
+    }
 }
 
-/// The ticks 1 to 3, in which the tasks end that nothing cancels.
-fn poll_three(rt: &impl Abort, lane: &mut Lane) -> Result<(), BookFault>
+/// Takes steps of a book in a lane of two cancellables.
+fn take_all(
+    rt: &impl Abort,
+    lane: &mut Lane,
+    tasks: &[Action],
+    steps: &[Step],
+) -> Result<(), BookFault>
     requires { GoesOn lane.old.book lane.old.view lane.old.cancellables lane.old.started lane.old.tick }
-    ensures { GoesOn lane.new.book lane.new.view lane.new.cancellables lane.new.started lane.new.tick }
 {
-    expect_wake(rt, lane, Some(1));
-    expect(rt, lane, &[], &[])?;
-    expect_wake(rt, lane, Some(2));
-    expect(rt, lane, &[reply(1, Outcome::Ok(1), None, true)], &[])?;
-    expect_wake(rt, lane, Some(3));
-    expect(rt, lane, &ends_in_tick_three(), &[])
-}
-
-fn ends_in_tick_three() -> [Reply; 3] {
-    [
-        reply(2, Outcome::Ok(3), None, true),
-        reply(3, Outcome::Ok(4), Some(0), false),
-        reply(4, Outcome::Ok(4), Some(0), true),
-    ]
-}
-
-/// The ticks 4 to 6, in which the replies of cancelled tasks come, and then their ends.
-fn poll_cancelled(rt: &impl Abort, lane: &mut Lane) -> Result<(), BookFault>
-    requires { GoesOn lane.old.book lane.old.view lane.old.cancellables lane.old.started lane.old.tick }
-    ensures { GoesOn lane.new.book lane.new.view lane.new.cancellables lane.new.started lane.new.tick }
-{
-    expect_wake(rt, lane, Some(4));
-    expect(rt, lane, &cancelled_in_tick_four(), &[0])?;
-    expect_wake(rt, lane, Some(6));
-    expect(rt, lane, &[], &[])?;
-    expect(rt, lane, &[], &[5])?;
-    expect_wake(rt, lane, None);
+    'steps: for step in steps {
+        take(rt, lane, tasks, step)?;
+    }
     Ok(())
 }
 
-fn cancelled_in_tick_four() -> [Reply; 2] {
-    [
-        reply(0, Outcome::Cancelled, Some(0), true),
-        reply(5, Outcome::Cancelled, Some(0), true),
-    ]
+/// The same of a book without tasks; nothing where memory is refused.
+fn take_of_new(rt: &impl Abort, alloc: Global, tasks: &[Action], steps: &[Step]) -> Option<()> {
+    let mut lane = Lane::new(alloc, 2).ok()?;
+    take_all(rt, &mut lane, tasks, steps).ok()
 }
 
-/// Cancels in the turn of tick 3, after the polls, and then starts the last task.
-fn cancel_and_begin(rt: &impl Abort, lane: &mut Lane) -> Result<(), Fail>
-    requires { GoesOn lane.old.book lane.old.view lane.old.cancellables lane.old.started lane.old.tick }
-    ensures { GoesOn lane.new.book lane.new.view lane.new.cancellables lane.new.started lane.new.tick }
-{
-    lane.cancel(rt, 0)?;
-    begin(rt, lane, &task(sleep(2000), Some(0), true, true), 5)?;
-    Ok(())
+fn expect_steps(rt: &impl Abort, alloc: Global, tasks: &[Action]) {
+    for steps in [
+        &ONE_TASK[..],
+        &SOME_CANCELLED[..],
+        &ONE_OF_TWO_CANCELLED[..],
+    ] {
+        assert!(rt; take_of_new(rt, alloc, tasks, steps).is_some());
+    }
 }
 
-fn run_tasks(rt: &impl Abort, lane: &mut Lane) -> Result<(), Fail>
-    requires { GoesOn lane.old.book lane.old.view lane.old.cancellables lane.old.started lane.old.tick }
-{
-    begin_five(rt, lane)?;
-    poll_three(rt, lane)?;
-    cancel_and_begin(rt, lane)?;
-    poll_cancelled(rt, lane)?;
-    Ok(())
-}
-
-/// The tasks of a script, of which a cancellation ends some.
 #[test]
-fn tasks(rt: HostRuntime) -> Result<(), Fail> {
-    let mut lane = Lane::new(rt.alloc(), 1)?;
-    run_tasks(&rt, &mut lane)
-}
-
-fn cancel_one_of_two(rt: &impl Abort, lane: &mut Lane) -> Result<(), Fail>
-    requires { GoesOn lane.old.book lane.old.view lane.old.cancellables lane.old.started lane.old.tick }
-    ensures { GoesOn lane.new.book lane.new.view lane.new.cancellables lane.new.started lane.new.tick }
-{
-    begin(rt, lane, &task(sleep(9000), Some(1), true, true), 0)?;
-    begin(rt, lane, &task(sleep(7000), Some(1), true, false), 1)?;
-    expect(rt, lane, &[], &[])?;
-    expect_wake(rt, lane, Some(8));
-    lane.cancel(rt, 1)?;
-    expect_wake(rt, lane, Some(2));
-    let cancelled = reply(0, Outcome::Cancelled, Some(1), true);
-    expect(rt, lane, &[cancelled], &[])?;
-    expect_wake(rt, lane, Some(8));
+fn tasks_of_a_book(rt: HostRuntime) -> Result<(), Fail> {
+    let script = Script::read(rt.alloc(), tasks().as_bytes())?;
+    expect_steps(&rt, rt.alloc(), script.actions(Body::Start(0)));
     Ok(())
-}
-
-/// A cancellation is due in the next tick, before every sleep's end, and moves nothing after its reply.
-#[test]
-fn wake_of_a_cancelled_task(rt: HostRuntime) -> Result<(), Fail> {
-    let mut lane = Lane::new(rt.alloc(), 2)?;
-    cancel_one_of_two(&rt, &mut lane)
 }
 
 fn expect_fault(rt: &impl Abort, found: Option<BookFault>, wanted: BookFault) {
     assert_eq!(rt; found, Some(wanted));
 }
 
+/// A task that ends at once, and has a cancellable.
+fn ends_at_once() -> TaskSpec {
+    TaskSpec {
+        tree: value(1),
+        call: 5,
+        cancel: Some(0),
+        check: true,
+        return_on_cancel: true,
+        priority: -1,
+    }
+}
+
 fn expect_spent_once(rt: &impl Abort, lane: &mut Lane)
     requires { GoesOn lane.old.book lane.old.view lane.old.cancellables lane.old.started lane.old.tick }
     ensures { GoesOn lane.new.book lane.new.view lane.new.cancellables lane.new.started lane.new.tick }
 {
-    let spec = task(value(1), None, true, false);
-    expect_fault(rt, lane.start(rt, &spec).err(), BookFault::Spent);
+    expect_fault(rt, lane.start(rt, &ends_at_once()).err(), BookFault::Spent);
     expect_fault(rt, lane.poll(rt).err(), BookFault::Spent);
 }
 
@@ -347,8 +341,11 @@ fn poll_one(rt: &impl Abort, lane: &mut Lane)
             expect_spent(rt, lane);
         }
         Ok(polled) => {
-            let want = reply(0, Outcome::Ok(1), Some(0), true);
-            expect_replies(rt, lane.tick, polled.replies.as_slice(), &[want]);
+            let wanted = Reply {
+                cancel: Some(0),
+                ..ENDED
+            };
+            expect_replies(rt, lane.tick, polled.replies.as_slice(), &[wanted]);
             poll_none(rt, lane);
         }
     }
@@ -363,20 +360,26 @@ fn poll_none(rt: &impl Abort, lane: &mut Lane)
     assert!(rt; polled.is_ok_and(|polled| polled.replies.as_slice().is_empty()));
 }
 
+/// Starts a task that ends at once, where memory may be refused, and polls it.
+fn start_or_spend(rt: &impl Abort, lane: &mut Lane)
+    requires { GoesOn lane.old.book lane.old.view lane.old.cancellables lane.old.started lane.old.tick }
+{
+    match lane.start(rt, &ends_at_once()) {
+        Err(fault) => {
+            expect_fault(rt, Some(fault), BookFault::OutOfMemory);
+            expect_spent(rt, lane);
+        }
+        Ok(number) => {
+            expect_number(rt, number, 0);
+            poll_one(rt, lane);
+        }
+    }
+}
+
 /// A book that was refused memory answers `Spent` from then on.
 #[test]
 fn refused_book(rt: HostRuntime) {
-    let Ok(mut lane) = Lane::new(rt.alloc(), 1) else {
-        return;
-    };
-    match lane.start(&rt, &task(value(1), Some(0), true, true)) {
-        Err(fault) => {
-            expect_fault(&rt, Some(fault), BookFault::OutOfMemory);
-            expect_spent(&rt, &mut lane);
-        }
-        Ok(number) => {
-            expect_number(&rt, number, 0);
-            poll_one(&rt, &mut lane);
-        }
+    if let Ok(mut lane) = Lane::new(rt.alloc(), 1) {
+        start_or_spend(&rt, &mut lane);
     }
 }

@@ -126,10 +126,15 @@ fn letters_of_two_threads(rt: HostRuntime) -> Result<(), Fail> {
     office.take_back(two);
     office.take_back(one);
     let letters = office.drain(&rt, rt.alloc())?;
-    assert_eq!(rt; letters.len(), 6);
-    expect_three(&rt, rt.alloc(), &letters, 1)?;
-    expect_three(&rt, rt.alloc(), &letters, 2)?;
+    expect_six(&rt, rt.alloc(), &letters)?;
     Ok(())
+}
+
+/// Three letters of each of two senders.
+fn expect_six(rt: &impl Abort, alloc: Global, letters: &[Letter]) -> Result<(), AllocError> {
+    assert_eq!(rt; letters.len(), 6);
+    expect_three(rt, alloc, letters, 1)?;
+    expect_three(rt, alloc, letters, 2)
 }
 
 /// A sender's letters are 0, 1 and 2, in their order.
@@ -287,6 +292,25 @@ fn is_taken(
     taken
 }
 
+/// What was put and neither took is left, and no more.
+fn expect_rest(
+    rt: &(impl Wait + Abort),
+    list: &mut WorkList<Job>,
+    put: &[bool; 40],
+    one: &[Option<u32>; 4],
+    two: &[Option<u32>; 4],
+)
+    requires { list.old.out ≡ 0 }
+{
+    for (number, done) in (0..).zip(*put) {
+        if !is_taken(rt, one, two, number, done) && done {
+            let left = list.take_rest(rt).map(|job| job.number());
+            assert!(rt; left == Some(number));
+        }
+    }
+    assert!(rt; list.take_rest(rt).is_none());
+}
+
 /// Whatever request is refused, what was put is taken once, by one of two threads or at the end, and what comes back is
 /// what was to be put.
 #[test]
@@ -303,13 +327,7 @@ fn refused_work(rt: HostRuntime) {
     let (two, of_two) = second;
     list.take_back(two);
     list.take_back(one);
-    for (number, done) in (0..).zip(put) {
-        if !is_taken(&rt, &of_one, &of_two, number, done) && done {
-            let left = list.take_rest(&rt).map(|job| job.number());
-            assert_eq!(rt; left, Some(number));
-        }
-    }
-    assert!(rt; list.take_rest(&rt).is_none());
+    expect_rest(&rt, &mut list, &put, &of_one, &of_two);
 }
 
 /// Posts letters by number, tells how many were posted, and expects back what was not.

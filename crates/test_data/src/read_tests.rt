@@ -20,35 +20,35 @@ fn expect(rt: &impl Abort, found: u64, wanted: u64)
     assert_eq!(rt; found, wanted);
 }
 
+fn expect_parts(rt: &impl Abort, script: &Script) {
+    expect(rt, script.version().into(), 1);
+    expect(rt, script.ticks().into(), 2);
+    expect(rt, script.now(1), 1000);
+    expect(rt, script.contexts().into(), 1);
+    expect(rt, script.home(0).into(), 0);
+}
+
+fn expect_bodies(rt: &impl Abort, script: &Script) {
+    expect(rt, script.actions(Body::Start(0)).len() as u64, 2);
+    expect(rt, script.actions(Body::Nothing).len() as u64, 0);
+    expect(rt, script.stays(Body::Procedure(0), 1) as u64, 0);
+    expect(rt, script.stays(Body::Nothing, 1) as u64, 1);
+}
+
+fn expect_lists(rt: &impl Abort, script: &Script) {
+    expect(rt, script.lanes().into(), 1);
+    expect(rt, script.lane(0).contexts.into(), 1);
+    expect(rt, only_log(script.actions(Body::Procedure(0))).into(), 7);
+    expect(rt, script.loops().into(), 1);
+    expect(rt, script.loop_context(0).into(), 0);
+}
+
 #[test]
 fn tells_its_parts(rt: HostRuntime) -> Result<(), Fail> {
     let script = Script::read(rt.alloc(), first_run().as_bytes())?;
-    expect(&rt, script.version().into(), 1);
-    expect(&rt, script.ticks().into(), 2);
-    expect(&rt, script.now(1), 1000);
-    expect(&rt, script.contexts().into(), 1);
-    expect(&rt, script.home(0).into(), 0);
-    Ok(())
-}
-
-#[test]
-fn tells_its_bodies(rt: HostRuntime) -> Result<(), Fail> {
-    let script = Script::read(rt.alloc(), first_run().as_bytes())?;
-    expect(&rt, script.actions(Body::Start(0)).len() as u64, 2);
-    expect(&rt, script.actions(Body::Nothing).len() as u64, 0);
-    expect(&rt, script.stays(Body::Procedure(0), 1) as u64, 0);
-    expect(&rt, script.stays(Body::Nothing, 1) as u64, 1);
-    Ok(())
-}
-
-#[test]
-fn tells_its_lists(rt: HostRuntime) -> Result<(), Fail> {
-    let script = Script::read(rt.alloc(), first_run().as_bytes())?;
-    expect(&rt, script.lanes().into(), 1);
-    expect(&rt, script.lane(0).contexts.into(), 1);
-    expect(&rt, only_log(script.actions(Body::Procedure(0))).into(), 7);
-    expect(&rt, script.loops().into(), 1);
-    expect(&rt, script.loop_context(0).into(), 0);
+    expect_parts(&rt, &script);
+    expect_bodies(&rt, &script);
+    expect_lists(&rt, &script);
     Ok(())
 }
 
@@ -77,13 +77,17 @@ fn changes(script: &Script) -> [Option<u32>; 2] {
     [script.next_change(1, 2), script.next_change(1, 5)]
 }
 
+fn expect_levels(rt: &impl Abort, script: &Script) {
+    expect(rt, script.cancellables().into(), 1);
+    assert!(rt; levels(script) == [0, 1, 20, 0]);
+    assert!(rt; changes(script) == [Some(5), None]);
+}
+
 /// The levels of two descriptors, and each word of a kind, as the format writes it.
 #[test]
 fn tells_levels(rt: HostRuntime) -> Result<(), Fail> {
     let script = Script::read(rt.alloc(), two_descriptors().as_bytes())?;
-    expect(&rt, script.cancellables().into(), 1);
-    assert_eq!(rt; levels(&script), [0, 1, 20, 0]);
-    assert_eq!(rt; changes(&script), [Some(5), None]);
+    expect_levels(&rt, &script);
     Ok(())
 }
 

@@ -5,7 +5,7 @@ use loop_script::{Kind, SourceSpec};
 use rand::RngExt;
 use rand_pcg::Pcg32;
 use source_rows::{Levels, Row, RowsFault};
-use std::alloc::Global;
+use std::alloc::{AllocError, Global};
 use std::process::Abort;
 use std::test::Fail;
 
@@ -124,7 +124,25 @@ fn steps_of_four_levels() -> [Known; 14] {
     ]
 }
 
-/// Takes steps of which the answers and the orders are known.
+fn expect_ids(rt: &impl Abort, found: &[u64], wanted: &[u64]) {
+    assert_eq!(rt; found, wanted);
+}
+
+/// Takes a step of which the answer and the order after it are known.
+fn expect_step(
+    rt: &impl Abort,
+    alloc: Global,
+    rows: &mut Tried,
+    known: &Known,
+) -> Result<(), AllocError> {
+    let (step, answer, order) = known;
+    assert_eq!(rt; take(rows, step), *answer);
+    assert!(rt; rows.is_one_order());
+    expect_ids(rt, &rows.ids(alloc)?, order);
+    Ok(())
+}
+
+/// Takes such steps of new rows.
 fn expect_steps(
     rt: &impl Abort,
     alloc: Global,
@@ -132,9 +150,8 @@ fn expect_steps(
     steps: &[Known],
 ) -> Result<(), Fail> {
     let mut rows = Tried::new(alloc, levels);
-    for (step, answer, order) in steps.iter() {
-        assert_eq!(rt; take(&mut rows, step), *answer);
-        assert_eq!(rt; rows.ids(alloc)?.as_slice(), *order);
+    for known in steps {
+        expect_step(rt, alloc, &mut rows, known)?;
     }
     Ok(())
 }
@@ -178,15 +195,19 @@ fn retake(rt: &impl Abort, rows: &mut Tried, step: &Step, ids: &[u64]) -> Result
 }
 
 /// Whatever request is refused, rows are as they were or as the step leaves them, also for all steps that come after.
-fn expect_refused(rt: &impl Abort, alloc: Global, levels: Levels, steps: &[Known]) {
-    let mut rows = Tried::new(alloc, levels);
+fn expect_retaken(rt: &impl Abort, rows: &mut Tried, steps: &[Known]) {
     let mut before: &[u64] = &[];
     for (step, answer, order) in steps.iter() {
-        let found = retake(rt, &mut rows, step, before);
+        let found = retake(rt, rows, step, before);
         assert!(rt; found == *answer);
-        assert!(rt; are_in_order(&rows, order));
+        assert!(rt; are_in_order(rows, order));
         before = *order;
     }
+}
+
+fn expect_refused(rt: &impl Abort, alloc: Global, levels: Levels, steps: &[Known]) {
+    let mut rows = Tried::new(alloc, levels);
+    expect_retaken(rt, &mut rows, steps);
 }
 
 #[test]
@@ -204,14 +225,13 @@ fn refused_rows_of_four_levels(rt: HostRuntime) {
     expect_refused(&rt, rt.alloc(), Levels::Four, &steps_of_four_levels());
 }
 
-/// One random edit of the rows and of the plain ones, none of which is given a child where they do not nest; both then have the same rows in the same order.
-fn edit(
-    alloc: Global,
+/// Whether one random edit of the rows and of the plain ones has one answer; none is given a child where they do not nest.
+fn answers_alike(
     random: &mut Pcg32,
     rows: &mut Tried,
     plain: &mut Plain,
     nests: bool,
-) -> Result<(), Fail> {
+) -> Result<bool, AllocError> {
     let choice = if plain.len() > 24 {
         12
     } else {
@@ -223,62 +243,102 @@ fn edit(
         priority: random.random_range(-1..2_i32) * 100,
         ..idle()
     };
-    let same = match choice {
+    Ok(match choice {
         4..=9 if nests => rows.add_child(id, spec, 0) == plain.add_child(id)?,
         0..=9 => rows.attach(spec, 0) == Ok(plain.attach(spec.priority)?),
         10..=13 => rows.destroy(id) == plain.destroy(id),
         14..=15 => rows.set_ready(id, ready) == plain.set_ready(id, ready),
         16..=17 => rows.set_priority(id, spec.priority) == plain.set_priority(id, spec.priority),
         _ => rows.dispatched(id) == plain.dispatched(id),
-    };
-    if !same {
-        return Err("another answer".into());
+    })
+}
+
+fn expect_edit(
+    rt: &impl Abort,
+    random: &mut Pcg32,
+    rows: &mut Tried,
+    plain: &mut Plain,
+    nests: bool,
+) -> Result<(), AllocError> {
+    let alike = answers_alike(random, rows, plain, nests)?;
+    assert!(rt; alike, "one answer");
+    Ok(())
+}
+
+/// Both have the same rows, in the same order, and the same next ready time.
+fn expect_alike(
+    rt: &impl Abort,
+    alloc: Global,
+    rows: &Tried,
+    plain: &Plain,
+) -> Result<(), AllocError> {
+    assert!(rt;
+        rows.rows.next_ready(20) == plain.next_ready(20),
+        "one ready time"
+    );
+    assert!(rt; rows.is_one_order());
+    expect_ids(rt, &rows.ids(alloc)?, &plain.ordered(alloc)?);
+    for row in rows.rows.in_order() {
+        assert!(rt; plain.has(&row), "a row as it was made and edited");
     }
-    if rows.rows.next_ready(20) != plain.next_ready(20) {
-        return Err("another ready time".into());
-    }
-    if rows.ids(alloc)?.as_slice() != plain.ordered(alloc)?.as_slice() {
-        return Err("another order".into());
+    Ok(())
+}
+
+/// Random edits, of which the first five hundred give no children.
+fn expect_edits(rt: &impl Abort, alloc: Global, levels: Levels) -> Result<(), Fail> {
+    let mut random = Pcg32::new(SEED, STREAM);
+    let mut rows = Tried::new(alloc, levels);
+    let mut plain = Plain::new(alloc, levels);
+    for step in 0..2_500_u64 {
+        expect_edit(rt, &mut random, &mut rows, &mut plain, step >= 500)?;
+        expect_alike(rt, alloc, &rows, &plain)?;
     }
     Ok(())
 }
 
 #[test]
 fn random_edits(rt: HostRuntime) -> Result<(), Fail> {
-    for levels in [Levels::Two, Levels::Four] {
-        let mut random = Pcg32::new(SEED, STREAM);
-        let mut rows = Tried::new(rt.alloc(), levels);
-        let mut plain = Plain::new(rt.alloc(), levels);
-        for step in 0..2_500_u64 {
-            let nests = step >= 500;
-            edit(rt.alloc(), &mut random, &mut rows, &mut plain, nests)?;
-            for row in rows.rows.in_order() {
-                assert!(rt; plain.has(&row), "a row as it was made and edited");
-            }
-        }
+    expect_edits(&rt, rt.alloc(), Levels::Two)?;
+    expect_edits(&rt, rt.alloc(), Levels::Four)
+}
+
+/// Timeouts of so many ticks one behind the other.
+fn attach_all(rt: &impl Abort, rows: &mut Tried, ticks: u32) {
+    for now in 0..ticks {
+        assert!(rt; rows.attach(timeout(), now) == Ok(u64::from(now) + 1));
     }
-    Ok(())
+}
+
+/// Ready times up to this row's that are changed from the first on.
+fn delay_all(rt: &impl Abort, rows: &mut Tried, last: u32) {
+    for id in 1..=last {
+        assert!(rt;
+            rows.set_ready(u64::from(id), 500_000 + i64::from(id)),
+            "a row"
+        );
+    }
+}
+
+fn destroy_all(rt: &impl Abort, rows: &mut Tried, first: u64, last: u64) {
+    for id in first..=last {
+        assert!(rt; rows.destroy(id), "a row");
+    }
+}
+
+fn expect_next(rt: &impl Abort, rows: &Tried, ready: u64) {
+    assert_eq!(rt; rows.next_ready(0), ready);
 }
 
 /// Ready times that come one behind the other, that are changed from the first on, and that go from the first on, stand in
 /// a low tree: in one that leans so many would stand above each other that a call finds no stack, or no end.
 #[test]
-fn low_tree(rt: HostRuntime) -> Result<(), Fail> {
+fn low_tree(rt: HostRuntime) {
     let mut rows = Tried::new(rt.alloc(), Levels::Two);
-    for now in 0..100_000_u32 {
-        assert_eq!(rt; rows.attach(timeout(), now), Ok(now as u64 + 1));
-    }
-    assert_eq!(rt; rows.next_ready(0), 2_000);
-    for id in 1..=90_000_u64 {
-        assert!(rt; rows.set_ready(id, 500_000 + id as i64), "a row");
-    }
-    assert_eq!(rt; rows.next_ready(0), 92_000);
-    for id in 90_001..=100_000_u64 {
-        assert!(rt; rows.destroy(id), "a row");
-    }
-    for id in 101..=90_000_u64 {
-        assert!(rt; rows.destroy(id), "a row");
-    }
-    assert_eq!(rt; rows.next_ready(0), 500_001);
-    Ok(())
+    attach_all(&rt, &mut rows, 100_000);
+    expect_next(&rt, &rows, 2_000);
+    delay_all(&rt, &mut rows, 90_000);
+    expect_next(&rt, &rows, 92_000);
+    destroy_all(&rt, &mut rows, 90_001, 100_000);
+    destroy_all(&rt, &mut rows, 101, 90_000);
+    expect_next(&rt, &rows, 500_001);
 }

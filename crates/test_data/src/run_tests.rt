@@ -4,8 +4,8 @@ ghost use Rattle.task_steps.specs.End.{seen};
 ghost use Rattle.task_steps.specs.Run.{MaySet, IsAfter};
 
 use crate::oracle::{self, Begun};
-use crate::trees::{Seed, both, check, fail, first, seq, sleep, tree_of, value, within};
-use loop_script::{Outcome, TaskTree};
+use crate::trees::{Seed, tree_of};
+use loop_script::{Action, Body, Outcome, Script, TaskTree};
 use std::alloc::{AllocError, Global};
 use std::process::Abort;
 use std::test::Fail;
@@ -82,84 +82,90 @@ fn ended(
     Ok(end)
 }
 
-/// Whether a tree that is begun in a tick ends as it is to.
-fn expect_end(
-    rt: &impl Abort,
-    alloc: Global,
-    tree: &TaskTree,
+/// The task of each row of the table.
+fn trees_of_the_table() -> &'static str {
+    r#"{"version":1,"ticks":1,"tick_us":1000,"cancellables":1,"procs":[{"do":[]}],"lanes":[{"contexts":1,"start":[["task",{"tree":["within",1000,["sleep",2000]],"call":0}],["task",{"tree":["both",["fail"],["sleep",1000]],"call":0}],["task",{"tree":["seq",["sleep",1],["check"]],"call":0}],["task",{"tree":["first",["seq",["sleep",1000],["value",1]],["seq",["sleep",1000],["value",2]]],"call":0}],["task",{"tree":["within",2000,["seq",["sleep",2000],["value",3]]],"call":0}],["task",{"tree":["both",["seq",["sleep",2000],["fail"]],["within",1000,["sleep",5000]]],"call":0}],["task",{"tree":["both",["check"],["sleep",2000]],"call":0}],["task",{"tree":["sleep",1001],"call":0}]]}]}"#
+}
+
+/// A tree that is begun in a tick, and perhaps seen as cancelled from one on, and how it ends.
+#[derive(Clone, Copy)]
+struct Ending {
+    what: &'static str,
     begun: u32,
     cancel: Option<u32>,
-    end: (u64, Outcome),
-) -> Result<(), AllocError>
-    requires { begun < 1000 }
-{
-    assert_eq!(rt; ended(rt, alloc, tree, begun, cancel, false)?, Some(end));
-    Ok(())
+    tick: u64,
+    outcome: Outcome,
+}
+
+fn row(what: &'static str, cancel: Option<u32>, tick: u64, outcome: Outcome) -> Ending {
+    Ending {
+        what,
+        begun: 1,
+        cancel,
+        tick,
+        outcome,
+    }
+}
+
+fn table() -> [Ending; 8] {
+    [
+        Ending {
+            what: "times out",
+            begun: 4,
+            cancel: None,
+            tick: 5,
+            outcome: Outcome::TimedOut,
+        },
+        row("fails at the later end", None, 2, Outcome::Failed),
+        row("checks after a sleep", Some(2), 2, Outcome::Cancelled),
+        row("a tie is the first's", None, 2, Outcome::Ok(1)),
+        row("ends at the limit", None, 3, Outcome::Ok(3)),
+        row("answers the first of two faults", None, 3, Outcome::Failed),
+        row("checks no later cancel", Some(2), 3, Outcome::Ok(0)),
+        row("rounds a sleep up", None, 3, Outcome::Ok(0)),
+    ]
+}
+
+/// Whether a tree ends as its row says, where a run that is refused memory is made anew.
+fn ends(rt: &impl Abort, alloc: Global, tree: &TaskTree, row: &Ending, sparse: bool) -> bool {
+    if row.begun >= 1000 {
+        return false;
+    }
+    let found = match ended(rt, alloc, tree, row.begun, row.cancel, sparse) {
+        Err(AllocError) => ended(rt, alloc, tree, row.begun, row.cancel, sparse),
+        found => found,
+    };
+    found == Ok(Some((row.tick, row.outcome)))
+}
+
+/// Each tree ends as its row says, in each tick polled and only in those that its wake names.
+fn expect_table(rt: &impl Abort, alloc: Global, tasks: &[Action]) {
+    assert!(rt; tasks.len() == table().len());
+    for (task, row) in tasks.iter().zip(table()) {
+        let what = row.what;
+        match task {
+            Action::Task(spec) => {
+                assert!(rt; ends(rt, alloc, &spec.tree, &row, false), "{what}");
+                assert!(rt; ends(rt, alloc, &spec.tree, &row, true), "{what}, sparse");
+            }
+            _ => assert!(rt; false, "{what}"),
+        }
+    }
 }
 
 #[test]
-fn times_out(rt: HostRuntime) -> Result<(), Fail> {
-    let tree = within(rt.alloc(), 1000, sleep(2000))?;
-    expect_end(&rt, rt.alloc(), &tree, 4, None, (5, Outcome::TimedOut))?;
+fn ends_as_the_table_says(rt: HostRuntime) -> Result<(), Fail> {
+    let script = Script::read(rt.alloc(), trees_of_the_table().as_bytes())?;
+    expect_table(&rt, rt.alloc(), script.actions(Body::Start(0)));
     Ok(())
 }
 
+/// A run is refused as a whole, and one that is made anew ends as it is to.
 #[test]
-fn fails_at_the_later_end(rt: HostRuntime) -> Result<(), Fail> {
-    let tree = both(rt.alloc(), fail(), sleep(1000))?;
-    expect_end(&rt, rt.alloc(), &tree, 1, None, (2, Outcome::Failed))?;
-    Ok(())
-}
-
-#[test]
-fn checks_after_a_sleep(rt: HostRuntime) -> Result<(), Fail> {
-    let tree = seq(rt.alloc(), sleep(1), check())?;
-    expect_end(&rt, rt.alloc(), &tree, 1, Some(2), (2, Outcome::Cancelled))?;
-    Ok(())
-}
-
-#[test]
-fn tie_is_the_firsts(rt: HostRuntime) -> Result<(), Fail> {
-    let alloc = rt.alloc();
-    let a = seq(alloc, sleep(1000), value(1))?;
-    let b = seq(alloc, sleep(1000), value(2))?;
-    let tree = first(alloc, a, b)?;
-    expect_end(&rt, alloc, &tree, 1, None, (2, Outcome::Ok(1)))?;
-    Ok(())
-}
-
-#[test]
-fn ends_at_the_limit(rt: HostRuntime) -> Result<(), Fail> {
-    let body = seq(rt.alloc(), sleep(2000), value(3))?;
-    let tree = within(rt.alloc(), 2000, body)?;
-    expect_end(&rt, rt.alloc(), &tree, 1, None, (3, Outcome::Ok(3)))?;
-    Ok(())
-}
-
-#[test]
-fn answers_the_first_of_two_faults(rt: HostRuntime) -> Result<(), Fail> {
-    let alloc = rt.alloc();
-    let a = seq(alloc, sleep(2000), fail())?;
-    let b = within(alloc, 1000, sleep(5000))?;
-    let tree = both(alloc, a, b)?;
-    expect_end(&rt, alloc, &tree, 1, None, (3, Outcome::Failed))?;
-    Ok(())
-}
-
-#[test]
-fn checks_no_later_cancel(rt: HostRuntime) -> Result<(), Fail> {
-    let tree = both(rt.alloc(), check(), sleep(2000))?;
-    expect_end(&rt, rt.alloc(), &tree, 1, Some(2), (3, Outcome::Ok(0)))?;
-    Ok(())
-}
-
-#[test]
-fn rounds_a_sleep_up(rt: HostRuntime) -> Result<(), Fail> {
-    assert_eq!(rt;
-        ended(&rt, rt.alloc(), &sleep(1001), 1, None, true)?,
-        Some((3, Outcome::Ok(0)))
-    );
-    Ok(())
+fn refused_run(rt: HostRuntime) {
+    if let Ok(script) = Script::read(rt.alloc(), trees_of_the_table().as_bytes()) {
+        expect_table(&rt, rt.alloc(), script.actions(Body::Start(0)));
+    }
 }
 
 /// A tree from a seed, begun in some tick and cancelled in some, ends as the rule says, also where polls pass over ticks.
@@ -179,11 +185,8 @@ fn expect_rule(
     };
     let end = Some(oracle::end(&tree, &rule));
     for sparse in [false, true] {
-        assert_eq!(rt;
-            ended(rt, alloc, &tree, begun, cancel, sparse)?,
-            end,
-            "tree {number}, sparse {sparse}"
-        );
+        let found = ended(rt, alloc, &tree, begun, cancel, sparse)?;
+        assert!(rt; found == end, "tree {number}, sparse {sparse}");
     }
     Ok(())
 }
@@ -203,36 +206,4 @@ fn trees_of_each_form_and_depth(rt: HostRuntime) -> Result<(), Fail> {
         expect_rule(&rt, rt.alloc(), &mut seed, number)?;
     }
     Ok(())
-}
-
-/// A run is refused as a whole, and one that is made anew ends as it is to.
-fn expect_end_or_none(
-    rt: &impl Abort,
-    alloc: Global,
-    tree: &TaskTree,
-    begun: u32,
-    cancel: Option<u32>,
-    end: (u64, Outcome),
-)
-    requires { begun < 1000 }
-{
-    let found = match ended(rt, alloc, tree, begun, cancel, false) {
-        Err(AllocError) => ended(rt, alloc, tree, begun, cancel, false),
-        found => found,
-    };
-    assert_eq!(rt; found, Ok(Some(end)));
-}
-
-#[test]
-fn refused_run(rt: HostRuntime) {
-    let alloc = rt.alloc();
-    if let Ok(tree) = within(alloc, 1000, sleep(2000)) {
-        expect_end_or_none(&rt, alloc, &tree, 4, None, (5, Outcome::TimedOut));
-    }
-    if let Ok(tree) = both(alloc, fail(), sleep(1000)) {
-        expect_end_or_none(&rt, alloc, &tree, 1, None, (2, Outcome::Failed));
-    }
-    if let Ok(tree) = seq(alloc, sleep(1), check()) {
-        expect_end_or_none(&rt, alloc, &tree, 1, Some(2), (2, Outcome::Cancelled));
-    }
 }

@@ -12,15 +12,15 @@ pub(crate) fn value(value: i64) -> TaskTree {
     }
 }
 
-pub(crate) fn fail() -> TaskTree {
+fn fail() -> TaskTree {
     TaskTree { node: Node::Fail }
 }
 
-pub(crate) fn check() -> TaskTree {
+fn check() -> TaskTree {
     TaskTree { node: Node::Check }
 }
 
-pub(crate) fn sleep(us: u64) -> TaskTree
+fn sleep(us: u64) -> TaskTree
     requires { us ≤ longest_time }
 {
     TaskTree {
@@ -28,7 +28,7 @@ pub(crate) fn sleep(us: u64) -> TaskTree
     }
 }
 
-pub(crate) fn seq(alloc: Global, first: TaskTree, next: TaskTree) -> Result<TaskTree, AllocError> {
+fn seq(alloc: Global, first: TaskTree, next: TaskTree) -> Result<TaskTree, AllocError> {
     let first = Arc::new(alloc, first)?;
     let next = Arc::new(alloc, next)?;
     Ok(TaskTree {
@@ -36,7 +36,7 @@ pub(crate) fn seq(alloc: Global, first: TaskTree, next: TaskTree) -> Result<Task
     })
 }
 
-pub(crate) fn both(alloc: Global, one: TaskTree, other: TaskTree) -> Result<TaskTree, AllocError> {
+fn both(alloc: Global, one: TaskTree, other: TaskTree) -> Result<TaskTree, AllocError> {
     let one = Arc::new(alloc, one)?;
     let other = Arc::new(alloc, other)?;
     Ok(TaskTree {
@@ -44,7 +44,7 @@ pub(crate) fn both(alloc: Global, one: TaskTree, other: TaskTree) -> Result<Task
     })
 }
 
-pub(crate) fn first(alloc: Global, one: TaskTree, other: TaskTree) -> Result<TaskTree, AllocError> {
+fn first(alloc: Global, one: TaskTree, other: TaskTree) -> Result<TaskTree, AllocError> {
     let one = Arc::new(alloc, one)?;
     let other = Arc::new(alloc, other)?;
     Ok(TaskTree {
@@ -52,7 +52,7 @@ pub(crate) fn first(alloc: Global, one: TaskTree, other: TaskTree) -> Result<Tas
     })
 }
 
-pub(crate) fn within(alloc: Global, us: u64, body: TaskTree) -> Result<TaskTree, AllocError>
+fn within(alloc: Global, us: u64, body: TaskTree) -> Result<TaskTree, AllocError>
     requires { us ≤ longest_time }
 {
     let body = Arc::new(alloc, body)?;

@@ -3,8 +3,7 @@ ghost use Rattle.std.specs.Prelude.{◌+◌, ◌≤◌, ◌^◌};
 
 use loop_script::SourceSpec;
 use source_rows::{Levels, Rows, RowsFault};
-use std::alloc::Global;
-use std::test::Fail;
+use std::alloc::{AllocError, Global};
 
 /// Rows, and how many edits are left that take an id or an order number.
 #[derive(Drop)]
@@ -87,19 +86,16 @@ impl Tried {
         self.rows.destroy(id)
     }
 
-    /// The ids in the order of the rows, by both of the iterators.
-    pub(crate) fn ids(&self, alloc: Global) -> Result<Vec<u64>, Fail> {
-        let mut ids = Vec::new(alloc);
-        for id in self.rows.ordered() {
-            ids.push(*id)?;
-        }
-        let mut of_rows = Vec::new(alloc);
-        for row in self.rows.in_order() {
-            of_rows.push(row.id)?;
-        }
-        if ids.as_slice() != of_rows.as_slice() {
-            return Err("two orders of one set".into());
-        }
-        Ok(ids)
+    /// The ids in the order of the rows.
+    pub(crate) fn ids(&self, alloc: Global) -> Result<Vec<u64>, AllocError> {
+        self.rows.ordered().copied().collect(alloc)
+    }
+
+    /// Whether both of the iterators over rows have one order.
+    pub(crate) fn is_one_order(&self) -> bool {
+        self.rows
+            .in_order()
+            .map(|row| row.id)
+            .eq(self.rows.ordered().copied())
     }
 }

@@ -1,61 +1,24 @@
-//! The phases on single contexts.
-ghost use Rattle.std.specs.Prelude.{◌≡◌, ◌<◌, ◌+◌, OnOk};
-
+//! The phases on single contexts, in a table; the stack of thread-default contexts; and what is acquired.
 use crate::expected::expect;
-use cancel_view::{OutOfMemory, View};
+use crate::made::{Source, made, viewed};
+use cancel_view::View;
 use context_core::{Context, DefaultStack, Interest, Prepared};
-use loop_script::{Kind, SourceSpec};
-use source_rows::{Levels, RowsFault};
+use loop_script::Kind;
+use source_rows::Levels;
 use std::alloc::{AllocError, Global};
 use std::process::Abort;
 
-// (a proof grows faster than the length of its function, so a test is short and what tests share is a function)
-
-pub(crate) fn attach(context: &mut Context, kind: Kind, priority: i32) -> Result<(), RowsFault>
-    requires id { context.old.rows.next_id < 1000 }
-    requires order { context.old.rows.next_order < 1000 }
-    ensures id { OnOk result (context.new.rows.next_id ≡ context.old.rows.next_id + 1) }
-    ensures order { OnOk result (context.new.rows.next_order ≡ context.old.rows.next_order + 1) }
-{
-    let spec = SourceSpec {
-        kind,
-        priority,
-        recurse: false,
-        call: None,
-    };
-    context.rows_mut().attach(spec, 0)?;
-    Ok(())
-}
-
-/// Phases at time 0 with nothing busy: what `prepare` answers, what `query` asks and, by what descriptors then show, the
-/// sources that `check` gives.
-fn expect_phases(
-    rt: &impl Abort,
-    alloc: Global,
-    context: &Context,
-    view: &View,
+/// What the phases give at time 0 with no call in progress: what `prepare` answers, what `query` asks, and the sources that `check`
+/// gives, by what descriptors then show.
+#[derive(Clone, Copy)]
+struct Phases {
+    what: &'static str,
+    sources: &'static [Source],
+    cancelled: bool,
+    shown: &'static [u8],
     prepared: Prepared,
-    asked: &[Interest],
-) -> Result<(), AllocError> {
-    let found = context.prepare(0, &[], view);
-    let interests = context.query(alloc, &found, &[])?;
-    expect(rt, found == prepared);
-    assert_eq!(rt; interests.as_slice(), asked);
-    Ok(())
-}
-
-fn expect_selected(
-    rt: &impl Abort,
-    alloc: Global,
-    context: &Context,
-    view: &View,
-    shown: &[u8],
-    ids: &[u64],
-) -> Result<(), AllocError> {
-    let prepared = context.prepare(0, &[], view);
-    let selected = context.check(alloc, &prepared, 0, &[], view, shown)?;
-    assert_eq!(rt; selected.as_slice(), ids);
-    Ok(())
+    asked: &'static [Interest],
+    selected: &'static [u64],
 }
 
 fn ready_at(priority: i32) -> Prepared {
@@ -73,146 +36,142 @@ fn waiting(timeout_ms: i64) -> Prepared {
 }
 
 /// An idle source, a descriptor more urgent than it, and one less urgent.
-fn idle_and_descriptors(alloc: Global) -> Result<Context, RowsFault> {
-    let mut context = Context::new(alloc, Levels::Two);
-    attach(&mut context, Kind::Idle, 200)?;
-    attach(&mut context, Kind::Fd(0, 1), 0)?;
-    attach(&mut context, Kind::Fd(1, 1), 300)?;
-    Ok(context)
+const IDLE_AND_DESCRIPTORS: [Source; 3] = [
+    Source::Root(Kind::Idle, 200),
+    Source::Root(Kind::Fd(0, 1), 0),
+    Source::Root(Kind::Fd(1, 1), 300),
+];
+
+/// Of the descriptors only the more urgent one can matter, which goes first where it is shown.
+fn of_descriptors() -> [Phases; 2] {
+    let shown = Phases {
+        what: "what is shown",
+        sources: &IDLE_AND_DESCRIPTORS,
+        cancelled: false,
+        shown: &[1],
+        prepared: ready_at(200),
+        asked: &[Interest { fd: 0, bits: 1 }],
+        selected: &[2],
+    };
+    let not_shown = Phases {
+        what: "what is not shown",
+        shown: &[0],
+        selected: &[1],
+        ..shown
+    };
+    [shown, not_shown]
 }
 
-/// What they are asked, with nothing cancelled.
-fn expect_asked(rt: &impl Abort, alloc: Global, view: &View) -> Result<(), RowsFault> {
-    let context = idle_and_descriptors(alloc)?;
-    let asked = [Interest { fd: 0, bits: 1 }];
-    let phases = expect_phases(rt, alloc, &context, view, ready_at(200), &asked);
-    expect(rt, phases.is_ok());
+/// A ready time in the middle of a millisecond, for which the wait is rounded up; no sources, for which it has no end; and a source of
+/// a cancellable before that is cancelled, and after.
+fn of_others() -> [Phases; 4] {
+    let empty = Phases {
+        what: "no sources",
+        sources: &[],
+        cancelled: false,
+        shown: &[],
+        prepared: waiting(-1),
+        asked: &[],
+        selected: &[],
+    };
+    let between = Phases {
+        what: "between two milliseconds",
+        sources: &[Source::Root(Kind::ReadyTime(1500), 0)],
+        prepared: waiting(2),
+        ..empty
+    };
+    let before = Phases {
+        what: "not cancelled",
+        sources: &[Source::Root(Kind::Cancel(0), 0)],
+        ..empty
+    };
+    let after = Phases {
+        what: "cancelled",
+        cancelled: true,
+        prepared: ready_at(0),
+        selected: &[1],
+        ..before
+    };
+    [empty, between, before, after]
+}
+
+fn expect_asked(
+    rt: &impl Abort,
+    alloc: Global,
+    context: &Context,
+    prepared: &Prepared,
+    wanted: &Phases,
+) -> Result<(), AllocError> {
+    let what = wanted.what;
+    let asked = context.query(alloc, prepared, &[])?;
+    assert_eq!(rt; asked.as_slice(), wanted.asked, "asked, {what}");
     Ok(())
 }
 
-#[test]
-fn asks_what_can_matter(rt: HostRuntime) -> Result<(), OutOfMemory> {
-    let view = View::new(rt.alloc(), 1)?;
-    expect(&rt, expect_asked(&rt, rt.alloc(), &view).is_ok());
-    Ok(())
-}
-
-/// The urgent descriptor where it is shown, and else the idle source.
-fn expect_by_shown(
+fn expect_selected(
     rt: &impl Abort,
     alloc: Global,
     context: &Context,
     view: &View,
+    wanted: &Phases,
 ) -> Result<(), AllocError> {
-    expect_selected(rt, alloc, context, view, &[1], &[2])?;
-    expect_selected(rt, alloc, context, view, &[0], &[1])
-}
-
-/// The same of new sources, with nothing cancelled.
-fn select_by_shown(rt: &impl Abort, alloc: Global, view: &View) -> Result<(), RowsFault> {
-    let context = idle_and_descriptors(alloc)?;
-    expect(rt, expect_by_shown(rt, alloc, &context, view).is_ok());
+    let what = wanted.what;
+    let prepared = context.prepare(0, &[], view);
+    let selected = context.check(alloc, &prepared, 0, &[], view, wanted.shown)?;
+    assert_eq!(rt; selected.as_slice(), wanted.selected, "selected, {what}");
     Ok(())
 }
 
-#[test]
-fn selects_by_what_is_shown(rt: HostRuntime) -> Result<(), OutOfMemory> {
-    let view = View::new(rt.alloc(), 1)?;
-    expect(&rt, select_by_shown(&rt, rt.alloc(), &view).is_ok());
-    Ok(())
-}
-
-/// A ready time in the middle of a millisecond.
-fn between_milliseconds(alloc: Global) -> Result<Context, RowsFault> {
-    let mut context = Context::new(alloc, Levels::Two);
-    attach(&mut context, Kind::ReadyTime(1500), 0)?;
-    Ok(context)
-}
-
-/// The wait for it, rounded up.
-fn expect_whole_wait(rt: &impl Abort, alloc: Global, view: &View) -> Result<(), RowsFault> {
-    let context = between_milliseconds(alloc)?;
-    expect(rt, context.prepare(0, &[], view) == waiting(2));
-    Ok(())
-}
-
-#[test]
-fn waits_in_whole_milliseconds(rt: HostRuntime) -> Result<(), OutOfMemory> {
-    let view = View::new(rt.alloc(), 1)?;
-    expect(&rt, expect_whole_wait(&rt, rt.alloc(), &view).is_ok());
-    Ok(())
-}
-
-/// A context without sources waits for ever, asks nothing and selects nothing.
-fn expect_empty(
+/// The phases of a context, unless memory is refused; they only look at it.
+fn expect_phases(
     rt: &impl Abort,
     alloc: Global,
     context: &Context,
     view: &View,
+    wanted: &Phases,
 ) -> Result<(), AllocError> {
-    expect_phases(rt, alloc, context, view, waiting(-1), &[])?;
-    expect_selected(rt, alloc, context, view, &[], &[])
+    let what = wanted.what;
+    let prepared = context.prepare(0, &[], view);
+    assert!(rt; prepared == wanted.prepared, "prepared, {what}");
+    expect_asked(rt, alloc, context, &prepared, wanted)?;
+    expect_selected(rt, alloc, context, view, wanted)
 }
 
-#[test]
-fn empty(rt: HostRuntime) -> Result<(), OutOfMemory> {
-    let view = View::new(rt.alloc(), 1)?;
-    let context = Context::new(rt.alloc(), Levels::Two);
-    expect(&rt, expect_empty(&rt, rt.alloc(), &context, &view).is_ok());
-    Ok(())
-}
-
-/// A source that waits for a cancellable.
-fn of_a_cancellable(alloc: Global) -> Result<Context, RowsFault> {
-    let mut context = Context::new(alloc, Levels::Two);
-    attach(&mut context, Kind::Cancel(0), 0)?;
-    Ok(context)
-}
-
-pub(crate) fn cancelled(alloc: Global) -> Result<View, OutOfMemory> {
-    let mut view = View::new(alloc, 1)?;
-    view.cancel(alloc, 0)?;
-    Ok(view)
-}
-
-/// What is ready by a view, with no descriptors: its priority, and the sources.
-fn expect_ready(
+/// Whether the phases are told, and then they are right: at once, or asked for again where memory is refused.
+fn are_told(
     rt: &impl Abort,
     alloc: Global,
     context: &Context,
     view: &View,
-    priority: Option<i32>,
-    ids: &[u64],
-) -> Result<(), AllocError> {
-    expect(rt, context.prepare(0, &[], view).priority == priority);
-    expect_selected(rt, alloc, context, view, &[], ids)
+    wanted: &Phases,
+) -> bool {
+    expect_phases(rt, alloc, context, view, wanted).is_ok()
+        || expect_phases(rt, alloc, context, view, wanted).is_ok()
 }
 
-/// Before the cancellable is cancelled.
-fn expect_asleep(rt: &impl Abort, alloc: Global, context: &Context) -> Result<(), OutOfMemory> {
-    let view = View::new(alloc, 1)?;
-    expect_ready(rt, alloc, context, &view, None, &[])?;
-    Ok(())
-}
-
-/// Once it is cancelled.
-fn expect_woken(rt: &impl Abort, alloc: Global, context: &Context) -> Result<(), OutOfMemory> {
-    let view = cancelled(alloc)?;
-    expect_ready(rt, alloc, context, &view, Some(0), &[1])?;
-    Ok(())
-}
-
-/// Before and after.
-fn expect_waits(rt: &impl Abort, alloc: Global, context: &Context) -> Result<(), OutOfMemory> {
-    expect_asleep(rt, alloc, context)?;
-    expect_woken(rt, alloc, context)
+/// The same of a row's sources; nothing where they find no memory.
+fn are_told_of(rt: &impl Abort, alloc: Global, row: &Phases) -> Option<bool> {
+    let tried = made(alloc, Levels::Two, row.sources)?;
+    let view = viewed(alloc, row.cancelled)?;
+    Some(are_told(rt, alloc, &tried.context, &view, row))
 }
 
 #[test]
-fn waits_for_a_cancellable(rt: HostRuntime) -> Result<(), RowsFault> {
-    let context = of_a_cancellable(rt.alloc())?;
-    expect(&rt, expect_waits(&rt, rt.alloc(), &context).is_ok());
-    Ok(())
+fn phases_of_contexts(rt: HostRuntime) {
+    for row in of_descriptors() {
+        expect(&rt, are_told_of(&rt, rt.alloc(), &row) == Some(true));
+    }
+    for row in of_others() {
+        expect(&rt, are_told_of(&rt, rt.alloc(), &row) == Some(true));
+    }
+}
+
+/// Whatever request is refused, a phase answers what it has to, or is asked again and does.
+#[test]
+fn refused_phases(rt: HostRuntime) {
+    for row in of_descriptors() {
+        expect(&rt, are_told_of(&rt, rt.alloc(), &row) != Some(false));
+    }
 }
 
 /// Two pushes: the one below can't be popped before the one on top.
@@ -237,40 +196,6 @@ fn releases_what_was_acquired(rt: HostRuntime) {
     expect(&rt, context.release());
     expect(&rt, !context.release());
     expect(&rt, !context.is_owned());
-}
-
-/// The phases of an idle source and descriptors, unless memory is refused; they only look at the context.
-fn phases(
-    rt: &impl Abort,
-    alloc: Global,
-    context: &Context,
-    view: &View,
-) -> Result<(), AllocError> {
-    let asked = [Interest { fd: 0, bits: 1 }];
-    expect_phases(rt, alloc, context, view, ready_at(200), &asked)?;
-    expect_by_shown(rt, alloc, context, view)
-}
-
-/// The phases are asked for again where memory is refused, and are right then.
-fn phases_again(rt: &impl Abort, alloc: Global, context: &Context, view: &View) {
-    if phases(rt, alloc, context, view).is_err() {
-        expect(rt, phases(rt, alloc, context, view).is_ok());
-    }
-}
-
-/// The same of new sources, where there is memory for them.
-fn new_phases_again(rt: &impl Abort, alloc: Global, view: &View) {
-    if let Ok(context) = idle_and_descriptors(alloc) {
-        phases_again(rt, alloc, &context, view);
-    }
-}
-
-/// Whatever request is refused, a phase answers what it has to, or is asked again and does.
-#[test]
-fn refused_phases(rt: HostRuntime) {
-    if let Ok(view) = View::new(rt.alloc(), 1) {
-        new_phases_again(&rt, rt.alloc(), &view);
-    }
 }
 
 /// Pushes. Where memory is refused the stack is as it was, and a second call pushes.

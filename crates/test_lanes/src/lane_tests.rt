@@ -49,13 +49,6 @@ fn expect_first_run(rt: &impl Abort, alloc: Global, script: &Script) -> Result<(
     Ok(())
 }
 
-#[test]
-fn first_run(rt: HostRuntime) -> Result<(), ScriptFault> {
-    let script = Script::read(rt.alloc(), first_run_script().as_bytes())?;
-    expect(&rt, expect_first_run(&rt, rt.alloc(), &script).is_ok());
-    Ok(())
-}
-
 /// A new lane 0 hands over neither the context that it has nor one that it has not.
 fn expect_nothing_given(rt: &impl Abort, alloc: Global, script: &Script) -> Result<(), LaneFault> {
     let mut lane = LaneState::new(alloc, script, 0)?;
@@ -64,11 +57,16 @@ fn expect_nothing_given(rt: &impl Abort, alloc: Global, script: &Script) -> Resu
     Ok(())
 }
 
-/// A lane that gave no context hands none over, whether it has it or not.
+/// The lines of a whole run; and a lane that gave no context hands none over, whether it has it or not.
+fn expect_whole(rt: &impl Abort, alloc: Global, script: &Script) {
+    expect(rt, expect_first_run(rt, alloc, script).is_ok());
+    expect(rt, expect_nothing_given(rt, alloc, script).is_ok());
+}
+
 #[test]
-fn hands_over_nothing_at_first(rt: HostRuntime) -> Result<(), ScriptFault> {
+fn first_run(rt: HostRuntime) -> Result<(), ScriptFault> {
     let script = Script::read(rt.alloc(), first_run_script().as_bytes())?;
-    expect(&rt, expect_nothing_given(&rt, rt.alloc(), &script).is_ok());
+    expect_whole(&rt, rt.alloc(), &script);
     Ok(())
 }
 

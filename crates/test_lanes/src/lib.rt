@@ -10,6 +10,8 @@ mod hand_tests;
 #[cfg(test)]
 mod lane_tests;
 #[cfg(test)]
+mod made;
+#[cfg(test)]
 mod standing_tests;
 #[cfg(test)]
 mod step_tests;

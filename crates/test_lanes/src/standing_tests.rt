@@ -1,153 +1,92 @@
-//! What an iteration would do with each source of a context, worked out by hand.
-ghost use Rattle.std.specs.Prelude.{◌≡◌, ◌<◌, ◌+◌, OnOk};
-
-use crate::context_tests::{attach, cancelled};
+//! What an iteration would do with each source of a context, worked out by hand, in a table.
 use crate::expected::expect;
-use cancel_view::{OutOfMemory, View};
+use crate::made::{Source, made, viewed};
+use cancel_view::View;
 use context_core::{Context, Standing};
-use loop_script::{Kind, SourceSpec};
-use source_rows::{Levels, RowsFault};
+use loop_script::Kind;
+use source_rows::Levels;
 use std::alloc::{AllocError, Global};
 use std::process::Abort;
 
-fn add_child(context: &mut Context, parent: u64, kind: Kind) -> Result<(), RowsFault>
-    requires id { context.old.rows.next_id < 1000 }
-    requires order { context.old.rows.next_order < 1000 }
-    ensures id { OnOk result (context.new.rows.next_id ≡ context.old.rows.next_id + 1) }
-    ensures order { OnOk result (context.new.rows.next_order ≡ context.old.rows.next_order + 1) }
-{
-    let spec = SourceSpec {
-        kind,
-        priority: 0,
-        recurse: false,
-        call: None,
-    };
-    context.rows_mut().add_child(parent, spec, 0)?;
-    Ok(())
+/// The standings at time 0 of sources of which some are in a call, by what descriptors show.
+#[derive(Clone, Copy)]
+struct Known {
+    what: &'static str,
+    levels: Levels,
+    sources: &'static [Source],
+    busy: &'static [u64],
+    cancelled: bool,
+    shown: &'static [u8],
+    wanted: &'static [Standing],
 }
 
-/// A parent of a kind, with an idle child: sources 1 and 2.
-fn with_a_child(alloc: Global, kind: Kind) -> Result<Context, RowsFault> {
-    let mut context = Context::new(alloc, Levels::Two);
-    attach(&mut context, kind, 0)?;
-    add_child(&mut context, 1, Kind::Idle)?;
-    Ok(context)
-}
+const TWO_IDLE: [Source; 2] = [Source::Root(Kind::Idle, 200), Source::Root(Kind::Idle, 200)];
 
-/// The standings at time 0, with sources in a call and what descriptors show.
-fn expect_standings(
-    rt: &impl Abort,
-    alloc: Global,
-    context: &Context,
-    busy: &[u64],
-    shown: &[u8],
-    wanted: &[Standing],
-) -> Result<(), AllocError> {
-    let view = View::new(alloc, 1).map_err(|_| AllocError)?;
-    let found = context.standings(alloc, 0, busy, &view, shown)?;
-    assert_eq!(rt; found.as_slice(), wanted);
-    Ok(())
-}
-
-fn less_urgent(than: u64, priority: i32) -> Standing {
-    Standing::LessUrgent { than, priority }
-}
-
-fn blocked(by: u64) -> Standing {
-    Standing::Blocked { by }
-}
-
-/// Two idle sources, of which the first is in a call.
-fn expect_own_call(rt: &impl Abort, alloc: Global, context: &Context) -> Result<(), AllocError> {
-    let wanted = [blocked(1), Standing::Selected];
-    expect_standings(rt, alloc, context, &[1], &[], &wanted)
-}
-
-fn two_idle(alloc: Global) -> Result<Context, RowsFault> {
-    let mut context = Context::new(alloc, Levels::Two);
-    attach(&mut context, Kind::Idle, 200)?;
-    attach(&mut context, Kind::Idle, 200)?;
-    Ok(context)
-}
-
-#[test]
-fn own_call_blocks(rt: HostRuntime) -> Result<(), RowsFault> {
-    let context = two_idle(rt.alloc())?;
-    expect(&rt, expect_own_call(&rt, rt.alloc(), &context).is_ok());
-    Ok(())
-}
-
-fn expect_parents_call(
-    rt: &impl Abort,
-    alloc: Global,
-    context: &Context,
-) -> Result<(), AllocError> {
-    let wanted = [blocked(1), blocked(1)];
-    expect_standings(rt, alloc, context, &[1], &[], &wanted)
-}
-
-/// The child goes first in the order, and its nearest source in a call is its parent.
-#[test]
-fn parents_call_blocks(rt: HostRuntime) -> Result<(), RowsFault> {
-    let context = with_a_child(rt.alloc(), Kind::Idle)?;
-    expect(&rt, expect_parents_call(&rt, rt.alloc(), &context).is_ok());
-    Ok(())
-}
-
-fn expect_lent(rt: &impl Abort, alloc: Global, context: &Context) -> Result<(), AllocError> {
-    let lent = [Standing::Selected, Standing::Selected];
-    expect_standings(rt, alloc, context, &[], &[], &lent)
-}
-
-fn expect_asleep(rt: &impl Abort, alloc: Global, context: &Context) -> Result<(), AllocError> {
-    let asleep = [blocked(2), Standing::Asleep { until: None }];
-    expect_standings(rt, alloc, context, &[2], &[], &asleep)
-}
-
-/// A parent that never wakes is ready by its child; where the child is in a call, it is asleep.
-#[test]
-fn child_lends(rt: HostRuntime) -> Result<(), RowsFault> {
-    let context = with_a_child(rt.alloc(), Kind::ReadyTime(-1))?;
-    expect(&rt, expect_lent(&rt, rt.alloc(), &context).is_ok());
-    expect(&rt, expect_asleep(&rt, rt.alloc(), &context).is_ok());
-    Ok(())
-}
-
-/// Sources 2 to 4, each below the one before.
-fn add_three_below(context: &mut Context) -> Result<(), RowsFault>
-    requires id { context.old.rows.next_id < 100 }
-    requires order { context.old.rows.next_order < 100 }
-{
-    add_child(context, 1, Kind::Idle)?;
-    add_child(context, 2, Kind::Idle)?;
-    add_child(context, 3, Kind::Idle)
-}
+const WITH_A_CHILD: [Source; 2] = [Source::Root(Kind::Idle, 0), Source::Child(1, Kind::Idle)];
 
 /// Sources 1 to 4, each below the one before.
-fn chain_of_four(alloc: Global) -> Result<Context, RowsFault> {
-    let mut context = Context::new(alloc, Levels::Four);
-    attach(&mut context, Kind::Idle, 0)?;
-    add_three_below(&mut context)?;
-    Ok(context)
+const CHAIN_OF_FOUR: [Source; 4] = [
+    Source::Root(Kind::Idle, 0),
+    Source::Child(1, Kind::Idle),
+    Source::Child(2, Kind::Idle),
+    Source::Child(3, Kind::Idle),
+];
+
+const BY_FIRST: Standing = Standing::Blocked { by: 1 };
+
+const BY_THIRD: Standing = Standing::Blocked { by: 3 };
+
+/// A child goes before its parent in the order, the innermost of a chain first.
+fn in_calls() -> [Known; 3] {
+    let own = Known {
+        what: "its own call blocks it",
+        levels: Levels::Two,
+        sources: &TWO_IDLE,
+        busy: &[1],
+        cancelled: false,
+        shown: &[],
+        wanted: &[BY_FIRST, Standing::Selected],
+    };
+    let parents = Known {
+        what: "its parent's call blocks it",
+        sources: &WITH_A_CHILD,
+        wanted: &[BY_FIRST, BY_FIRST],
+        ..own
+    };
+    let nearest = Known {
+        what: "the nearest above it that is in a call blocks it",
+        levels: Levels::Four,
+        sources: &CHAIN_OF_FOUR,
+        busy: &[1, 3],
+        wanted: &[BY_THIRD, BY_THIRD, BY_FIRST, BY_FIRST],
+        ..own
+    };
+    [own, parents, nearest]
 }
 
-fn expect_nearest(rt: &impl Abort, alloc: Global, context: &Context) -> Result<(), AllocError> {
-    let wanted = [blocked(3), blocked(3), blocked(1), blocked(1)];
-    expect_standings(rt, alloc, context, &[1, 3], &[], &wanted)
-}
+const NEVER: Standing = Standing::Asleep { until: None };
 
-/// The innermost goes first. Each is blocked by the nearest above it that is in a call.
-#[test]
-fn nearest_blocks(rt: HostRuntime) -> Result<(), RowsFault> {
-    let context = chain_of_four(rt.alloc())?;
-    expect(&rt, expect_nearest(&rt, rt.alloc(), &context).is_ok());
-    Ok(())
-}
-
-fn asks_for_out(alloc: Global) -> Result<Context, RowsFault> {
-    let mut context = Context::new(alloc, Levels::Two);
-    attach(&mut context, Kind::Fd(0, 4), 0)?;
-    Ok(context)
+/// A parent that never wakes is ready by its child; where the child is in a call, it is asleep.
+fn of_lenders() -> [Known; 2] {
+    let lent = Known {
+        what: "a child lends",
+        levels: Levels::Two,
+        sources: &[
+            Source::Root(Kind::ReadyTime(-1), 0),
+            Source::Child(1, Kind::Idle),
+        ],
+        busy: &[],
+        cancelled: false,
+        shown: &[],
+        wanted: &[Standing::Selected, Standing::Selected],
+    };
+    let in_a_call = Known {
+        what: "a child in a call does not",
+        busy: &[2],
+        wanted: &[Standing::Blocked { by: 2 }, NEVER],
+        ..lent
+    };
+    [lent, in_a_call]
 }
 
 const NOT_SHOWN: Standing = Standing::NotShown {
@@ -157,44 +96,39 @@ const NOT_SHOWN: Standing = Standing::NotShown {
     until: None,
 };
 
-fn expect_bits(rt: &impl Abort, alloc: Global, context: &Context) -> Result<(), AllocError> {
-    expect_standings(rt, alloc, context, &[], &[1], &[NOT_SHOWN])?;
-    expect_standings(rt, alloc, context, &[], &[5], &[Standing::Selected])
-}
+const AFTER_THE_SECOND: Standing = Standing::LessUrgent {
+    than: 2,
+    priority: 0,
+};
 
-/// A descriptor that shows `in` to a source that asks for `out`, and then both.
-#[test]
-fn wrong_bit(rt: HostRuntime) -> Result<(), RowsFault> {
-    let context = asks_for_out(rt.alloc())?;
-    expect(&rt, expect_bits(&rt, rt.alloc(), &context).is_ok());
-    Ok(())
-}
-
-fn idle_and_urgent(alloc: Global) -> Result<Context, RowsFault> {
-    let mut context = Context::new(alloc, Levels::Two);
-    attach(&mut context, Kind::Idle, 200)?;
-    attach(&mut context, Kind::ReadyTime(0), 0)?;
-    Ok(context)
-}
-
-fn expect_urgent(rt: &impl Abort, alloc: Global, context: &Context) -> Result<(), AllocError> {
-    let wanted = [Standing::Selected, less_urgent(2, 0)];
-    expect_standings(rt, alloc, context, &[], &[], &wanted)
-}
-
-#[test]
-fn urgent_goes_first(rt: HostRuntime) -> Result<(), RowsFault> {
-    let context = idle_and_urgent(rt.alloc())?;
-    expect(&rt, expect_urgent(&rt, rt.alloc(), &context).is_ok());
-    Ok(())
-}
-
-/// A ready time to come, and a cancellable before it is cancelled.
-fn asleep_and_uncancelled(alloc: Global) -> Result<Context, RowsFault> {
-    let mut context = Context::new(alloc, Levels::Two);
-    attach(&mut context, Kind::ReadyTime(1500), 0)?;
-    attach(&mut context, Kind::Cancel(0), 0)?;
-    Ok(context)
+/// A descriptor that shows `in` to a source that asks for `out`, and then both; and an idle source beside an urgent one.
+fn of_kinds() -> [Known; 3] {
+    let wrong_bit = Known {
+        what: "another bit is shown",
+        levels: Levels::Two,
+        sources: &[Source::Root(Kind::Fd(0, 4), 0)],
+        busy: &[],
+        cancelled: false,
+        shown: &[1],
+        wanted: &[NOT_SHOWN],
+    };
+    let both_bits = Known {
+        what: "both bits are shown",
+        shown: &[5],
+        wanted: &[Standing::Selected],
+        ..wrong_bit
+    };
+    let urgent = Known {
+        what: "an urgent source goes first",
+        sources: &[
+            Source::Root(Kind::Idle, 200),
+            Source::Root(Kind::ReadyTime(0), 0),
+        ],
+        shown: &[],
+        wanted: &[Standing::Selected, AFTER_THE_SECOND],
+        ..wrong_bit
+    };
+    [wrong_bit, both_bits, urgent]
 }
 
 const SLEEPS: Standing = Standing::Asleep { until: Some(1500) };
@@ -204,49 +138,74 @@ const UNCANCELLED: Standing = Standing::NotCancelled {
     until: None,
 };
 
-/// Before the cancellable is cancelled.
-fn expect_waiting(rt: &impl Abort, alloc: Global, context: &Context) -> Result<(), AllocError> {
-    expect_standings(rt, alloc, context, &[], &[], &[SLEEPS, UNCANCELLED])
+/// A ready time to come, and a cancellable before it is cancelled and after.
+fn of_waits() -> [Known; 2] {
+    let before = Known {
+        what: "not cancelled",
+        levels: Levels::Two,
+        sources: &[
+            Source::Root(Kind::ReadyTime(1500), 0),
+            Source::Root(Kind::Cancel(0), 0),
+        ],
+        busy: &[],
+        cancelled: false,
+        shown: &[],
+        wanted: &[SLEEPS, UNCANCELLED],
+    };
+    let after = Known {
+        what: "cancelled",
+        cancelled: true,
+        wanted: &[SLEEPS, Standing::Selected],
+        ..before
+    };
+    [before, after]
 }
 
-/// Once it is cancelled.
-fn expect_woken(
+/// The standings of a context, unless memory is refused; they only look at it.
+fn expect_standings(
     rt: &impl Abort,
     alloc: Global,
     context: &Context,
     view: &View,
+    known: &Known,
 ) -> Result<(), AllocError> {
-    let found = context.standings(alloc, 0, &[], view, &[])?;
-    let wanted = [SLEEPS, Standing::Selected];
-    expect(rt, found.as_slice() == wanted.as_slice());
+    let what = known.what;
+    let found = context.standings(alloc, 0, known.busy, view, known.shown)?;
+    assert_eq!(rt; found.as_slice(), known.wanted, "{what}");
     Ok(())
 }
 
-fn expect_cancelled(rt: &impl Abort, alloc: Global, context: &Context) -> Result<(), OutOfMemory> {
-    let view = cancelled(alloc)?;
-    expect_woken(rt, alloc, context, &view)?;
-    Ok(())
+/// Whether the standings are told, and then they are right: at once, or asked for again where memory is refused.
+fn are_told(rt: &impl Abort, alloc: Global, context: &Context, view: &View, known: &Known) -> bool {
+    expect_standings(rt, alloc, context, view, known).is_ok()
+        || expect_standings(rt, alloc, context, view, known).is_ok()
+}
+
+/// The same of a row's sources; nothing where they find no memory.
+fn are_told_of(rt: &impl Abort, alloc: Global, known: &Known) -> Option<bool> {
+    let tried = made(alloc, known.levels, known.sources)?;
+    let view = viewed(alloc, known.cancelled)?;
+    Some(are_told(rt, alloc, &tried.context, &view, known))
+}
+
+fn expect_told(rt: &impl Abort, alloc: Global, rows: &[Known]) {
+    for known in rows {
+        expect(rt, are_told_of(rt, alloc, known) == Some(true));
+    }
 }
 
 #[test]
-fn waits_for_time_and_cancellable(rt: HostRuntime) -> Result<(), RowsFault> {
-    let context = asleep_and_uncancelled(rt.alloc())?;
-    expect(&rt, expect_waiting(&rt, rt.alloc(), &context).is_ok());
-    expect(&rt, expect_cancelled(&rt, rt.alloc(), &context).is_ok());
-    Ok(())
-}
-
-/// The standings are right, or are asked for again where memory is refused, and are.
-fn ask_again(rt: &impl Abort, alloc: Global, context: &Context) {
-    if expect_waiting(rt, alloc, context).is_err() {
-        expect(rt, expect_waiting(rt, alloc, context).is_ok());
-    }
+fn standings_of_contexts(rt: HostRuntime) {
+    expect_told(&rt, rt.alloc(), &in_calls());
+    expect_told(&rt, rt.alloc(), &of_lenders());
+    expect_told(&rt, rt.alloc(), &of_kinds());
+    expect_told(&rt, rt.alloc(), &of_waits());
 }
 
 /// Whatever request is refused, the standings are right, or are asked for again and are.
 #[test]
 fn refused_standings(rt: HostRuntime) {
-    if let Ok(context) = asleep_and_uncancelled(rt.alloc()) {
-        ask_again(&rt, rt.alloc(), &context);
+    for known in of_waits() {
+        expect(&rt, are_told_of(&rt, rt.alloc(), &known) != Some(false));
     }
 }

@@ -106,25 +106,10 @@ fn stepped(
     Ok(lane)
 }
 
-#[test]
-fn stacks_are_as_drawn(rt: HostRuntime) -> Result<(), ScriptFault> {
-    let script = Script::read(rt.alloc(), takeover_script().as_bytes())?;
-    expect(&rt, stepped(&rt, rt.alloc(), &script, 17).is_ok());
-    Ok(())
-}
-
-/// What its sources stand at once the nested iteration is begun.
+/// What its sources stand at once the nested iteration is begun: source 1 is in its call, and the others are what it selected.
 fn expect_standings(rt: &impl Abort, alloc: Global, script: &Script) -> Result<(), LaneFault> {
     let lane = stepped(rt, alloc, script, 7)?;
     expect_takeover(rt, script, &lane)?;
-    Ok(())
-}
-
-/// Right after the nested iteration is begun: source 1 is in its call, and the others are what it selected.
-#[test]
-fn standings_in_a_turn(rt: HostRuntime) -> Result<(), ScriptFault> {
-    let script = Script::read(rt.alloc(), takeover_script().as_bytes())?;
-    expect(&rt, expect_standings(&rt, rt.alloc(), &script).is_ok());
     Ok(())
 }
 
@@ -154,18 +139,24 @@ fn expect_lent(rt: &impl Abort, lane: &LaneState) {
     expect(rt, !lane.view().is_cancelled(0));
 }
 
-/// What a lane lends as its loop begins.
+/// What a lane lends as its loop begins: the sources of a context of its own, and its view.
 fn expect_lent_in_a_turn(rt: &impl Abort, alloc: Global, script: &Script) -> Result<(), LaneFault> {
     let lane = stepped(rt, alloc, script, 4)?;
     expect_lent(rt, &lane);
     Ok(())
 }
 
-/// What a lane lends: the sources of a context of its own, and its view.
+/// The stacks of the whole turn, and what is told and lent in it.
+fn expect_turn(rt: &impl Abort, alloc: Global, script: &Script) {
+    expect(rt, stepped(rt, alloc, script, 17).is_ok());
+    expect(rt, expect_standings(rt, alloc, script).is_ok());
+    expect(rt, expect_lent_in_a_turn(rt, alloc, script).is_ok());
+}
+
 #[test]
-fn lends_sources_and_view(rt: HostRuntime) -> Result<(), ScriptFault> {
+fn turn_is_as_drawn(rt: HostRuntime) -> Result<(), ScriptFault> {
     let script = Script::read(rt.alloc(), takeover_script().as_bytes())?;
-    expect(&rt, expect_lent_in_a_turn(&rt, rt.alloc(), &script).is_ok());
+    expect_turn(&rt, rt.alloc(), &script);
     Ok(())
 }
 

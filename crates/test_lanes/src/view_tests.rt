@@ -1,209 +1,170 @@
-//! Single calls of a view: with ample memory, and with memory refused.
-ghost use Rattle.std.specs.Prelude.{◌≡◌, ◌≤◌, ◌<◌, ◌+◌, IfOk, OnErr};
+//! Single calls of a view in a table: with ample memory, and with memory refused.
+ghost use Rattle.std.specs.Prelude.{◌+◌, ◌≤◌, ◌^◌};
 
 use crate::expected::expect;
 use cancel_view::{Connected, Fired, OutOfMemory, View};
 use std::alloc::Global;
-use std::process::Abort;
 
-// (a proof grows faster than the length of its function, so a test is short and what tests share is a function)
-
-/// Connects a handler that is to have an id.
-fn connect(rt: &impl Abort, view: &mut View, c: u32, proc: u32, id: u64) -> Result<(), OutOfMemory>
-    requires { view.old.next_id < 1000 }
-    ensures id { view.new.next_id ≤ view.old.next_id + 1 }
-    ensures same { OnErr result (view.new ≡ view.old) }
-{
-    let connected = view.connect(c, proc)?;
-    expect(rt, connected == Connected::Id(id));
-    Ok(())
+/// A call, and what it has to answer.
+#[derive(Clone, Copy)]
+enum Step {
+    /// Connects a handler of a cancellable, which calls a procedure.
+    Connect(u32, u32, Connected),
+    Disconnect(u64, bool),
+    /// Cancels, which calls handlers, or none where it was cancelled already.
+    Cancel(u32, Option<&'static [Fired]>),
+    IsCancelled(u32, bool),
 }
 
-fn expect_disconnect(rt: &impl Abort, view: &mut View, id: u64, answer: bool)
-    ensures { view.new.next_id ≡ view.old.next_id }
-{
-    expect(rt, view.disconnect(id) == answer);
+use Step::{Cancel, Connect, Disconnect, IsCancelled};
+
+/// A view, with few enough handlers ahead that each may be connected.
+#[derive(Drop)]
+struct Tried {
+    view: View,
+    left: u32,
+    ghost ids: { view.next_id + left ≤ 2 ^ 62 },
 }
 
-/// Cancels for the first time, which is to call handlers.
-fn expect_fired(
-    rt: &impl Abort,
-    alloc: Global,
-    view: &mut View,
-    c: u32,
-    fired: &[Fired],
-) -> Result<(), OutOfMemory> {
-    match view.cancel(alloc, c)? {
-        Some(found) => assert_eq!(rt; found.as_slice(), fired),
-        None => expect(rt, false),
+impl Tried {
+    fn new(alloc: Global, cancellables: u32) -> Result<Tried, OutOfMemory> {
+        let view = View::new(alloc, cancellables)?;
+        Ok(Tried { view, left: 1000 })
     }
-    expect(rt, view.is_cancelled(c));
-    Ok(())
-}
 
-/// A view of one cancellable with handlers 1 and 2.
-fn with_two(rt: &impl Abort, alloc: Global) -> Result<View, OutOfMemory> {
-    let mut view = View::new(alloc, 1)?;
-    connect(rt, &mut view, 0, 5, 1)?;
-    connect(rt, &mut view, 0, 6, 2)?;
-    Ok(view)
-}
+    fn connect(&mut self, c: u32, proc: u32) -> Result<Connected, OutOfMemory> {
+        if self.left == 0 {
+            return Err(OutOfMemory);
+        }
+        self.left -= 1;
+        match self.view.connect(c, proc) {
+            Ok(connected) => Ok(connected),
+            Err(OutOfMemory) => Err(OutOfMemory),
+        }
+    }
 
-/// The first goes once, and one that never was is gone.
-fn expect_gone_for_good(rt: &impl Abort, view: &mut View)
-    ensures { view.new.next_id ≡ view.old.next_id }
-{
-    expect_disconnect(rt, view, 1, true);
-    expect_disconnect(rt, view, 1, false);
-    expect_disconnect(rt, view, 0, true);
-}
+    /// Whether what a cancel calls is right.
+    fn fires(
+        &mut self,
+        alloc: Global,
+        c: u32,
+        wanted: Option<&[Fired]>,
+    ) -> Result<bool, OutOfMemory> {
+        let fired = self.view.cancel(alloc, c)?;
+        Ok(match (fired, wanted) {
+            (Some(fired), Some(wanted)) => fired.as_slice() == wanted,
+            (None, None) => true,
+            _ => false,
+        })
+    }
 
-#[test]
-fn handlers_come_and_go(rt: HostRuntime) -> Result<(), OutOfMemory> {
-    let mut view = with_two(&rt, rt.alloc())?;
-    expect(&rt, !view.is_cancelled(0));
-    expect_gone_for_good(&rt, &mut view);
-    Ok(())
-}
+    /// Whether a step's answer is right.
+    fn take(&mut self, alloc: Global, step: &Step) -> Result<bool, OutOfMemory> {
+        match *step {
+            Connect(c, proc, answer) => Ok(self.connect(c, proc)? == answer),
+            Disconnect(id, answer) => Ok(self.view.disconnect(id) == answer),
+            Cancel(c, fired) => self.fires(alloc, c, fired),
+            IsCancelled(c, answer) => Ok(self.view.is_cancelled(c) == answer),
+        }
+    }
 
-/// Where the first handler is gone, the second is called.
-fn expect_second_fired(rt: &impl Abort, alloc: Global, view: &mut View) -> Result<(), OutOfMemory> {
-    expect_disconnect(rt, view, 1, true);
-    expect_fired(rt, alloc, view, 0, &[Fired { id: 2, proc: 6 }])
-}
+    /// Takes a step, once more where memory is refused, which leaves the view as it was.
+    fn retake(&mut self, alloc: Global, step: &Step) -> Result<bool, OutOfMemory> {
+        match self.take(alloc, step) {
+            Err(OutOfMemory) => Ok(self.is_before(step) && self.take(alloc, step)?),
+            answer => answer,
+        }
+    }
 
-#[test]
-fn handlers_of_one_cancellable(rt: HostRuntime) -> Result<(), OutOfMemory> {
-    let mut view = with_two(&rt, rt.alloc())?;
-    expect(&rt, expect_second_fired(&rt, rt.alloc(), &mut view).is_ok());
-    Ok(())
-}
-
-/// A view of one cancellable that was cancelled, with handler 1.
-fn with_cancelled(rt: &impl Abort, alloc: Global) -> Result<View, OutOfMemory>
-    ensures { IfOk result (λ v. v.next_id ≤ 2) }
-{
-    let mut view = View::new(alloc, 1)?;
-    connect(rt, &mut view, 0, 6, 1)?;
-    view.cancel(alloc, 0)?;
-    Ok(view)
-}
-
-/// It takes no handler, and isn't cancelled a second time.
-fn expect_for_good(rt: &impl Abort, alloc: Global, view: &mut View) -> Result<(), OutOfMemory>
-    requires { view.old.next_id < 1000 }
-{
-    expect(rt, view.connect(0, 7)? == Connected::Already);
-    expect(rt, view.cancel(alloc, 0)?.is_none());
-    Ok(())
-}
-
-#[test]
-fn cancelled_for_good(rt: HostRuntime) -> Result<(), OutOfMemory> {
-    let mut view = with_cancelled(&rt, rt.alloc())?;
-    expect(&rt, expect_for_good(&rt, rt.alloc(), &mut view).is_ok());
-    Ok(())
-}
-
-/// A handler that was called stays connected.
-#[test]
-fn fired_handler_stays(rt: HostRuntime) -> Result<(), OutOfMemory> {
-    let mut view = with_cancelled(&rt, rt.alloc())?;
-    expect_disconnect(&rt, &mut view, 1, true);
-    expect_disconnect(&rt, &mut view, 1, false);
-    Ok(())
-}
-
-/// Connects handlers 1 to 4 of two cancellables: 2 of the second, the others of the first.
-fn connect_four(rt: &impl Abort, view: &mut View) -> Result<(), OutOfMemory>
-    requires { view.old.next_id < 100 }
-{
-    connect(rt, view, 0, 10, 1)?;
-    connect(rt, view, 1, 11, 2)?;
-    connect(rt, view, 0, 12, 3)?;
-    connect(rt, view, 0, 13, 4)
-}
-
-/// A view of two cancellables, of which the first has handlers 1 and 4 and the second 2; 3 is gone.
-fn with_handlers_of_two(rt: &impl Abort, alloc: Global) -> Result<View, OutOfMemory> {
-    let mut view = View::new(alloc, 2)?;
-    connect_four(rt, &mut view)?;
-    expect_disconnect(rt, &mut view, 3, true);
-    Ok(view)
-}
-
-/// Each cancellable calls its own handlers.
-fn expect_both_fired(rt: &impl Abort, alloc: Global, view: &mut View) -> Result<(), OutOfMemory> {
-    let of_first = [Fired { id: 1, proc: 10 }, Fired { id: 4, proc: 13 }];
-    expect_fired(rt, alloc, view, 0, &of_first)?;
-    expect(rt, !view.is_cancelled(1));
-    expect_fired(rt, alloc, view, 1, &[Fired { id: 2, proc: 11 }])
-}
-
-#[test]
-fn handlers_by_rising_id(rt: HostRuntime) -> Result<(), OutOfMemory> {
-    let mut view = with_handlers_of_two(&rt, rt.alloc())?;
-    expect(&rt, expect_both_fired(&rt, rt.alloc(), &mut view).is_ok());
-    Ok(())
-}
-
-/// Connects a handler that is to have an id. Where memory is refused there is none, and a second call connects it.
-fn connect_again(rt: &impl Abort, view: &mut View, proc: u32, id: u64)
-    requires { view.old.next_id < 1000 }
-    ensures { view.new.next_id ≤ view.old.next_id + 1 }
-{
-    if connect(rt, view, 0, proc, id).is_err() {
-        expect_disconnect(rt, view, id, false);
-        expect(rt, connect(rt, view, 0, proc, id).is_ok());
+    /// Whether a refused step's handler is not connected, or its cancellable not cancelled.
+    fn is_before(&mut self, step: &Step) -> bool {
+        match *step {
+            Connect(_, _, Connected::Id(id)) => !self.view.disconnect(id),
+            Cancel(c, Some(_)) => !self.view.is_cancelled(c),
+            _ => false,
+        }
     }
 }
 
-/// Cancels, which is to call handler 2.
-fn fire(rt: &impl Abort, alloc: Global, view: &mut View) -> Result<(), OutOfMemory>
-    ensures { view.new.next_id ≡ view.old.next_id }
-{
-    let fired = view.cancel(alloc, 0)?;
-    let known = [Fired { id: 2, proc: 6 }];
-    expect(
-        rt,
-        fired.is_some_and(|fired| fired.as_slice() == known.as_slice()),
-    );
-    Ok(())
-}
+/// Handlers 1 and 2 of one cancellable, of which the first goes once; one that never was is gone.
+const COME_AND_GO: [Step; 6] = [
+    Connect(0, 5, Connected::Id(1)),
+    Connect(0, 6, Connected::Id(2)),
+    IsCancelled(0, false),
+    Disconnect(1, true),
+    Disconnect(1, false),
+    Disconnect(0, true),
+];
 
-/// The same by a second call where memory is refused, which leaves the view as it was.
-fn fire_again(rt: &impl Abort, alloc: Global, view: &mut View)
-    ensures { view.new.next_id ≡ view.old.next_id }
-{
-    if fire(rt, alloc, view).is_err() {
-        expect(rt, !view.is_cancelled(0));
-        expect(rt, fire(rt, alloc, view).is_ok());
+/// What is cancelled takes no handler, and isn't cancelled a second time. A handler that was called stays connected.
+const FOR_GOOD: [Step; 7] = [
+    Connect(0, 6, Connected::Id(1)),
+    Cancel(0, Some(&[Fired { id: 1, proc: 6 }])),
+    IsCancelled(0, true),
+    Connect(0, 7, Connected::Already),
+    Cancel(0, None),
+    Disconnect(1, true),
+    Disconnect(1, false),
+];
+
+/// Each of two cancellables calls its own handlers, by rising id, and none that is gone.
+const OF_TWO: [Step; 9] = [
+    Connect(0, 10, Connected::Id(1)),
+    Connect(1, 11, Connected::Id(2)),
+    Connect(0, 12, Connected::Id(3)),
+    Connect(0, 13, Connected::Id(4)),
+    Disconnect(3, true),
+    Cancel(
+        0,
+        Some(&[Fired { id: 1, proc: 10 }, Fired { id: 4, proc: 13 }]),
+    ),
+    IsCancelled(1, false),
+    Cancel(1, Some(&[Fired { id: 2, proc: 11 }])),
+    IsCancelled(1, true),
+];
+
+/// Each kind of call, the second handler called where the first is gone.
+const EACH: [Step; 9] = [
+    Connect(0, 5, Connected::Id(1)),
+    Connect(0, 6, Connected::Id(2)),
+    Disconnect(1, true),
+    Disconnect(1, false),
+    Disconnect(0, true),
+    Cancel(0, Some(&[Fired { id: 2, proc: 6 }])),
+    IsCancelled(0, true),
+    Cancel(0, None),
+    Connect(0, 7, Connected::Already),
+];
+
+/// Whether each step answers what it has to; nothing where the view finds no memory.
+fn are_right(alloc: Global, steps: &[Step]) -> Option<bool> {
+    let mut view = Tried::new(alloc, 2).ok()?;
+    for step in steps {
+        if view.retake(alloc, step) != Ok(true) {
+            return Some(false);
+        }
     }
+    Some(true)
 }
 
-/// A cancelled view calls nothing, and takes no handler.
-fn expect_over(rt: &impl Abort, alloc: Global, view: &mut View)
-    requires { view.old.next_id < 1000 }
-{
-    expect(rt, matches!(view.cancel(alloc, 0), Ok(None)));
-    expect(rt, view.connect(0, 7) == Ok(Connected::Already));
+#[test]
+fn handlers_come_and_go(rt: HostRuntime) {
+    expect(&rt, are_right(rt.alloc(), &COME_AND_GO) == Some(true));
+    expect(&rt, are_right(rt.alloc(), &EACH) == Some(true));
 }
 
-/// Each kind of call of a new view, again where memory is refused.
-fn call_again(rt: &impl Abort, alloc: Global, view: &mut View)
-    requires { view.old.next_id < 100 }
-{
-    connect_again(rt, view, 5, 1);
-    connect_again(rt, view, 6, 2);
-    expect_gone_for_good(rt, view);
-    fire_again(rt, alloc, view);
-    expect_over(rt, alloc, view);
+#[test]
+fn cancelled_for_good(rt: HostRuntime) {
+    expect(&rt, are_right(rt.alloc(), &FOR_GOOD) == Some(true));
+}
+
+#[test]
+fn handlers_by_rising_id(rt: HostRuntime) {
+    expect(&rt, are_right(rt.alloc(), &OF_TWO) == Some(true));
 }
 
 /// Whatever request is refused, the view is as it was or as the call leaves it, also for all calls that come after.
 #[test]
 fn refused_view(rt: HostRuntime) {
-    if let Ok(mut view) = View::new(rt.alloc(), 1) {
-        call_again(&rt, rt.alloc(), &mut view);
-    }
+    expect(&rt, are_right(rt.alloc(), &EACH) != Some(false));
 }

@@ -38,16 +38,6 @@ fn polled_once(alloc: Global) -> Result<Watch, OutOfMemory>
     Ok(watch)
 }
 
-/// A watch whose first polls are over, with a task of three ticks.
-fn begun(alloc: Global) -> Result<Watch, OutOfMemory>
-    ensures tick { IfOk result (λ w. w.tasks.tick ≡ 1) }
-    ensures id { IfOk result (λ w. w.view.next_id ≡ 1) }
-{
-    let mut watch = polled_once(alloc)?;
-    watch.start(&sleeper(3000), 0, 0)?;
-    Ok(watch)
-}
-
 /// Polls in a tick.
 fn poll(watch: &mut Watch, alloc: Global, tick: u32) -> Result<Polled, OutOfMemory>
     requires now { watch.old.tasks.tick ≡ tick }
@@ -65,17 +55,6 @@ fn cancel(watch: &mut Watch, alloc: Global, tick: u32) -> Result<bool, OutOfMemo
     Ok(watch.cancel(alloc, tick, 0)?.is_some())
 }
 
-/// A watch whose task is cancelled in tick 1.
-fn cancelled(rt: &impl Abort, alloc: Global) -> Result<Watch, OutOfMemory>
-    ensures { IfOk result (λ w. w.tasks.tick ≡ 2) }
-{
-    let mut watch = begun(alloc)?;
-    poll(&mut watch, alloc, 1)?;
-    let came = cancel(&mut watch, alloc, 1)?;
-    expect(rt, came);
-    Ok(watch)
-}
-
 /// One reply, and none that is late.
 fn expect_reply(rt: &impl Abort, polled: &Polled, outcome: Outcome) {
     match polled.replies.as_slice() {
@@ -85,49 +64,10 @@ fn expect_reply(rt: &impl Abort, polled: &Polled, outcome: Outcome) {
     expect(rt, polled.late.as_slice().is_empty());
 }
 
-/// The cancellable is in the view, and the next poll has the reply.
-fn expect_cancelled(rt: &impl Abort, alloc: Global, watch: &mut Watch) -> Result<(), OutOfMemory>
-    requires { watch.old.tasks.tick ≡ 2 }
-{
-    expect(rt, watch.view().is_cancelled(0));
-    let polled = poll(watch, alloc, 2)?;
-    expect_reply(rt, &polled, Outcome::Cancelled);
-    Ok(())
-}
-
-#[test]
-fn task_replies_where_it_is_cancelled(rt: HostRuntime) -> Result<(), OutOfMemory> {
-    let mut watch = cancelled(&rt, rt.alloc())?;
-    expect(&rt, expect_cancelled(&rt, rt.alloc(), &mut watch).is_ok());
-    Ok(())
-}
-
-/// Polls up to tick 4.
-fn poll_to_end(watch: &mut Watch, alloc: Global) -> Result<Polled, OutOfMemory>
-    requires { watch.old.tasks.tick ≡ 2 }
-{
-    poll(watch, alloc, 2)?;
-    poll(watch, alloc, 3)?;
-    poll(watch, alloc, 4)
-}
-
-/// A task that is cancelled in tick 1, polled to its end in tick 4.
-fn polled_to_end(rt: &impl Abort, alloc: Global) -> Result<Polled, OutOfMemory> {
-    let mut watch = cancelled(rt, alloc)?;
-    poll_to_end(&mut watch, alloc)
-}
-
 /// No reply, and task 0 late.
 fn expect_late(rt: &impl Abort, polled: &Polled) {
     expect(rt, polled.replies.as_slice().is_empty());
     expect(rt, polled.late.as_slice() == [0].as_slice());
-}
-
-#[test]
-fn cancelled_task_ends_late(rt: HostRuntime) -> Result<(), OutOfMemory> {
-    let polled = polled_to_end(&rt, rt.alloc())?;
-    expect_late(&rt, &polled);
-    Ok(())
 }
 
 /// The task of a watch, as it is shown.
@@ -151,29 +91,42 @@ fn expect_shown(
     Ok(())
 }
 
-/// It waits for its first poll in tick 1.
-fn expect_waiting(rt: &impl Abort, alloc: Global) -> Result<(), OutOfMemory> {
-    let watch = begun(alloc)?;
-    expect_shown(rt, &watch, alloc, false, 1)?;
+/// A task of three ticks, which waits for its first poll in tick 1 and is cancelled there.
+fn start_and_cancel(rt: &impl Abort, alloc: Global, watch: &mut Watch) -> Result<(), OutOfMemory>
+    requires tick { watch.old.tasks.tick ≡ 1 }
+    requires room { watch.old.tasks.next < 1000 }
+    requires known { 0 < length watch.old.view.members }
+    ensures { OnOk result (watch.new.tasks.tick ≡ 2) }
+{
+    watch.start(&sleeper(3000), 0, 0)?;
+    expect_shown(rt, watch, alloc, false, 1)?;
+    poll(watch, alloc, 1)?;
+    expect(rt, cancel(watch, alloc, 1)?);
     Ok(())
 }
 
-/// It is begun there and sleeps up to tick 4; it replies in tick 2.
-fn expect_asleep(rt: &impl Abort, alloc: Global, watch: &mut Watch) -> Result<(), OutOfMemory>
+/// It sleeps up to tick 4; it replies in tick 2, and ends late.
+fn expect_cancelled(rt: &impl Abort, alloc: Global, watch: &mut Watch) -> Result<(), OutOfMemory>
     requires { watch.old.tasks.tick ≡ 2 }
 {
+    expect(rt, watch.view().is_cancelled(0));
     expect_shown(rt, watch, alloc, false, 4)?;
-    poll(watch, alloc, 2)?;
+    expect_reply(rt, &poll(watch, alloc, 2)?, Outcome::Cancelled);
     expect_shown(rt, watch, alloc, true, 4)?;
+    poll(watch, alloc, 3)?;
+    expect_late(rt, &poll(watch, alloc, 4)?);
     Ok(())
+}
+
+fn run_cancelled(rt: &impl Abort, alloc: Global) -> Result<(), OutOfMemory> {
+    let mut watch = polled_once(alloc)?;
+    start_and_cancel(rt, alloc, &mut watch)?;
+    expect_cancelled(rt, alloc, &mut watch)
 }
 
 #[test]
-fn task_is_shown(rt: HostRuntime) -> Result<(), OutOfMemory> {
-    expect_waiting(&rt, rt.alloc())?;
-    let mut watch = cancelled(&rt, rt.alloc())?;
-    expect(&rt, expect_asleep(&rt, rt.alloc(), &mut watch).is_ok());
-    Ok(())
+fn task_that_is_cancelled(rt: HostRuntime) -> Result<(), OutOfMemory> {
+    run_cancelled(&rt, rt.alloc())
 }
 
 /// Connects a handler that is to have an id.
@@ -188,15 +141,19 @@ fn connect(rt: &impl Abort, watch: &mut Watch, proc: u32, id: u64) -> Result<(),
     Ok(())
 }
 
-/// A watch with handlers 1 and 2 of its cancellable, of which the first is gone again.
-fn with_handlers(rt: &impl Abort, alloc: Global) -> Result<Watch, OutOfMemory>
-    ensures { IfOk result (λ w. w.tasks.tick ≡ 1) }
+/// Handlers 1 and 2 of its cancellable beside a task; the first goes again.
+fn connect_two(rt: &impl Abort, watch: &mut Watch) -> Result<(), OutOfMemory>
+    requires tick { watch.old.tasks.tick ≡ 1 }
+    requires room { watch.old.tasks.next < 1000 }
+    requires known { 0 < length watch.old.view.members }
+    requires id { watch.old.view.next_id ≡ 1 }
+    ensures { OnOk result (watch.new.tasks.tick ≡ 1) }
 {
-    let mut watch = begun(alloc)?;
-    connect(rt, &mut watch, 5, 1)?;
-    connect(rt, &mut watch, 6, 2)?;
+    watch.start(&sleeper(3000), 0, 0)?;
+    connect(rt, watch, 5, 1)?;
+    connect(rt, watch, 6, 2)?;
     expect(rt, watch.disconnect(1));
-    Ok(watch)
+    Ok(())
 }
 
 /// A first cancel, which is to call handler 2.
@@ -210,11 +167,15 @@ fn expect_fired(rt: &impl Abort, alloc: Global, watch: &mut Watch) -> Result<(),
     Ok(())
 }
 
+fn run_handlers(rt: &impl Abort, alloc: Global) -> Result<(), OutOfMemory> {
+    let mut watch = polled_once(alloc)?;
+    connect_two(rt, &mut watch)?;
+    expect_fired(rt, alloc, &mut watch)
+}
+
 #[test]
 fn handlers_of_a_watch(rt: HostRuntime) -> Result<(), OutOfMemory> {
-    let mut watch = with_handlers(&rt, rt.alloc())?;
-    expect(&rt, expect_fired(&rt, rt.alloc(), &mut watch).is_ok());
-    Ok(())
+    run_handlers(&rt, rt.alloc())
 }
 
 fn expect_no_reply(rt: &impl Abort, polled: Result<Polled, OutOfMemory>) {
@@ -278,11 +239,23 @@ fn connect_again(rt: &impl Abort, watch: &mut Watch)
     }
 }
 
+/// The same beside a task, where there is memory for it.
+fn call_again(rt: &impl Abort, alloc: Global, watch: &mut Watch)
+    requires tick { watch.old.tasks.tick ≡ 1 }
+    requires room { watch.old.tasks.next < 1000 }
+    requires known { 0 < length watch.old.view.members }
+    requires id { watch.old.view.next_id ≡ 1 }
+{
+    if watch.start(&sleeper(3000), 0, 0).is_ok() {
+        connect_again(rt, watch);
+        cancel_again(rt, alloc, watch);
+    }
+}
+
 /// Whatever request is refused, what the view has and its handlers are as they were or as the call leaves them.
 #[test]
 fn refused_handlers(rt: HostRuntime) {
-    if let Ok(mut watch) = begun(rt.alloc()) {
-        connect_again(&rt, &mut watch);
-        cancel_again(&rt, rt.alloc(), &mut watch);
+    if let Ok(mut watch) = polled_once(rt.alloc()) {
+        call_again(&rt, rt.alloc(), &mut watch);
     }
 }

@@ -68,17 +68,26 @@ fn expect_moment(rt: &impl Abort, found: Option<Moment>, wanted: Option<Moment>)
     assert_eq!(rt; found, wanted);
 }
 
+/// Each moment, and then the end of the run.
+fn expect_moments(rt: &impl Abort, account: &mut Account) -> Result<(), AccountFault> {
+    for k in 0..13 {
+        expect_moment(rt, account.next()?, Some(first_moment(k)));
+    }
+    expect_moment(rt, account.next()?, None);
+    assert!(rt; account.tick() == 2);
+    Ok(())
+}
+
+/// The account of the worked first run.
+fn of_first_run(alloc: Global) -> Result<Account, Fail> {
+    let script = Script::read(alloc, first_run().as_bytes())?;
+    Ok(Account::new(alloc, script)?)
+}
+
 #[test]
 fn tells_the_first_run(rt: HostRuntime) -> Result<(), Fail> {
-    let script = Script::read(rt.alloc(), first_run().as_bytes())?;
-    let mut account = Account::new(rt.alloc(), script)?;
-    for k in 0..13 {
-        let found = account.next()?;
-        expect_moment(&rt, found, Some(first_moment(k)));
-    }
-    let found = account.next()?;
-    expect_moment(&rt, found, None);
-    assert_eq!(rt; account.tick(), 2);
+    let mut account = of_first_run(rt.alloc())?;
+    assert!(rt; expect_moments(&rt, &mut account).is_ok());
     Ok(())
 }
 
@@ -100,10 +109,7 @@ fn expect_gained(
 }
 
 /// The first action attaches source 1, the first iteration selects it, and the second nothing.
-#[test]
-fn tells_what_is_attached_and_selected(rt: HostRuntime) -> Result<(), Fail> {
-    let script = Script::read(rt.alloc(), first_run().as_bytes())?;
-    let mut account = Account::new(rt.alloc(), script)?;
+fn expect_gains(rt: &impl Abort, account: &mut Account) -> Result<(), AccountFault> {
     for k in 0..13 {
         let Some(moment) = account.next()? else {
             break;
@@ -118,8 +124,15 @@ fn tells_what_is_attached_and_selected(rt: HostRuntime) -> Result<(), Fail> {
             10 => Some(&[]),
             _ => None,
         };
-        expect_gained(&rt, &account, &moment, attached, selected);
+        expect_gained(rt, account, &moment, attached, selected);
     }
+    Ok(())
+}
+
+#[test]
+fn tells_what_is_attached_and_selected(rt: HostRuntime) -> Result<(), Fail> {
+    let mut account = of_first_run(rt.alloc())?;
+    assert!(rt; expect_gains(&rt, &mut account).is_ok());
     Ok(())
 }
 
@@ -151,25 +164,37 @@ fn expect_lines(rt: &impl Abort, text: &str, lanes: u32, lines: usize) {
     assert_eq!(rt; text.lines().count(), lines.saturating_add(lanes as usize));
 }
 
-/// Where a request for memory was refused the account is spent; else the text is that of the vector, and the moments wrote each line.
+/// The text is that of the vector, where there is memory for it, and the moments wrote each line.
+fn expect_text(rt: &impl Abort, alloc: Global, account: &Account, worked: &Worked, lines: usize) {
+    expect_lines(rt, worked.text, account.script().lanes(), lines);
+    if let Ok(text) = text_of(alloc, account) {
+        assert_eq!(rt; text.as_slice(), worked.text.as_bytes());
+    }
+}
+
+/// Where a request for memory was refused the account is spent.
+fn expect_spent(rt: &impl Abort, account: &mut Account, fault: AccountFault) {
+    assert!(rt; fault == AccountFault::OutOfMemory);
+    assert!(rt; account.next() == Err(AccountFault::Spent));
+}
+
+/// One of both, of a run to its end.
+fn tell_or_spend(rt: &impl Abort, alloc: Global, account: &mut Account, worked: &Worked) {
+    match count_lines(account) {
+        Err(fault) => expect_spent(rt, account, fault),
+        Ok(lines) => expect_text(rt, alloc, account, worked, lines),
+    }
+}
+
+/// A worked script's account; none where it finds no memory.
+fn of_worked(alloc: Global, worked: &Worked) -> Option<Account> {
+    let script = Script::read(alloc, worked.script.as_bytes()).ok()?;
+    Account::new(alloc, script).ok()
+}
+
 fn expect_or_spent(rt: &impl Abort, alloc: Global, worked: Worked) {
-    let Ok(script) = Script::read(alloc, worked.script.as_bytes()) else {
-        return;
-    };
-    let Ok(mut account) = Account::new(alloc, script) else {
-        return;
-    };
-    match count_lines(&mut account) {
-        Err(fault) => {
-            assert_eq!(rt; fault, AccountFault::OutOfMemory);
-            assert_eq!(rt; account.next(), Err(AccountFault::Spent));
-        }
-        Ok(lines) => {
-            expect_lines(rt, worked.text, account.script().lanes(), lines);
-            if let Ok(text) = text_of(alloc, &account) {
-                assert_eq!(rt; text.as_slice(), worked.text.as_bytes());
-            }
-        }
+    if let Some(mut account) = of_worked(alloc, &worked) {
+        tell_or_spend(rt, alloc, &mut account, &worked);
     }
 }
 

@@ -1,10 +1,11 @@
 //! Writers that take little, refuse or fail to flush, and a reader that breaks off.
-use crate::refused_tests::{Compared, all_came, expecting, nothing_came, right_arguments};
+use crate::refused_tests::{all_came, expecting, nothing_came, right_arguments};
 use crate::script_tests::{first_run, first_run_text};
 use mainctx::{MainFault, OverWrite, run_bytes, serve};
 use std::alloc::Global;
 use std::io;
 use std::io::{ErrorKind, Read, Write};
+use std::process::Abort;
 use std::sync::Wait;
 use std::thread::Threads;
 use tick_stepper::{OpenGate, Sharing};
@@ -75,14 +76,29 @@ fn ran_over<T: Threads + Wait + Sync>(
     (result, short.got)
 }
 
+fn expect_bytes(rt: &impl Abort, found: &[u8], wanted: &[u8], room: usize) {
+    assert_eq!(rt; found, wanted, "with room for {room}");
+}
+
+/// A run over such a writer can't be written, and the writer has got these bytes.
+fn expect_got<T: Threads + Wait + Sync + Abort>(
+    rt: &T,
+    alloc: Global,
+    room: usize,
+    then: Then,
+    wanted: &[u8],
+) {
+    let (result, got) = ran_over(rt, alloc, room, then);
+    assert!(rt; result == Err(MainFault::Write), "with room for {room}");
+    expect_bytes(rt, &got, wanted, room);
+}
+
 #[test]
 fn writes_a_prefix(rt: HostRuntime) {
     let text = first_run_text().as_bytes();
     for then in [Then::Fail, Then::TakeNone] {
         for room in 0..text.len() {
-            let (result, got) = ran_over(&rt, rt.alloc(), room, then);
-            assert_eq!(rt; result, Err(MainFault::Write), "at {room}");
-            assert_eq!(rt; got.as_slice(), &text[..room], "at {room}");
+            expect_got(&rt, rt.alloc(), room, then, &text[..room]);
         }
     }
 }
@@ -93,16 +109,13 @@ fn ten_bytes() -> &'static str {
 
 #[test]
 fn takes_ten_bytes(rt: HostRuntime) {
-    let (result, got) = ran_over(&rt, rt.alloc(), 10, Then::Fail);
-    assert_eq!(rt; result, Err(MainFault::Write));
-    assert_eq!(rt; got.as_slice(), ten_bytes().as_bytes());
+    expect_got(&rt, rt.alloc(), 10, Then::Fail, ten_bytes().as_bytes());
 }
 
 #[test]
 fn fails_to_flush(rt: HostRuntime) {
-    let (result, got) = ran_over(&rt, rt.alloc(), 1000, Then::FailFlush);
-    assert_eq!(rt; result, Err(MainFault::Write));
-    assert_eq!(rt; got.as_slice(), first_run_text().as_bytes());
+    let text = first_run_text().as_bytes();
+    expect_got(&rt, rt.alloc(), 1000, Then::FailFlush, text);
 }
 
 /// Gives bytes, three at a time, and then fails.
@@ -125,21 +138,23 @@ fn read() -> &'static str {
     "read\n"
 }
 
-/// Serves an input that gives these bytes and fails, and answers the status and what both writers then expect.
-fn served<T: Threads + Wait + Sync>(
+/// Serves an input that gives these bytes and fails: status 4 with its line, and nothing written.
+fn expect_read<T: Threads + Wait + Sync + Abort>(
     rt: &T,
     alloc: Global,
     args: &[String],
     given: &[u8],
-) -> (u8, Compared<'static>, Compared<'static>) {
+) {
     let mut out = OverWrite::new(expecting(first_run_text()));
     let mut errors = expecting(read());
     let mut input = Broken { rest: given };
     let status = serve(rt, alloc, args, &mut input, &mut out, &mut errors);
-    (status, out.into_inner(), errors)
+    assert!(rt; status == 4);
+    assert!(rt; nothing_came(&out.into_inner(), first_run_text()));
+    assert!(rt; all_came(&errors));
 }
 
-/// Wherever the input breaks off, behind its last byte too: status 4 with its line, and nothing written.
+/// Wherever the input breaks off, behind its last byte too.
 #[test]
 fn reads_no_prefix(rt: HostRuntime) {
     let script = first_run().as_bytes();
@@ -147,9 +162,6 @@ fn reads_no_prefix(rt: HostRuntime) {
         return;
     };
     for given in 0..=script.len() {
-        let (status, out, errors) = served(&rt, rt.alloc(), &args, &script[..given]);
-        assert_eq!(rt; status, 4, "at {given}");
-        assert!(rt; nothing_came(&out, first_run_text()));
-        assert!(rt; all_came(&errors));
+        expect_read(&rt, rt.alloc(), &args, &script[..given]);
     }
 }

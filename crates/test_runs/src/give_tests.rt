@@ -1,5 +1,5 @@
 //! Contexts that are given to other lanes, with 1, 2 and 64 workers and each way of sharing; other scripts that give are vectors.
-use crate::table_tests::{expect_text, ran};
+use crate::table_tests::expect_ran;
 use crate::worked::{Worked, given_with_letters, gives, missing_gives};
 use std::alloc::Global;
 use std::process::Abort;
@@ -16,12 +16,11 @@ fn expect_of_workers<T: Threads + Wait + Sync + Abort>(
     workers: u32,
     table: &[u32],
 ) -> Result<(), Fail> {
-    let table = table.to_vec(alloc)?;
-    for sharing in [Sharing::Round, Sharing::Queue, Sharing::Fixed(table)] {
-        let found = ran(rt, alloc, worked.script, workers, sharing)?;
-        expect_text(rt, &found, worked.text.as_bytes());
-    }
-    Ok(())
+    let table = Sharing::Fixed(table.to_vec(alloc)?);
+    let wanted = worked.text.as_bytes();
+    expect_ran(rt, alloc, worked.script, workers, table, wanted)?;
+    expect_ran(rt, alloc, worked.script, workers, Sharing::Round, wanted)?;
+    expect_ran(rt, alloc, worked.script, workers, Sharing::Queue, wanted)
 }
 
 fn expect_of_all<T: Threads + Wait + Sync + Abort>(

@@ -104,13 +104,28 @@ fn expect_shared<T: Threads + Wait + Sync + Abort>(
     let Ok(table) = table.to_vec(alloc) else {
         return;
     };
-    let mut refused = false;
-    for sharing in [Sharing::Round, Sharing::Queue, Sharing::Fixed(table)] {
-        let (result, out) = ran(rt, alloc, worked.script, worked.text, workers, sharing);
-        assert!(rt; result.is_ok() || !refused);
-        refused = refused || result.is_err();
-        expect(rt, result, &out, worked.text);
-    }
+    let rounds = is_refused(rt, alloc, &worked, workers, Sharing::Round);
+    let queue = is_refused(rt, alloc, &worked, workers, Sharing::Queue);
+    let fixed = is_refused(rt, alloc, &worked, workers, Sharing::Fixed(table));
+    assert!(rt;
+        matches!(
+            (rounds, queue, fixed),
+            (false, false, _) | (false, _, false) | (_, false, false)
+        )
+    );
+}
+
+/// Whether a run found no memory; its text is right where it did.
+fn is_refused<T: Threads + Wait + Sync + Abort>(
+    rt: &T,
+    alloc: Global,
+    worked: &Worked,
+    workers: u32,
+    sharing: Sharing,
+) -> bool {
+    let (result, out) = ran(rt, alloc, worked.script, worked.text, workers, sharing);
+    expect(rt, result, &out, worked.text);
+    result.is_err()
 }
 
 fn expect_alone<T: Threads + Wait + Sync + Abort>(rt: &T, alloc: Global, worked: Worked) {
@@ -227,6 +242,18 @@ fn served<T: Threads + Wait + Sync>(
     (status, out.into_inner(), errors)
 }
 
+/// The text and no line, or the line and no text.
+fn expect_served(rt: &impl Abort, status: u8, out: &Compared<'_>, errors: &Compared<'_>) {
+    if status == 0 {
+        assert!(rt; all_came(out));
+        assert!(rt; nothing_came(errors, memory()));
+    } else {
+        assert!(rt; status == 3);
+        assert!(rt; nothing_came(out, first_run_text()));
+        assert!(rt; all_came(errors));
+    }
+}
+
 /// The same through `serve`, whose line is then `memory`.
 #[test]
 fn refused_serve(rt: HostRuntime) {
@@ -234,12 +261,5 @@ fn refused_serve(rt: HostRuntime) {
         return;
     };
     let (status, out, errors) = served(&rt, rt.alloc(), &args);
-    if status == 0 {
-        assert!(rt; all_came(&out));
-        assert!(rt; nothing_came(&errors, memory()));
-    } else {
-        assert_eq!(rt; status, 3);
-        assert!(rt; nothing_came(&out, first_run_text()));
-        assert!(rt; all_came(&errors));
-    }
+    expect_served(&rt, status, &out, &errors);
 }

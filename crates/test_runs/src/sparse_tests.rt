@@ -75,50 +75,50 @@ fn counted<T: Threads + Wait + Sync>(
     Ok(gate)
 }
 
-fn expect_three(rt: &impl Abort, gate: &Counter) {
-    assert_eq!(rt; gate.turns.load(SeqCst), 3);
-    assert!(rt; gate.ticks[0].load(SeqCst) == 0);
-    assert!(rt; gate.ticks[1].load(SeqCst) == 400);
-    assert!(rt; gate.ticks[2].load(SeqCst) == 800);
+/// The ticks of the turns, one after another.
+fn expect_ticks(rt: &impl Abort, gate: &Counter, ticks: &[u32]) {
+    assert!(rt; gate.turns.load(SeqCst) == ticks.len());
+    for (noted, tick) in gate.ticks.iter().zip(ticks) {
+        assert!(rt; noted.load(SeqCst) == *tick);
+    }
+}
+
+/// The same of a run of a script.
+fn expect_turns<T: Threads + Wait + Sync + Abort>(
+    rt: &T,
+    alloc: Global,
+    script: &str,
+    sharing: Sharing,
+    ticks: &[u32],
+) -> Result<(), Fail> {
+    let gate = counted(rt, alloc, script, sharing)?;
+    expect_ticks(rt, &gate, ticks);
+    Ok(())
+}
+
+/// The same in each way of sharing.
+fn expect_of_each<T: Threads + Wait + Sync + Abort>(
+    rt: &T,
+    alloc: Global,
+    script: &str,
+    table: &[u32],
+    ticks: &[u32],
+) -> Result<(), Fail> {
+    let table = table.to_vec(alloc)?;
+    expect_turns(rt, alloc, script, Sharing::Fixed(table), ticks)?;
+    expect_turns(rt, alloc, script, Sharing::Round, ticks)?;
+    expect_turns(rt, alloc, script, Sharing::Queue, ticks)
 }
 
 #[test]
 fn empty_ticks_take_no_turn(rt: HostRuntime) -> Result<(), Fail> {
-    let table = [0].to_vec(rt.alloc())?;
-    for sharing in [Sharing::Round, Sharing::Queue, Sharing::Fixed(table)] {
-        let gate = counted(&rt, rt.alloc(), two_of_a_thousand(), sharing)?;
-        expect_three(&rt, &gate);
-    }
-    Ok(())
+    expect_of_each(&rt, rt.alloc(), two_of_a_thousand(), &[0], &[0, 400, 800])
 }
 
-/// The tick of the turn that came so many turns after the first.
-fn expect_tick(rt: &impl Abort, gate: &Counter, turn: usize, tick: u32) {
-    let noted = match gate.ticks.get(turn) {
-        Some(noted) => noted.load(SeqCst),
-        None => 1000,
-    };
-    assert_eq!(rt; noted, tick);
-}
-
-/// The turn that gives, and four of the lane that takes over: its first, that in which its loop ends, and two in which the timeout
-/// is dispatched.
-fn expect_five(rt: &impl Abort, gate: &Counter) {
-    assert_eq!(rt; gate.turns.load(SeqCst), 5);
-    expect_tick(rt, gate, 0, 0);
-    expect_tick(rt, gate, 1, 0);
-    expect_tick(rt, gate, 2, 1);
-    expect_tick(rt, gate, 3, 400);
-    expect_tick(rt, gate, 4, 800);
-}
-
-/// A context that was given keeps no lane awake, neither the one that gave it nor the one that has it now.
+/// A context that was given keeps no lane awake, neither the one that gave it nor the one that has it now: there is the turn that
+/// gives, and four of the lane that takes over, its first, that in which its loop ends, and two in which the timeout is dispatched.
 #[test]
 fn empty_ticks_after_a_give_take_no_turn(rt: HostRuntime) -> Result<(), Fail> {
-    let table = [0, 0].to_vec(rt.alloc())?;
-    for sharing in [Sharing::Round, Sharing::Queue, Sharing::Fixed(table)] {
-        let gate = counted(&rt, rt.alloc(), given_timeout(), sharing)?;
-        expect_five(&rt, &gate);
-    }
-    Ok(())
+    let ticks = [0, 0, 1, 400, 800];
+    expect_of_each(&rt, rt.alloc(), given_timeout(), &[0, 0], &ticks)
 }

@@ -8,7 +8,7 @@ use std::thread::Threads;
 use tick_stepper::{OpenGate, Sharing};
 
 /// Runs a script with so many workers.
-pub(crate) fn ran<T: Threads + Wait + Sync>(
+fn ran<T: Threads + Wait + Sync>(
     rt: &T,
     alloc: Global,
     script: &str,
@@ -28,8 +28,22 @@ pub(crate) fn ran<T: Threads + Wait + Sync>(
     Ok(out.into_inner())
 }
 
-pub(crate) fn expect_text(rt: &impl Abort, found: &[u8], wanted: &[u8]) {
+fn expect_text(rt: &impl Abort, found: &[u8], wanted: &[u8]) {
     assert_eq!(rt; found, wanted);
+}
+
+/// The text of a script with so many workers.
+pub(crate) fn expect_ran<T: Threads + Wait + Sync + Abort>(
+    rt: &T,
+    alloc: Global,
+    script: &str,
+    workers: u32,
+    sharing: Sharing,
+    wanted: &[u8],
+) -> Result<(), Fail> {
+    let found = ran(rt, alloc, script, workers, sharing)?;
+    expect_text(rt, &found, wanted);
+    Ok(())
 }
 
 /// The text by a table of two workers, by one of 64, and by one of the only worker.
@@ -41,9 +55,8 @@ fn expect_by_tables<T: Threads + Wait + Sync + Abort>(
     lanes: usize,
 ) -> Result<(), Fail> {
     for (workers, table) in [(1, [0, 0]), (2, [1, 0]), (64, [63, 5])] {
-        let table = table[..lanes.min(2)].to_vec(alloc)?;
-        let found = ran(rt, alloc, script, workers, Sharing::Fixed(table))?;
-        expect_text(rt, &found, wanted);
+        let table = Sharing::Fixed(table[..lanes.min(2)].to_vec(alloc)?);
+        expect_ran(rt, alloc, script, workers, table, wanted)?;
     }
     Ok(())
 }

@@ -1,5 +1,5 @@
 use Rattle.std.proofs.Common.{◌≡◌}
-use Rattle.test_data.proofs.queue_tests.refused_work.Given as goal
+use Rattle.test_data.proofs.queue_tests.expect_rest.Given as goal
 
 abbrev pub invariant-loop-number : goal.invariant-loop-number
 invariant-loop-number g l =
