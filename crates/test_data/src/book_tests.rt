@@ -113,7 +113,7 @@ const ENDED: Reply = Reply {
 };
 
 /// The reply of a task that was cancelled.
-const CUT: Reply = Reply {
+const CANCELLED: Reply = Reply {
     outcome: Outcome::Cancelled,
     cancel: Some(0),
     ..ENDED
@@ -169,7 +169,16 @@ const SOME_CANCELLED: [Step; 19] = [
     Cancel(0),
     Begin(7, 5),
     Wake(Some(4)),
-    Poll(&[CUT, Reply { task: 5, ..CUT }], &[0]),
+    Poll(
+        &[
+            CANCELLED,
+            Reply {
+                task: 5,
+                ..CANCELLED
+            },
+        ],
+        &[0],
+    ),
     Wake(Some(6)),
     Poll(&[], &[]),
     Poll(&[], &[5]),
@@ -187,7 +196,7 @@ const ONE_OF_TWO_CANCELLED: [Step; 8] = [
     Poll(
         &[Reply {
             cancel: Some(1),
-            ..CUT
+            ..CANCELLED
         }],
         &[],
     ),

@@ -97,7 +97,13 @@ struct Ending {
     outcome: Outcome,
 }
 
-fn row(what: &'static str, cancel: Option<u32>, tick: u64, outcome: Outcome) -> Ending {
+/// A tree that is begun in tick 1.
+fn begun_in_tick_one(
+    what: &'static str,
+    cancel: Option<u32>,
+    tick: u64,
+    outcome: Outcome,
+) -> Ending {
     Ending {
         what,
         begun: 1,
@@ -116,37 +122,46 @@ fn table() -> [Ending; 8] {
             tick: 5,
             outcome: Outcome::TimedOut,
         },
-        row("fails at the later end", None, 2, Outcome::Failed),
-        row("checks after a sleep", Some(2), 2, Outcome::Cancelled),
-        row("a tie is the first's", None, 2, Outcome::Ok(1)),
-        row("ends at the limit", None, 3, Outcome::Ok(3)),
-        row("answers the first of two faults", None, 3, Outcome::Failed),
-        row("checks no later cancel", Some(2), 3, Outcome::Ok(0)),
-        row("rounds a sleep up", None, 3, Outcome::Ok(0)),
+        begun_in_tick_one("fails at the later end", None, 2, Outcome::Failed),
+        begun_in_tick_one("checks after a sleep", Some(2), 2, Outcome::Cancelled),
+        begun_in_tick_one("a tie is the first's", None, 2, Outcome::Ok(1)),
+        begun_in_tick_one("ends at the limit", None, 3, Outcome::Ok(3)),
+        begun_in_tick_one("answers the first of two faults", None, 3, Outcome::Failed),
+        begun_in_tick_one("checks no later cancel", Some(2), 3, Outcome::Ok(0)),
+        begun_in_tick_one("rounds a sleep up", None, 3, Outcome::Ok(0)),
     ]
 }
 
-/// Whether a tree ends as its row says, where a run that is refused memory is made anew.
-fn ends(rt: &impl Abort, alloc: Global, tree: &TaskTree, row: &Ending, sparse: bool) -> bool {
+/// Whether a tree ends as its row says; where memory may be refused, a run that is is made anew.
+fn ends(
+    rt: &impl Abort,
+    alloc: Global,
+    tree: &TaskTree,
+    row: &Ending,
+    sparse: bool,
+    may_be_refused: bool,
+) -> bool {
     if row.begun >= 1000 {
         return false;
     }
     let found = match ended(rt, alloc, tree, row.begun, row.cancel, sparse) {
-        Err(AllocError) => ended(rt, alloc, tree, row.begun, row.cancel, sparse),
+        Err(AllocError) if may_be_refused => ended(rt, alloc, tree, row.begun, row.cancel, sparse),
         found => found,
     };
     found == Ok(Some((row.tick, row.outcome)))
 }
 
 /// Each tree ends as its row says, in each tick polled and only in those that its wake names.
-fn expect_table(rt: &impl Abort, alloc: Global, tasks: &[Action]) {
+fn expect_table(rt: &impl Abort, alloc: Global, tasks: &[Action], may_be_refused: bool) {
     assert!(rt; tasks.len() == table().len());
     for (task, row) in tasks.iter().zip(table()) {
         let what = row.what;
         match task {
             Action::Task(spec) => {
-                assert!(rt; ends(rt, alloc, &spec.tree, &row, false), "{what}");
-                assert!(rt; ends(rt, alloc, &spec.tree, &row, true), "{what}, sparse");
+                for sparse in [false, true] {
+                    let is_right = ends(rt, alloc, &spec.tree, &row, sparse, may_be_refused);
+                    assert!(rt; is_right, "{what}, sparse {sparse}");
+                }
             }
             _ => assert!(rt; false, "{what}"),
         }
@@ -156,7 +171,7 @@ fn expect_table(rt: &impl Abort, alloc: Global, tasks: &[Action]) {
 #[test]
 fn ends_as_the_table_says(rt: HostRuntime) -> Result<(), Fail> {
     let script = Script::read(rt.alloc(), trees_of_the_table().as_bytes())?;
-    expect_table(&rt, rt.alloc(), script.actions(Body::Start(0)));
+    expect_table(&rt, rt.alloc(), script.actions(Body::Start(0)), false);
     Ok(())
 }
 
@@ -164,7 +179,7 @@ fn ends_as_the_table_says(rt: HostRuntime) -> Result<(), Fail> {
 #[test]
 fn refused_run(rt: HostRuntime) {
     if let Ok(script) = Script::read(rt.alloc(), trees_of_the_table().as_bytes()) {
-        expect_table(&rt, rt.alloc(), script.actions(Body::Start(0)));
+        expect_table(&rt, rt.alloc(), script.actions(Body::Start(0)), true);
     }
 }
 

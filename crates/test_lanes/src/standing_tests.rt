@@ -175,22 +175,34 @@ fn expect_standings(
     Ok(())
 }
 
-/// Whether the standings are told, and then they are right: at once, or asked for again where memory is refused.
-fn are_told(rt: &impl Abort, alloc: Global, context: &Context, view: &View, known: &Known) -> bool {
+/// Whether the standings are told, and then they are right: at once or, where memory may be refused, asked for again.
+fn are_told(
+    rt: &impl Abort,
+    alloc: Global,
+    context: &Context,
+    view: &View,
+    known: &Known,
+    may_be_refused: bool,
+) -> bool {
     expect_standings(rt, alloc, context, view, known).is_ok()
-        || expect_standings(rt, alloc, context, view, known).is_ok()
+        || may_be_refused && expect_standings(rt, alloc, context, view, known).is_ok()
 }
 
 /// The same of a row's sources; nothing where they find no memory.
-fn are_told_of(rt: &impl Abort, alloc: Global, known: &Known) -> Option<bool> {
+fn are_told_of(
+    rt: &impl Abort,
+    alloc: Global,
+    known: &Known,
+    may_be_refused: bool,
+) -> Option<bool> {
     let tried = made(alloc, known.levels, known.sources)?;
     let view = viewed(alloc, known.cancelled)?;
-    Some(are_told(rt, alloc, &tried.context, &view, known))
+    Some(are_told(rt, alloc, &tried.context, &view, known, may_be_refused))
 }
 
 fn expect_told(rt: &impl Abort, alloc: Global, rows: &[Known]) {
     for known in rows {
-        expect(rt, are_told_of(rt, alloc, known) == Some(true));
+        expect(rt, are_told_of(rt, alloc, known, false) == Some(true));
     }
 }
 
@@ -206,6 +218,9 @@ fn standings_of_contexts(rt: HostRuntime) {
 #[test]
 fn refused_standings(rt: HostRuntime) {
     for known in of_waits() {
-        expect(&rt, are_told_of(&rt, rt.alloc(), &known) != Some(false));
+        expect(
+            &rt,
+            are_told_of(&rt, rt.alloc(), &known, true) != Some(false),
+        );
     }
 }

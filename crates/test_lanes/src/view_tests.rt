@@ -108,7 +108,7 @@ const FOR_GOOD: [Step; 7] = [
 ];
 
 /// Each of two cancellables calls its own handlers, by rising id, and none that is gone.
-const OF_TWO: [Step; 9] = [
+const OF_TWO: [Step; 10] = [
     Connect(0, 10, Connected::Id(1)),
     Connect(1, 11, Connected::Id(2)),
     Connect(0, 12, Connected::Id(3)),
@@ -118,6 +118,7 @@ const OF_TWO: [Step; 9] = [
         0,
         Some(&[Fired { id: 1, proc: 10 }, Fired { id: 4, proc: 13 }]),
     ),
+    IsCancelled(0, true),
     IsCancelled(1, false),
     Cancel(1, Some(&[Fired { id: 2, proc: 11 }])),
     IsCancelled(1, true),
@@ -136,11 +137,16 @@ const EACH: [Step; 9] = [
     Connect(0, 7, Connected::Already),
 ];
 
-/// Whether each step answers what it has to; nothing where the view finds no memory.
-fn are_right(alloc: Global, steps: &[Step]) -> Option<bool> {
+/// Whether each step answers what it has to, at once or, where memory may be refused, taken again; nothing where the view finds none.
+fn are_right(alloc: Global, steps: &[Step], may_be_refused: bool) -> Option<bool> {
     let mut view = Tried::new(alloc, 2).ok()?;
     for step in steps {
-        if view.retake(alloc, step) != Ok(true) {
+        let answer = if may_be_refused {
+            view.retake(alloc, step)
+        } else {
+            view.take(alloc, step)
+        };
+        if answer != Ok(true) {
             return Some(false);
         }
     }
@@ -149,22 +155,25 @@ fn are_right(alloc: Global, steps: &[Step]) -> Option<bool> {
 
 #[test]
 fn handlers_come_and_go(rt: HostRuntime) {
-    expect(&rt, are_right(rt.alloc(), &COME_AND_GO) == Some(true));
-    expect(&rt, are_right(rt.alloc(), &EACH) == Some(true));
+    expect(
+        &rt,
+        are_right(rt.alloc(), &COME_AND_GO, false) == Some(true),
+    );
+    expect(&rt, are_right(rt.alloc(), &EACH, false) == Some(true));
 }
 
 #[test]
 fn cancelled_for_good(rt: HostRuntime) {
-    expect(&rt, are_right(rt.alloc(), &FOR_GOOD) == Some(true));
+    expect(&rt, are_right(rt.alloc(), &FOR_GOOD, false) == Some(true));
 }
 
 #[test]
 fn handlers_by_rising_id(rt: HostRuntime) {
-    expect(&rt, are_right(rt.alloc(), &OF_TWO) == Some(true));
+    expect(&rt, are_right(rt.alloc(), &OF_TWO, false) == Some(true));
 }
 
 /// Whatever request is refused, the view is as it was or as the call leaves it, also for all calls that come after.
 #[test]
 fn refused_view(rt: HostRuntime) {
-    expect(&rt, are_right(rt.alloc(), &EACH) != Some(false));
+    expect(&rt, are_right(rt.alloc(), &EACH, true) != Some(false));
 }
