@@ -1,7 +1,6 @@
 -- What prepares an iteration: the first source in order that is callable has the least priority of all that are ready.
 use Rattle.std.proofs.Common.{◌≡◌, ℕ, ◌==◌, ◌&&◌, ◌||◌, Bool, true, false, cond, ℤ, Option, Some, None, List, [], ◌∷◌, inl, inr, filter, option_map, refl, ap, sym, ◌∙◌, arith, subst}
 use Rattle.std.proofs.lemmas.Int.{ints}
-use Rattle.std.proofs.lemmas.Bool.Decides.{eqb_tells}
 use Rattle.std.specs.Prelude.{int_lt, slice_index}
 use Rattle.std.specs.List.{AllByRecursion, find, list_any}
 use Rattle.source_rows.specs.declared.row.Row.{Row}

@@ -1,5 +1,5 @@
 -- Tests of which one is true, and what is found in a list.
-use Rattle.std.proofs.Common.{◌≡◌, ℕ, ◌==◌, ◌||◌, Bool, true, false, cond, Option, Some, None, List, [], ◌∷◌, refl, ap, sym, ◌∙◌}
+use Rattle.std.proofs.Common.{◌≡◌, ℕ, ◌==◌, ◌||◌, Bool, true, false, cond, Some, None, List, [], ◌∷◌, refl, ap, sym, ◌∙◌}
 use Rattle.std.specs.List.{find, list_any}
 use Rattle.std.specs.Option.{is_some}
 use Rattle.source_rows.proofs.Compared.{same_self, some_same}

@@ -1,4 +1,4 @@
-use Rattle.std.proofs.Common.{◌≡◌, ◌==◌, [], ℕ, List, length, true, sym, ap, ◌∙◌, rules}
+use Rattle.std.proofs.Common.{◌≡◌, ◌==◌, [], ℕ, length, true, sym, ap, ◌∙◌, rules}
 use Rattle.std.proofs.lemmas.Result.{IfOk-weaker}
 use Rattle.context_core.specs.Ready.{in_view, own_ready, is_ready}
 use Rattle.context_core.specs.Phases.{shown, walk, handed, asked_rows}
