@@ -370,13 +370,17 @@ GROWTHS = {
     "reading connects": (read_connects, 1, 4),
 }
 
-# What grows worse, and what is looked at each time.
-KNOWN = {
+# What grows worse because its rule tells, asks or moves each time all of what is named.
+BY_RULE = {
     "children that it gives its priority": "each set_priority, its children",
     "pending beside sources of descriptors": "each pending and iteration, the sources of descriptors",
     "ticks beside sources of a descriptor that shows other bits": "each tick with a turn, the sources of descriptors",
-    "ticks beside sources of a cancellable with the mark of a cancelled one": "each tick with a turn, the sources of cancellables 62 from one that was cancelled",
     "letters of more lanes": "each letter, the lanes: 64 at most",
+}
+
+# What grows worse though no rule asks for it, and what is looked at each time.
+KNOWN = {
+    "ticks beside sources of a cancellable with the mark of a cancelled one": "each tick with a turn, the sources of cancellables 62 from one that was cancelled",
     "checks of a tree that are begun one by one": "each tick in which a check of a task may see a cancellation, all parts of the task",
 }
 
