@@ -1,20 +1,47 @@
 //! The calls in progress, to be found by the ids of their sources.
-ghost use Rattle.std.specs.Prelude.{◌≡◌, ◌==◌, length, IsTrue};
+ghost use Rattle.std.specs.Prelude.{◌≡◌, ◌==◌, [], length, IsTrue};
 ghost use Rattle.std.specs.List.{list_any};
 ghost use Rattle.context_core.specs.Classes.{TellsOfIds};
 
 use crate::classes::{Classes, next_place};
 use std::marker::Model;
 
+/// Where the sources whose calls are in progress stand in their list.
+#[derive(Drop)]
+pub struct BusyTable {
+    classes: Classes,
+}
+
+impl Model for BusyTable {
+    ghost use Rattle.std.specs.Prelude.{ℕ, List};
+
+    ghost Value = { List ℕ };
+
+    ghost view = { λ t. t.classes };
+}
+
+impl BusyTable {
+    /// The table of sources with these ids.
+    #[inline]
+    pub fn new(ids: &[u64]) -> BusyTable
+        ensures { TellsOfIds ids.now result }
+    {
+        BusyTable {
+            classes: classes_of_ids(ids),
+        }
+    }
+}
+
 /// The ids of sources whose calls are in progress, seen as their list, with one table for all that looks them up in an iteration.
 #[derive(Drop)]
 pub struct Busy<'a> {
     ids: &'a [u64],
-    classes: Classes,
+    /// None where no call is in progress.
+    table: Option<&'a BusyTable>,
 }
 
 impl<'a> Model for Busy<'a> {
-    ghost use Rattle.std.specs.Prelude.{List};
+    ghost use Rattle.std.specs.Prelude.{◌≡◌, List, [], IfSome, IfNone};
     ghost use Rattle.loop_script.specs.Units.{SourceId};
     ghost use Rattle.context_core.specs.Classes.{TellsOfIds};
 
@@ -22,17 +49,30 @@ impl<'a> Model for Busy<'a> {
 
     ghost view = { λ b. b.ids.now };
 
-    ghost invariant = { λ b. TellsOfIds b.ids.now b.classes };
+    ghost invariant = { λ b. IfSome b.table (λ t. TellsOfIds b.ids.now t.now) × IfNone b.table (b.ids.now ≡ []) };
 }
 
 impl<'a> Busy<'a> {
-    /// Calls of the sources with these ids are in progress.
-    pub fn new(ids: &'a [u64]) -> Busy<'a>
+    /// No call is in progress.
+    #[inline]
+    pub fn none() -> Busy<'a>
+        ensures { result ≡ [] }
+    {
+        Busy {
+            ids: &[],
+            table: None,
+        }
+    }
+
+    /// Calls of the sources with these ids are in progress, of which this is the table.
+    #[inline]
+    pub fn new(ids: &'a [u64], table: &'a BusyTable) -> Busy<'a>
+        requires { TellsOfIds ids.now table.now }
         ensures { result ≡ ids.now }
     {
         Busy {
             ids,
-            classes: classes_of_ids(ids),
+            table: Some(table),
         }
     }
 
@@ -49,7 +89,10 @@ impl<'a> Busy<'a> {
     pub(crate) fn has(&self, id: u64) -> bool
         ensures { result ≡ list_any (λ b. b == id) self.now }
     {
-        let place = self.classes.place(id);
+        let Some(table) = self.table else {
+            return false;
+        };
+        let place = table.classes.place(id);
         if place == 0 {
             return false;
         }

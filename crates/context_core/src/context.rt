@@ -11,7 +11,7 @@ ghost use Rattle.context_core.specs.Ready.{in_view, own_ready, selected, is_free
 ghost use Rattle.context_core.specs.Standing.{standing, first_with};
 ghost use Rattle.context_core.specs.Phases.{ms_until, least_ready, wait_of, interests, asked_rows, levels_for, shown, handed, walk};
 
-use crate::busy::Busy;
+use crate::busy::{Busy, BusyTable};
 use crate::free::FreeRows;
 use crate::interest::{Interest, Prepared, Shown};
 use crate::polled::{Polled, classes_of_shown};
@@ -135,7 +135,8 @@ impl Context {
         ensures priority { result.priority ≡ least_ready (in_view view.now) now busy.now self.now.rows.rows }
         ensures timeout { result.timeout_ms ≡ wait_of now busy.now self.now.rows.rows result.priority }
     {
-        let busy = Busy::new(busy);
+        let table = BusyTable::new(busy);
+        let busy = Busy::new(busy, &table);
         match self.ready_priority(now, &busy, view) {
             Some(priority) => Prepared {
                 priority: Some(priority),
@@ -157,7 +158,8 @@ impl Context {
     ) -> Result<Vec<Interest>, AllocError>
         ensures { IfOk result (λ list. list.items ≡ interests prepared.now.priority busy.now self.now.rows.rows) }
     {
-        self.interests(alloc, prepared.priority, &Busy::new(busy))
+        let table = BusyTable::new(busy);
+        self.interests(alloc, prepared.priority, &Busy::new(busy, &table))
     }
 
     /// What `query` tells where a priority is the least of what is ready. Its one refusal is want of memory.
@@ -258,14 +260,9 @@ impl Context {
         ensures { (level : ℕ → ℕ) → levels.now ≡ levels_for level (asked_rows prepared.now.priority busy.now self.now.rows.rows)
             → IfOk result (λ ids. ids.items ≡ selected (own_ready level (in_view view.now) now) busy.now self.now.rows.rows) }
     {
-        self.select(
-            alloc,
-            prepared.priority,
-            now,
-            &Busy::new(busy),
-            view,
-            levels,
-        )
+        let table = BusyTable::new(busy);
+        let busy = Busy::new(busy, &table);
+        self.select(alloc, prepared.priority, now, &busy, view, levels)
     }
 
     /// What `check` tells where a priority is the least of what is ready. Its one refusal is want of memory, after which all is as before.
@@ -330,7 +327,8 @@ impl Context {
         ensures { (level : ℕ → ℕ) → levels.now ≡ levels_for level (asked_rows None busy.now self.now.rows.rows)
             → IfOk result (λ list. list.items ≡ map (standing level (in_view view.now) now busy.now self.now.rows.rows) (in_order self.now.rows.rows)) }
     {
-        let busy = Busy::new(busy);
+        let table = BusyTable::new(busy);
+        let busy = Busy::new(busy, &table);
         let list = self.polled(alloc, None, &busy, levels)?;
         let classes = classes_of_shown(&list);
         let polled = Polled::new(&list, &classes);

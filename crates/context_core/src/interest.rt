@@ -18,7 +18,7 @@ pub struct Interest {
 }
 
 /// What a descriptor shows.
-#[derive(Clone, Copy, Debug, PartialEq, Eq)]
+#[derive(Clone, Copy)]
 pub(crate) struct Shown {
     pub fd: u32,
     pub level: u8,

@@ -18,7 +18,7 @@ mod ready;
 mod standing;
 mod visit;
 
-pub use busy::Busy;
+pub use busy::{Busy, BusyTable};
 pub use context::Context;
 pub use defaults::{DefaultStack, Pushed};
 pub use interest::{Interest, Prepared};

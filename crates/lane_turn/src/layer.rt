@@ -68,7 +68,7 @@ pub enum Layer {
 }
 
 /// What the innermost activity takes next.
-#[derive(Clone, Copy, Debug)]
+#[derive(Clone, Copy)]
 pub enum Top {
     Nothing,
     Call(Call),

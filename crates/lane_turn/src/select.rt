@@ -5,7 +5,7 @@ ghost use Rattle.lane_turn.specs.Lane.{is_any};
 ghost use Rattle.lane_turn.specs.Sources.{chosen_in, standings_in};
 
 use cancel_view::View;
-use context_core::{Busy, Context, Interest, Prepared, Standing};
+use context_core::{Busy, BusyTable, Context, Interest, Prepared, Standing};
 use loop_script::Script;
 use std::alloc::{AllocError, Global};
 
@@ -27,7 +27,25 @@ fn poll(
         .collect(alloc)
 }
 
-/// The ids that an iteration of a context would dispatch at a tick.
+/// The ids that an iteration of a context would dispatch at a tick, beside calls in progress.
+fn select_beside(
+    alloc: Global,
+    context: &Context,
+    script: &Script,
+    tick: u32,
+    busy: &Busy,
+    view: &View,
+) -> Result<Vec<u64>, AllocError>
+    ensures { IfOk result (λ ids. ids.items ≡ chosen_in script.now tick view.now busy.now (Some context.now)) }
+{
+    let now = script.now(tick);
+    let priority = context.ready_priority(now, busy, view);
+    let interests = context.interests(alloc, priority, busy)?;
+    let levels = poll(alloc, script, tick, &interests)?;
+    context.select(alloc, priority, now, busy, view, &levels)
+}
+
+/// The same by the ids of the sources whose calls are in progress.
 pub(crate) fn select(
     alloc: Global,
     context: &Context,
@@ -38,16 +56,35 @@ pub(crate) fn select(
 ) -> Result<Vec<u64>, AllocError>
     ensures { IfOk result (λ ids. ids.items ≡ chosen_in script.now tick view.now busy.now (Some context.now)) }
 {
-    let now = script.now(tick);
-    let busy = Busy::new(busy);
-    let priority = context.ready_priority(now, &busy, view);
-    let interests = context.interests(alloc, priority, &busy)?;
-    let levels = poll(alloc, script, tick, &interests)?;
-    context.select(alloc, priority, now, &busy, view, &levels)
+    if busy.is_empty() {
+        return select_beside(alloc, context, script, tick, &Busy::none(), view);
+    }
+    let table = BusyTable::new(busy);
+    let busy = Busy::new(busy, &table);
+    select_beside(alloc, context, script, tick, &busy, view)
 }
 
-/// Whether an iteration of a context would dispatch anything at a tick. Where something is ready before any descriptor is asked, that is
-/// told without a list.
+/// Whether an iteration of a context would dispatch anything at a tick, beside calls in progress. Where something is ready before any
+/// descriptor is asked, that is told without a list.
+fn selects_any_beside(
+    alloc: Global,
+    context: &Context,
+    script: &Script,
+    tick: u32,
+    busy: &Busy,
+    view: &View,
+) -> Result<bool, AllocError>
+    ensures { IfOk result (λ any. any ≡ is_any (chosen_in script.now tick view.now busy.now (Some context.now))) }
+{
+    let now = script.now(tick);
+    if context.ready_priority(now, busy, view).is_some() {
+        return Ok(true);
+    }
+    let ids = select_beside(alloc, context, script, tick, busy, view)?;
+    Ok(!ids.is_empty())
+}
+
+/// The same by the ids of the sources whose calls are in progress.
 pub(crate) fn selects_any(
     alloc: Global,
     context: &Context,
@@ -58,15 +95,12 @@ pub(crate) fn selects_any(
 ) -> Result<bool, AllocError>
     ensures { IfOk result (λ any. any ≡ is_any (chosen_in script.now tick view.now busy.now (Some context.now))) }
 {
-    let now = script.now(tick);
-    if context
-        .ready_priority(now, &Busy::new(busy), view)
-        .is_some()
-    {
-        return Ok(true);
+    if busy.is_empty() {
+        return selects_any_beside(alloc, context, script, tick, &Busy::none(), view);
     }
-    let ids = select(alloc, context, script, tick, busy, view)?;
-    Ok(!ids.is_empty())
+    let table = BusyTable::new(busy);
+    let busy = Busy::new(busy, &table);
+    selects_any_beside(alloc, context, script, tick, &busy, view)
 }
 
 /// What an iteration of a context begun at a tick would do with each of its sources, in the order of dispatch.

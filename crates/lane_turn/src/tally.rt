@@ -7,7 +7,7 @@ use std::alloc::AllocError;
 
 /// How many layers are in progress, and how many of them are dispatches, calls but the one of `start`, and calls that
 /// block their source.
-#[derive(Clone, Copy, Debug)]
+#[derive(Clone, Copy)]
 pub struct Tally {
     pub layers: usize,
     pub dispatches: u64,

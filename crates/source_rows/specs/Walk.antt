@@ -12,7 +12,7 @@ use Rattle.source_rows.specs.Seats.{is_passed}
 
 -- how many forks a path keeps
 abbrev pub most_kept : ℕ
-most_kept = 24
+most_kept = 12
 
 -- the seats that stand behind a key, or all of them
 abbrev pub behind_key : Option Key → List Seat → List Seat

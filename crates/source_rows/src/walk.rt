@@ -14,7 +14,7 @@ use std::iter::Iterator;
 use std::marker::Model;
 
 /// How many forks a path keeps.
-const KEPT: usize = 24;
+const KEPT: usize = 12;
 
 /// The forks on whose sooner side a walk is, the innermost first: what comes is the seat of each, with those on its later
 /// side. Where there are more than it keeps it forgets the outer ones.

@@ -1,5 +1,5 @@
 //! A task of the book: its poll, and its reply, which comes with its end, or where its cancellable is first seen as cancelled.
-ghost use Rattle.std.specs.Prelude.{◌≡◌, ◌&&◌};
+ghost use Rattle.std.specs.Prelude.{◌≡◌, ◌&&◌, not, is_some, true, false};
 ghost use Rattle.task_steps.specs.Task.{answer_as};
 
 use crate::body::{Body, Look};
@@ -23,7 +23,7 @@ pub struct Reply {
 }
 
 /// What a task's poll gives.
-#[derive(Clone, Copy, Debug)]
+#[derive(Clone, Copy)]
 pub(crate) struct Answer {
     /// The outcome of the reply, where that comes in this tick.
     pub reply: Option<Outcome>,
@@ -71,7 +71,7 @@ fn given(returns: bool, cancelled: bool, before: bool, end: Option<Outcome>) -> 
 impl Entry {
     ghost use Rattle.std.specs.Prelude.{option_map};
     ghost use Rattle.task_steps.specs.BookInside.{wake_of_entry, caught, heeds, IsPassedBy};
-    ghost use Rattle.task_steps.specs.Run.{WakesLater, NoneBefore};
+    ghost use Rattle.task_steps.specs.Run.{IsAfter, WakesLater, NoneBefore};
     ghost use Rattle.task_steps.specs.Reply.{reply_of_task};
     ghost use Rattle.task_steps.specs.Task.{task_of, noticed, CanPoll, IsAnswer, IsPolledAt};
 
@@ -92,6 +92,19 @@ impl Entry {
         ensures { result ≡ heeds self.now }
     {
         self.cancel.is_some() && !self.run.was_cancelled()
+    }
+
+    /// Whether a poll in a tick, in which its cancellable is seen as cancelled or not, would give nothing: it neither wakes then nor is
+    /// first seen as cancelled.
+    pub(crate) fn sleeps_on(&self, tick: u32, cancelled: bool) -> bool
+        ensures wakes { result ≡ true → IsAfter tick (wake_of_entry self.now) }
+        ensures seen { result ≡ true → (cancelled && not (is_some self.now.run.cancelled)) ≡ false }
+    {
+        let sleeps = match self.wake() {
+            None => true,
+            Some(wake) => u64::from(tick) < wake,
+        };
+        sleeps && (!cancelled || self.run.was_cancelled())
     }
 
     /// Polls the task in a tick in which its cancellable is seen as cancelled or not.

@@ -38,7 +38,7 @@ fn add_late(late: &mut Vec<u64>, is_late: bool, number: u64) -> Result<(), Alloc
     Ok(())
 }
 
-/// Polls a task, and adds its reply and its late number; whether it goes on.
+/// Polls a task, where that gives anything, and adds its reply and its late number; whether it goes on.
 pub(crate) fn poll_entry(
     entry: &mut Entry,
     round: Round,
@@ -49,8 +49,11 @@ pub(crate) fn poll_entry(
     requires { CanPollAll round.tick round.polled view.now (entry.old ∷ []) }
     ensures { IfOk result (λ goes. HasPolledAll round.tick round.polled view.now (entry.old ∷ []) (if goes then entry.new ∷ [] else []) replies.old.items replies.new.items late.old.items late.new.items) }
 {
-    entry.catch_up(round.polled);
     let cancelled = sees(view, entry.cancel);
+    if entry.sleeps_on(round.tick, cancelled) {
+        return Ok(true);
+    }
+    entry.catch_up(round.polled);
     let answer = entry.poll(round.tick, cancelled);
     let reply = entry.reply(answer.reply);
     add_reply(replies, reply)?;

@@ -1,20 +1,19 @@
-use Rattle.std.proofs.Common.{ℕ, List, map, ap, ◌∙◌}
+use Rattle.std.proofs.Common.{◌≡◌, ◌==◌, ℕ, List, length, true, sym, ap, ◌∙◌, rules}
 use Rattle.std.proofs.lemmas.Result.{IfOk-weaker}
-use Rattle.loop_script.specs.Parts.{level_of}
-use Rattle.context_core.specs.declared.interest.Interest.{Interest}
-use Rattle.context_core.specs.Phases.{asked_rows}
-use Rattle.context_core.specs.Ready.{in_view, own_ready, selected}
-use Rattle.lane_turn.proofs.Polled.{levels_polled}
+use Rattle.context_core.specs.Ready.{selected}
+use Rattle.context_core.proofs.Wait.{none_if}
+use Rattle.lane_turn.specs.Sources.{own_ready_at}
 use Rattle.lane_turn.proofs.select.select.Goals as goal
+
+pub returns-then-is_empty : goal.returns-then-is_empty
+returns-then-is_empty c =
+    let zero : (length c.args.busy.now == 0) ≡ true = search rules in
+    IfOk-weaker c.select_beside.result _ _
+    (λ ids i. i ∙ ap (λ (l : List ℕ). selected (own_ready_at c.args.script.now c.args.tick c.args.view.now) l c.args.context.now.rows.rows) (c.none.ensures ∙ sym (none_if c.args.busy.now zero)))
+    c.select_beside.ensures
 
 pub returns : goal.returns
 returns c =
-    let level = λ (fd : ℕ). level_of c.args.script.now fd c.args.tick in
-    let rows = c.args.context.now.rows.rows in
-    let seen = in_view c.args.view.now in
-    let shown = ap (map (λ (i : Interest). level i.fd)) (c.deref.ensures.value ∙ c.in_ok-interests.ensures) in
-    IfOk-weaker c.select.result _ _
-    (λ ids i. i ∙ (ap (λ (l : List ℕ). selected (own_ready level seen c.now-now.result) l rows) c.new-busy.ensures
-    ∙ ap (λ (now : ℕ). selected (own_ready level seen now) c.args.busy.now rows) c.now-now.ensures.now))
-    (c.select.ensures level (c.deref-2.ensures.value ∙ (c.in_ok-levels.ensures
-    ∙ (shown ∙ levels_polled level (asked_rows c.ready_priority-priority.result c.new-busy.result rows)))))
+    IfOk-weaker c.select_beside-2.result _ _
+    (λ ids i. i ∙ ap (λ (l : List ℕ). selected (own_ready_at c.args.script.now c.args.tick c.args.view.now) l c.args.context.now.rows.rows) c.new-busy.ensures)
+    c.select_beside-2.ensures

@@ -1,18 +1,20 @@
-use Rattle.std.proofs.Common.{◌≡◌, ℕ, true, List, [], ◌∷◌, refl, ap, sym, ◌∙◌}
-use Rattle.loop_script.specs.Parts.{level_of}
-use Rattle.context_core.specs.Ready.{in_view, own_ready, selected}
+use Rattle.std.proofs.Common.{◌≡◌, ◌==◌, ℕ, List, length, true, sym, ap, ◌∙◌, rules}
+use Rattle.std.proofs.lemmas.Result.{IfOk-weaker}
+use Rattle.context_core.specs.Ready.{selected}
+use Rattle.context_core.proofs.Wait.{none_if}
 use Rattle.lane_turn.specs.Lane.{is_any}
+use Rattle.lane_turn.specs.Sources.{own_ready_at}
 use Rattle.lane_turn.proofs.select.selects_any.Goals as goal
 
-any_of : (ids : List ℕ) → (ids ≡ [] → ⊥) → true ≡ is_any ids
-any_of [] f = absurd (f refl)
-any_of (id ∷ ids) f = refl
+pub returns-then-is_empty : goal.returns-then-is_empty
+returns-then-is_empty c =
+    let zero : (length c.args.busy.now == 0) ≡ true = search rules in
+    IfOk-weaker c.selects_any_beside.result _ _
+    (λ any i. i ∙ ap (λ (l : List ℕ). is_any (selected (own_ready_at c.args.script.now c.args.tick c.args.view.now) l c.args.context.now.rows.rows)) (c.none.ensures ∙ sym (none_if c.args.busy.now zero)))
+    c.selects_any_beside.ensures
 
-pub returns-then-is_some : goal.returns-then-is_some
-returns-then-is_some c =
-    let level = λ (fd : ℕ). level_of c.args.script.now fd c.args.tick in
-    let rows = c.args.context.now.rows.rows in
-    let seen = in_view c.args.view.now in
-    any_of _ (λ e. c.ready_priority.ensures.some (sym c.is_some.ensures ∙ c.if-is_some.true) level
-    (ap (λ (l : List ℕ). selected (own_ready level seen c.now-now.result) l rows) c.new.ensures
-    ∙ (ap (λ (now : ℕ). selected (own_ready level seen now) c.args.busy.now rows) c.now-now.ensures.now ∙ e)))
+pub returns : goal.returns
+returns c =
+    IfOk-weaker c.selects_any_beside-2.result _ _
+    (λ any i. i ∙ ap (λ (l : List ℕ). is_any (selected (own_ready_at c.args.script.now c.args.tick c.args.view.now) l c.args.context.now.rows.rows)) c.new-busy.ensures)
+    c.selects_any_beside-2.ensures

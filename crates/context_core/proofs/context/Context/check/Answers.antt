@@ -8,5 +8,5 @@ pub returns : goal.returns
 returns c level e =
     let rows = c.args.self.now.rows.rows in
     IfOk-weaker c.select.result _ _
-    (λ ids i. i ∙ ap (λ (l : List ℕ). selected (own_ready level (in_view c.args.view.now) c.args.now) l rows) c.new.ensures)
-    (c.select.ensures level (e ∙ ap (λ (l : List ℕ). levels_for level (asked_rows c.args.prepared.now.priority l rows)) (sym c.new.ensures)))
+    (λ ids i. i ∙ ap (λ (l : List ℕ). selected (own_ready level (in_view c.args.view.now) c.args.now) l rows) c.new-busy.ensures)
+    (c.select.ensures level (e ∙ ap (λ (l : List ℕ). levels_for level (asked_rows c.args.prepared.now.priority l rows)) (sym c.new-busy.ensures)))
