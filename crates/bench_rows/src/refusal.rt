@@ -5,7 +5,7 @@ use source_rows::RowsFault;
 use std::alloc::AllocError;
 
 /// Why the program ended without its line.
-#[derive(Clone, Copy, Debug, Drop, PartialEq, Eq)]
+#[derive(Clone, Copy, Drop)]
 pub(crate) enum Refusal {
     /// The arguments name nothing that can be measured.
     Usage,

@@ -2,7 +2,7 @@
 ghost use Rattle.std.specs.Prelude.{◌≡◌, ◌≤◌, ◌*◌, IfSome};
 
 /// The call that is measured.
-#[derive(Clone, Copy, Debug, PartialEq, Eq)]
+#[derive(Clone, Copy)]
 pub(crate) enum Work {
     Attach,
     Destroy,
@@ -12,7 +12,7 @@ pub(crate) enum Work {
 }
 
 /// The order in which a round takes the rows.
-#[derive(Clone, Copy, Debug, PartialEq, Eq)]
+#[derive(Clone, Copy, PartialEq, Eq)]
 pub(crate) enum Order {
     /// As an iteration dispatches them.
     Loop,
@@ -20,7 +20,7 @@ pub(crate) enum Order {
 }
 
 /// What is to be measured: a call, on each of so many rows, so many times.
-#[derive(Clone, Copy, Debug, PartialEq, Eq)]
+#[derive(Clone, Copy)]
 pub(crate) struct Request {
     pub(crate) work: Work,
     pub(crate) order: Order,

@@ -12,7 +12,7 @@ use std::collections::BTreeMap;
 use std::marker::Model;
 
 /// What a handler was connected to.
-#[derive(Clone, Copy, Debug)]
+#[derive(Clone, Copy)]
 pub(crate) struct Connection {
     pub cancellable: u32,
     pub proc: u32,

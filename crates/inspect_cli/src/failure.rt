@@ -5,7 +5,7 @@ use std::alloc::AllocError;
 use std::io::Write;
 
 /// What of a run goes by numbers from 0 on.
-#[derive(Clone, Copy, Debug, Drop, PartialEq, Eq)]
+#[derive(Clone, Copy, Drop)]
 pub(crate) enum Numbered {
     Thread,
     Tick,
@@ -23,7 +23,7 @@ impl Numbered {
 }
 
 /// Why there is no answer, or no whole one.
-#[derive(Clone, Copy, Debug, Drop, PartialEq, Eq)]
+#[derive(Clone, Copy, Drop)]
 pub(crate) enum Failure {
     /// Words or script were not read, or memory was refused.
     Input(InputFault),

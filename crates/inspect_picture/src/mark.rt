@@ -4,7 +4,7 @@
 const DEPTHS: &[u8; 32] = b"123456789abcdefghijklmnopqrstuvw";
 
 /// What a source, a loop, a task or a cancellable did in a tick.
-#[derive(Clone, Copy, Debug, PartialEq, Eq)]
+#[derive(Clone, Copy, PartialEq, Eq)]
 pub(crate) enum Mark {
     /// A source was there, and not ready.
     Waits,

@@ -2,7 +2,7 @@
 use inspect_words::Window;
 
 /// Where the columns of a picture stand among the ticks of a run: each has as many ticks, but the last, which may have fewer.
-#[derive(Clone, Copy, Debug, PartialEq, Eq)]
+#[derive(Clone, Copy)]
 pub(crate) struct Scale {
     first: u32,
     /// How many ticks a column has.

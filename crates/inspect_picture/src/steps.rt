@@ -14,7 +14,7 @@ const STACK_COLUMN: usize = 40;
 const TEXT_COLUMN: usize = 100;
 
 /// The turn of a thread in a tick.
-#[derive(Clone, Copy, Debug, PartialEq, Eq)]
+#[derive(Clone, Copy, PartialEq, Eq)]
 struct TurnName {
     lane: u32,
     tick: u32,

@@ -5,7 +5,7 @@ use inspect_words::Window;
 use std::alloc::{AllocError, Global};
 
 /// When a task did what, by ticks, as far as the run tells it.
-#[derive(Clone, Copy, Debug, PartialEq, Eq)]
+#[derive(Clone, Copy)]
 pub(crate) struct TaskTimes {
     pub started: u32,
     /// When its reply arrived, which its dispatch tells.

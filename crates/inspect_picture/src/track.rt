@@ -3,7 +3,7 @@ use crate::mark::Mark;
 use std::alloc::{AllocError, Global};
 
 /// Ticks one after another with the same mark.
-#[derive(Clone, Copy, Debug, PartialEq, Eq)]
+#[derive(Clone, Copy)]
 pub(crate) struct Stretch {
     pub first: u32,
     pub last: u32,

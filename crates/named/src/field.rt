@@ -7,7 +7,7 @@ use crate::table::{At, Part};
 use crate::word::Word;
 
 /// What stands where a key is absent.
-#[derive(Clone, Copy, Debug, PartialEq, Eq)]
+#[derive(Clone, Copy)]
 pub(crate) enum Absent {
     /// The key must be there.
     Fault,
@@ -17,7 +17,7 @@ pub(crate) enum Absent {
 }
 
 /// A key of an object in a script of numbers, with where its value comes from.
-#[derive(Clone, Copy, Debug, PartialEq, Eq)]
+#[derive(Clone, Copy)]
 pub(crate) struct Field {
     pub key: Word,
     pub at: At,

@@ -6,7 +6,7 @@ use crate::sort::{Choice, Kind, Leaf, Object, Sort};
 use crate::word::Word;
 
 /// Where a part of a value stands.
-#[derive(Clone, Copy, Debug, PartialEq, Eq)]
+#[derive(Clone, Copy)]
 pub(crate) enum At {
     /// Under a key.
     Key(Word),
@@ -17,7 +17,7 @@ pub(crate) enum At {
 }
 
 /// A part of what a word says.
-#[derive(Clone, Copy, Debug, PartialEq, Eq)]
+#[derive(Clone, Copy)]
 pub(crate) struct Part {
     pub at: At,
     pub sort: Sort,

@@ -8,7 +8,7 @@ use crate::wanted::Wanted;
 use loop_script::{LaneSpec, Plan};
 
 /// What goes by its number in the script.
-#[derive(Clone, Copy, Debug, PartialEq, Eq)]
+#[derive(Clone, Copy)]
 pub(crate) enum Sort {
     Lane,
     Context,
@@ -19,7 +19,7 @@ pub(crate) enum Sort {
 }
 
 /// How many of each a script has.
-#[derive(Clone, Copy, Debug, PartialEq, Eq)]
+#[derive(Clone, Copy)]
 pub(crate) struct Counts {
     pub lanes: u64,
     pub contexts: u64,

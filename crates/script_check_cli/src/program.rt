@@ -12,7 +12,7 @@ const USAGE: u8 = 1;
 const FAULTS: u8 = 2;
 
 /// Why there is no answer.
-#[derive(Clone, Copy, Debug, Drop, PartialEq, Eq)]
+#[derive(Clone, Copy, Drop)]
 enum Failure {
     Input(InputFault),
     Write,

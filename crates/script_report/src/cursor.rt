@@ -1,7 +1,7 @@
 //! The line and column of a byte of a script.
 
 /// A place in a document: a byte from 0, its line and its column in characters, both from 1.
-#[derive(Clone, Copy, Debug, PartialEq, Eq)]
+#[derive(Clone, Copy)]
 pub(crate) struct Cursor {
     pub byte: usize,
     pub line: usize,

@@ -3,7 +3,7 @@ use loop_script::{Action, LaneSpec, Script};
 use std::alloc::{AllocError, Global};
 
 /// What the threads of a script are called.
-#[derive(Clone, Copy, Debug, PartialEq, Eq)]
+#[derive(Clone, Copy)]
 pub(crate) enum Threads {
     /// In a script of numbers.
     Lanes,

@@ -3,7 +3,7 @@ ghost use Rattle.std.specs.Prelude.{◌≡◌};
 ghost use Rattle.task_steps.specs.Run.{set_to, seen_from, clear_to};
 
 /// Where a run stands between its calls; a run is begun in the tick that is set first.
-#[derive(Clone, Copy, Debug, PartialEq, Eq)]
+#[derive(Clone, Copy)]
 pub enum Stage {
     /// No tick was set.
     Fresh,

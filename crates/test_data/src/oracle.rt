@@ -4,7 +4,7 @@ ghost use Rattle.std.specs.Prelude.{◌<◌};
 use loop_script::{Node, Outcome, TaskTree};
 
 /// How a tree is begun: the tick, the first tick that sees it as cancelled, and the length of a tick in microseconds.
-#[derive(Clone, Copy, Debug)]
+#[derive(Clone, Copy)]
 pub(crate) struct Begun {
     pub tick: u64,
     pub cancel: Option<u64>,

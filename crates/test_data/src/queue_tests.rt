@@ -13,7 +13,7 @@ use std::thread;
 use std::thread::Threads;
 
 /// What is put into a work list.
-#[derive(Debug, Drop)]
+#[derive(Drop)]
 struct Job {
     number: u32,
 }

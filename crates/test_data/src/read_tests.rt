@@ -162,7 +162,7 @@ fn refused_read_of_posts(rt: HostRuntime) {
 }
 
 /// What the script says of a task beside its tree.
-#[derive(Clone, Copy, Debug, PartialEq, Eq)]
+#[derive(Clone, Copy, PartialEq, Eq)]
 struct Flags {
     cancel: Option<u32>,
     check: bool,

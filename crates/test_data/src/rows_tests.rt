@@ -14,23 +14,19 @@ const SEED: u64 = 20;
 
 const STREAM: u64 = 0;
 
-fn idle() -> SourceSpec {
-    SourceSpec {
-        kind: Kind::Idle,
-        priority: 200,
-        recurse: false,
-        call: None,
-    }
-}
+const IDLE: SourceSpec = SourceSpec {
+    kind: Kind::Idle,
+    priority: 200,
+    recurse: false,
+    call: None,
+};
 
-fn timeout() -> SourceSpec {
-    SourceSpec {
-        kind: Kind::Timeout(2),
-        priority: 0,
-        recurse: false,
-        call: Some(7),
-    }
-}
+const TIMEOUT: SourceSpec = SourceSpec {
+    kind: Kind::Timeout(2),
+    priority: 0,
+    recurse: false,
+    call: Some(7),
+};
 
 /// A call, of which a test knows the answer and the order after it.
 #[derive(Clone, Copy)]
@@ -61,68 +57,58 @@ fn take(rows: &mut Tried, step: &Step) -> Result<u64, RowsFault> {
 
 type Known = (Step, Result<u64, RowsFault>, &'static [u64]);
 
-fn steps_of_two_levels() -> [Known; 16] {
-    [
-        (Step::Attach(idle()), Ok(1), &[1]),
-        (Step::Attach(timeout()), Ok(2), &[2, 1]),
-        (Step::Child(1, idle()), Ok(3), &[2, 3, 1]),
-        (Step::Child(3, idle()), Err(RowsFault::IsChild), &[2, 3, 1]),
-        (Step::Child(9, idle()), Err(RowsFault::NoSource), &[2, 3, 1]),
-        (Step::Priority(3, 0), Err(RowsFault::IsChild), &[2, 3, 1]),
-        (Step::Priority(1, -5), Ok(0), &[3, 1, 2]),
-        (Step::NextReady(1_999), Ok(2_000), &[3, 1, 2]),
-        (Step::NextReady(2_000), Ok(0), &[3, 1, 2]),
-        (Step::Ready(2, 5), Ok(1), &[3, 1, 2]),
-        (Step::NextReady(4), Ok(5), &[3, 1, 2]),
-        (Step::Destroy(1), Ok(1), &[2]),
-        (Step::IsThere(3), Ok(0), &[2]),
-        (Step::Destroy(1), Ok(0), &[2]),
-        (Step::Dispatched(2), Ok(1), &[2]),
-        (Step::Dispatched(1), Ok(0), &[2]),
-    ]
-}
+const STEPS_OF_TWO_LEVELS: [Known; 16] = [
+    (Step::Attach(IDLE), Ok(1), &[1]),
+    (Step::Attach(TIMEOUT), Ok(2), &[2, 1]),
+    (Step::Child(1, IDLE), Ok(3), &[2, 3, 1]),
+    (Step::Child(3, IDLE), Err(RowsFault::IsChild), &[2, 3, 1]),
+    (Step::Child(9, IDLE), Err(RowsFault::NoSource), &[2, 3, 1]),
+    (Step::Priority(3, 0), Err(RowsFault::IsChild), &[2, 3, 1]),
+    (Step::Priority(1, -5), Ok(0), &[3, 1, 2]),
+    (Step::NextReady(1_999), Ok(2_000), &[3, 1, 2]),
+    (Step::NextReady(2_000), Ok(0), &[3, 1, 2]),
+    (Step::Ready(2, 5), Ok(1), &[3, 1, 2]),
+    (Step::NextReady(4), Ok(5), &[3, 1, 2]),
+    (Step::Destroy(1), Ok(1), &[2]),
+    (Step::IsThere(3), Ok(0), &[2]),
+    (Step::Destroy(1), Ok(0), &[2]),
+    (Step::Dispatched(2), Ok(1), &[2]),
+    (Step::Dispatched(1), Ok(0), &[2]),
+];
 
 /// Roots that are moved and destroyed while no row has a child, and then beside one that has.
-fn steps_of_roots() -> [Known; 12] {
-    [
-        (Step::Attach(idle()), Ok(1), &[1]),
-        (Step::Attach(timeout()), Ok(2), &[2, 1]),
-        (Step::Attach(timeout()), Ok(3), &[2, 3, 1]),
-        (Step::Priority(2, 0), Ok(0), &[3, 2, 1]),
-        (Step::Priority(1, -1), Ok(0), &[1, 3, 2]),
-        (Step::Destroy(3), Ok(1), &[1, 2]),
-        (Step::Priority(3, 0), Err(RowsFault::NoSource), &[1, 2]),
-        (Step::Attach(timeout()), Ok(4), &[1, 2, 4]),
-        (Step::Child(1, idle()), Ok(5), &[5, 1, 2, 4]),
-        (Step::Priority(1, 0), Ok(0), &[2, 4, 5, 1]),
-        (Step::Destroy(4), Ok(1), &[2, 5, 1]),
-        (Step::Destroy(1), Ok(1), &[2]),
-    ]
-}
+const STEPS_OF_ROOTS: [Known; 12] = [
+    (Step::Attach(IDLE), Ok(1), &[1]),
+    (Step::Attach(TIMEOUT), Ok(2), &[2, 1]),
+    (Step::Attach(TIMEOUT), Ok(3), &[2, 3, 1]),
+    (Step::Priority(2, 0), Ok(0), &[3, 2, 1]),
+    (Step::Priority(1, -1), Ok(0), &[1, 3, 2]),
+    (Step::Destroy(3), Ok(1), &[1, 2]),
+    (Step::Priority(3, 0), Err(RowsFault::NoSource), &[1, 2]),
+    (Step::Attach(TIMEOUT), Ok(4), &[1, 2, 4]),
+    (Step::Child(1, IDLE), Ok(5), &[5, 1, 2, 4]),
+    (Step::Priority(1, 0), Ok(0), &[2, 4, 5, 1]),
+    (Step::Destroy(4), Ok(1), &[2, 5, 1]),
+    (Step::Destroy(1), Ok(1), &[2]),
+];
 
 /// A chain of four, and then a root with two branches and one that is more urgent until the first has its priority.
-fn steps_of_four_levels() -> [Known; 14] {
-    [
-        (Step::Attach(idle()), Ok(1), &[1]),
-        (Step::Child(1, idle()), Ok(2), &[2, 1]),
-        (Step::Child(2, idle()), Ok(3), &[3, 2, 1]),
-        (Step::Child(3, idle()), Ok(4), &[4, 3, 2, 1]),
-        (
-            Step::Child(4, idle()),
-            Err(RowsFault::TooDeep),
-            &[4, 3, 2, 1],
-        ),
-        (Step::Priority(2, 0), Err(RowsFault::IsChild), &[4, 3, 2, 1]),
-        (Step::Destroy(2), Ok(1), &[1]),
-        (Step::Child(1, idle()), Ok(5), &[5, 1]),
-        (Step::Child(1, idle()), Ok(6), &[5, 6, 1]),
-        (Step::Child(5, timeout()), Ok(7), &[7, 5, 6, 1]),
-        (Step::Attach(timeout()), Ok(8), &[8, 7, 5, 6, 1]),
-        (Step::Priority(1, 0), Ok(0), &[8, 7, 5, 6, 1]),
-        (Step::Priority(1, -1), Ok(0), &[7, 5, 6, 1, 8]),
-        (Step::Destroy(5), Ok(1), &[6, 1, 8]),
-    ]
-}
+const STEPS_OF_FOUR_LEVELS: [Known; 14] = [
+    (Step::Attach(IDLE), Ok(1), &[1]),
+    (Step::Child(1, IDLE), Ok(2), &[2, 1]),
+    (Step::Child(2, IDLE), Ok(3), &[3, 2, 1]),
+    (Step::Child(3, IDLE), Ok(4), &[4, 3, 2, 1]),
+    (Step::Child(4, IDLE), Err(RowsFault::TooDeep), &[4, 3, 2, 1]),
+    (Step::Priority(2, 0), Err(RowsFault::IsChild), &[4, 3, 2, 1]),
+    (Step::Destroy(2), Ok(1), &[1]),
+    (Step::Child(1, IDLE), Ok(5), &[5, 1]),
+    (Step::Child(1, IDLE), Ok(6), &[5, 6, 1]),
+    (Step::Child(5, TIMEOUT), Ok(7), &[7, 5, 6, 1]),
+    (Step::Attach(TIMEOUT), Ok(8), &[8, 7, 5, 6, 1]),
+    (Step::Priority(1, 0), Ok(0), &[8, 7, 5, 6, 1]),
+    (Step::Priority(1, -1), Ok(0), &[7, 5, 6, 1, 8]),
+    (Step::Destroy(5), Ok(1), &[6, 1, 8]),
+];
 
 fn expect_ids(rt: &impl Abort, found: &[u64], wanted: &[u64]) {
     assert_eq!(rt; found, wanted);
@@ -158,18 +144,18 @@ fn expect_steps(
 
 #[test]
 fn two_levels(rt: HostRuntime) -> Result<(), Fail> {
-    expect_steps(&rt, rt.alloc(), Levels::Two, &steps_of_two_levels())
+    expect_steps(&rt, rt.alloc(), Levels::Two, &STEPS_OF_TWO_LEVELS)
 }
 
 #[test]
 fn roots(rt: HostRuntime) -> Result<(), Fail> {
-    expect_steps(&rt, rt.alloc(), Levels::Two, &steps_of_roots())?;
-    expect_steps(&rt, rt.alloc(), Levels::Four, &steps_of_roots())
+    expect_steps(&rt, rt.alloc(), Levels::Two, &STEPS_OF_ROOTS)?;
+    expect_steps(&rt, rt.alloc(), Levels::Four, &STEPS_OF_ROOTS)
 }
 
 #[test]
 fn four_levels(rt: HostRuntime) -> Result<(), Fail> {
-    expect_steps(&rt, rt.alloc(), Levels::Four, &steps_of_four_levels())
+    expect_steps(&rt, rt.alloc(), Levels::Four, &STEPS_OF_FOUR_LEVELS)
 }
 
 /// The first eight rows.
@@ -212,17 +198,17 @@ fn expect_refused(rt: &impl Abort, alloc: Global, levels: Levels, steps: &[Known
 
 #[test]
 fn refused_rows_of_two_levels(rt: HostRuntime) {
-    expect_refused(&rt, rt.alloc(), Levels::Two, &steps_of_two_levels());
+    expect_refused(&rt, rt.alloc(), Levels::Two, &STEPS_OF_TWO_LEVELS);
 }
 
 #[test]
 fn refused_rows_of_roots(rt: HostRuntime) {
-    expect_refused(&rt, rt.alloc(), Levels::Two, &steps_of_roots());
+    expect_refused(&rt, rt.alloc(), Levels::Two, &STEPS_OF_ROOTS);
 }
 
 #[test]
 fn refused_rows_of_four_levels(rt: HostRuntime) {
-    expect_refused(&rt, rt.alloc(), Levels::Four, &steps_of_four_levels());
+    expect_refused(&rt, rt.alloc(), Levels::Four, &STEPS_OF_FOUR_LEVELS);
 }
 
 /// Whether one random edit of the rows and of the plain ones has one answer; none is given a child where they do not nest.
@@ -241,7 +227,7 @@ fn answers_alike(
     let ready = random.random_range(-1..49_i64);
     let spec = SourceSpec {
         priority: random.random_range(-1..2_i32) * 100,
-        ..idle()
+        ..IDLE
     };
     Ok(match choice {
         4..=9 if nests => rows.add_child(id, spec, 0) == plain.add_child(id)?,
@@ -305,7 +291,7 @@ fn random_edits(rt: HostRuntime) -> Result<(), Fail> {
 /// Timeouts of so many ticks one behind the other.
 fn attach_all(rt: &impl Abort, rows: &mut Tried, ticks: u32) {
     for now in 0..ticks {
-        assert!(rt; rows.attach(timeout(), now) == Ok(u64::from(now) + 1));
+        assert!(rt; rows.attach(TIMEOUT, now) == Ok(u64::from(now) + 1));
     }
 }
 

@@ -21,20 +21,6 @@ struct Phases {
     selected: &'static [u64],
 }
 
-fn ready_at(priority: i32) -> Prepared {
-    Prepared {
-        priority: Some(priority),
-        timeout_ms: 0,
-    }
-}
-
-fn waiting(timeout_ms: i64) -> Prepared {
-    Prepared {
-        priority: None,
-        timeout_ms,
-    }
-}
-
 /// An idle source, a descriptor more urgent than it, and one less urgent.
 const IDLE_AND_DESCRIPTORS: [Source; 3] = [
     Source::Root(Kind::Idle, 200),
@@ -42,58 +28,72 @@ const IDLE_AND_DESCRIPTORS: [Source; 3] = [
     Source::Root(Kind::Fd(1, 1), 300),
 ];
 
+const SHOWN: Phases = Phases {
+    what: "what is shown",
+    sources: &IDLE_AND_DESCRIPTORS,
+    cancelled: false,
+    shown: &[1],
+    prepared: Prepared {
+        priority: Some(200),
+        timeout_ms: 0,
+    },
+    asked: &[Interest { fd: 0, bits: 1 }],
+    selected: &[2],
+};
+
+const NOT_SHOWN: Phases = Phases {
+    what: "what is not shown",
+    shown: &[0],
+    selected: &[1],
+    ..SHOWN
+};
+
 /// Of the descriptors only the more urgent one can matter, which goes first where it is shown.
-fn of_descriptors() -> [Phases; 2] {
-    let shown = Phases {
-        what: "what is shown",
-        sources: &IDLE_AND_DESCRIPTORS,
-        cancelled: false,
-        shown: &[1],
-        prepared: ready_at(200),
-        asked: &[Interest { fd: 0, bits: 1 }],
-        selected: &[2],
-    };
-    let not_shown = Phases {
-        what: "what is not shown",
-        shown: &[0],
-        selected: &[1],
-        ..shown
-    };
-    [shown, not_shown]
-}
+const OF_DESCRIPTORS: [Phases; 2] = [SHOWN, NOT_SHOWN];
+
+const EMPTY: Phases = Phases {
+    what: "no sources",
+    sources: &[],
+    cancelled: false,
+    shown: &[],
+    prepared: Prepared {
+        priority: None,
+        timeout_ms: -1,
+    },
+    asked: &[],
+    selected: &[],
+};
+
+const BETWEEN: Phases = Phases {
+    what: "between two milliseconds",
+    sources: &[Source::Root(Kind::ReadyTime(1500), 0)],
+    prepared: Prepared {
+        priority: None,
+        timeout_ms: 2,
+    },
+    ..EMPTY
+};
+
+const BEFORE_CANCEL: Phases = Phases {
+    what: "not cancelled",
+    sources: &[Source::Root(Kind::Cancel(0), 0)],
+    ..EMPTY
+};
+
+const AFTER_CANCEL: Phases = Phases {
+    what: "cancelled",
+    cancelled: true,
+    prepared: Prepared {
+        priority: Some(0),
+        timeout_ms: 0,
+    },
+    selected: &[1],
+    ..BEFORE_CANCEL
+};
 
 /// A ready time in the middle of a millisecond, for which the wait is rounded up; no sources, for which it has no end; and a source of
 /// a cancellable before that is cancelled, and after.
-fn of_others() -> [Phases; 4] {
-    let empty = Phases {
-        what: "no sources",
-        sources: &[],
-        cancelled: false,
-        shown: &[],
-        prepared: waiting(-1),
-        asked: &[],
-        selected: &[],
-    };
-    let between = Phases {
-        what: "between two milliseconds",
-        sources: &[Source::Root(Kind::ReadyTime(1500), 0)],
-        prepared: waiting(2),
-        ..empty
-    };
-    let before = Phases {
-        what: "not cancelled",
-        sources: &[Source::Root(Kind::Cancel(0), 0)],
-        ..empty
-    };
-    let after = Phases {
-        what: "cancelled",
-        cancelled: true,
-        prepared: ready_at(0),
-        selected: &[1],
-        ..before
-    };
-    [empty, between, before, after]
-}
+const OF_OTHERS: [Phases; 4] = [EMPTY, BETWEEN, BEFORE_CANCEL, AFTER_CANCEL];
 
 fn expect_asked(
     rt: &impl Abort,
@@ -159,10 +159,10 @@ fn are_told_of(rt: &impl Abort, alloc: Global, row: &Phases, may_be_refused: boo
 
 #[test]
 fn phases_of_contexts(rt: HostRuntime) {
-    for row in of_descriptors() {
+    for row in OF_DESCRIPTORS {
         expect(&rt, are_told_of(&rt, rt.alloc(), &row, false) == Some(true));
     }
-    for row in of_others() {
+    for row in OF_OTHERS {
         expect(&rt, are_told_of(&rt, rt.alloc(), &row, false) == Some(true));
     }
 }
@@ -170,7 +170,7 @@ fn phases_of_contexts(rt: HostRuntime) {
 /// Whatever request is refused, a phase answers what it has to, or is asked again and does.
 #[test]
 fn refused_phases(rt: HostRuntime) {
-    for row in of_descriptors() {
+    for row in OF_DESCRIPTORS {
         expect(&rt, are_told_of(&rt, rt.alloc(), &row, true) != Some(false));
     }
 }

@@ -36,58 +36,59 @@ const BY_FIRST: Standing = Standing::Blocked { by: 1 };
 
 const BY_THIRD: Standing = Standing::Blocked { by: 3 };
 
+const IN_ITS_OWN: Known = Known {
+    what: "its own call blocks it",
+    levels: Levels::Two,
+    sources: &TWO_IDLE,
+    busy: &[1],
+    cancelled: false,
+    shown: &[],
+    wanted: &[BY_FIRST, Standing::Selected],
+};
+
+const IN_ITS_PARENTS: Known = Known {
+    what: "its parent's call blocks it",
+    sources: &WITH_A_CHILD,
+    wanted: &[BY_FIRST, BY_FIRST],
+    ..IN_ITS_OWN
+};
+
+const IN_THE_NEAREST: Known = Known {
+    what: "the nearest above it that is in a call blocks it",
+    levels: Levels::Four,
+    sources: &CHAIN_OF_FOUR,
+    busy: &[1, 3],
+    wanted: &[BY_THIRD, BY_THIRD, BY_FIRST, BY_FIRST],
+    ..IN_ITS_OWN
+};
+
 /// A child goes before its parent in the order, the innermost of a chain first.
-fn in_calls() -> [Known; 3] {
-    let own = Known {
-        what: "its own call blocks it",
-        levels: Levels::Two,
-        sources: &TWO_IDLE,
-        busy: &[1],
-        cancelled: false,
-        shown: &[],
-        wanted: &[BY_FIRST, Standing::Selected],
-    };
-    let parents = Known {
-        what: "its parent's call blocks it",
-        sources: &WITH_A_CHILD,
-        wanted: &[BY_FIRST, BY_FIRST],
-        ..own
-    };
-    let nearest = Known {
-        what: "the nearest above it that is in a call blocks it",
-        levels: Levels::Four,
-        sources: &CHAIN_OF_FOUR,
-        busy: &[1, 3],
-        wanted: &[BY_THIRD, BY_THIRD, BY_FIRST, BY_FIRST],
-        ..own
-    };
-    [own, parents, nearest]
-}
+const IN_CALLS: [Known; 3] = [IN_ITS_OWN, IN_ITS_PARENTS, IN_THE_NEAREST];
 
 const NEVER: Standing = Standing::Asleep { until: None };
 
+const CHILD_LENDS: Known = Known {
+    what: "a child lends",
+    levels: Levels::Two,
+    sources: &[
+        Source::Root(Kind::ReadyTime(-1), 0),
+        Source::Child(1, Kind::Idle),
+    ],
+    busy: &[],
+    cancelled: false,
+    shown: &[],
+    wanted: &[Standing::Selected, Standing::Selected],
+};
+
+const CHILD_IN_A_CALL: Known = Known {
+    what: "a child in a call does not",
+    busy: &[2],
+    wanted: &[Standing::Blocked { by: 2 }, NEVER],
+    ..CHILD_LENDS
+};
+
 /// A parent that never wakes is ready by its child; where the child is in a call, it is asleep.
-fn of_lenders() -> [Known; 2] {
-    let lent = Known {
-        what: "a child lends",
-        levels: Levels::Two,
-        sources: &[
-            Source::Root(Kind::ReadyTime(-1), 0),
-            Source::Child(1, Kind::Idle),
-        ],
-        busy: &[],
-        cancelled: false,
-        shown: &[],
-        wanted: &[Standing::Selected, Standing::Selected],
-    };
-    let in_a_call = Known {
-        what: "a child in a call does not",
-        busy: &[2],
-        wanted: &[Standing::Blocked { by: 2 }, NEVER],
-        ..lent
-    };
-    [lent, in_a_call]
-}
+const OF_LENDERS: [Known; 2] = [CHILD_LENDS, CHILD_IN_A_CALL];
 
 const NOT_SHOWN: Standing = Standing::NotShown {
     fd: 0,
@@ -101,35 +102,36 @@ const AFTER_THE_SECOND: Standing = Standing::LessUrgent {
     priority: 0,
 };
 
+const WRONG_BIT: Known = Known {
+    what: "another bit is shown",
+    levels: Levels::Two,
+    sources: &[Source::Root(Kind::Fd(0, 4), 0)],
+    busy: &[],
+    cancelled: false,
+    shown: &[1],
+    wanted: &[NOT_SHOWN],
+};
+
+const BOTH_BITS: Known = Known {
+    what: "both bits are shown",
+    shown: &[5],
+    wanted: &[Standing::Selected],
+    ..WRONG_BIT
+};
+
+const BESIDE_URGENT: Known = Known {
+    what: "an urgent source goes first",
+    sources: &[
+        Source::Root(Kind::Idle, 200),
+        Source::Root(Kind::ReadyTime(0), 0),
+    ],
+    shown: &[],
+    wanted: &[Standing::Selected, AFTER_THE_SECOND],
+    ..WRONG_BIT
+};
+
 /// A descriptor that shows `in` to a source that asks for `out`, and then both; and an idle source beside an urgent one.
-fn of_kinds() -> [Known; 3] {
-    let wrong_bit = Known {
-        what: "another bit is shown",
-        levels: Levels::Two,
-        sources: &[Source::Root(Kind::Fd(0, 4), 0)],
-        busy: &[],
-        cancelled: false,
-        shown: &[1],
-        wanted: &[NOT_SHOWN],
-    };
-    let both_bits = Known {
-        what: "both bits are shown",
-        shown: &[5],
-        wanted: &[Standing::Selected],
-        ..wrong_bit
-    };
-    let urgent = Known {
-        what: "an urgent source goes first",
-        sources: &[
-            Source::Root(Kind::Idle, 200),
-            Source::Root(Kind::ReadyTime(0), 0),
-        ],
-        shown: &[],
-        wanted: &[Standing::Selected, AFTER_THE_SECOND],
-        ..wrong_bit
-    };
-    [wrong_bit, both_bits, urgent]
-}
+const OF_KINDS: [Known; 3] = [WRONG_BIT, BOTH_BITS, BESIDE_URGENT];
 
 const SLEEPS: Standing = Standing::Asleep { until: Some(1500) };
 
@@ -138,28 +140,28 @@ const UNCANCELLED: Standing = Standing::NotCancelled {
     until: None,
 };
 
+const BEFORE_CANCEL: Known = Known {
+    what: "not cancelled",
+    levels: Levels::Two,
+    sources: &[
+        Source::Root(Kind::ReadyTime(1500), 0),
+        Source::Root(Kind::Cancel(0), 0),
+    ],
+    busy: &[],
+    cancelled: false,
+    shown: &[],
+    wanted: &[SLEEPS, UNCANCELLED],
+};
+
+const AFTER_CANCEL: Known = Known {
+    what: "cancelled",
+    cancelled: true,
+    wanted: &[SLEEPS, Standing::Selected],
+    ..BEFORE_CANCEL
+};
+
 /// A ready time to come, and a cancellable before it is cancelled and after.
-fn of_waits() -> [Known; 2] {
-    let before = Known {
-        what: "not cancelled",
-        levels: Levels::Two,
-        sources: &[
-            Source::Root(Kind::ReadyTime(1500), 0),
-            Source::Root(Kind::Cancel(0), 0),
-        ],
-        busy: &[],
-        cancelled: false,
-        shown: &[],
-        wanted: &[SLEEPS, UNCANCELLED],
-    };
-    let after = Known {
-        what: "cancelled",
-        cancelled: true,
-        wanted: &[SLEEPS, Standing::Selected],
-        ..before
-    };
-    [before, after]
-}
+const OF_WAITS: [Known; 2] = [BEFORE_CANCEL, AFTER_CANCEL];
 
 /// The standings of a context, unless memory is refused; they only look at it.
 fn expect_standings(
@@ -208,16 +210,16 @@ fn expect_told(rt: &impl Abort, alloc: Global, rows: &[Known]) {
 
 #[test]
 fn standings_of_contexts(rt: HostRuntime) {
-    expect_told(&rt, rt.alloc(), &in_calls());
-    expect_told(&rt, rt.alloc(), &of_lenders());
-    expect_told(&rt, rt.alloc(), &of_kinds());
-    expect_told(&rt, rt.alloc(), &of_waits());
+    expect_told(&rt, rt.alloc(), &IN_CALLS);
+    expect_told(&rt, rt.alloc(), &OF_LENDERS);
+    expect_told(&rt, rt.alloc(), &OF_KINDS);
+    expect_told(&rt, rt.alloc(), &OF_WAITS);
 }
 
 /// Whatever request is refused, the standings are right, or are asked for again and are.
 #[test]
 fn refused_standings(rt: HostRuntime) {
-    for known in of_waits() {
+    for known in OF_WAITS {
         expect(
             &rt,
             are_told_of(&rt, rt.alloc(), &known, true) != Some(false),

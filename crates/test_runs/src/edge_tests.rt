@@ -18,7 +18,7 @@ pub(crate) struct Short {
     pub(crate) got: Vec<u8>,
 }
 
-#[derive(Clone, Copy, Debug, Drop, PartialEq, Eq)]
+#[derive(Clone, Copy, Drop, PartialEq, Eq)]
 pub(crate) enum Then {
     Fail,
     TakeNone,
