@@ -205,6 +205,14 @@ def tasks_beside_one(n):
     return longer(it, n, 128 * n), n * 9750 + 128 * n
 
 
+def tasks_beside_cancelled(n):
+    """Tasks that sleep through the run until they are cancelled, and one in each tick whose cancellable was before it began."""
+    each = [["cancel", 1], ["attach", 0, 254, {"kind": ["idle"], "call": 4}]]
+    sleeper, ended = ["task", {"tree": ["sleep", 9999000], "call": 3, "cancel": 0}], ["task", {"tree": ["sleep", 1000], "call": 3, "cancel": 1}]
+    it = phases((n, 39, sleeper), start=each, procs=[{"do": []}, {"do": [ended], "keep": None}], cancellables=2)
+    return longer(it, n, 128 * n), n * 9750 + 128 * n
+
+
 def full(depth, leaf):
     """A tree of both, of so many levels."""
     return leaf() if depth == 1 else ["both", full(depth - 1, leaf), full(depth - 1, leaf)]
@@ -350,6 +358,7 @@ GROWTHS = {
     "replies": (replies, 8, 32),
     "tasks that sleep, started in each tick": (tasks_started, 8, 32),
     "tasks that sleep beside one that ends": (tasks_beside_one, 1, 4),
+    "tasks that sleep beside one that was cancelled before": (tasks_beside_cancelled, 1, 4),
     "tasks of a large tree": (trees, 4, 16),
     "parts of a tree that end one by one": (waking_trees, 1, 3),
     "checks of a tree that are begun one by one": (checking_trees, 1, 3),
@@ -381,6 +390,7 @@ BY_RULE = {
 # What grows worse though no rule asks for it, and what is looked at each time.
 KNOWN = {
     "ticks beside sources of a cancellable with the mark of a cancelled one": "each tick with a turn, the sources of cancellables 62 from one that was cancelled",
+    "tasks that sleep beside one that was cancelled before": "each tick in which a task begins whose cancellable was cancelled, the tasks that heed one",
     "checks of a tree that are begun one by one": "each tick in which a check of a task may see a cancellation, all parts of the task",
 }
 
