@@ -5,8 +5,9 @@ use Rattle.std.proofs.lemmas.Bool.Decides.{nat_tests}
 use Rattle.cancel_view.specs.Seen.{Seen, has}
 use Rattle.task_steps.specs.declared.entry.Entry.{Entry}
 use Rattle.task_steps.specs.Book.{sees, replies_next}
-use Rattle.task_steps.specs.BookInside.{IsListed, AreListed, heeds, is_heeded}
-use Rattle.task_steps.specs.Polls.{all_shown, comes, owes_reply}
+use Rattle.task_steps.specs.declared.stage.Stage.{Stage}
+use Rattle.task_steps.specs.BookInside.{IsListed, AreListed, IsListedOnce, AreListedOnce, heeds, heeding, is_fresh, is_heeded}
+use Rattle.task_steps.specs.Polls.{all_shown, comes, comes_once, owes_reply}
 use Rattle.task_steps.proofs.Quiet.{or-left, or-right}
 
 -- ---- where none heeds, none comes
@@ -67,6 +68,20 @@ none-came view cs (Some c) (Some from) n h = none-comes view (Some c) (Some from
 pub none_came : (view : Seen) (cs : List ℕ) (es : List Entry) → list_any (λ x. has x view) cs ≡ false → AreListed cs es → list_any (comes view) es ≡ false
 none_came view cs [] n h = refl
 none_came view cs (e ∷ es) n h = or-none (comes view e) (list_any (comes view) es) (none-came view cs e.cancel e.run.cancelled n h.0) (none_came view cs es n h.1)
+
+-- ---- the same of those that were polled
+none-came-once : (view : Seen) (cs : List ℕ) (stage : Stage) (cancel cancelled : Option ℕ) (fresh : Bool) → fresh ≡ is_fresh stage → list_any (λ x. has x view) cs ≡ false → IsListedOnce cs stage cancel cancelled → (not fresh && (sees view cancel && not (is_some cancelled))) ≡ false
+none-came-once view cs stage cancel cancelled true f n h = refl
+none-came-once view cs stage cancel cancelled false f n h = none-came view cs cancel cancelled n (h (sym f))
+
+pub none_came_once : (view : Seen) (cs : List ℕ) (es : List Entry) → list_any (λ x. has x view) cs ≡ false → AreListedOnce cs es → list_any (comes_once view) es ≡ false
+none_came_once view cs [] n h = refl
+none_came_once view cs (e ∷ es) n h =
+    or-none (comes_once view e) (list_any (comes_once view) es) (none-came-once view cs e.run.stage e.cancel e.run.cancelled (is_fresh e.run.stage) refl n h.0) (none_came_once view cs es n h.1)
+
+pub listed_once : (cs : List ℕ) (es : List Entry) → AreListed cs es → AreListedOnce cs es
+listed_once cs [] h = tt
+listed_once cs (e ∷ es) h = (λ f. h.0, listed_once cs es h.1)
 
 -- ---- what is not in the view is listed on
 abbrev unseen : Seen → ℕ → Bool

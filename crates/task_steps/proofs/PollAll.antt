@@ -1,5 +1,5 @@
 -- A poll of an entry, and of entries that are passed over.
-use Rattle.std.proofs.Common.{◌≡◌, ℕ, ◌+◌, ◌≤◌, ◌&&◌, Bool, true, false, not, cond, Option, Some, None, is_some, List, [], ◌∷◌, ◌++◌, option_map, option_to_list, arith, refl, ap, sym, subst, ◌∙◌}
+use Rattle.std.proofs.Common.{◌≡◌, ℕ, ◌+◌, ◌≤◌, ◌&&◌, ◌||◌, Bool, true, false, not, cond, Option, Some, None, is_some, List, [], ◌∷◌, ◌++◌, option_map, option_to_list, arith, refl, ap, sym, subst, ◌∙◌}
 use Rattle.std.specs.List.{list_any, filter}
 use Rattle.cancel_view.specs.Seen.{Seen}
 use Rattle.loop_script.specs.declared.outcome.Outcome.{Outcome}
@@ -14,8 +14,8 @@ use Rattle.task_steps.specs.RunInside.{IsBy}
 use Rattle.task_steps.specs.Reply.{reply_of_task}
 use Rattle.task_steps.specs.Task.{Task, task_of, body_end, reply_in, is_late_in, MayComeTo, CanPoll, IsAnswer, IsPolledAt, is_done_stage, IsBefore, IsBegunBy, IsPolledStage}
 use Rattle.task_steps.specs.Book.{sees, IsNext, HasGrown, noticed_in, all_noticed, MayComeToAll, replies_in, late_in, goes_on}
-use Rattle.task_steps.specs.BookInside.{IsWaitingAt, IsWaiting, AreWaiting, AreWaitingAfter, IsPassedBy, IsPolledBy, IsSeenBy, IsListed, AreListed, caught, caught_stage, caught_clear, heeds, mark_of, IsQuiet, shown, wake_of_stage, wake_of_entry, wake_of_all}
-use Rattle.task_steps.specs.Polls.{all_shown, Gives, HasPolledAll, CanPollAll, NoneComes, comes}
+use Rattle.task_steps.specs.BookInside.{is_fresh, IsWaitingAt, IsWaiting, AreWaiting, AreWaitingAfter, IsPassedBy, IsPolledBy, IsSeenBy, IsListed, AreListed, caught, caught_stage, caught_clear, heeds, mark_of, IsQuiet, shown, wake_of_stage, wake_of_entry, wake_of_all}
+use Rattle.task_steps.specs.Polls.{all_shown, Gives, HasPolledAll, CanPollAll, NoneComes, comes, comes_once}
 use Rattle.task_steps.specs.declared.tasks.Mark.{Mark}
 use Rattle.task_steps.specs.declared.tasks.Round.{Round}
 use Rattle.task_steps.proofs.Marks.{any_joined}
@@ -280,21 +280,42 @@ passed_all tick polled view (e ∷ es) rs ls w p a g s =
     (passed_all tick polled view es rs ls w.1 p (after_b tick (wake_of_entry e) (wake_of_all es) a) g.2 (or-right (comes view e) (list_any (comes view) es) s))
 
 -- ---- entries whose mark is quiet are passed over
-none-came-or-heeds : (came : Bool) (view : Seen) (es : List Entry) → NoneComes came view es → (came && list_any heeds es) ≡ false → list_any (comes view) es ≡ false
-none-came-or-heeds true view es n h = none_heeds view es h
-none-came-or-heeds false view es n h = n refl
+-- what is passed over was polled before, since all others wake
+not-fresh : (tick first : ℕ) (run : Run) (stage : Stage) → IsWaitingAt tick first stage → IsAfter tick (wake_of_stage first run stage) → not (is_fresh stage) ≡ true
+not-fresh tick first run Fresh w a = absurd (omega (arith, w))
+not-fresh tick first run (Set begun at) w a = absurd w
+not-fresh tick first run (Polled begun at) w a = refl
+not-fresh tick first run Done w a = absurd w
+
+and-true : (a b : Bool) → a ≡ true → (a && b) ≡ false → b ≡ false
+and-true true b h k = k
+and-true false b h k = absurd (cc)
+
+either-none : (a b : Bool) → a ≡ false → b ≡ false → (a || b) ≡ false
+either-none a b h k = rw (h, k) refl
+
+comes-once : (tick : ℕ) (polled : Option ℕ) (view : Seen) (es : List Entry) → AreWaiting tick polled es → IsAfter tick (wake_of_all es) → list_any (comes_once view) es ≡ false → list_any (comes view) es ≡ false
+comes-once tick polled view [] w a n = refl
+comes-once tick polled view (e ∷ es) w a n =
+    let was = not-fresh tick e.first e.run e.run.stage w.0.stage (after_a tick (wake_of_entry e) (wake_of_all es) a) in
+    either-none (comes view e) (list_any (comes view) es) (and-true (not (is_fresh e.run.stage)) (comes view e) was (or-left (comes_once view e) (list_any (comes_once view) es) n))
+    (comes-once tick polled view es w.1 (after_b tick (wake_of_entry e) (wake_of_all es) a) (or-right (comes_once view e) (list_any (comes_once view) es) n))
+
+none-came-or-heeds : (tick : ℕ) (polled : Option ℕ) (came : Bool) (view : Seen) (es : List Entry) → AreWaiting tick polled es → IsAfter tick (wake_of_all es) → NoneComes came view es → (came && list_any heeds es) ≡ false → list_any (comes view) es ≡ false
+none-came-or-heeds tick polled true view es w a n h = none_heeds view es h
+none-came-or-heeds tick polled false view es w a n h = comes-once tick polled view es w a (n refl)
 
 pub passed_quiet : (round : Round) (view : Seen) (mark : Mark) (es : List Entry) (rs : List Reply) (ls : List ℕ) → mark ≡ mark_of es → IsQuiet round mark → CanPollAll round.tick round.polled view es → NoneComes round.came view es → HasPolledAll round.tick round.polled view es es rs rs ls ls
 passed_quiet round view mark es rs ls m q can n =
     let quiet : IsQuiet round (mark_of es) = subst (λ (x : Mark). IsQuiet round x) m q in
-    passed_all round.tick round.polled view es rs ls can.waiting can.past quiet.0 can.grown (none-came-or-heeds round.came view es n quiet.1)
+    passed_all round.tick round.polled view es rs ls can.waiting can.past quiet.0 can.grown (none-came-or-heeds round.tick round.polled round.came view es can.waiting quiet.0 n quiet.1)
 
 -- ---- what may come to two parts of entries
 pub comes_left : (came : Bool) (view : Seen) (es gs : List Entry) → NoneComes came view (es ++ gs) → NoneComes came view es
-comes_left came view es gs n = λ k. or-left (list_any (comes view) es) (list_any (comes view) gs) (sym (any_joined (comes view) es gs) ∙ n k)
+comes_left came view es gs n = λ k. or-left (list_any (comes_once view) es) (list_any (comes_once view) gs) (sym (any_joined (comes_once view) es gs) ∙ n k)
 
 pub comes_right : (came : Bool) (view : Seen) (es gs : List Entry) → NoneComes came view (es ++ gs) → NoneComes came view gs
-comes_right came view es gs n = λ k. or-right (list_any (comes view) es) (list_any (comes view) gs) (sym (any_joined (comes view) es gs) ∙ n k)
+comes_right came view es gs n = λ k. or-right (list_any (comes_once view) es) (list_any (comes_once view) gs) (sym (any_joined (comes_once view) es gs) ∙ n k)
 
 -- ---- what a poll of all gives, by the tasks that the book showed
 pub poll_gives : {tick : ℕ} {polled : Option ℕ} {view : Seen} {es fs : List Entry} {rs ss : List Reply} {ls ms : List ℕ} → HasPolledAll tick polled view es fs rs ss ls ms → (ts : List Task) → all_shown polled es ≡ ts → rs ≡ [] → ls ≡ [] → (c : ℕ → Option ℕ) → MayComeToAll c (all_noticed tick view ts) → (ss ≡ replies_in tick c (all_noticed tick view ts)) × (ms ≡ late_in tick c (all_noticed tick view ts)) × (all_shown (Some tick) fs ≡ filter (goes_on tick c) (all_noticed tick view ts))

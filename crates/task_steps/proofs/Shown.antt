@@ -58,5 +58,5 @@ wakes-after : (last polled : Option ℕ) (es : List Entry) → AreWaitingAfter l
 wakes-after None polled es w p = λ tick view c n m. rw w tt
 wakes-after (Some last) polled es w p = λ tick view c n m. wakes-all (last + 1) tick polled view c es w (polled_before last tick polled n p) m
 
-pub wake_as_shown : (us : ℕ) (last polled : Option ℕ) (spent : Bool) (heeded : List ℕ) (tasks : Tasks) → IsKept us last polled spent heeded tasks → WakeAsShown last (all_shown polled (entries_of tasks)) (map entry_shown (entries_of tasks))
-wake_as_shown us last polled spent heeded tasks k = wakes-after last polled (entries_of tasks) k.waiting k.past
+pub wake_as_shown : (us : ℕ) (last polled : Option ℕ) (spent : Bool) (heeded : List ℕ) (of_polled : ℕ) (tasks : Tasks) → IsKept us last polled spent heeded of_polled tasks → WakeAsShown last (all_shown polled (entries_of tasks)) (map entry_shown (entries_of tasks))
+wake_as_shown us last polled spent heeded of_polled tasks k = wakes-after last polled (entries_of tasks) k.waiting k.past

@@ -1,5 +1,5 @@
 -- The entries of a book.
-use Rattle.std.proofs.Common.{◌≡◌, ℕ, ◌+◌, ◌≤◌, ◌<◌, ◌==◌, ◌||◌, arith, Bool, true, false, cond, Option, Some, None, List, [], ◌∷◌, ◌++◌, refl, ap, sym, subst, ◌∙◌}
+use Rattle.std.proofs.Common.{◌≡◌, ℕ, zero, suc, ◌+◌, ◌≤◌, ◌<◌, ◌==◌, ◌||◌, arith, Bool, true, false, cond, Option, Some, None, List, [], ◌∷◌, ◌++◌, take, refl, ap, sym, subst, ◌∙◌}
 use Rattle.std.specs.List.{list_any}
 use Rattle.std.proofs.lemmas.Bool.Decides.{nat_tests}
 use Rattle.loop_script.specs.declared.task.TaskSpec.{TaskSpec}
@@ -10,7 +10,7 @@ use Rattle.task_steps.specs.declared.tasks.Tasks.{Tasks, Gone}
 use Rattle.task_steps.specs.Run.{Run, NoneBefore, none_before}
 use Rattle.task_steps.specs.Task.{Task, task_of}
 use Rattle.task_steps.specs.Book.{Book, started, exhausted, IsStart}
-use Rattle.task_steps.specs.BookInside.{AreWaiting, AreWaitingAfter, IsPassedBy, IsPolledBy, IsSeenBy, IsKept, IsListed, AreListed, heeding, is_heeded, entries_of, shown, caught_clear, wake_of_stage, wake_of_entry, wake_of_all}
+use Rattle.task_steps.specs.BookInside.{AreWaiting, AreWaitingAfter, IsPassedBy, IsPolledBy, IsSeenBy, IsKept, IsListed, AreListed, IsListedOnce, AreListedOnce, is_fresh, heeding, is_heeded, entries_of, shown, caught_clear, wake_of_stage, wake_of_entry, wake_of_all}
 use Rattle.task_steps.specs.Polls.{all_shown}
 
 waiting-more : (next : ℕ) (polled : Option ℕ) (es : List Entry) (e : Entry) → AreWaiting next polled es → AreWaiting next polled (e ∷ []) → AreWaiting next polled (es ++ e ∷ [])
@@ -125,13 +125,39 @@ pub listed_added : (new : Option ℕ) (cs : List ℕ) (es : List Entry) (e : Ent
 listed_added new cs [] e h k = (listed-last new cs e h, tt)
 listed_added new cs (x ∷ xs) e h k = (listed-one new cs x.cancel x.run.cancelled k.0, listed_added new cs xs e h k.1)
 
+-- ---- and first what those that were polled heed
+heeded-longer : (c d n : ℕ) (cs : List ℕ) → is_heeded d (take n cs) ≡ true → is_heeded d (take n (cs ++ c ∷ [])) ≡ true
+heeded-longer c d zero cs h = absurd (cc)
+heeded-longer c d (suc n) [] h = absurd (cc)
+heeded-longer c d (suc n) (x ∷ xs) h = or-more (x == d) (is_heeded d (take n xs)) (is_heeded d (take n (xs ++ c ∷ []))) (heeded-longer c d n xs) h
+
+heeded-as-long : (c d n : ℕ) (cs : List ℕ) (b : Bool) → is_heeded d (take n cs) ≡ true → is_heeded d (take n (cond b cs (cs ++ c ∷ []))) ≡ true
+heeded-as-long c d n cs true h = h
+heeded-as-long c d n cs false h = heeded-longer c d n cs h
+
+first-one : (new : Option ℕ) (n : ℕ) (cs : List ℕ) (cancel cancelled : Option ℕ) → IsListed (take n cs) cancel cancelled → IsListed (take n (heeding new cs)) cancel cancelled
+first-one None n cs cancel cancelled h = h
+first-one (Some c) n cs None cancelled h = tt
+first-one (Some c) n cs (Some d) None h = heeded-as-long c d n cs (is_heeded c cs) h
+first-one (Some c) n cs (Some d) (Some from) h = tt
+
+fresh-is : (stage : Stage) → stage ≡ Fresh → is_fresh stage ≡ true
+fresh-is stage h = rw h refl
+
+fresh-once : (cs : List ℕ) (stage : Stage) (cancel cancelled : Option ℕ) → stage ≡ Fresh → IsListedOnce cs stage cancel cancelled
+fresh-once cs stage cancel cancelled h = λ f. absurd (cc (fresh-is stage h, f))
+
+pub first_added : (new : Option ℕ) (n : ℕ) (cs : List ℕ) (es : List Entry) (e : Entry) → e.run.stage ≡ Fresh → AreListedOnce (take n cs) es → AreListedOnce (take n (heeding new cs)) (es ++ e ∷ [])
+first_added new n cs [] e h k = (fresh-once (take n (heeding new cs)) e.run.stage e.cancel e.run.cancelled h, tt)
+first_added new n cs (x ∷ xs) e h k = (λ f. first-one new n cs x.cancel x.run.cancelled (k.0 f), first_added new n cs xs e h k.1)
+
 -- ---- a book with no entry
 waiting-none : (last polled : Option ℕ) → AreWaitingAfter last polled []
 waiting-none None polled = refl
 waiting-none (Some last) polled = tt
 
-pub kept_none : (tick_us : ℕ) (last polled : Option ℕ) (heeded : List ℕ) → 0 < tick_us → tick_us ≤ 1000000000 → IsPolledBy last polled → IsKept tick_us last polled false heeded Gone
-kept_none tick_us last polled heeded h k p = record { some = h; short = k; waiting = waiting-none last polled; past = p; marked = tt; listed = tt; forgotten = λ s. absurd (cc) }
+pub kept_none : (tick_us : ℕ) (last polled : Option ℕ) (heeded : List ℕ) (of_polled : ℕ) → 0 < tick_us → tick_us ≤ 1000000000 → IsPolledBy last polled → IsKept tick_us last polled false heeded of_polled Gone
+kept_none tick_us last polled heeded of_polled h k p = record { some = h; short = k; waiting = waiting-none last polled; past = p; marked = tt; listed = tt; first = tt; forgotten = λ s. absurd (cc) }
 
 abbrev book_of : ℕ → ℕ → Option ℕ → Option ℕ → Bool → List Entry → Book
 book_of us next last polled spent es = record { tick_us = us; tasks = all_shown polled es; next = next; last = last; wake = wake_of_all es; spent = spent }
@@ -140,8 +166,8 @@ forgotten-book : (us next : ℕ) (last polled : Option ℕ) (es : List Entry) �
 forgotten-book us next last polled es l e = rw (l, e) refl
 
 -- a spent book has forgotten its tasks already
-pub spent_forgets : (us next : ℕ) (last polled : Option ℕ) (spent : Bool) (heeded : List ℕ) (tasks : Tasks) (b : Book) → spent ≡ true → IsKept us last polled spent heeded tasks → book_of us next last polled spent (entries_of tasks) ≡ b → b ≡ exhausted b
-spent_forgets us next last polled spent heeded tasks b s k e =
+pub spent_forgets : (us next : ℕ) (last polled : Option ℕ) (spent : Bool) (heeded : List ℕ) (of_polled : ℕ) (tasks : Tasks) (b : Book) → spent ≡ true → IsKept us last polled spent heeded of_polled tasks → book_of us next last polled spent (entries_of tasks) ≡ b → b ≡ exhausted b
+spent_forgets us next last polled spent heeded of_polled tasks b s k e =
     subst (λ (x : Book). x ≡ exhausted x) e (rw s (let f = k.forgotten s in forgotten-book us next last polled (entries_of tasks) f.0 f.1))
 
 pub going_on : {X : Type 0} {spent : Bool} → spent ≡ false → spent ≡ true → X

@@ -1,5 +1,5 @@
 -- How a book's entries stand between two calls.
-use Rattle.std.specs.Prelude.{◌≡◌, ◌+◌, ◌<◌, ◌≤◌, ◌==◌, ◌&&◌, ◌||◌, Bool, true, false, not, is_some, Option, Some, None, List, [], ◌∷◌, ◌++◌, if◌then◌else◌}
+use Rattle.std.specs.Prelude.{◌≡◌, ◌+◌, ◌<◌, ◌≤◌, ◌==◌, ◌&&◌, ◌||◌, ℕ, Bool, true, false, not, is_some, Option, Some, None, List, [], ◌∷◌, ◌++◌, if◌then◌else◌, take}
 use Rattle.std.specs.List.{list_any}
 use Rattle.loop_script.specs.Bounds.{longest_tick}
 use Rattle.loop_script.specs.Units.{Tick, Microseconds, CancellableNumber}
@@ -118,6 +118,22 @@ abbrev pub AreListed : List CancellableNumber → List Entry → Type 0
 AreListed cs [] = Unit {0}
 AreListed cs (e ∷ es) = IsListed cs e.cancel e.run.cancelled × AreListed cs es
 
+-- whether a run was not polled yet
+abbrev pub is_fresh : Stage → Bool
+is_fresh Fresh = true
+is_fresh (Set begun at) = false
+is_fresh (Polled begun at) = false
+is_fresh Done = false
+
+-- a cancellable of a run that was polled, and not seen as cancelled, is one of a list
+abbrev pub IsListedOnce : List CancellableNumber → Stage → Option CancellableNumber → Option Tick → Type 0
+IsListedOnce cs stage cancel cancelled = is_fresh stage ≡ false → IsListed cs cancel cancelled
+
+-- the same of all entries
+abbrev pub AreListedOnce : List CancellableNumber → List Entry → Type 0
+AreListedOnce cs [] = Unit {0}
+AreListedOnce cs (e ∷ es) = IsListedOnce cs e.run.stage e.cancel e.run.cancelled × AreListedOnce cs es
+
 -- ---- a tree of entries
 
 -- its entries, in start order
@@ -151,12 +167,14 @@ abbrev pub IsPolledBy : Option Tick → Option Tick → Type 0
 IsPolledBy None polled = polled ≡ None
 IsPolledBy (Some last) polled = IsBy last polled
 
--- a tick is some time, the entries wait for the next one, what they heed is listed, and a spent book has forgotten them
-pub record IsKept (tick_us : Microseconds) (last polled : Option Tick) (spent : Bool) (heeded : List CancellableNumber) (tasks : Tasks) : Type 0 where
+-- a tick is some time, the entries wait for the next one, what they heed is listed, first what those that were polled do, and a spent
+-- book has forgotten them
+pub record IsKept (tick_us : Microseconds) (last polled : Option Tick) (spent : Bool) (heeded : List CancellableNumber) (of_polled : ℕ) (tasks : Tasks) : Type 0 where
   pub some : 0 < tick_us
   pub short : tick_us ≤ longest_tick
   pub waiting : AreWaitingAfter last polled (entries_of tasks)
   pub past : IsPolledBy last polled
   pub marked : IsMarked tasks
   pub listed : AreListed heeded (entries_of tasks)
+  pub first : AreListedOnce (take of_polled heeded) (entries_of tasks)
   pub forgotten : spent ≡ true → (last ≡ None) × (entries_of tasks ≡ [])

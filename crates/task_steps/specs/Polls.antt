@@ -8,7 +8,7 @@ use Rattle.task_steps.specs.declared.entry.Reply.{Reply}
 use Rattle.task_steps.specs.Task.{Task, IsBefore}
 use Rattle.task_steps.specs.Run.{IsUpTo, IsAfter}
 use Rattle.task_steps.specs.Book.{sees, HasGrown, MayComeToAll, all_noticed, replies_in, late_in, goes_on}
-use Rattle.task_steps.specs.BookInside.{AreWaiting, AreListed, wake_of_all, shown}
+use Rattle.task_steps.specs.BookInside.{AreWaiting, AreListed, is_fresh, wake_of_all, shown}
 
 -- the tasks that a book shows for entries
 abbrev pub all_shown : Option Tick → List Entry → List Task
@@ -25,9 +25,13 @@ pub record CanPollAll (tick : Tick) (polled : Option Tick) (view : Seen) (es : L
 abbrev pub comes : Seen → Entry → Bool
 comes view e = sees view e.cancel && not (is_some e.run.cancelled)
 
--- where nothing came, no poll of an entry is the first that sees it as cancelled
+-- the same of an entry that was polled before
+abbrev pub comes_once : Seen → Entry → Bool
+comes_once view e = not (is_fresh e.run.stage) && comes view e
+
+-- where nothing came, no poll of an entry that was polled before is the first that sees it as cancelled
 abbrev pub NoneComes : Bool → Seen → List Entry → Type 0
-NoneComes came view es = came ≡ false → list_any (comes view) es ≡ false
+NoneComes came view es = came ≡ false → list_any (comes_once view) es ≡ false
 
 -- whether the next poll of an entry replies that it is cancelled
 abbrev pub owes_reply : Seen → Entry → Bool

@@ -3,7 +3,7 @@ ghost use Rattle.std.specs.Prelude.{◌≡◌, ℕ, ◌+◌, ◌<◌, ◌≤◌,
 
 use crate::entries::new_entry;
 use crate::entry::Reply;
-use crate::heeded::{forget_seen, heed, some_came};
+use crate::heeded::{first_of, forget_seen, heed, some_came};
 use crate::look::TaskShown;
 use crate::tasks::{Place, Round, Tasks};
 use cancel_view::View;
@@ -51,6 +51,8 @@ pub struct TaskBook {
     tasks: Tasks,
     /// The cancellables of which a task waits that no poll of it saw as cancelled.
     heeded: Vec<u32>,
+    /// How many of these, from the first on, tasks that were polled wait for; the others are those of tasks that were not polled yet.
+    of_polled: usize,
     next: u64,
     last: Option<u32>,
     /// The tick of the last poll of all tasks. Tasks that did not wake in it were seen in it as they are.
@@ -72,7 +74,7 @@ impl Model for TaskBook {
 
     ghost view = { λ b. record { tick_us = b.tick_us; tasks = map (shown b.polled) (entries_of b.tasks); next = b.next; last = b.last; wake = wake_of_all (entries_of b.tasks); spent = b.spent } };
 
-    ghost invariant = { λ b. IsKept b.tick_us b.last b.polled b.spent b.heeded.items b.tasks };
+    ghost invariant = { λ b. IsKept b.tick_us b.last b.polled b.spent b.heeded.items b.of_polled b.tasks };
 }
 
 impl TaskBook {
@@ -96,6 +98,7 @@ impl TaskBook {
             tick_us,
             tasks: Tasks::Gone,
             heeded: Vec::new(alloc),
+            of_polled: 0,
             next: 0,
             last: None,
             polled: None,
@@ -156,7 +159,7 @@ impl TaskBook {
         self.spent = true;
     }
 
-    /// Polls the tasks in start order: those that wake, and where a cancellable that a task heeds has come since, all those
+    /// Polls the tasks in start order: those that wake, and where a cancellable that a polled task heeds has come since, all those
     /// that heed one. A poll of the others would give nothing. Where there is none, that takes no memory. After
     /// `OutOfMemory` the book is spent.
     #[tactic(auto, using(crate::proofs::Waiting::kept_none, crate::proofs::Waiting::spent_forgets))]
@@ -186,7 +189,7 @@ impl TaskBook {
         let round = Round {
             tick,
             polled: self.polled,
-            came: some_came(&self.heeded, view),
+            came: some_came(first_of(&self.heeded, self.of_polled), view),
         };
         let mut tasks = mem::replace(&mut self.tasks, Tasks::Gone);
         let Ok(()) = tasks.poll(Place::Before, round, view, &mut replies, &mut late) else {
@@ -194,6 +197,7 @@ impl TaskBook {
             return Err(BookFault::OutOfMemory);
         };
         forget_seen(&mut self.heeded, view);
+        self.of_polled = self.heeded.len();
         self.tasks = tasks;
         self.last = Some(tick);
         self.polled = Some(tick);

@@ -1,5 +1,5 @@
 //! The cancellables that tasks heed: those that no poll saw as cancelled.
-ghost use Rattle.std.specs.Prelude.{◌≡◌, ◌==◌, not, filter, OnOk, OnErr};
+ghost use Rattle.std.specs.Prelude.{◌≡◌, ◌==◌, not, filter, take, OnOk, OnErr};
 ghost use Rattle.std.specs.List.{list_any};
 ghost use Rattle.cancel_view.specs.Seen.{has};
 ghost use Rattle.task_steps.specs.BookInside.{heeding, is_heeded};
@@ -17,6 +17,13 @@ pub(crate) fn some_came(heeded: &[u32], view: &View) -> bool
         }
     }
     false
+}
+
+/// So many of them, from the first on, or all.
+pub(crate) fn first_of(heeded: &[u32], count: usize) -> &[u32]
+    ensures { result.now ≡ take count heeded.now }
+{
+    &heeded[..count.min(heeded.len())]
 }
 
 /// Whether a cancellable is one of them.

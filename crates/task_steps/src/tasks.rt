@@ -37,7 +37,7 @@ pub(crate) struct Round {
     pub tick: u32,
     /// The tick of the last poll of all.
     pub polled: Option<u32>,
-    /// Whether a cancellable that a task heeds may be in the view.
+    /// Whether a cancellable that a task heeds, which was polled before, may be in the view.
     pub came: bool,
 }
 

@@ -1,13 +1,13 @@
-use Rattle.std.proofs.Common.{◌≡◌, ◌∙◌, ◌+◌, Some, Option, ℕ, false, subst, sym, ap, ◌++◌, ◌∷◌, [], rules, List}
+use Rattle.std.proofs.Common.{◌≡◌, ◌∙◌, ◌+◌, Some, Option, ℕ, false, subst, sym, ap, ◌++◌, ◌∷◌, [], rules, List, take}
 use Rattle.task_steps.specs.declared.entry.Entry.{Entry}
 use Rattle.task_steps.specs.declared.tasks.Tasks.{Tasks}
 use Rattle.task_steps.specs.Wake.{sooner}
 use Rattle.task_steps.specs.Task.{Task}
 use Rattle.task_steps.specs.Book.{Book, IsStart, started, with_task}
-use Rattle.task_steps.specs.BookInside.{AreWaiting, AreListed, entries_of, wake_of_all, heeding}
+use Rattle.task_steps.specs.BookInside.{AreWaiting, AreListed, AreListedOnce, entries_of, wake_of_all, heeding}
 use Rattle.task_steps.specs.Polls.{all_shown}
 use Rattle.task_steps.proofs.Marks.{wake_joined, sooner_none}
-use Rattle.task_steps.proofs.Waiting.{waiting_added, shown_added, wake_fresh, listed_added, polled_start, going_on}
+use Rattle.task_steps.proofs.Waiting.{waiting_added, shown_added, wake_fresh, listed_added, first_added, polled_start, going_on}
 use Rattle.task_steps.proofs.book.TaskBook.add.Goals as goal
 
 added : (c : goal.After-self-3-1) → entries_of c.append.new.self ≡ entries_of c.self.inside.tasks ++ c.in_ok-entry.entry ∷ []
@@ -27,6 +27,8 @@ invariant_of-self-2 c =
     let cancel : c.in_ok-entry.entry.cancel ≡ c.args.spec.now.cancel = ap (λ (t : Task). t.cancel) c.in_ok-entry.ensures.task in
     let heeded : c.heed.new.heeded.items ≡ heeding c.args.spec.now.cancel b.heeded.items = c.in_ok-heed.ensures.ok in
     let listed : AreListed (heeding c.args.spec.now.cancel b.heeded.items) (entries_of b.tasks ++ c.in_ok-entry.entry ∷ []) = listed_added c.args.spec.now.cancel b.heeded.items (entries_of b.tasks) c.in_ok-entry.entry cancel c.self.invariant.listed in
+    let first : AreListedOnce (take b.of_polled (heeding c.args.spec.now.cancel b.heeded.items)) (entries_of b.tasks ++ c.in_ok-entry.entry ∷ []) =
+    first_added c.args.spec.now.cancel b.of_polled b.heeded.items (entries_of b.tasks) c.in_ok-entry.entry c.in_ok-entry.ensures.stage c.self.invariant.first in
     record {
       some = c.self.invariant.some;
       short = c.self.invariant.short;
@@ -34,6 +36,7 @@ invariant_of-self-2 c =
       past = polled_start c.args.tick b.last b.polled c.self.invariant.past start;
       marked = c.in_ok-append.ensures.marked;
       listed = subst (λ (cs : List ℕ). AreListed cs (entries_of c.append.new.self)) (sym heeded) (subst (λ (l : List Entry). AreListed (heeding c.args.spec.now.cancel b.heeded.items) l) (sym (added c)) listed);
+      first = subst (λ (cs : List ℕ). AreListedOnce (take b.of_polled cs) (entries_of c.append.new.self)) (sym heeded) (subst (λ (l : List Entry). AreListedOnce (take b.of_polled (heeding c.args.spec.now.cancel b.heeded.items)) l) (sym (added c)) first);
       forgotten = going_on spent;
     }
 

@@ -25,6 +25,7 @@ invariant_of-self c =
       past = passed_by c.args.tick b.last b.polled c.self.invariant.past (next_is c);
       marked = c.self.invariant.marked;
       listed = c.self.invariant.listed;
+      first = c.self.invariant.first;
       forgotten = going_on spent;
     }
 
