@@ -2,6 +2,7 @@
 ghost use Rattle.std.specs.Prelude.{IfOk};
 ghost use Rattle.test_data.specs.Going.{GoesOn, IsKnown};
 
+use crate::expected::expect_same;
 use crate::trees::value;
 use cancel_view::{OutOfMemory, View};
 use loop_script::{Action, Body, Outcome, Script, TaskSpec};
@@ -203,12 +204,6 @@ const ONE_OF_TWO_CANCELLED: [Step; 8] = [
     Wake(Some(8)),
 ];
 
-// (a proof grows faster than the length of its function, and most by assertions: each kind stands in a function of its own)
-
-fn expect_replies(rt: &impl Abort, tick: u32, found: &[Reply], wanted: &[Reply]) {
-    assert_eq!(rt; found, wanted, "the replies in {tick}");
-}
-
 /// Polls in the next tick, and compares.
 fn expect(
     rt: &impl Abort,
@@ -220,19 +215,18 @@ fn expect(
     ensures { GoesOn lane.new.book lane.new.view lane.new.cancellables lane.new.started lane.new.tick }
 {
     let polled = lane.poll(rt)?;
-    expect_replies(rt, lane.tick, polled.replies.as_slice(), replies);
-    assert_eq!(rt; polled.late.as_slice(), late);
+    expect_same(
+        rt,
+        (lane.tick, polled.replies.as_slice(), polled.late.as_slice()),
+        (lane.tick, replies, late),
+    );
     Ok(())
 }
 
 fn expect_wake(rt: &impl Abort, lane: &Lane, wake: Option<u64>)
     requires { GoesOn lane.now.book lane.now.view lane.now.cancellables lane.now.started lane.now.tick }
 {
-    assert_eq!(rt; lane.wake(), wake, "the wake in {}", lane.tick);
-}
-
-fn expect_number(rt: &impl Abort, found: u64, wanted: u64) {
-    assert_eq!(rt; found, wanted);
+    expect_same(rt, (lane.tick, lane.wake()), (lane.tick, wake));
 }
 
 /// Starts the task of an action, which is to have a number.
@@ -246,7 +240,7 @@ fn begin(
     ensures { GoesOn lane.new.book lane.new.view lane.new.cancellables lane.new.started lane.new.tick }
 {
     match action {
-        Some(Action::Task(spec)) => expect_number(rt, lane.start(rt, spec)?, number),
+        Some(Action::Task(spec)) => expect_same(rt, lane.start(rt, spec)?, number),
         _ => assert!(rt; false, "no task"),
     }
     Ok(())
@@ -288,14 +282,28 @@ fn take_of_new(rt: &impl Abort, alloc: Global, tasks: &[Action], steps: &[Step])
     take_all(rt, &mut lane, tasks, steps).ok()
 }
 
+fn expect_taken(rt: &impl Abort, alloc: Global, tasks: &[Action], steps: &[Step]) {
+    expect_same(rt, take_of_new(rt, alloc, tasks, steps), Some(()));
+}
+
+// (a table is part of each function that names it, and a proof grows faster than its function: each table has one of its own)
+
+fn expect_one(rt: &impl Abort, alloc: Global, tasks: &[Action]) {
+    expect_taken(rt, alloc, tasks, &ONE_TASK);
+}
+
+fn expect_some_cancelled(rt: &impl Abort, alloc: Global, tasks: &[Action]) {
+    expect_taken(rt, alloc, tasks, &SOME_CANCELLED);
+}
+
+fn expect_one_of_two(rt: &impl Abort, alloc: Global, tasks: &[Action]) {
+    expect_taken(rt, alloc, tasks, &ONE_OF_TWO_CANCELLED);
+}
+
 fn expect_steps(rt: &impl Abort, alloc: Global, tasks: &[Action]) {
-    for steps in [
-        &ONE_TASK[..],
-        &SOME_CANCELLED[..],
-        &ONE_OF_TWO_CANCELLED[..],
-    ] {
-        assert!(rt; take_of_new(rt, alloc, tasks, steps).is_some());
-    }
+    expect_one(rt, alloc, tasks);
+    expect_some_cancelled(rt, alloc, tasks);
+    expect_one_of_two(rt, alloc, tasks);
 }
 
 #[test]
@@ -303,10 +311,6 @@ fn tasks_of_a_book(rt: HostRuntime) -> Result<(), Fail> {
     let script = Script::read(rt.alloc(), tasks().as_bytes())?;
     expect_steps(&rt, rt.alloc(), script.actions(Body::Start(0)));
     Ok(())
-}
-
-fn expect_fault(rt: &impl Abort, found: Option<BookFault>, wanted: BookFault) {
-    assert_eq!(rt; found, Some(wanted));
 }
 
 /// A task that ends at once, and has a cancellable.
@@ -325,8 +329,9 @@ fn expect_spent_once(rt: &impl Abort, lane: &mut Lane)
     requires { GoesOn lane.old.book lane.old.view lane.old.cancellables lane.old.started lane.old.tick }
     ensures { GoesOn lane.new.book lane.new.view lane.new.cancellables lane.new.started lane.new.tick }
 {
-    expect_fault(rt, lane.start(rt, &ends_at_once()).err(), BookFault::Spent);
-    expect_fault(rt, lane.poll(rt).err(), BookFault::Spent);
+    let start = lane.start(rt, &ends_at_once());
+    expect_same(rt, start, Err(BookFault::Spent));
+    expect_same(rt, lane.poll(rt).err(), Some(BookFault::Spent));
 }
 
 /// That a book answers `Spent`, to both calls and a second time too, and has no wake.
@@ -346,7 +351,7 @@ fn poll_one(rt: &impl Abort, lane: &mut Lane)
 {
     match lane.poll(rt) {
         Err(fault) => {
-            expect_fault(rt, Some(fault), BookFault::OutOfMemory);
+            expect_same(rt, fault, BookFault::OutOfMemory);
             expect_spent(rt, lane);
         }
         Ok(polled) => {
@@ -354,7 +359,7 @@ fn poll_one(rt: &impl Abort, lane: &mut Lane)
                 cancel: Some(0),
                 ..ENDED
             };
-            expect_replies(rt, lane.tick, polled.replies.as_slice(), &[wanted]);
+            expect_same(rt, polled.replies.as_slice(), &[wanted]);
             poll_none(rt, lane);
         }
     }
@@ -375,11 +380,11 @@ fn start_or_spend(rt: &impl Abort, lane: &mut Lane)
 {
     match lane.start(rt, &ends_at_once()) {
         Err(fault) => {
-            expect_fault(rt, Some(fault), BookFault::OutOfMemory);
+            expect_same(rt, fault, BookFault::OutOfMemory);
             expect_spent(rt, lane);
         }
         Ok(number) => {
-            expect_number(rt, number, 0);
+            expect_same(rt, number, 0);
             poll_one(rt, lane);
         }
     }

@@ -1,4 +1,5 @@
 //! Letters in a tray and in order, with ample memory and with memory refused.
+use crate::expected::expect_same;
 use post_office::{Body, Letter, Post, Tray, merge};
 use std::alloc::Global;
 use std::process::Abort;
@@ -31,9 +32,10 @@ fn merges_by_sender_and_number(rt: HostRuntime) -> Result<(), Fail> {
         return Ok(());
     };
     let merged = merge(rt.alloc(), tray.into_letters())?;
-    assert_eq!(rt;
+    expect_same(
+        &rt,
         merged.as_slice(),
-        [letter(0, 0), letter(0, 1), letter(1, 0), letter(2, 0)].as_slice()
+        &[letter(0, 0), letter(0, 1), letter(1, 0), letter(2, 0)],
     );
     Ok(())
 }
@@ -41,12 +43,8 @@ fn merges_by_sender_and_number(rt: HostRuntime) -> Result<(), Fail> {
 #[test]
 fn merges_none(rt: HostRuntime) -> Result<(), Fail> {
     let merged = merge(rt.alloc(), Tray::new(rt.alloc()).into_letters())?;
-    assert_eq!(rt; merged.len(), 0);
+    expect_same(&rt, merged.len(), 0);
     Ok(())
-}
-
-fn expect_letter(rt: &impl Abort, found: &Letter, wanted: &Letter) {
-    assert_eq!(rt; found, wanted);
 }
 
 /// A letter that finds no memory comes back, and the tray keeps what it had.
@@ -61,10 +59,10 @@ fn refused_post(rt: HostRuntime) {
                     return;
                 }
             }
-            Err(back) => expect_letter(&rt, &back, &letter(0, number)),
+            Err(back) => expect_same(&rt, back, letter(0, number)),
         }
     }
-    assert_eq!(rt; tray.into_letters(), taken);
+    expect_same(&rt, tray.into_letters(), taken);
 }
 
 /// A tray with ten letters of each of four senders, which come by turns; none where memory was refused.
@@ -92,8 +90,8 @@ fn refused_merge(rt: HostRuntime) {
 
 /// Ten letters of each of four senders, in order.
 fn expect_forty(rt: &impl Abort, merged: &[Letter]) {
-    assert_eq!(rt; merged.len(), 40);
+    expect_same(rt, merged.len(), 40);
     for (place, merged) in (0..40_u32).zip(merged.iter()) {
-        expect_letter(rt, merged, &letter(place / 10, u64::from(place % 10)));
+        expect_same(rt, *merged, letter(place / 10, u64::from(place % 10)));
     }
 }

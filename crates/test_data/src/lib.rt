@@ -4,6 +4,8 @@
 #[cfg(test)]
 mod book_tests;
 #[cfg(test)]
+mod expected;
+#[cfg(test)]
 mod letter_tests;
 #[cfg(test)]
 mod oracle;

@@ -1,6 +1,7 @@
 //! Work lists and offices: two threads that post, two that take, and memory refused.
 ghost use Rattle.std.specs.Prelude.{◌≡◌, ℕ, IfOk};
 
+use crate::expected::expect_same;
 use post_office::{
     Body, Letter, LetterQueue, Numbered, Office, OfficePass, OutOfMemory, Post, WorkList, WorkPass,
     WorkQueue,
@@ -132,7 +133,7 @@ fn letters_of_two_threads(rt: HostRuntime) -> Result<(), Fail> {
 
 /// Three letters of each of two senders.
 fn expect_six(rt: &impl Abort, alloc: Global, letters: &[Letter]) -> Result<(), AllocError> {
-    assert_eq!(rt; letters.len(), 6);
+    expect_same(rt, letters.len(), 6);
     expect_three(rt, alloc, letters, 1)?;
     expect_three(rt, alloc, letters, 2)
 }
@@ -145,7 +146,7 @@ fn expect_three(
     sender: u32,
 ) -> Result<(), AllocError> {
     let numbers = numbers_of(alloc, letters, sender)?;
-    assert_eq!(rt; numbers.as_slice(), [0, 1, 2].as_slice());
+    expect_same(rt, numbers.as_slice(), &[0, 1, 2]);
     Ok(())
 }
 
@@ -216,7 +217,7 @@ fn expect_each_once(rt: &impl Abort, one: &[Option<u32>; 4], two: &[Option<u32>;
         let times = (times_taken(one, number), times_taken(two, number));
         assert!(rt; times == (1, 0) || times == (0, 1), "{number}");
     }
-    assert_eq!(rt; (one[3], two[3]), (None, None));
+    expect_same(rt, (one[3], two[3]), (None, None));
 }
 
 #[test]
@@ -233,7 +234,7 @@ fn work_of_two_threads(rt: HostRuntime) -> Result<(), Fail> {
     expect_each_once(&rt, &of_one, &of_two);
     list.take_back(two);
     list.take_back(one);
-    assert!(rt; list.take_rest(&rt).is_none());
+    expect_left(&rt, &mut list, None);
     Ok(())
 }
 
@@ -272,7 +273,7 @@ fn put_all(rt: &(impl Wait + Abort), list: &mut WorkList<Job>) -> [bool; 40]
     for (number, done) in (0..).zip(put.iter_mut()) {
         match list.put(rt, Job { number }) {
             Ok(()) => *done = true,
-            Err(back) => assert_eq!(rt; back.number(), number),
+            Err(back) => expect_same(rt, back.number(), number),
         }
     }
     put
@@ -292,6 +293,15 @@ fn is_taken(
     taken
 }
 
+/// What a list gives once all passes are back.
+fn expect_left(rt: &(impl Wait + Abort), list: &mut WorkList<Job>, wanted: Option<u32>)
+    requires { list.old.out ≡ 0 }
+    ensures { list.new.out ≡ 0 }
+{
+    let left = list.take_rest(rt).map(|job| job.number());
+    expect_same(rt, left, wanted);
+}
+
 /// What was put and neither took is left, and no more.
 fn expect_rest(
     rt: &(impl Wait + Abort),
@@ -302,13 +312,12 @@ fn expect_rest(
 )
     requires { list.old.out ≡ 0 }
 {
-    for (number, done) in (0..).zip(*put) {
-        if !is_taken(rt, one, two, number, done) && done {
-            let left = list.take_rest(rt).map(|job| job.number());
-            assert!(rt; left == Some(number));
+    for (number, done) in (0..).zip(put) {
+        if !is_taken(rt, one, two, number, *done) && *done {
+            expect_left(rt, list, Some(number));
         }
     }
-    assert!(rt; list.take_rest(rt).is_none());
+    expect_left(rt, list, None);
 }
 
 /// Whatever request is refused, what was put is taken once, by one of two threads or at the end, and what comes back is
@@ -344,7 +353,7 @@ fn post_all<R: Wait + Abort>(
     for number in 0..40 {
         match queue.post_as(rt, &mut pass, letter(sender, number)) {
             Ok(()) => posted += 1,
-            Err(back) => assert_eq!(rt; back, letter(sender, number)),
+            Err(back) => expect_same(rt, back, letter(sender, number)),
         }
     }
     (pass, posted)
@@ -378,7 +387,7 @@ fn expect_rising(rt: &impl Abort, letters: &[Letter], sender: u32, count: usize)
         }
     }
     let found = letters.iter().filter(|letter| letter.sender == sender);
-    assert_eq!(rt; found.count(), count);
+    expect_same(rt, found.count(), count);
 }
 
 /// Whatever request is refused, what two threads posted is drained, each sender's in its order, and what comes back is what

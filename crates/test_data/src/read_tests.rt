@@ -1,6 +1,7 @@
 //! A script that is read with ample memory and tells its parts, and one that is read with memory refused.
 ghost use Rattle.std.specs.Prelude.{◌≡◌};
 
+use crate::expected::expect_same;
 use loop_script::{Action, Body, Script, ScriptFault};
 use std::alloc::Global;
 use std::process::Abort;
@@ -118,20 +119,8 @@ fn read_at_last(alloc: Global, text: &str) -> Result<Script, ScriptFault> {
 }
 
 /// How many lanes, loops, cancellables there are, and how long lists are.
-fn expect_read(
-    rt: &impl Abort,
-    script: &Result<Script, ScriptFault>,
-    known: [u32; 4],
-    lengths: &[(Body, usize)],
-) {
-    match script {
-        Err(fault) => assert!(rt; false, "{fault}"),
-        Ok(script) => expect_sizes(rt, script, known, lengths),
-    }
-}
-
 fn expect_sizes(rt: &impl Abort, script: &Script, known: [u32; 4], lengths: &[(Body, usize)]) {
-    assert_eq!(rt; counts(script), known);
+    expect_same(rt, counts(script), known);
     for (body, length) in lengths {
         expect(rt, script.actions(*body).len() as u64, *length as u64);
     }
@@ -145,19 +134,24 @@ fn expect_logs(rt: &impl Abort, script: &Script, logs: [u32; 4]) {
     }
 }
 
+const LENGTHS_OF_POSTS: [(Body, usize); 5] = [
+    (Body::Start(0), 2),
+    (Body::Start(1), 3),
+    (Body::Start(2), 2),
+    (Body::Procedure(0), 2),
+    (Body::Procedure(5), 1),
+];
+
+fn expect_posts(rt: &impl Abort, script: &Script) {
+    expect_sizes(rt, script, [3, 3, 3, 0], &LENGTHS_OF_POSTS);
+    expect_logs(rt, script, [20, 30, 40, 50]);
+}
+
 #[test]
 fn refused_read_of_posts(rt: HostRuntime) {
-    let script = read_at_last(rt.alloc(), posts_in_one_tick());
-    let lengths = [
-        (Body::Start(0), 2),
-        (Body::Start(1), 3),
-        (Body::Start(2), 2),
-        (Body::Procedure(0), 2),
-        (Body::Procedure(5), 1),
-    ];
-    expect_read(&rt, &script, [3, 3, 3, 0], &lengths);
-    if let Ok(script) = &script {
-        expect_logs(&rt, script, [20, 30, 40, 50]);
+    match read_at_last(rt.alloc(), posts_in_one_tick()) {
+        Ok(script) => expect_posts(&rt, &script),
+        Err(fault) => expect_same(&rt, Some(fault), None),
     }
 }
 
@@ -206,22 +200,27 @@ const OF_TASKS: [Flags; 5] = [
     },
 ];
 
+const LENGTHS_OF_TASKS: [(Body, usize); 3] = [
+    (Body::Start(0), 7),
+    (Body::Procedure(0), 0),
+    (Body::Procedure(1), 2),
+];
+
+fn expect_flags(rt: &impl Abort, action: &Action, wanted: &Flags) {
+    assert!(rt; flags_of(action) == Some(*wanted));
+}
+
 fn expect_tasks(rt: &impl Abort, script: &Script) {
-    for (action, wanted) in script.actions(Body::Start(0)).iter().zip(OF_TASKS) {
-        assert!(rt; flags_of(action) == Some(wanted));
+    expect_sizes(rt, script, [7, 1, 1, 1], &LENGTHS_OF_TASKS);
+    for (action, wanted) in script.actions(Body::Start(0)).iter().zip(&OF_TASKS) {
+        expect_flags(rt, action, wanted);
     }
 }
 
 #[test]
 fn refused_read_of_tasks(rt: HostRuntime) {
-    let script = read_at_last(rt.alloc(), tasks());
-    let lengths = [
-        (Body::Start(0), 7),
-        (Body::Procedure(0), 0),
-        (Body::Procedure(1), 2),
-    ];
-    expect_read(&rt, &script, [7, 1, 1, 1], &lengths);
-    if let Ok(script) = &script {
-        expect_tasks(&rt, script);
+    match read_at_last(rt.alloc(), tasks()) {
+        Ok(script) => expect_tasks(&rt, &script),
+        Err(fault) => expect_same(&rt, Some(fault), None),
     }
 }

@@ -1,4 +1,5 @@
 //! Single calls of rows, with ample memory and with memory refused, and random edits beside plain rows.
+use crate::expected::expect_same;
 use crate::plain::Plain;
 use crate::tried::Tried;
 use loop_script::{Kind, SourceSpec};
@@ -7,7 +8,6 @@ use rand_pcg::Pcg32;
 use source_rows::{Levels, Row, RowsFault};
 use std::alloc::{AllocError, Global};
 use std::process::Abort;
-use std::test::Fail;
 
 /// From which numbers that look random the edits come, of which stream of them.
 const SEED: u64 = 20;
@@ -110,10 +110,6 @@ const STEPS_OF_FOUR_LEVELS: [Known; 14] = [
     (Step::Destroy(5), Ok(1), &[6, 1, 8]),
 ];
 
-fn expect_ids(rt: &impl Abort, found: &[u64], wanted: &[u64]) {
-    assert_eq!(rt; found, wanted);
-}
-
 /// Takes a step of which the answer and the order after it are known.
 fn expect_step(
     rt: &impl Abort,
@@ -122,39 +118,49 @@ fn expect_step(
     known: &Known,
 ) -> Result<(), AllocError> {
     let (step, answer, order) = known;
-    assert_eq!(rt; take(rows, step), *answer);
+    expect_same(rt, take(rows, step), *answer);
     assert!(rt; rows.is_one_order());
-    expect_ids(rt, &rows.ids(alloc)?, order);
+    expect_same(rt, rows.ids(alloc)?.as_slice(), *order);
     Ok(())
 }
 
-/// Takes such steps of new rows.
+/// Takes such steps.
+fn expect_steps_of(
+    rt: &impl Abort,
+    alloc: Global,
+    rows: &mut Tried,
+    steps: &[Known],
+) -> Result<(), AllocError> {
+    for known in steps {
+        expect_step(rt, alloc, rows, known)?;
+    }
+    Ok(())
+}
+
+/// The same of new rows.
 fn expect_steps(
     rt: &impl Abort,
     alloc: Global,
     levels: Levels,
     steps: &[Known],
-) -> Result<(), Fail> {
+) -> Result<(), AllocError> {
     let mut rows = Tried::new(alloc, levels);
-    for known in steps {
-        expect_step(rt, alloc, &mut rows, known)?;
-    }
-    Ok(())
+    expect_steps_of(rt, alloc, &mut rows, steps)
 }
 
 #[test]
-fn two_levels(rt: HostRuntime) -> Result<(), Fail> {
+fn two_levels(rt: HostRuntime) -> Result<(), AllocError> {
     expect_steps(&rt, rt.alloc(), Levels::Two, &STEPS_OF_TWO_LEVELS)
 }
 
 #[test]
-fn roots(rt: HostRuntime) -> Result<(), Fail> {
+fn roots(rt: HostRuntime) -> Result<(), AllocError> {
     expect_steps(&rt, rt.alloc(), Levels::Two, &STEPS_OF_ROOTS)?;
     expect_steps(&rt, rt.alloc(), Levels::Four, &STEPS_OF_ROOTS)
 }
 
 #[test]
-fn four_levels(rt: HostRuntime) -> Result<(), Fail> {
+fn four_levels(rt: HostRuntime) -> Result<(), AllocError> {
     expect_steps(&rt, rt.alloc(), Levels::Four, &STEPS_OF_FOUR_LEVELS)
 }
 
@@ -263,7 +269,7 @@ fn expect_alike(
         "one ready time"
     );
     assert!(rt; rows.is_one_order());
-    expect_ids(rt, &rows.ids(alloc)?, &plain.ordered(alloc)?);
+    expect_same(rt, rows.ids(alloc)?, plain.ordered(alloc)?);
     for row in rows.rows.in_order() {
         assert!(rt; plain.has(&row), "a row as it was made and edited");
     }
@@ -271,19 +277,30 @@ fn expect_alike(
 }
 
 /// Random edits, of which the first five hundred give no children.
-fn expect_edits(rt: &impl Abort, alloc: Global, levels: Levels) -> Result<(), Fail> {
-    let mut random = Pcg32::new(SEED, STREAM);
-    let mut rows = Tried::new(alloc, levels);
-    let mut plain = Plain::new(alloc, levels);
+fn expect_edits_of(
+    rt: &impl Abort,
+    alloc: Global,
+    random: &mut Pcg32,
+    rows: &mut Tried,
+    plain: &mut Plain,
+) -> Result<(), AllocError> {
     for step in 0..2_500_u64 {
-        expect_edit(rt, &mut random, &mut rows, &mut plain, step >= 500)?;
-        expect_alike(rt, alloc, &rows, &plain)?;
+        expect_edit(rt, random, rows, plain, step >= 500)?;
+        expect_alike(rt, alloc, rows, plain)?;
     }
     Ok(())
 }
 
+/// The same of new rows.
+fn expect_edits(rt: &impl Abort, alloc: Global, levels: Levels) -> Result<(), AllocError> {
+    let mut random = Pcg32::new(SEED, STREAM);
+    let mut rows = Tried::new(alloc, levels);
+    let mut plain = Plain::new(alloc, levels);
+    expect_edits_of(rt, alloc, &mut random, &mut rows, &mut plain)
+}
+
 #[test]
-fn random_edits(rt: HostRuntime) -> Result<(), Fail> {
+fn random_edits(rt: HostRuntime) -> Result<(), AllocError> {
     expect_edits(&rt, rt.alloc(), Levels::Two)?;
     expect_edits(&rt, rt.alloc(), Levels::Four)
 }
@@ -311,20 +328,16 @@ fn destroy_all(rt: &impl Abort, rows: &mut Tried, first: u64, last: u64) {
     }
 }
 
-fn expect_next(rt: &impl Abort, rows: &Tried, ready: u64) {
-    assert_eq!(rt; rows.next_ready(0), ready);
-}
-
 /// Ready times that come one behind the other, that are changed from the first on, and that go from the first on, stand in
 /// a low tree: in one that leans so many would stand above each other that a call finds no stack, or no end.
 #[test]
 fn low_tree(rt: HostRuntime) {
     let mut rows = Tried::new(rt.alloc(), Levels::Two);
     attach_all(&rt, &mut rows, 100_000);
-    expect_next(&rt, &rows, 2_000);
+    expect_same(&rt, rows.next_ready(0), 2_000);
     delay_all(&rt, &mut rows, 90_000);
-    expect_next(&rt, &rows, 92_000);
+    expect_same(&rt, rows.next_ready(0), 92_000);
     destroy_all(&rt, &mut rows, 90_001, 100_000);
     destroy_all(&rt, &mut rows, 101, 90_000);
-    expect_next(&rt, &rows, 500_001);
+    expect_same(&rt, rows.next_ready(0), 500_001);
 }

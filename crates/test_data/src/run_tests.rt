@@ -3,6 +3,7 @@ ghost use Rattle.std.specs.Prelude.{◌≡◌, ◌<◌, None, true};
 ghost use Rattle.task_steps.specs.End.{seen};
 ghost use Rattle.task_steps.specs.Run.{MaySet, IsAfter};
 
+use crate::expected::expect_same;
 use crate::oracle::{self, Begun};
 use crate::trees::{Seed, tree_of};
 use loop_script::{Action, Body, Outcome, Script, TaskTree};
@@ -38,10 +39,10 @@ fn polled_to_end(
         if let Some(outcome) = run.poll() {
             return Some((u64::from(tick), outcome));
         }
-        assert_eq!(rt;
-            run.next_wake(),
-            oracle::wake(tree, &rule, u64::from(tick)),
-            "the wake at {tick}"
+        expect_same(
+            rt,
+            (tick, run.next_wake()),
+            (tick, oracle::wake(tree, &rule, u64::from(tick))),
         );
     }
     None
@@ -78,7 +79,7 @@ fn ended(
 {
     let mut run = TaskRun::new(alloc, tree, 1000)?;
     let end = polled_to_end(rt, tree, &mut run, begun, cancel, sparse);
-    assert_eq!(rt; run.is_done(), end.is_some());
+    expect_same(rt, run.is_done(), end.is_some());
     Ok(end)
 }
 
@@ -97,40 +98,59 @@ struct Ending {
     outcome: Outcome,
 }
 
-/// A tree that is begun in tick 1.
-fn begun_in_tick_one(
-    what: &'static str,
-    cancel: Option<u32>,
-    tick: u64,
-    outcome: Outcome,
-) -> Ending {
-    Ending {
-        what,
-        begun: 1,
-        cancel,
-        tick,
-        outcome,
-    }
-}
+/// A tree that is begun in tick 1, and ends in tick 3.
+const BEGUN_IN_TICK_ONE: Ending = Ending {
+    what: "rounds a sleep up",
+    begun: 1,
+    cancel: None,
+    tick: 3,
+    outcome: Outcome::Ok(0),
+};
 
-fn table() -> [Ending; 8] {
-    [
-        Ending {
-            what: "times out",
-            begun: 4,
-            cancel: None,
-            tick: 5,
-            outcome: Outcome::TimedOut,
-        },
-        begun_in_tick_one("fails at the later end", None, 2, Outcome::Failed),
-        begun_in_tick_one("checks after a sleep", Some(2), 2, Outcome::Cancelled),
-        begun_in_tick_one("a tie is the first's", None, 2, Outcome::Ok(1)),
-        begun_in_tick_one("ends at the limit", None, 3, Outcome::Ok(3)),
-        begun_in_tick_one("answers the first of two faults", None, 3, Outcome::Failed),
-        begun_in_tick_one("checks no later cancel", Some(2), 3, Outcome::Ok(0)),
-        begun_in_tick_one("rounds a sleep up", None, 3, Outcome::Ok(0)),
-    ]
-}
+const TABLE: [Ending; 8] = [
+    Ending {
+        what: "times out",
+        begun: 4,
+        cancel: None,
+        tick: 5,
+        outcome: Outcome::TimedOut,
+    },
+    Ending {
+        what: "fails at the later end",
+        tick: 2,
+        outcome: Outcome::Failed,
+        ..BEGUN_IN_TICK_ONE
+    },
+    Ending {
+        what: "checks after a sleep",
+        cancel: Some(2),
+        tick: 2,
+        outcome: Outcome::Cancelled,
+        ..BEGUN_IN_TICK_ONE
+    },
+    Ending {
+        what: "a tie is the first's",
+        tick: 2,
+        outcome: Outcome::Ok(1),
+        ..BEGUN_IN_TICK_ONE
+    },
+    Ending {
+        what: "ends at the limit",
+        outcome: Outcome::Ok(3),
+        ..BEGUN_IN_TICK_ONE
+    },
+    Ending {
+        what: "answers the first of two faults",
+        outcome: Outcome::Failed,
+        ..BEGUN_IN_TICK_ONE
+    },
+    Ending {
+        what: "checks no later cancel",
+        cancel: Some(2),
+        ..BEGUN_IN_TICK_ONE
+    },
+    BEGUN_IN_TICK_ONE,
+];
 
 /// Whether a tree ends as its row says; where memory may be refused, a run that is is made anew.
 fn ends(
@@ -151,19 +171,20 @@ fn ends(
     found == Ok(Some((row.tick, row.outcome)))
 }
 
-/// Each tree ends as its row says, in each tick polled and only in those that its wake names.
+/// A tree ends as its row says, in each tick polled and only in those that its wake names.
+fn expect_row(rt: &impl Abort, alloc: Global, tree: &TaskTree, row: &Ending, may_be_refused: bool) {
+    let polled = ends(rt, alloc, tree, row, false, may_be_refused);
+    let sparse = ends(rt, alloc, tree, row, true, may_be_refused);
+    expect_same(rt, (row.what, polled, sparse), (row.what, true, true));
+}
+
+/// Each task's tree ends as its row says.
 fn expect_table(rt: &impl Abort, alloc: Global, tasks: &[Action], may_be_refused: bool) {
-    assert!(rt; tasks.len() == table().len());
-    for (task, row) in tasks.iter().zip(table()) {
-        let what = row.what;
+    expect_same(rt, tasks.len(), TABLE.len());
+    for (task, row) in tasks.iter().zip(&TABLE) {
         match task {
-            Action::Task(spec) => {
-                for sparse in [false, true] {
-                    let is_right = ends(rt, alloc, &spec.tree, &row, sparse, may_be_refused);
-                    assert!(rt; is_right, "{what}, sparse {sparse}");
-                }
-            }
-            _ => assert!(rt; false, "{what}"),
+            Action::Task(spec) => expect_row(rt, alloc, &spec.tree, row, may_be_refused),
+            _ => expect_same(rt, row.what, "a task"),
         }
     }
 }
@@ -183,7 +204,30 @@ fn refused_run(rt: HostRuntime) {
     }
 }
 
-/// A tree from a seed, begun in some tick and cancelled in some, ends as the rule says, also where polls pass over ticks.
+/// A tree that is begun in a tick, and perhaps seen as cancelled from one on, ends as the rule says, also where polls pass over ticks.
+fn expect_end(
+    rt: &impl Abort,
+    alloc: Global,
+    tree: &TaskTree,
+    begun: u32,
+    cancel: Option<u32>,
+    number: u64,
+) -> Result<(), AllocError>
+    requires { begun < 1000 }
+{
+    let rule = Begun {
+        tick: u64::from(begun),
+        cancel: cancel.map(|from| u64::from(from)),
+        tick_us: 1000,
+    };
+    let end = Some(oracle::end(tree, &rule));
+    let polled = ended(rt, alloc, tree, begun, cancel, false)?;
+    let sparse = ended(rt, alloc, tree, begun, cancel, true)?;
+    expect_same(rt, (number, polled, sparse), (number, end, end));
+    Ok(())
+}
+
+/// The same of a tree from a seed, begun in some tick and cancelled in some.
 fn expect_rule(
     rt: &impl Abort,
     alloc: Global,
@@ -193,17 +237,7 @@ fn expect_rule(
     let tree = tree_of(alloc, seed, number / 16 % 4, 1 + number % 16)?;
     let begun = 10 + seed.below(3) as u32;
     let cancel = some_cancel(seed);
-    let rule = Begun {
-        tick: u64::from(begun),
-        cancel: cancel.map(|from| u64::from(from)),
-        tick_us: 1000,
-    };
-    let end = Some(oracle::end(&tree, &rule));
-    for sparse in [false, true] {
-        let found = ended(rt, alloc, &tree, begun, cancel, sparse)?;
-        assert!(rt; found == end, "tree {number}, sparse {sparse}");
-    }
-    Ok(())
+    expect_end(rt, alloc, &tree, begun, cancel, number)
 }
 
 fn some_cancel(seed: &mut Seed) -> Option<u32> {

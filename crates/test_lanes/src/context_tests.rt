@@ -1,5 +1,5 @@
 //! The phases on single contexts, in a table; the stack of thread-default contexts; and what is acquired.
-use crate::expected::expect;
+use crate::expected::{expect, expect_same};
 use crate::made::{Source, made, viewed};
 use cancel_view::View;
 use context_core::{Context, DefaultStack, Interest, Prepared};
@@ -102,9 +102,12 @@ fn expect_asked(
     prepared: &Prepared,
     wanted: &Phases,
 ) -> Result<(), AllocError> {
-    let what = wanted.what;
     let asked = context.query(alloc, prepared, &[])?;
-    assert_eq!(rt; asked.as_slice(), wanted.asked, "asked, {what}");
+    expect_same(
+        rt,
+        (wanted.what, asked.as_slice()),
+        (wanted.what, wanted.asked),
+    );
     Ok(())
 }
 
@@ -115,10 +118,13 @@ fn expect_selected(
     view: &View,
     wanted: &Phases,
 ) -> Result<(), AllocError> {
-    let what = wanted.what;
     let prepared = context.prepare(0, &[], view);
     let selected = context.check(alloc, &prepared, 0, &[], view, wanted.shown)?;
-    assert_eq!(rt; selected.as_slice(), wanted.selected, "selected, {what}");
+    expect_same(
+        rt,
+        (wanted.what, selected.as_slice()),
+        (wanted.what, wanted.selected),
+    );
     Ok(())
 }
 
@@ -130,9 +136,8 @@ fn expect_phases(
     view: &View,
     wanted: &Phases,
 ) -> Result<(), AllocError> {
-    let what = wanted.what;
     let prepared = context.prepare(0, &[], view);
-    assert!(rt; prepared == wanted.prepared, "prepared, {what}");
+    expect_same(rt, (wanted.what, prepared), (wanted.what, wanted.prepared));
     expect_asked(rt, alloc, context, &prepared, wanted)?;
     expect_selected(rt, alloc, context, view, wanted)
 }
@@ -150,28 +155,45 @@ fn are_told(
         || may_be_refused && expect_phases(rt, alloc, context, view, wanted).is_ok()
 }
 
-/// The same of a row's sources; nothing where they find no memory.
+/// The same by a row's view; nothing where that finds no memory.
+fn are_told_in(
+    rt: &impl Abort,
+    alloc: Global,
+    context: &Context,
+    row: &Phases,
+    may_be_refused: bool,
+) -> Option<bool> {
+    let view = viewed(alloc, row.cancelled)?;
+    Some(are_told(rt, alloc, context, &view, row, may_be_refused))
+}
+
+/// The same of a row's sources.
 fn are_told_of(rt: &impl Abort, alloc: Global, row: &Phases, may_be_refused: bool) -> Option<bool> {
     let tried = made(alloc, Levels::Two, row.sources)?;
-    let view = viewed(alloc, row.cancelled)?;
-    Some(are_told(rt, alloc, &tried.context, &view, row, may_be_refused))
+    are_told_in(rt, alloc, &tried.context, row, may_be_refused)
+}
+
+fn expect_told(rt: &impl Abort, alloc: Global, rows: &[Phases]) {
+    for row in rows {
+        expect(rt, are_told_of(rt, alloc, row, false) == Some(true));
+    }
 }
 
 #[test]
-fn phases_of_contexts(rt: HostRuntime) {
-    for row in OF_DESCRIPTORS {
-        expect(&rt, are_told_of(&rt, rt.alloc(), &row, false) == Some(true));
-    }
-    for row in OF_OTHERS {
-        expect(&rt, are_told_of(&rt, rt.alloc(), &row, false) == Some(true));
-    }
+fn phases_of_descriptors(rt: HostRuntime) {
+    expect_told(&rt, rt.alloc(), &OF_DESCRIPTORS);
+}
+
+#[test]
+fn phases_of_others(rt: HostRuntime) {
+    expect_told(&rt, rt.alloc(), &OF_OTHERS);
 }
 
 /// Whatever request is refused, a phase answers what it has to, or is asked again and does.
 #[test]
 fn refused_phases(rt: HostRuntime) {
-    for row in OF_DESCRIPTORS {
-        expect(&rt, are_told_of(&rt, rt.alloc(), &row, true) != Some(false));
+    for row in &OF_DESCRIPTORS {
+        expect(&rt, are_told_of(&rt, rt.alloc(), row, true) != Some(false));
     }
 }
 

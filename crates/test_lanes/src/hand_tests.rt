@@ -58,18 +58,23 @@ fn given_once(rt: &impl Abort, alloc: Global, script: &Script) -> Option<Held> {
     hand_over_once(rt, &mut giver).ok()
 }
 
-/// Lane 1 takes a context over.
-fn take_by_new_lane(rt: &impl Abort, alloc: Global, script: &Script, held: Held) -> Option<()> {
-    let mut taker = LaneState::new(alloc, script, 1).ok()?;
+/// A lane takes over what lane 0 hands over.
+fn take_given(
+    rt: &impl Abort,
+    alloc: Global,
+    script: &Script,
+    taker: &mut LaneState,
+) -> Option<()> {
+    let held = given_once(rt, alloc, script)?;
     taker.take_over(0, held).ok()?;
-    expect_held(rt, &taker);
+    expect_held(rt, taker);
     Some(())
 }
 
 /// From lane 0 to lane 1.
 fn hand_to_new_lane(rt: &impl Abort, alloc: Global, script: &Script) -> Option<()> {
-    let held = given_once(rt, alloc, script)?;
-    take_by_new_lane(rt, alloc, script, held)
+    let mut taker = LaneState::new(alloc, script, 1).ok()?;
+    take_given(rt, alloc, script, &mut taker)
 }
 
 /// It is handed over once.

@@ -2,7 +2,7 @@
 ghost use Rattle.std.specs.Prelude.{◌≡◌, ℕ, ◌^◌, false, Err, IsTrue};
 ghost use Rattle.lane_turn.specs.Sound.{IsReady};
 
-use crate::expected::expect;
+use crate::expected::{expect, expect_same};
 use lane_turn::{Event, HandFault, LaneFault, LaneState, Line};
 use loop_script::{Outcome, Script, ScriptFault};
 use post_office::Tray;
@@ -71,7 +71,7 @@ fn first_run(rt: HostRuntime) -> Result<(), ScriptFault> {
 }
 
 pub(crate) fn expect_lines(rt: &impl Abort, lane: &LaneState, lines: &[Line]) {
-    assert_eq!(rt; lane.trace(), lines);
+    expect_same(rt, lane.trace(), lines);
 }
 
 /// A spent lane answers so to each call that may be refused, and stays as it is.

@@ -1,5 +1,5 @@
 //! What an iteration would do with each source of a context, worked out by hand, in a table.
-use crate::expected::expect;
+use crate::expected::{expect, expect_same};
 use crate::made::{Source, made, viewed};
 use cancel_view::View;
 use context_core::{Context, Standing};
@@ -171,9 +171,12 @@ fn expect_standings(
     view: &View,
     known: &Known,
 ) -> Result<(), AllocError> {
-    let what = known.what;
     let found = context.standings(alloc, 0, known.busy, view, known.shown)?;
-    assert_eq!(rt; found.as_slice(), known.wanted, "{what}");
+    expect_same(
+        rt,
+        (known.what, found.as_slice()),
+        (known.what, known.wanted),
+    );
     Ok(())
 }
 
@@ -190,7 +193,19 @@ fn are_told(
         || may_be_refused && expect_standings(rt, alloc, context, view, known).is_ok()
 }
 
-/// The same of a row's sources; nothing where they find no memory.
+/// The same by a row's view; nothing where that finds no memory.
+fn are_told_in(
+    rt: &impl Abort,
+    alloc: Global,
+    context: &Context,
+    known: &Known,
+    may_be_refused: bool,
+) -> Option<bool> {
+    let view = viewed(alloc, known.cancelled)?;
+    Some(are_told(rt, alloc, context, &view, known, may_be_refused))
+}
+
+/// The same of a row's sources.
 fn are_told_of(
     rt: &impl Abort,
     alloc: Global,
@@ -198,8 +213,7 @@ fn are_told_of(
     may_be_refused: bool,
 ) -> Option<bool> {
     let tried = made(alloc, known.levels, known.sources)?;
-    let view = viewed(alloc, known.cancelled)?;
-    Some(are_told(rt, alloc, &tried.context, &view, known, may_be_refused))
+    are_told_in(rt, alloc, &tried.context, known, may_be_refused)
 }
 
 fn expect_told(rt: &impl Abort, alloc: Global, rows: &[Known]) {
@@ -208,21 +222,35 @@ fn expect_told(rt: &impl Abort, alloc: Global, rows: &[Known]) {
     }
 }
 
+// (each table stands in a function of its own, whose proof grows faster than its length)
+
 #[test]
-fn standings_of_contexts(rt: HostRuntime) {
+fn standings_in_calls(rt: HostRuntime) {
     expect_told(&rt, rt.alloc(), &IN_CALLS);
+}
+
+#[test]
+fn standings_of_lenders(rt: HostRuntime) {
     expect_told(&rt, rt.alloc(), &OF_LENDERS);
+}
+
+#[test]
+fn standings_by_kind(rt: HostRuntime) {
     expect_told(&rt, rt.alloc(), &OF_KINDS);
+}
+
+#[test]
+fn standings_of_what_waits(rt: HostRuntime) {
     expect_told(&rt, rt.alloc(), &OF_WAITS);
 }
 
 /// Whatever request is refused, the standings are right, or are asked for again and are.
 #[test]
 fn refused_standings(rt: HostRuntime) {
-    for known in OF_WAITS {
+    for known in &OF_WAITS {
         expect(
             &rt,
-            are_told_of(&rt, rt.alloc(), &known, true) != Some(false),
+            are_told_of(&rt, rt.alloc(), known, true) != Some(false),
         );
     }
 }

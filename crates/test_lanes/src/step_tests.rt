@@ -2,7 +2,7 @@
 ghost use Rattle.std.specs.Prelude.{◌≡◌, false, Err, IsTrue};
 ghost use Rattle.lane_turn.specs.Sound.{IsReady};
 
-use crate::expected::expect;
+use crate::expected::{expect, expect_same};
 use crate::lane_tests::{LINES, expect_lines, expect_lines_or_spent, first_run_script};
 use context_core::Standing;
 use lane_turn::{Activity, LaneFault, LaneState, Origin};
@@ -124,7 +124,7 @@ fn expect_takeover(
         Standing::Selected,
         Standing::Selected,
     ];
-    assert_eq!(rt; found.as_slice(), wanted.as_slice());
+    expect_same(rt, found.as_slice(), &wanted);
     expect(rt, lane.standings(script, 0, 1)?.is_empty());
     Ok(())
 }

@@ -1,7 +1,7 @@
 //! Steppers: which workers can share lanes, ticks to the last, and refused memory.
 ghost use Rattle.std.specs.Prelude.{◌≡◌, ◌<◌, length, IfOk, IfSome};
 
-use crate::expected::expect;
+use crate::expected::{expect, expect_same};
 use lane_turn::{Event, Line};
 use loop_script::{Script, ScriptFault};
 use std::alloc::{AllocError, Global};
@@ -27,10 +27,6 @@ fn table(alloc: Global, workers: &[u32]) -> Result<Sharing, AllocError> {
     Ok(Sharing::Fixed(workers.to_vec(alloc)?))
 }
 
-fn expect_fault(rt: &impl Abort, found: Option<StepFault>, wanted: Option<StepFault>) {
-    assert_eq!(rt; found, wanted);
-}
-
 /// So many workers are refused with a fault, or with none.
 fn expect_refusal(
     rt: &impl Abort,
@@ -40,7 +36,7 @@ fn expect_refusal(
     wanted: Option<StepFault>,
 ) -> Result<(), ScriptFault> {
     let refused = stepper(alloc, workers, sharing)?.err();
-    expect_fault(rt, refused, wanted);
+    expect_same(rt, refused, wanted);
     Ok(())
 }
 
@@ -90,7 +86,7 @@ fn expect_ticks<T: Threads + Wait + Sync + Abort>(rt: &T, stepper: Result<Steppe
         Ok(mut stepper) => {
             expect(rt, step_all(rt, &mut stepper) == Ok([true, true, false]));
         }
-        Err(fault) => expect_fault(rt, Some(fault), None),
+        Err(fault) => expect_same(rt, Some(fault), None),
     }
 }
 
@@ -126,13 +122,13 @@ fn expect_spent<T: Threads + Wait + Sync + Abort>(rt: &T, stepper: &mut Stepper)
     requires { 1 < length stepper.old.script.lanes }
     ensures { stepper.new.script ≡ stepper.old.script }
 {
-    expect_fault(
+    expect_same(
         rt,
         stepper.tick(rt, &OpenGate).err(),
         Some(StepFault::Spent),
     );
-    expect_fault(rt, stepper.run(rt, &OpenGate).err(), Some(StepFault::Spent));
-    expect_fault(rt, stepper.trace(0).err(), Some(StepFault::Spent));
+    expect_same(rt, stepper.run(rt, &OpenGate).err(), Some(StepFault::Spent));
+    expect_same(rt, stepper.trace(0).err(), Some(StepFault::Spent));
 }
 
 /// The dispatch of a lane's one source, in the context of its number.
@@ -151,7 +147,7 @@ fn dispatch(tick: u32, context: u32) -> Line {
 fn expect_trace(rt: &impl Abort, trace: Result<&[Line], StepFault>, context: u32) {
     let wanted = [dispatch(0, context), dispatch(1, context)];
     match trace {
-        Ok(lines) => assert_eq!(rt; lines, wanted.as_slice()),
+        Ok(lines) => expect_same(rt, lines, &wanted),
         Err(_) => expect(rt, false),
     }
 }
@@ -174,7 +170,7 @@ fn step_or_spend<T: Threads + Wait + Sync + Abort>(rt: &T, stepper: &mut Stepper
             expect_traces(rt, stepper);
         }
         Err(fault) => {
-            expect_fault(rt, Some(fault), Some(StepFault::OutOfMemory));
+            expect_same(rt, Some(fault), Some(StepFault::OutOfMemory));
             expect_spent(rt, stepper);
             expect_spent(rt, stepper);
         }
@@ -191,7 +187,7 @@ fn expect_stepped<T: Threads + Wait + Sync + Abort>(
     match made(alloc, workers, sharing) {
         None => {}
         Some(Ok(mut stepper)) => step_or_spend(rt, &mut stepper),
-        Some(Err(fault)) => expect_fault(rt, Some(fault), Some(StepFault::OutOfMemory)),
+        Some(Err(fault)) => expect_same(rt, Some(fault), Some(StepFault::OutOfMemory)),
     }
 }
 
@@ -202,8 +198,8 @@ fn step_alone_or_spend<T: Threads + Wait + Sync + Abort>(rt: &T, stepper: &mut S
     match stepper.run_alone() {
         Ok(()) => expect_traces(rt, stepper),
         Err(fault) => {
-            expect_fault(rt, Some(fault), Some(StepFault::OutOfMemory));
-            expect_fault(rt, stepper.run_alone().err(), Some(StepFault::Spent));
+            expect_same(rt, Some(fault), Some(StepFault::OutOfMemory));
+            expect_same(rt, stepper.run_alone().err(), Some(StepFault::Spent));
             expect_spent(rt, stepper);
         }
     }
@@ -213,7 +209,7 @@ fn step_alone_or_spend<T: Threads + Wait + Sync + Abort>(rt: &T, stepper: &mut S
 fn expect_alone(rt: &impl Abort, stepper: &mut Stepper)
     requires { 1 < length stepper.old.script.lanes }
 {
-    expect_fault(rt, stepper.run_alone().err(), None);
+    expect_same(rt, stepper.run_alone().err(), None);
     expect_traces(rt, stepper);
 }
 
@@ -250,7 +246,7 @@ fn refused_stepper(rt: HostRuntime) {
 /// A refusal with another cause is looked at first, and takes no memory.
 fn expect_cause(rt: &impl Abort, alloc: Global, workers: u32, sharing: Sharing, cause: StepFault) {
     if let Some(made) = made(alloc, workers, sharing) {
-        expect_fault(rt, made.err(), Some(cause));
+        expect_same(rt, made.err(), Some(cause));
     }
 }
 

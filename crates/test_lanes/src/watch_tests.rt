@@ -1,7 +1,7 @@
 //! What a lane watches: a task that is cancelled, one that runs, handlers, and refused memory.
 ghost use Rattle.std.specs.Prelude.{◌≡◌, ◌≤◌, ◌<◌, ◌+◌, length, IfOk, OnOk, OnErr, Some};
 
-use crate::expected::expect;
+use crate::expected::{expect, expect_same};
 use cancel_view::{Connected, Fired, OutOfMemory};
 use lane_watch::Watch;
 use loop_script::{Node, Outcome, TaskSpec, TaskTree};
@@ -58,7 +58,7 @@ fn cancel(watch: &mut Watch, alloc: Global, tick: u32) -> Result<bool, OutOfMemo
 /// One reply, and none that is late.
 fn expect_reply(rt: &impl Abort, polled: &Polled, outcome: Outcome) {
     match polled.replies.as_slice() {
-        [reply] => assert_eq!(rt; reply.outcome, outcome),
+        [reply] => expect_same(rt, reply.outcome, outcome),
         _ => expect(rt, false),
     }
     expect(rt, polled.late.as_slice().is_empty());
@@ -87,7 +87,7 @@ fn expect_shown(
         replied,
         wake: Some(wake),
     }];
-    assert_eq!(rt; shown.as_slice(), wanted.as_slice());
+    expect_same(rt, shown.as_slice(), &wanted);
     Ok(())
 }
 
@@ -105,17 +105,35 @@ fn start_and_cancel(rt: &impl Abort, alloc: Global, watch: &mut Watch) -> Result
     Ok(())
 }
 
-/// It sleeps up to tick 4; it replies in tick 2, and ends late.
+/// It replies in tick 2.
+fn expect_reply_in_two(rt: &impl Abort, alloc: Global, watch: &mut Watch) -> Result<(), OutOfMemory>
+    requires { watch.old.tasks.tick ≡ 2 }
+    ensures { OnOk result (watch.new.tasks.tick ≡ 3) }
+{
+    let polled = poll(watch, alloc, 2)?;
+    expect_reply(rt, &polled, Outcome::Cancelled);
+    Ok(())
+}
+
+/// It ends late, in tick 4.
+fn expect_end_in_four(rt: &impl Abort, alloc: Global, watch: &mut Watch) -> Result<(), OutOfMemory>
+    requires { watch.old.tasks.tick ≡ 3 }
+{
+    poll(watch, alloc, 3)?;
+    let polled = poll(watch, alloc, 4)?;
+    expect_late(rt, &polled);
+    Ok(())
+}
+
+/// It sleeps up to tick 4.
 fn expect_cancelled(rt: &impl Abort, alloc: Global, watch: &mut Watch) -> Result<(), OutOfMemory>
     requires { watch.old.tasks.tick ≡ 2 }
 {
     expect(rt, watch.view().is_cancelled(0));
     expect_shown(rt, watch, alloc, false, 4)?;
-    expect_reply(rt, &poll(watch, alloc, 2)?, Outcome::Cancelled);
+    expect_reply_in_two(rt, alloc, watch)?;
     expect_shown(rt, watch, alloc, true, 4)?;
-    poll(watch, alloc, 3)?;
-    expect_late(rt, &poll(watch, alloc, 4)?);
-    Ok(())
+    expect_end_in_four(rt, alloc, watch)
 }
 
 fn run_cancelled(rt: &impl Abort, alloc: Global) -> Result<(), OutOfMemory> {
@@ -161,7 +179,7 @@ fn expect_fired(rt: &impl Abort, alloc: Global, watch: &mut Watch) -> Result<(),
     requires { watch.old.tasks.tick ≡ 1 }
 {
     match watch.cancel(alloc, 0, 0)? {
-        Some(fired) => assert_eq!(rt; fired.as_slice(), [Fired { id: 2, proc: 6 }].as_slice()),
+        Some(fired) => expect_same(rt, fired.as_slice(), &[Fired { id: 2, proc: 6 }]),
         None => expect(rt, false),
     }
     Ok(())

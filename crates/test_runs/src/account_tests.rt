@@ -1,4 +1,5 @@
 //! Runs told moment by moment: the worked first run, the lines of all moments, and refused memory.
+use crate::expected::expect_same;
 use crate::script_tests::first_run;
 use crate::worked::{Worked, cancels, given_with_letters, posts, tasks};
 use account::{Account, AccountFault, Deed, Moment};
@@ -64,17 +65,13 @@ fn first_moment(k: u32) -> Moment {
     }
 }
 
-fn expect_moment(rt: &impl Abort, found: Option<Moment>, wanted: Option<Moment>) {
-    assert_eq!(rt; found, wanted);
-}
-
 /// Each moment, and then the end of the run.
 fn expect_moments(rt: &impl Abort, account: &mut Account) -> Result<(), AccountFault> {
     for k in 0..13 {
-        expect_moment(rt, account.next()?, Some(first_moment(k)));
+        expect_same(rt, account.next()?, Some(first_moment(k)));
     }
-    expect_moment(rt, account.next()?, None);
-    assert!(rt; account.tick() == 2);
+    expect_same(rt, account.next()?, None);
+    expect_same(rt, account.tick(), 2);
     Ok(())
 }
 
@@ -101,8 +98,8 @@ fn expect_gained(
 ) {
     match account.lane(0) {
         Some(lane) => {
-            assert_eq!(rt; moment.attached(account.script(), lane), attached);
-            assert_eq!(rt; moment.selected(account.script(), lane), selected);
+            expect_same(rt, moment.attached(account.script(), lane), attached);
+            expect_same(rt, moment.selected(account.script(), lane), selected);
         }
         None => assert!(rt; false),
     }
@@ -159,23 +156,23 @@ fn text_of(alloc: Global, account: &Account) -> Result<Vec<u8>, OutOfMemory> {
     Ok(text)
 }
 
-/// A text has a heading for each lane, and the lines.
-fn expect_lines(rt: &impl Abort, text: &str, lanes: u32, lines: usize) {
-    assert_eq!(rt; text.lines().count(), lines.saturating_add(lanes as usize));
-}
-
-/// The text is that of the vector, where there is memory for it, and the moments wrote each line.
+/// The text is that of the vector, where there is memory for it, and the moments wrote each line but for a heading for each lane.
 fn expect_text(rt: &impl Abort, alloc: Global, account: &Account, worked: &Worked, lines: usize) {
-    expect_lines(rt, worked.text, account.script().lanes(), lines);
+    let headings = account.script().lanes() as usize;
+    expect_same(
+        rt,
+        worked.text.lines().count(),
+        lines.saturating_add(headings),
+    );
     if let Ok(text) = text_of(alloc, account) {
-        assert_eq!(rt; text.as_slice(), worked.text.as_bytes());
+        expect_same(rt, text.as_slice(), worked.text.as_bytes());
     }
 }
 
 /// Where a request for memory was refused the account is spent.
 fn expect_spent(rt: &impl Abort, account: &mut Account, fault: AccountFault) {
-    assert!(rt; fault == AccountFault::OutOfMemory);
-    assert!(rt; account.next() == Err(AccountFault::Spent));
+    expect_same(rt, fault, AccountFault::OutOfMemory);
+    expect_same(rt, account.next(), Err(AccountFault::Spent));
 }
 
 /// One of both, of a run to its end.

@@ -1,4 +1,5 @@
 //! Writers that take little, refuse or fail to flush, and a reader that breaks off.
+use crate::expected::expect_same;
 use crate::refused_tests::{all_came, expecting, nothing_came, right_arguments};
 use crate::script_tests::{first_run, first_run_text};
 use mainctx::{MainFault, OverWrite, run_bytes, serve};
@@ -76,10 +77,6 @@ fn ran_over<T: Threads + Wait + Sync>(
     (result, short.got)
 }
 
-fn expect_bytes(rt: &impl Abort, found: &[u8], wanted: &[u8], room: usize) {
-    assert_eq!(rt; found, wanted, "with room for {room}");
-}
-
 /// A run over such a writer can't be written, and the writer has got these bytes.
 fn expect_got<T: Threads + Wait + Sync + Abort>(
     rt: &T,
@@ -89,8 +86,8 @@ fn expect_got<T: Threads + Wait + Sync + Abort>(
     wanted: &[u8],
 ) {
     let (result, got) = ran_over(rt, alloc, room, then);
-    assert!(rt; result == Err(MainFault::Write), "with room for {room}");
-    expect_bytes(rt, &got, wanted, room);
+    expect_same(rt, (room, result), (room, Err(MainFault::Write)));
+    expect_same(rt, (room, got.as_slice()), (room, wanted));
 }
 
 #[test]

@@ -1,6 +1,7 @@
 //! Two lanes whose turns run side by side: a gate lets each wait until the other's turn of the same tick has begun.
 ghost use Rattle.std.specs.Prelude.{◌+◌, ◌≤◌, ◌<◌, ◌^◌};
 
+use crate::expected::expect_same;
 use lane_turn::{LaneFault, LaneState};
 use loop_script::Script;
 use mainctx::{OverWrite, run_bytes};
@@ -138,8 +139,8 @@ fn met<T: Threads + Wait + Sync>(rt: &T, alloc: Global, sharing: Sharing) -> Res
 
 /// A line a tick was written through the gate, and not all turns were taken one after another.
 fn expect_side_by_side(rt: &impl Abort, gate: &Meeting) {
-    assert_eq!(rt; gate.first.lines.load(SeqCst), 20);
-    assert_eq!(rt; gate.second.lines.load(SeqCst), 20);
+    expect_same(rt, gate.first.lines.load(SeqCst), 20);
+    expect_same(rt, gate.second.lines.load(SeqCst), 20);
     assert!(rt; gate.have_met());
 }
 
@@ -147,7 +148,7 @@ fn expect_side_by_side(rt: &impl Abort, gate: &Meeting) {
 fn turns_run_side_by_side_in_rounds(rt: HostRuntime) -> Result<(), Fail> {
     let gate = met(&rt, rt.alloc(), Sharing::Round)?;
     expect_side_by_side(&rt, &gate);
-    assert_eq!(rt; gate.workers(), (0b01, 0b10));
+    expect_same(&rt, gate.workers(), (0b01, 0b10));
     Ok(())
 }
 
@@ -160,7 +161,7 @@ fn expect_by_a_table<T: Threads + Wait + Sync + Abort>(
 ) -> Result<(), Fail> {
     let gate = met(rt, alloc, Sharing::Fixed(table.to_vec(alloc)?))?;
     expect_side_by_side(rt, &gate);
-    assert_eq!(rt; gate.workers(), workers);
+    expect_same(rt, gate.workers(), workers);
     Ok(())
 }
 

@@ -6,6 +6,8 @@ mod account_tests;
 #[cfg(test)]
 mod edge_tests;
 #[cfg(test)]
+mod expected;
+#[cfg(test)]
 mod gate_tests;
 #[cfg(test)]
 mod give_tests;

@@ -1,4 +1,5 @@
 //! Runs with memory refused, over writers that only compare.
+use crate::expected::expect_same;
 use crate::script_tests::{first_run, first_run_text};
 use crate::worked::{Worked, cancels, given_with_letters, gives, ownership, posts, tasks};
 use mainctx::{MainFault, OverWrite, run_alone, run_bytes, serve};
@@ -74,7 +75,7 @@ fn expect(rt: &impl Abort, answer: Result<(), MainFault>, out: &Compared<'_>, te
     match answer {
         Ok(()) => assert!(rt; all_came(out)),
         Err(fault) => {
-            assert_eq!(rt; fault, MainFault::OutOfMemory);
+            expect_same(rt, fault, MainFault::OutOfMemory);
             assert!(rt; nothing_came(out, text));
         }
     }

@@ -1,4 +1,5 @@
 //! One script and its text, and each form of a line; other whole scripts are vectors.
+use crate::expected::expect_same;
 use lane_turn::{Event, Invoked, Line, Word};
 use loop_script::Outcome;
 use mainctx::{OverWrite, add_text, run_alone, run_bytes};
@@ -27,7 +28,11 @@ fn writes_the_text(rt: HostRuntime) -> Result<(), Fail> {
         &OpenGate,
         &mut out,
     )?;
-    assert_eq!(rt; out.into_inner().as_slice(), first_run_text().as_bytes());
+    expect_same(
+        &rt,
+        out.into_inner().as_slice(),
+        first_run_text().as_bytes(),
+    );
     Ok(())
 }
 
@@ -35,7 +40,11 @@ fn writes_the_text(rt: HostRuntime) -> Result<(), Fail> {
 fn writes_the_text_alone(rt: HostRuntime) -> Result<(), Fail> {
     let mut out = OverWrite::new(Vec::new(rt.alloc()));
     run_alone(rt.alloc(), first_run().as_bytes(), &mut out)?;
-    assert_eq!(rt; out.into_inner().as_slice(), first_run_text().as_bytes());
+    expect_same(
+        &rt,
+        out.into_inner().as_slice(),
+        first_run_text().as_bytes(),
+    );
     Ok(())
 }
 
@@ -84,6 +93,6 @@ fn writes_each_line(rt: HostRuntime) -> Result<(), Fail> {
     ]
     .map(|event| Line { tick: 4, event });
     add_text(&mut text, 10, &lines)?;
-    assert_eq!(rt; text.as_slice(), each_line().as_bytes());
+    expect_same(&rt, text.as_slice(), each_line().as_bytes());
     Ok(())
 }

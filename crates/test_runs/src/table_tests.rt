@@ -1,4 +1,5 @@
 //! Lanes that a table gives to workers, with 1, 2 and 64 workers: halted lanes, and many posts in a tick.
+use crate::expected::expect_same;
 use mainctx::{OverWrite, run_bytes};
 use std::alloc::Global;
 use std::process::Abort;
@@ -28,10 +29,6 @@ fn ran<T: Threads + Wait + Sync>(
     Ok(out.into_inner())
 }
 
-fn expect_text(rt: &impl Abort, found: &[u8], wanted: &[u8]) {
-    assert_eq!(rt; found, wanted);
-}
-
 /// The text of a script with so many workers.
 pub(crate) fn expect_ran<T: Threads + Wait + Sync + Abort>(
     rt: &T,
@@ -42,7 +39,7 @@ pub(crate) fn expect_ran<T: Threads + Wait + Sync + Abort>(
     wanted: &[u8],
 ) -> Result<(), Fail> {
     let found = ran(rt, alloc, script, workers, sharing)?;
-    expect_text(rt, &found, wanted);
+    expect_same(rt, found.as_slice(), wanted);
     Ok(())
 }
 

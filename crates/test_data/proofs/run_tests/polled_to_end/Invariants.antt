@@ -10,6 +10,6 @@ IsSeenBefore cancel tick (Some from) = (seen cancel from ≡ true) × (from < ti
 
 abbrev pub invariant-loop-tick : goal.invariant-loop-tick
 invariant-loop-tick g l = record {
-  set : MaySet l.tick-counter l.run.stage l.run.wake;
-  seen : IsSeenBefore l.cancel l.tick-counter l.run.cancelled;
+  set : MaySet l.tick l.run.stage l.run.wake;
+  seen : IsSeenBefore l.cancel l.tick l.run.cancelled;
 }
