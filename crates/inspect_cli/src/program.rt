@@ -77,22 +77,25 @@ fn attempt(rt: &HostRuntime) -> Result<u8, Failure> {
             write_out(rt, text.as_str())?;
             Ok(0)
         }
-        Asked::Run(order) => {
-            let Some(bytes) = script_of(rt, &order)? else {
-                return Ok(REFUSED);
-            };
-            let numbered = translate_bytes(rt.alloc(), bytes.as_slice())?;
-            let given = Given {
-                bytes: bytes.as_slice(),
-                numbered: numbered.as_ref().map_or(bytes.as_slice(), Vec::as_slice),
-                has_names: numbered.is_some() && !order.numbers,
-            };
-            match order.command {
-                Command::Translate => write_numbered(rt, &order, &given),
-                Command::Text if !order.notes && !given.has_names => write_text(rt, &order, &given),
-                _ => tell(rt, &order, &given),
-            }
-        }
+        Asked::Run(order) => match script_of(rt, &order)? {
+            Some(bytes) => answer(rt, &order, bytes.as_slice()),
+            None => Ok(REFUSED),
+        },
+    }
+}
+
+/// Writes what is asked of a script in JSON.
+fn answer(rt: &HostRuntime, order: &Order<'_>, bytes: &[u8]) -> Result<u8, Failure> {
+    let numbered = translate_bytes(rt.alloc(), bytes)?;
+    let given = Given {
+        bytes,
+        numbered: numbered.as_ref().map_or(bytes, Vec::as_slice),
+        has_names: numbered.is_some() && !order.numbers,
+    };
+    match order.command {
+        Command::Translate => write_numbered(rt, order, &given),
+        Command::Text if !order.notes && !given.has_names => write_text(rt, order, &given),
+        _ => tell(rt, order, &given),
     }
 }
 
@@ -188,10 +191,11 @@ fn tell(rt: &HostRuntime, order: &Order<'_>, given: &Given<'_>) -> Result<u8, Fa
     } else {
         RunNames::numbers(rt.alloc())
     };
-    match point_of(order) {
-        Some(point) => tell_point(rt, point, script, names)?,
-        None => tell_run(rt, order, script, names)?,
-    }
+    let told = match point_of(order) {
+        Some(point) => tell_point(rt, point, script, names),
+        None => tell_run(rt, order, script, names),
+    };
+    told?;
     Ok(0)
 }
 
@@ -229,12 +233,19 @@ fn tell_each(
     };
     let mut teller = Teller::begin(rt.alloc(), order, words, &mut output.text)?;
     let mut account = Account::new(rt.alloc(), script)?;
-    tell_moments(&mut account, &mut names, &mut teller, &mut output, progress)?;
-    let run = Run {
-        account: &account,
-        names: &names,
-    };
-    teller.end(run, &mut output.text)?;
+    tell_all(&mut account, &mut names, &mut teller, &mut output, progress)
+}
+
+/// Tells of each moment of a run, and of its end.
+fn tell_all<W: Write>(
+    account: &mut Account,
+    names: &mut RunNames,
+    teller: &mut Teller,
+    output: &mut Output<W>,
+    progress: &mut Progress<'_>,
+) -> Result<(), Failure> {
+    tell_moments(account, names, teller, output, progress)?;
+    teller.end(Run { account, names }, &mut output.text)?;
     output.write(progress)
 }
 
@@ -269,8 +280,7 @@ fn tell_point(
     script: Script,
     names: RunNames,
 ) -> Result<(), Failure> {
-    within(Numbered::Thread, point.lane, script.lanes())?;
-    within(Numbered::Tick, point.tick, script.ticks())?;
+    within_run(point, &script)?;
     let mut progress = Progress::begin(rt, script.ticks());
     let told = find(rt, point, script, names, &mut progress);
     progress.clear();
@@ -286,19 +296,27 @@ fn find(
     progress: &mut Progress<'_>,
 ) -> Result<String, Failure> {
     let mut out = String::new(rt.alloc());
-    let mut stack = Stack::new(point);
     let mut account = Account::new(rt.alloc(), script)?;
+    tell_stack(&mut account, &mut names, point, &mut out, progress)?;
+    Ok(out)
+}
+
+/// Goes on with a run up to one moment, and adds what a thread is in the middle of there.
+fn tell_stack(
+    account: &mut Account,
+    names: &mut RunNames,
+    point: Point,
+    out: &mut String,
+    progress: &mut Progress<'_>,
+) -> Result<(), Failure> {
+    let mut stack = Stack::new(point);
     for _ in 0..u64::MAX {
         let Some(moment) = account.next()? else {
             break;
         };
         progress.show(moment.tick);
-        follow_names(&mut names, &account, &moment)?;
-        let run = Run {
-            account: &account,
-            names: &names,
-        };
-        match stack.tell(run, &moment, &mut out)? {
+        follow_names(names, account, &moment)?;
+        match stack.tell(Run { account, names }, &moment, out)? {
             Reach::Before => {}
             Reach::There => break,
             Reach::Over { steps } => {
@@ -310,7 +328,13 @@ fn find(
             }
         }
     }
-    Ok(out)
+    Ok(())
+}
+
+/// Refuses a moment of a thread or a tick that a run has not.
+fn within_run(point: Point, script: &Script) -> Result<(), Failure> {
+    within(Numbered::Thread, point.lane, script.lanes())?;
+    within(Numbered::Tick, point.tick, script.ticks())
 }
 
 /// Refuses a number that is not among so many from 0 on.

@@ -48,38 +48,56 @@ fn open(alloc: Global, script: Script) -> Result<Account, AllocError> {
 pub fn push_asked(
     alloc: Global,
     script: Script,
-    names: RunNames,
+    mut names: RunNames,
     asked: Asked,
     out: &mut String,
 ) -> Result<(), AllocError> {
     match asked {
-        Asked::Account { first, most } => push_account(alloc, script, names, first, most, out),
-        Asked::Why(window) => push_why(alloc, script, names, window, out),
-        Asked::Life(name, window) => push_life(alloc, script, names, name, window, out),
+        Asked::Account { first, most } => push_account(alloc, script, &mut names, first, most, out),
+        Asked::Why(window) => push_why(alloc, script, &mut names, window, out),
+        Asked::Life(name, window) => push_life(alloc, script, &mut names, name, window, out),
     }
 }
 
-/// Adds the first line of the account, the moments that are asked for, and the last line where the run is over behind them.
+/// Adds the account of a run, or a part of it.
 fn push_account(
     alloc: Global,
     script: Script,
-    mut names: RunNames,
+    names: &mut RunNames,
     first: u64,
     most: u64,
     out: &mut String,
 ) -> Result<(), AllocError> {
-    let words = Words {
-        script: &script,
-        names: &names,
-    };
-    let mut moments = Moments::begin(alloc, words, Window::whole(), out)?;
+    let mut moments = begin(alloc, &script, names, out)?;
     let mut account = open(alloc, script)?;
+    tell_moments(&mut account, names, &mut moments, first, most, out)
+}
+
+/// Adds the first line of the account.
+fn begin(
+    alloc: Global,
+    script: &Script,
+    names: &RunNames,
+    out: &mut String,
+) -> Result<Moments, AllocError> {
+    Moments::begin(alloc, Words { script, names }, Window::whole(), out)
+}
+
+/// Adds the moments that are asked for, and the last line where the run is over behind them.
+fn tell_moments(
+    account: &mut Account,
+    names: &mut RunNames,
+    moments: &mut Moments,
+    first: u64,
+    most: u64,
+    out: &mut String,
+) -> Result<(), AllocError> {
     for place in 0..first.saturating_add(most) {
-        let Some(moment) = next_of(&mut account, &mut names)? else {
-            return moments.end(&account, out);
+        let Some(moment) = next_of(account, names)? else {
+            return moments.end(account, out);
         };
         if place >= first {
-            moments.tell(run(&account, &names), &moment, out)?;
+            moments.tell(run(account, names), &moment, out)?;
         }
     }
     Ok(())
@@ -89,39 +107,58 @@ fn push_account(
 fn push_why(
     alloc: Global,
     script: Script,
-    mut names: RunNames,
+    names: &mut RunNames,
     window: Window,
     out: &mut String,
 ) -> Result<(), AllocError> {
     let mut why = Why::new(alloc, &script, window)?;
     let mut account = open(alloc, script)?;
+    tell_why(&mut account, names, &mut why, window.last, out)
+}
+
+/// The same of the run that an account begins.
+fn tell_why(
+    account: &mut Account,
+    names: &mut RunNames,
+    why: &mut Why,
+    last: u32,
+    out: &mut String,
+) -> Result<(), AllocError> {
     for _ in 0..u64::MAX {
-        match next_of(&mut account, &mut names)? {
-            Some(moment) if moment.tick <= window.last => {
-                why.tell(run(&account, &names), &moment, out)?;
-            }
+        match next_of(account, names)? {
+            Some(moment) if moment.tick <= last => why.tell(run(account, names), &moment, out)?,
             _ => break,
         }
     }
-    why.end(run(&account, &names), out)
+    why.end(run(account, names), out)
 }
 
 /// Adds the life of one source.
 fn push_life(
     alloc: Global,
     script: Script,
-    mut names: RunNames,
+    names: &mut RunNames,
     name: SourceName,
     window: Window,
     out: &mut String,
 ) -> Result<(), AllocError> {
     let mut life = Life::new(name, window);
     let mut account = open(alloc, script)?;
+    tell_life(&mut account, names, &mut life, out)
+}
+
+/// The same of the run that an account begins.
+fn tell_life(
+    account: &mut Account,
+    names: &mut RunNames,
+    life: &mut Life,
+    out: &mut String,
+) -> Result<(), AllocError> {
     for _ in 0..u64::MAX {
-        match next_of(&mut account, &mut names)? {
-            Some(moment) => life.tell(run(&account, &names), &moment, out)?,
+        match next_of(account, names)? {
+            Some(moment) => life.tell(run(account, names), &moment, out)?,
             None => break,
         }
     }
-    life.end(run(&account, &names), out)
+    life.end(run(account, names), out)
 }

@@ -148,23 +148,37 @@ impl Block {
         };
         if let Some(rows) = rows {
             let mut below = BTreeMap::new(alloc);
-            let mut before = Before {
-                block: before,
-                place: 0,
-            };
-            // (those below a source come before it)
-            for (row, standing) in rows.in_order().zip(standings.iter()) {
-                let shown = Shown::new(row, *standing, below.get(&row.id).copied());
-                block.add(words, context, row, shown, &mut before)?;
-                if is_ready(*standing) {
-                    add_below(&mut below, row)?;
-                }
-            }
+            block.add_all(words, context, rows, standings, before, &mut below)?;
         }
         if block.lines.is_empty() {
             block.lines.push_str("  it has no source\n")?;
         }
         Ok(block)
+    }
+
+    /// Adds the lines of all sources.
+    fn add_all(
+        &mut self,
+        words: Words<'_>,
+        context: u32,
+        rows: &Rows,
+        standings: &[Standing],
+        before: Option<&Block>,
+        below: &mut BTreeMap<u64, u64>,
+    ) -> Result<(), AllocError> {
+        let mut before = Before {
+            block: before,
+            place: 0,
+        };
+        // (those below a source come before it)
+        for (row, standing) in rows.in_order().zip(standings) {
+            let shown = Shown::new(row, *standing, below.get(&row.id).copied());
+            self.add(words, context, row, shown, &mut before)?;
+            if is_ready(*standing) {
+                add_below(below, row)?;
+            }
+        }
+        Ok(())
     }
 
     /// Adds the line of a source.

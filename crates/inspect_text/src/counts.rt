@@ -1,9 +1,11 @@
 //! Counting what happens in a run, loop by loop and source by source: iterations, actions, arrivals, dispatches. `summary` tells of it.
 use crate::record::Record;
 use account::{Account, Deed, Moment};
+use context_core::Standing;
 use inspect_words::{Span, begun_by};
 use lane_turn::{Event, LaneState};
 use loop_script::{Action, Body, Script};
+use source_rows::Rows;
 use std::alloc::{AllocError, Global};
 
 /// What is counted of a loop.
@@ -34,26 +36,49 @@ impl ContextCount {
     fn record_mut(&mut self, id: u64) -> Option<&mut Record> {
         self.sources.get_mut(id.saturating_sub(1) as usize)
     }
+
+    /// Counts what an iteration does with each source.
+    fn add_standings(&mut self, rows: &Rows, standings: &[Standing], tick: u32) {
+        for (row, standing) in rows.in_order().zip(standings) {
+            if let Some(record) = self.record_mut(row.id) {
+                record.add_iteration(tick, *standing);
+            }
+        }
+    }
+}
+
+/// No source and no iteration of each context.
+fn no_contexts(alloc: Global, count: u32) -> Result<Vec<ContextCount>, AllocError> {
+    let mut contexts = Vec::new(alloc);
+    for _ in 0..count {
+        contexts.push(ContextCount {
+            iterations: Span::none(),
+            sources: Vec::new(alloc),
+        })?;
+    }
+    Ok(contexts)
+}
+
+/// No iteration of each loop.
+fn no_loops(alloc: Global, count: u32) -> Result<Vec<LoopCount>, AllocError> {
+    let none = LoopCount {
+        iterations: Span::none(),
+        ends: Span::none(),
+    };
+    let mut loops = Vec::new(alloc);
+    for _ in 0..count {
+        loops.push(none)?;
+    }
+    Ok(loops)
 }
 
 impl Counts {
     /// Nothing has happened yet.
     pub(crate) fn new(alloc: Global, script: &Script) -> Result<Counts, AllocError> {
-        let mut contexts = Vec::new(alloc);
-        for _ in 0..script.contexts() {
-            contexts.push(ContextCount {
-                iterations: Span::none(),
-                sources: Vec::new(alloc),
-            })?;
-        }
-        let mut loops = Vec::new(alloc);
-        for _ in 0..script.loops() {
-            loops.push(LoopCount {
-                iterations: Span::none(),
-                ends: Span::none(),
-            })?;
-        }
-        Ok(Counts { contexts, loops })
+        Ok(Counts {
+            contexts: no_contexts(alloc, script.contexts())?,
+            loops: no_loops(alloc, script.loops())?,
+        })
     }
 
     /// Counts the latest moment of a run.
@@ -103,12 +128,8 @@ impl Counts {
         let Some(rows) = lane.sources(context) else {
             return Ok(());
         };
-        let list = lane.standings(script, tick, context)?;
-        for (row, standing) in rows.in_order().zip(list.as_slice().iter()) {
-            if let Some(record) = count.record_mut(row.id) {
-                record.add_iteration(tick, *standing);
-            }
-        }
+        let standings = lane.standings(script, tick, context)?;
+        count.add_standings(rows, standings.as_slice(), tick);
         Ok(())
     }
 

@@ -8,7 +8,7 @@ use inspect_words::{
 };
 use lane_turn::LaneState;
 use run_names::Thing;
-use source_rows::Row;
+use source_rows::{Row, Rows};
 use std::alloc::AllocError;
 
 /// Iterations one after another that leave the source out for the same reason.
@@ -170,13 +170,8 @@ impl Life {
         let Some(rows) = lane.sources(context) else {
             return Ok(None);
         };
-        let list = lane.standings(words.script, tick, context)?;
-        for (row, standing) in rows.in_order().zip(list.as_slice().iter()) {
-            if row.id == self.name.id {
-                return Ok(Some(*standing));
-            }
-        }
-        Ok(None)
+        let standings = lane.standings(words.script, tick, context)?;
+        Ok(standing_of(rows, standings.as_slice(), self.name.id))
     }
 
     /// Adds a dispatch of the source, or why a dispatch that was to begin did not.
@@ -251,6 +246,16 @@ impl Life {
             _ => writeln!(out, "dispatched {count} times"),
         }
     }
+}
+
+/// The standing of a source among those of all.
+fn standing_of(rows: &Rows, standings: &[Standing], id: u64) -> Option<Standing> {
+    for (row, standing) in rows.in_order().zip(standings) {
+        if row.id == id {
+            return Some(*standing);
+        }
+    }
+    None
 }
 
 /// Why a thread halted in a moment, if it did.

@@ -119,17 +119,20 @@ fn push_lines(
     moment: &Moment,
 ) -> Result<(), AllocError> {
     let text = text_of(alloc, lane, moment)?;
+    push_text(out, text.as_str())
+}
+
+/// The same of a text, where it has a line.
+fn push_text(out: &mut String, text: &str) -> Result<(), AllocError> {
     if text.is_empty() {
         return Ok(());
     }
     out.push_str(",\"lines\":[")?;
-    for (n, line) in text.as_str().lines().enumerate() {
+    for (n, line) in text.lines().enumerate() {
         if n != 0 {
             out.push_str(",")?;
         }
-        out.push_str("\"")?;
-        out.push_str(line)?;
-        out.push_str("\"")?;
+        write!(out, "\"{line}\"")?;
     }
     out.push_str("]")
 }

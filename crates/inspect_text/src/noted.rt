@@ -56,7 +56,7 @@ impl Noted {
 }
 
 /// Adds the line of a note.
-pub(crate) fn push_note(out: &mut String, words: Words<'_>, note: &Note) -> Result<(), AllocError> {
+fn push_note(out: &mut String, words: Words<'_>, note: &Note) -> Result<(), AllocError> {
     out.push_str("note: ")?;
     push_tick(out, words.script, note.tick)?;
     out.push_str(", ")?;
@@ -68,6 +68,18 @@ pub(crate) fn push_note(out: &mut String, words: Words<'_>, note: &Note) -> Resu
     let told = note.difference.told();
     let name = note.difference.name();
     writeln!(out, ": GLib {told} (docs/GLIB.md, {name})")
+}
+
+/// Adds the lines of notes.
+pub(crate) fn push_notes(
+    out: &mut String,
+    words: Words<'_>,
+    notes: &[Note],
+) -> Result<(), AllocError> {
+    for note in notes {
+        push_note(out, words, note)?;
+    }
+    Ok(())
 }
 
 /// Of which source or context a note is.
@@ -102,11 +114,9 @@ impl NoteList {
         moment: &Moment,
         out: &mut String,
     ) -> Result<(), AllocError> {
-        for note in self.noted.look(run.account, moment, None)?.as_slice() {
-            self.any = true;
-            push_note(out, run.words(), note)?;
-        }
-        Ok(())
+        let notes = self.noted.look(run.account, moment, None)?;
+        self.any |= !notes.is_empty();
+        push_notes(out, run.words(), notes.as_slice())
     }
 
     /// Adds that there was nothing to tell, where that is so.

@@ -4,7 +4,7 @@ ghost use Rattle.run_names.specs.declared.thing.Thing.TheVariants as things;
 ghost use Rattle.run_names.specs.Text.{full_text};
 ghost use Rattle.inspect_text.specs.Gathered.{added, from_thread, Gathers};
 
-use crate::noted::{Noted, push_note};
+use crate::noted::{Noted, push_notes};
 use account::Moment;
 use inspect_words::{Run, line_text_of};
 use loop_script::Script;
@@ -108,9 +108,8 @@ fn notes_of(
 {
     let mut notes = String::new(alloc);
     if let Some(noted) = noted {
-        for note in noted.look(run.account, moment, None)?.as_slice() {
-            push_note(&mut notes, run.words(), note)?;
-        }
+        let found = noted.look(run.account, moment, None)?;
+        push_notes(&mut notes, run.words(), found.as_slice())?;
     }
     Ok(notes)
 }

@@ -1,6 +1,6 @@
 //! Each source and loop in one line, and what was silent.
 use crate::counts::Counts;
-use crate::noted::{Noted, push_note};
+use crate::noted::{Noted, push_notes};
 use crate::silent::push_silent;
 use account::{Account, Moment};
 use glib_notes::Note;
@@ -32,9 +32,8 @@ impl Summary {
 
     /// Counts the latest moment of a run.
     pub fn tell(&mut self, account: &Account, moment: &Moment) -> Result<(), AllocError> {
-        for note in self.noted.look(account, moment, None)?.as_slice() {
-            self.notes.push(*note)?;
-        }
+        let notes = self.noted.look(account, moment, None)?;
+        self.notes.extend_from_slice(notes.as_slice())?;
         self.counts.add(account, moment)
     }
 
@@ -62,10 +61,7 @@ impl Summary {
             return Ok(());
         }
         out.push_str("\n")?;
-        for note in self.notes.as_slice() {
-            push_note(out, words, note)?;
-        }
-        Ok(())
+        push_notes(out, words, self.notes.as_slice())
     }
 
     /// Adds what was silent.

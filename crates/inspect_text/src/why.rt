@@ -1,7 +1,7 @@
 //! Why sources are dispatched or not, iteration by iteration.
 use crate::alike::Alike;
 use crate::block::Block;
-use crate::noted::{Noted, push_note};
+use crate::noted::{Noted, push_notes};
 use crate::rests::Rests;
 use account::{Deed, Moment};
 use context_core::Standing;
@@ -45,23 +45,24 @@ impl Iteration {
     }
 }
 
+/// Nothing of each of so many.
+fn nothing_yet<T: Drop>(alloc: Global, count: u32) -> Result<Vec<Option<T>>, AllocError> {
+    let mut list = Vec::new(alloc);
+    for _ in 0..count {
+        list.push(None)?;
+    }
+    Ok(list)
+}
+
 impl Why {
     /// Nothing is told yet.
     pub fn new(alloc: Global, script: &Script, window: Window) -> Result<Why, AllocError> {
-        let mut alike = Vec::new(alloc);
-        for _ in 0..script.lanes() {
-            alike.push(None)?;
-        }
-        let mut blocks = Vec::new(alloc);
-        for _ in 0..script.contexts() {
-            blocks.push(None)?;
-        }
         Ok(Why {
             alloc,
             window,
             rests: Rests::new(alloc, script)?,
-            alike,
-            blocks,
+            alike: nothing_yet(alloc, script.lanes())?,
+            blocks: nothing_yet(alloc, script.contexts())?,
             noted: Noted::new(alloc, script)?,
         })
     }
@@ -77,11 +78,21 @@ impl Why {
         let iteration = Iteration::of(run, moment)?;
         self.tell_move(run, moment, iteration.as_ref(), out)?;
         let begun = iteration.as_ref().map(|one| one.standings.as_slice());
-        for note in self.noted.look(run.account, moment, begun)?.as_slice() {
-            if self.window.has(moment.lane, moment.tick) {
-                self.flush(run.words(), moment.lane, out)?;
-                push_note(out, run.words(), note)?;
-            }
+        self.tell_notes(run, moment, begun, out)
+    }
+
+    /// Adds where GLib does otherwise.
+    fn tell_notes(
+        &mut self,
+        run: Run<'_>,
+        moment: &Moment,
+        begun: Option<&[Standing]>,
+        out: &mut String,
+    ) -> Result<(), AllocError> {
+        let notes = self.noted.look(run.account, moment, begun)?;
+        if self.window.has(moment.lane, moment.tick) && !notes.is_empty() {
+            self.flush(run.words(), moment.lane, out)?;
+            push_notes(out, run.words(), notes.as_slice())?;
         }
         Ok(())
     }
@@ -146,9 +157,7 @@ impl Why {
         match alike {
             Some(before) if before.has(&begun, &block) => before.add(tick),
             _ => {
-                if let Some(before) = alike.take() {
-                    before.push(out, words)?;
-                }
+                push_before(out, words, alike)?;
                 *alike = Some(Alike::new(self.alloc, begun, &block, tick)?);
             }
         }
@@ -181,11 +190,8 @@ impl Why {
 
     /// Adds what is not told yet of a thread.
     fn flush(&mut self, words: Words<'_>, lane: u32, out: &mut String) -> Result<(), AllocError> {
-        let Some(place) = self.alike.get_mut(lane as usize) else {
-            return Ok(());
-        };
-        match place.take() {
-            Some(alike) => alike.push(out, words),
+        match self.alike.get_mut(lane as usize) {
+            Some(alike) => push_before(out, words, alike),
             None => Ok(()),
         }
     }
@@ -197,6 +203,18 @@ impl Why {
             self.flush(words, lane, out)?;
         }
         Ok(())
+    }
+}
+
+/// Adds the iterations that are not told yet, which then are.
+fn push_before(
+    out: &mut String,
+    words: Words<'_>,
+    alike: &mut Option<Alike>,
+) -> Result<(), AllocError> {
+    match alike.take() {
+        Some(before) => before.push(out, words),
+        None => Ok(()),
     }
 }
 
