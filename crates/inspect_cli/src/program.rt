@@ -233,23 +233,10 @@ fn tell_each(
     };
     let mut teller = Teller::begin(rt.alloc(), order, words, &mut output.text)?;
     let mut account = Account::new(rt.alloc(), script)?;
-    tell_all(&mut account, &mut names, &mut teller, &mut output, progress)
+    tell_moments(&mut account, &mut names, &mut teller, &mut output, progress)
 }
 
-/// Tells of each moment of a run, and of its end.
-fn tell_all<W: Write>(
-    account: &mut Account,
-    names: &mut RunNames,
-    teller: &mut Teller,
-    output: &mut Output<W>,
-    progress: &mut Progress<'_>,
-) -> Result<(), Failure> {
-    tell_moments(account, names, teller, output, progress)?;
-    teller.end(Run { account, names }, &mut output.text)?;
-    output.write(progress)
-}
-
-/// Tells of each moment of a run, and writes that tick by tick.
+/// Tells of each moment of a run and of its end, and writes that tick by tick.
 fn tell_moments<W: Write>(
     account: &mut Account,
     names: &mut RunNames,
@@ -270,7 +257,8 @@ fn tell_moments<W: Write>(
         follow_names(names, account, &moment)?;
         teller.tell(Run { account, names }, &moment, &mut output.text)?;
     }
-    Ok(())
+    teller.end(Run { account, names }, &mut output.text)?;
+    output.write(progress)
 }
 
 /// Runs a script up to one moment, and writes what a thread is in the middle of there.

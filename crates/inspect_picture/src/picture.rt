@@ -19,6 +19,17 @@ const MARGIN: usize = 2;
 /// Times stand so many columns apart, or a multiple of it.
 const RULER_STEP: usize = 5;
 
+/// What rows leave to those behind them.
+#[derive(Drop)]
+struct Drawing {
+    legend: Legend,
+    waiting: Waiting,
+    /// A row before it is added.
+    line: String,
+    /// The first thread whose name is not added.
+    next: u32,
+}
+
 /// What of a run is drawn.
 #[derive(Drop)]
 pub(crate) struct Picture<'a> {
@@ -106,33 +117,82 @@ impl Picture<'_> {
         begin: usize,
         out: &mut String,
     ) -> Result<(), AllocError> {
-        let mut legend = Legend::new(self.alloc);
-        let mut waiting = Waiting::new(self.alloc, self.columns as usize);
-        let mut line = String::new(self.alloc);
-        let mut next = 0u32;
+        let mut drawing = Drawing {
+            legend: Legend::new(self.alloc),
+            waiting: Waiting::new(self.alloc, self.columns as usize),
+            line: String::new(self.alloc),
+            next: 0,
+        };
+        self.draw(run, scale, begin, &mut drawing, out)
+    }
+
+    /// Adds the rows one by one, and what stands before and behind them.
+    fn draw(
+        &self,
+        run: Run<'_>,
+        scale: &Scale,
+        begin: usize,
+        drawing: &mut Drawing,
+        out: &mut String,
+    ) -> Result<(), AllocError> {
         for (row, track) in self.tracks.iter() {
-            if next <= row.lane {
-                waiting.flush(out)?;
-                self.push_without(next, row.lane, out)?;
-                push_heading(run, row.lane, out)?;
-                next = row.lane.saturating_add(1);
-            }
-            line.clear();
-            if track.only_waits() {
-                self.push_name(row, &mut line)?;
-                waiting.add(line.as_str())?;
-            } else {
-                line.push_str("  ")?;
-                self.push_name(row, &mut line)?;
-                push_to(&mut line, begin)?;
-                self.push_cells(track, scale, &mut legend, &mut line)?;
-                line.push_str("\n")?;
-                out.push_str(line.as_str())?;
-            }
+            self.begin_row(run, row, drawing, out)?;
+            self.push_track(row, track, scale, begin, drawing, out)?;
         }
-        waiting.flush(out)?;
-        self.push_without(next, run.account.script().lanes(), out)?;
-        legend.push(self.alloc, self.columns as usize, out)
+        self.end_rows(run, drawing, out)
+    }
+
+    /// Adds what stands between a row and the one before it, where its thread is another.
+    fn begin_row(
+        &self,
+        run: Run<'_>,
+        row: &RowName,
+        drawing: &mut Drawing,
+        out: &mut String,
+    ) -> Result<(), AllocError> {
+        if row.lane < drawing.next {
+            return Ok(());
+        }
+        drawing.waiting.flush(out)?;
+        self.push_without(drawing.next, row.lane, out)?;
+        drawing.next = row.lane.saturating_add(1);
+        push_heading(run, row.lane, out)
+    }
+
+    /// Adds a row, or takes it as one of those that only wait.
+    fn push_track(
+        &self,
+        row: &RowName,
+        track: &Track,
+        scale: &Scale,
+        begin: usize,
+        drawing: &mut Drawing,
+        out: &mut String,
+    ) -> Result<(), AllocError> {
+        let line = &mut drawing.line;
+        line.clear();
+        if track.only_waits() {
+            self.push_name(row, line)?;
+            return drawing.waiting.add(line.as_str());
+        }
+        line.push_str("  ")?;
+        self.push_name(row, line)?;
+        push_to(line, begin)?;
+        self.push_cells(track, scale, &mut drawing.legend, line)?;
+        line.push_str("\n")?;
+        out.push_str(line.as_str())
+    }
+
+    /// Adds what stands behind the last row, and what the marks mean.
+    fn end_rows(
+        &self,
+        run: Run<'_>,
+        drawing: &mut Drawing,
+        out: &mut String,
+    ) -> Result<(), AllocError> {
+        drawing.waiting.flush(out)?;
+        self.push_without(drawing.next, run.account.script().lanes(), out)?;
+        drawing.legend.push(self.alloc, self.columns as usize, out)
     }
 
     /// Adds the names of the threads from one on and before another, which have no row.

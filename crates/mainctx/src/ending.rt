@@ -97,6 +97,60 @@ fn put_numbered(bytes: &mut [u8; LONGEST_LINE], end: usize, label: &str, number:
     put(bytes, number, label)
 }
 
+/// Writes a label, a context and an answer.
+#[inline]
+fn put_answer(
+    bytes: &mut [u8; LONGEST_LINE],
+    end: usize,
+    label: &str,
+    context: u32,
+    answer: bool,
+) -> usize
+    requires { (length label.now ≤ 20) × (80 ≤ end) × (end ≤ longest_line) }
+    ensures short { end ≤ result + 80 }
+    ensures within { result ≤ end }
+    ensures written { drop result bytes.new ≡ label.now ++ (decimal context ++ (codes " " ++ (truth_text answer ++ drop end bytes.old))) }
+{
+    let at = put_truth(bytes, end, answer);
+    let at = put(bytes, at, " ");
+    put_numbered(bytes, at, label, u64::from(context))
+}
+
+/// Writes what was dispatched, and where.
+#[inline]
+fn put_dispatch(
+    bytes: &mut [u8; LONGEST_LINE],
+    end: usize,
+    context: u32,
+    source: u64,
+    priority: i32,
+    depth: u64,
+) -> usize
+    requires { (160 ≤ end) × (end ≤ longest_line) }
+    ensures short { end ≤ result + 160 }
+    ensures within { result ≤ end }
+    ensures written { drop result bytes.new ≡ codes "dispatch ctx " ++ (decimal context ++ (codes " source " ++ (decimal source ++ (codes " priority " ++ (signed_decimal priority ++ (codes " depth " ++ (decimal depth ++ drop end bytes.old))))))) }
+{
+    let at = put_number(bytes, end, depth);
+    let at = put(bytes, at, " depth ");
+    let at = put_signed(bytes, at, i64::from(priority));
+    let at = put(bytes, at, " priority ");
+    let at = put_numbered(bytes, at, " source ", source);
+    put_numbered(bytes, at, "dispatch ctx ", u64::from(context))
+}
+
+/// Writes which task it is, by its lane and number.
+#[inline]
+fn put_task(bytes: &mut [u8; LONGEST_LINE], end: usize, lane: u32, number: u64) -> usize
+    requires { (80 ≤ end) × (end ≤ longest_line) }
+    ensures short { end ≤ result + 80 }
+    ensures within { result ≤ end }
+    ensures written { drop result bytes.new ≡ codes "task " ++ (decimal lane ++ (codes "." ++ (decimal number ++ drop end bytes.old))) }
+{
+    let at = put_numbered(bytes, end, ".", number);
+    put_numbered(bytes, at, "task ", u64::from(lane))
+}
+
 /// Writes what a line tells.
 fn put_event(bytes: &mut [u8; LONGEST_LINE], end: usize, event: Event) -> usize
     requires { (200 ≤ end) × (end ≤ longest_line) }
@@ -110,34 +164,15 @@ fn put_event(bytes: &mut [u8; LONGEST_LINE], end: usize, event: Event) -> usize
             source,
             priority,
             depth,
-        } => {
-            let at = put_number(bytes, end, depth);
-            let at = put(bytes, at, " depth ");
-            let at = put_signed(bytes, at, i64::from(priority));
-            let at = put(bytes, at, " priority ");
-            let at = put_numbered(bytes, at, " source ", source);
-            put_numbered(bytes, at, "dispatch ctx ", u64::from(context))
-        }
+        } => put_dispatch(bytes, end, context, source, priority, depth),
         Event::Log(number) => put_numbered(bytes, end, "log ", u64::from(number)),
-        Event::Iterate(ctx, answer) => {
-            let at = put_truth(bytes, end, answer);
-            let at = put(bytes, at, " ");
-            put_numbered(bytes, at, "iterate ctx ", u64::from(ctx))
-        }
-        Event::Pending(ctx, answer) => {
-            let at = put_truth(bytes, end, answer);
-            let at = put(bytes, at, " ");
-            put_numbered(bytes, at, "pending ctx ", u64::from(ctx))
-        }
+        Event::Iterate(ctx, answer) => put_answer(bytes, end, "iterate ctx ", ctx, answer),
+        Event::Pending(ctx, answer) => put_answer(bytes, end, "pending ctx ", ctx, answer),
         Event::LoopEnd(number) => {
             let at = put(bytes, end, " end");
             put_numbered(bytes, at, "loop ", u64::from(number))
         }
-        Event::Acquire(ctx, answer) => {
-            let at = put_truth(bytes, end, answer);
-            let at = put(bytes, at, " ");
-            put_numbered(bytes, at, "acquire ctx ", u64::from(ctx))
-        }
+        Event::Acquire(ctx, answer) => put_answer(bytes, end, "acquire ctx ", ctx, answer),
         Event::Default(ctx) => put_numbered(bytes, end, "default ctx ", u64::from(ctx)),
         Event::Invoke(ctx, how) => {
             let at = put(bytes, end, invoked_word(how));
@@ -157,13 +192,11 @@ fn put_event(bytes: &mut [u8; LONGEST_LINE], end: usize, event: Event) -> usize
         } => {
             let at = put_outcome(bytes, end, outcome);
             let at = put(bytes, at, " ");
-            let at = put_numbered(bytes, at, ".", number);
-            put_numbered(bytes, at, "task ", u64::from(lane))
+            put_task(bytes, at, lane, number)
         }
         Event::TaskLate(lane, number) => {
             let at = put(bytes, end, " late");
-            let at = put_numbered(bytes, at, ".", number);
-            put_numbered(bytes, at, "task ", u64::from(lane))
+            put_task(bytes, at, lane, number)
         }
         Event::Give { context, lane } => {
             let at = put_numbered(bytes, end, " lane ", u64::from(lane));
