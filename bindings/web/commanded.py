@@ -93,7 +93,7 @@ def without_node() -> str | None:
         helped, refused = (ran(words, env={"PATH": room}) for words in (["why", "--help"], ["run", "examples/ten_lines.json"]))
     if helped[1:] != ("", 0) or not helped[0].startswith(USAGE):
         return f"./try why --help without Node: {helped}"
-    return None if refused[0] == "" and refused[1].startswith("try: no Node from 20 on") and refused[2] == 127 else f"./try run without Node: {refused}"
+    return None if refused[0] == "" and refused[1].startswith("try: no Node from 18 on") and refused[2] == 127 else f"./try run without Node: {refused}"
 
 
 def example(path: Path) -> str | None:
