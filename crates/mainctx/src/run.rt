@@ -10,6 +10,7 @@ use crate::text::OutOfMemory;
 use crate::writer::{Out, OutFault};
 use loop_script::{Script, ScriptFault};
 use std::alloc::Global;
+use std::mem;
 use std::sync::Wait;
 use std::thread::Threads;
 use thiserror::Error;
@@ -105,6 +106,33 @@ pub fn run_bytes<R: Threads + Wait + Sync, G: Gate, W: Out>(
 {
     let ended = run_to_end(rt, alloc, bytes, workers, sharing, gate)?;
     write_ended(alloc, &ended, out)?;
+    Ok(())
+}
+
+/// Does what `run_bytes` does, for a program that ends then: what a run held that was written whole is not given back piece by
+/// piece, since the system takes all of it at once.
+#[tactic(auto, using(crate::proofs::Alike::alike_none, crate::proofs::Setups::run_fault))]
+pub(crate) fn run_leaking<R: Threads + Wait + Sync, G: Gate, W: Out>(
+    rt: &R,
+    alloc: Global,
+    bytes: &[u8],
+    workers: u32,
+    sharing: Sharing,
+    gate: &G,
+    out: &mut W,
+) -> Result<(), MainFault>
+    ensures text { OnOk result (Writes bytes.now (W.taken out.old) (W.taken out.new)) }
+    ensures crew { OnOk result (IsCrewFor bytes.now workers sharing) }
+    ensures script { IfErr result (λ fault. IsRunFaultOf bytes.now workers sharing fault) }
+    ensures write { (result ≡ Err MainFault.Write) ↔ (W.failures out.old < W.failures out.new) }
+    ensures prefix { result ≡ Err MainFault.Write → WritesPrefix bytes.now (W.taken out.old) (W.taken out.new) }
+    ensures nothing { OnErr result (result ≢ Err MainFault.Write → W.taken out.new ≡ W.taken out.old) }
+    ensures known { GrowAlike (W.taken out.old) (W.taken out.new) (W.contents out.old) (W.contents out.new) }
+    ensures holds { OnOk result (HoldsText bytes.now (W.contents out.old) (W.contents out.new)) }
+{
+    let ended = run_to_end(rt, alloc, bytes, workers, sharing, gate)?;
+    write_ended(alloc, &ended, out)?;
+    mem::forget(ended);
     Ok(())
 }
 

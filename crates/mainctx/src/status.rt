@@ -6,7 +6,7 @@ ghost use Rattle.mainctx.specs.Serving.{Serves, ServesPrefix, ServesHolder, HasF
 ghost use Rattle.mainctx.specs.Writing.{GrowAlike};
 
 use crate::arguments::Asked;
-use crate::run::{MainFault, run_bytes};
+use crate::run::{MainFault, run_leaking};
 use crate::writer::Out;
 use loop_script::ScriptFault;
 use program_input::{InputFault, read_input};
@@ -94,7 +94,7 @@ fn attempt<X: Threads + Wait + Sync, R: Read, W: Out>(
         Err(InputFault::OutOfMemory) => return Err(Refusal::Memory),
         Err(_) => return Err(Refusal::Read),
     };
-    match run_bytes(
+    match run_leaking(
         rt,
         alloc,
         script.as_slice(),

@@ -12,7 +12,7 @@ returns-in-Err-Script-clause-refusal g c =
     let script = c.in-Err-Script.field-0-is in
     let class = subst (IsRunFaultOf c.as_slice.result.now c.in-Some.field-0.workers c.in-Some.field-0.sharing) script c.in-Err-Script.ensures.script in
     let nothing = c.in-Err-Script.ensures.nothing (λ write. cc) in
-    refuses_by (g.R.Read.remaining c.args.input.now) c.as_slice.result.now c.in-Ok.script.items c.in-Some.field-0.workers c.in-Some.field-0.sharing c.in-Err-Script.fault (g.W.Out.taken c.args.out.now) (g.W.Out.taken c.run_bytes.new.out) c.in-Ok.ensures.whole c.as_slice.ensures.value class nothing
+    refuses_by (g.R.Read.remaining c.args.input.now) c.as_slice.result.now c.in-Ok.script.items c.in-Some.field-0.workers c.in-Some.field-0.sharing c.in-Err-Script.fault (g.W.Out.taken c.args.out.now) (g.W.Out.taken c.run_leaking.new.out) c.in-Ok.ensures.whole c.as_slice.ensures.value class nothing
 
 pub returns-in-Err-Setup-clause-refusal : goal.returns-in-Err-Setup-clause-refusal
 returns-in-Err-Setup-clause-refusal g c =

@@ -1,4 +1,4 @@
-use Rattle.std.proofs.Common.{rules, arith}
+use Rattle.std.proofs.Common.{arith}
 use Rattle.std.proofs.lemmas.Grind.{common_steps}
 use Rattle.mainctx.proofs.Prefixes.{adds_lines, adds_nothing}
 use Rattle.mainctx.proofs.text.add_text.Goals as goal
