@@ -1,4 +1,5 @@
-"""What ./try answers by the module, in calls whose answers were worked out by hand, and for each example."""
+"""What ./try answers by the module, in calls whose answers were worked out by hand, and for each example. The words of LIFE alone were written down
+from the module's own answer, and its moments held to examples/ten_lines.out: it shows that the command hands on what the module says."""
 from __future__ import annotations
 
 import json
