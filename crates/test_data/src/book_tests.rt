@@ -3,12 +3,11 @@ ghost use Rattle.std.specs.Prelude.{IfOk};
 ghost use Rattle.test_data.specs.Going.{GoesOn, IsKnown};
 
 use crate::expected::expect_same;
-use crate::trees::value;
+use crate::trees::task_at;
 use cancel_view::{OutOfMemory, View};
 use loop_script::{Action, Body, Outcome, Script, TaskSpec};
 use std::alloc::Global;
 use std::process::Abort;
-use std::test::Fail;
 use task_steps::{BookFault, Polled, Reply, TaskBook};
 
 /// A book whose view and tick go on as in a lane.
@@ -83,9 +82,9 @@ fn expect_known(rt: &impl Abort, cancel: Option<u32>, cancellables: u32)
 }
 
 /// Tasks that call procedure 5, with priority -1: two that end at once; a sleep; a tie; an end at the limit; two of the same end, of which
-/// the first has no check; and three more sleeps.
+/// the first has no check; three more sleeps; and one that ends at once and has a cancellable.
 fn tasks() -> &'static str {
-    r#"{"version":1,"ticks":1,"tick_us":1000,"cancellables":2,"procs":[{"do":[]},{"do":[]},{"do":[]},{"do":[]},{"do":[]},{"do":[]}],"lanes":[{"contexts":1,"start":[["task",{"tree":["value",1],"call":5,"priority":-1}],["task",{"tree":["value",2],"call":5,"priority":-1}],["task",{"tree":["sleep",3000],"call":5,"priority":-1,"cancel":0,"return_on_cancel":true}],["task",{"tree":["first",["seq",["sleep",1000],["value",1]],["seq",["sleep",1000],["value",2]]],"call":5,"priority":-1}],["task",{"tree":["within",2000,["seq",["sleep",2000],["value",3]]],"call":5,"priority":-1}],["task",{"tree":["seq",["sleep",2000],["value",4]],"call":5,"priority":-1,"cancel":0,"check":false}],["task",{"tree":["seq",["sleep",2000],["value",4]],"call":5,"priority":-1,"cancel":0}],["task",{"tree":["sleep",2000],"call":5,"priority":-1,"cancel":0,"return_on_cancel":true}],["task",{"tree":["sleep",9000],"call":5,"priority":-1,"cancel":1,"return_on_cancel":true}],["task",{"tree":["sleep",7000],"call":5,"priority":-1,"cancel":1}]]}]}"#
+    r#"{"version":1,"ticks":1,"tick_us":1000,"cancellables":2,"procs":[{"do":[]},{"do":[]},{"do":[]},{"do":[]},{"do":[]},{"do":[]}],"lanes":[{"contexts":1,"start":[["task",{"tree":["value",1],"call":5,"priority":-1}],["task",{"tree":["value",2],"call":5,"priority":-1}],["task",{"tree":["sleep",3000],"call":5,"priority":-1,"cancel":0,"return_on_cancel":true}],["task",{"tree":["first",["seq",["sleep",1000],["value",1]],["seq",["sleep",1000],["value",2]]],"call":5,"priority":-1}],["task",{"tree":["within",2000,["seq",["sleep",2000],["value",3]]],"call":5,"priority":-1}],["task",{"tree":["seq",["sleep",2000],["value",4]],"call":5,"priority":-1,"cancel":0,"check":false}],["task",{"tree":["seq",["sleep",2000],["value",4]],"call":5,"priority":-1,"cancel":0}],["task",{"tree":["sleep",2000],"call":5,"priority":-1,"cancel":0,"return_on_cancel":true}],["task",{"tree":["sleep",9000],"call":5,"priority":-1,"cancel":1,"return_on_cancel":true}],["task",{"tree":["sleep",7000],"call":5,"priority":-1,"cancel":1}],["task",{"tree":["value",1],"call":5,"priority":-1,"cancel":0,"return_on_cancel":true}]]}]}"#
 }
 
 /// A step of a lane, and what it has to give.
@@ -204,6 +203,26 @@ const ONE_OF_TWO_CANCELLED: [Step; 8] = [
     Wake(Some(8)),
 ];
 
+/// A task that has a cancellable and ends at once.
+const ENDS_AT_ONCE: [Step; 2] = [
+    Begin(10, 0),
+    Poll(
+        &[Reply {
+            cancel: Some(0),
+            ..ENDED
+        }],
+        &[],
+    ),
+];
+
+fn expect_polled(rt: &impl Abort, tick: u32, polled: &Polled, replies: &[Reply], late: &[u64]) {
+    expect_same(
+        rt,
+        (tick, polled.replies.as_slice(), polled.late.as_slice()),
+        (tick, replies, late),
+    );
+}
+
 /// Polls in the next tick, and compares.
 fn expect(
     rt: &impl Abort,
@@ -215,11 +234,7 @@ fn expect(
     ensures { GoesOn lane.new.book lane.new.view lane.new.cancellables lane.new.started lane.new.tick }
 {
     let polled = lane.poll(rt)?;
-    expect_same(
-        rt,
-        (lane.tick, polled.replies.as_slice(), polled.late.as_slice()),
-        (lane.tick, replies, late),
-    );
+    expect_polled(rt, lane.tick, &polled, replies, late);
     Ok(())
 }
 
@@ -229,19 +244,19 @@ fn expect_wake(rt: &impl Abort, lane: &Lane, wake: Option<u64>)
     expect_same(rt, (lane.tick, lane.wake()), (lane.tick, wake));
 }
 
-/// Starts the task of an action, which is to have a number.
+/// Starts a task, which is to have a number.
 fn begin(
     rt: &impl Abort,
     lane: &mut Lane,
-    action: Option<&Action>,
+    task: Option<&TaskSpec>,
     number: u64,
 ) -> Result<(), BookFault>
     requires { GoesOn lane.old.book lane.old.view lane.old.cancellables lane.old.started lane.old.tick }
     ensures { GoesOn lane.new.book lane.new.view lane.new.cancellables lane.new.started lane.new.tick }
 {
-    match action {
-        Some(Action::Task(spec)) => expect_same(rt, lane.start(rt, spec)?, number),
-        _ => assert!(rt; false, "no task"),
+    match task {
+        Some(spec) => expect_same(rt, lane.start(rt, spec)?, number),
+        None => assert!(rt; false, "no task"),
     }
     Ok(())
 }
@@ -255,13 +270,16 @@ fn take(rt: &impl Abort, lane: &mut Lane, tasks: &[Action], step: &Step) -> Resu
             expect_wake(rt, lane, wake);
             Ok(())
         }
-        Begin(task, number) => begin(rt, lane, tasks.get(task), number),
-        Cancel(c) => lane.cancel(rt, c).map_err(|_| BookFault::OutOfMemory),
+        Begin(task, number) => begin(rt, lane, task_at(tasks, task), number),
+        Cancel(c) => match lane.cancel(rt, c) {
+            Ok(()) => Ok(()),
+            Err(OutOfMemory) => Err(BookFault::OutOfMemory),
+        },
         Poll(replies, late) => expect(rt, lane, replies, late),
     }
 }
 
-/// Takes steps of a book in a lane of two cancellables.
+/// Takes steps of a book; the first fault ends them.
 fn take_all(
     rt: &impl Abort,
     lane: &mut Lane,
@@ -269,6 +287,7 @@ fn take_all(
     steps: &[Step],
 ) -> Result<(), BookFault>
     requires { GoesOn lane.old.book lane.old.view lane.old.cancellables lane.old.started lane.old.tick }
+    ensures { GoesOn lane.new.book lane.new.view lane.new.cancellables lane.new.started lane.new.tick }
 {
     'steps: for step in steps {
         take(rt, lane, tasks, step)?;
@@ -276,14 +295,12 @@ fn take_all(
     Ok(())
 }
 
-/// The same of a book without tasks; nothing where memory is refused.
-fn take_of_new(rt: &impl Abort, alloc: Global, tasks: &[Action], steps: &[Step]) -> Option<()> {
-    let mut lane = Lane::new(alloc, 2).ok()?;
-    take_all(rt, &mut lane, tasks, steps).ok()
-}
-
+/// The same of a book without tasks, in a lane of two cancellables.
 fn expect_taken(rt: &impl Abort, alloc: Global, tasks: &[Action], steps: &[Step]) {
-    expect_same(rt, take_of_new(rt, alloc, tasks, steps), Some(()));
+    match Lane::new(alloc, 2) {
+        Ok(mut lane) => expect_same(rt, take_all(rt, &mut lane, tasks, steps), Ok(())),
+        Err(OutOfMemory) => assert!(rt; false),
+    }
 }
 
 // (a table is part of each function that names it, and a proof grows faster than its function: each table has one of its own)
@@ -306,94 +323,61 @@ fn expect_steps(rt: &impl Abort, alloc: Global, tasks: &[Action]) {
     expect_one_of_two(rt, alloc, tasks);
 }
 
-#[test]
-fn tasks_of_a_book(rt: HostRuntime) -> Result<(), Fail> {
-    let script = Script::read(rt.alloc(), tasks().as_bytes())?;
-    expect_steps(&rt, rt.alloc(), script.actions(Body::Start(0)));
-    Ok(())
-}
-
-/// A task that ends at once, and has a cancellable.
-fn ends_at_once() -> TaskSpec {
-    TaskSpec {
-        tree: value(1),
-        call: 5,
-        cancel: Some(0),
-        check: true,
-        return_on_cancel: true,
-        priority: -1,
-    }
-}
-
-fn expect_spent_once(rt: &impl Abort, lane: &mut Lane)
-    requires { GoesOn lane.old.book lane.old.view lane.old.cancellables lane.old.started lane.old.tick }
-    ensures { GoesOn lane.new.book lane.new.view lane.new.cancellables lane.new.started lane.new.tick }
-{
-    let start = lane.start(rt, &ends_at_once());
-    expect_same(rt, start, Err(BookFault::Spent));
-    expect_same(rt, lane.poll(rt).err(), Some(BookFault::Spent));
-}
-
 /// That a book answers `Spent`, to both calls and a second time too, and has no wake.
-fn expect_spent(rt: &impl Abort, lane: &mut Lane)
+fn expect_spent(rt: &impl Abort, lane: &mut Lane, tasks: &[Action])
     requires { GoesOn lane.old.book lane.old.view lane.old.cancellables lane.old.started lane.old.tick }
-    ensures { GoesOn lane.new.book lane.new.view lane.new.cancellables lane.new.started lane.new.tick }
 {
-    expect_spent_once(rt, lane);
-    expect_spent_once(rt, lane);
+    let spent = Err(BookFault::Spent);
+    expect_same(rt, begin(rt, lane, task_at(tasks, 10), 0), spent);
+    expect_same(rt, expect(rt, lane, &[], &[]), spent);
+    expect_same(rt, begin(rt, lane, task_at(tasks, 10), 0), spent);
+    expect_same(rt, expect(rt, lane, &[], &[]), spent);
     expect_wake(rt, lane, None);
 }
 
-/// Polls a book with one task that ends at once, where memory may be refused.
-fn poll_one(rt: &impl Abort, lane: &mut Lane)
+/// Starts a task that ends at once, where memory may be refused, and polls it; a poll of what has ended takes no memory.
+fn take_or_spend(rt: &impl Abort, lane: &mut Lane, tasks: &[Action])
     requires { GoesOn lane.old.book lane.old.view lane.old.cancellables lane.old.started lane.old.tick }
-    ensures { GoesOn lane.new.book lane.new.view lane.new.cancellables lane.new.started lane.new.tick }
 {
-    match lane.poll(rt) {
+    match take_all(rt, lane, tasks, &ENDS_AT_ONCE) {
+        Ok(()) => expect_same(rt, expect(rt, lane, &[], &[]), Ok(())),
         Err(fault) => {
             expect_same(rt, fault, BookFault::OutOfMemory);
-            expect_spent(rt, lane);
-        }
-        Ok(polled) => {
-            let wanted = Reply {
-                cancel: Some(0),
-                ..ENDED
-            };
-            expect_same(rt, polled.replies.as_slice(), &[wanted]);
-            poll_none(rt, lane);
+            expect_spent(rt, lane, tasks);
         }
     }
 }
 
-/// Polls a book whose task has ended, which takes no memory.
-fn poll_none(rt: &impl Abort, lane: &mut Lane)
-    requires { GoesOn lane.old.book lane.old.view lane.old.cancellables lane.old.started lane.old.tick }
-    ensures { GoesOn lane.new.book lane.new.view lane.new.cancellables lane.new.started lane.new.tick }
-{
-    let polled = lane.poll(rt);
-    assert!(rt; polled.is_ok_and(|polled| polled.replies.as_slice().is_empty()));
+/// The same of a book without tasks, in a lane of one cancellable.
+fn expect_refused(rt: &impl Abort, alloc: Global, tasks: &[Action]) {
+    if let Ok(mut lane) = Lane::new(alloc, 1) {
+        take_or_spend(rt, &mut lane, tasks);
+    }
 }
 
-/// Starts a task that ends at once, where memory may be refused, and polls it.
-fn start_or_spend(rt: &impl Abort, lane: &mut Lane)
-    requires { GoesOn lane.old.book lane.old.view lane.old.cancellables lane.old.started lane.old.tick }
-{
-    match lane.start(rt, &ends_at_once()) {
-        Err(fault) => {
-            expect_same(rt, fault, BookFault::OutOfMemory);
-            expect_spent(rt, lane);
-        }
-        Ok(number) => {
-            expect_same(rt, number, 0);
-            poll_one(rt, lane);
-        }
+fn expect_of_actions(rt: &impl Abort, alloc: Global, tasks: &[Action], may_be_refused: bool) {
+    if may_be_refused {
+        expect_refused(rt, alloc, tasks);
+    } else {
+        expect_steps(rt, alloc, tasks);
     }
+}
+
+/// What a book does with the tasks, with ample memory, or where memory may be refused.
+fn expect_of_tasks(rt: &impl Abort, alloc: Global, may_be_refused: bool) {
+    match Script::read(alloc, tasks().as_bytes()) {
+        Ok(script) => expect_of_actions(rt, alloc, script.actions(Body::Start(0)), may_be_refused),
+        Err(_) => assert!(rt; may_be_refused),
+    }
+}
+
+#[test]
+fn tasks_of_a_book(rt: HostRuntime) {
+    expect_of_tasks(&rt, rt.alloc(), false);
 }
 
 /// A book that was refused memory answers `Spent` from then on.
 #[test]
 fn refused_book(rt: HostRuntime) {
-    if let Ok(mut lane) = Lane::new(rt.alloc(), 1) {
-        start_or_spend(&rt, &mut lane);
-    }
+    expect_of_tasks(&rt, rt.alloc(), true);
 }

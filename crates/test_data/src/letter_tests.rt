@@ -3,7 +3,6 @@ use crate::expected::expect_same;
 use post_office::{Body, Letter, Post, Tray, merge};
 use std::alloc::Global;
 use std::process::Abort;
-use std::test::Fail;
 
 fn letter(sender: u32, number: u64) -> Letter {
     Letter {
@@ -25,26 +24,31 @@ fn tray_of(alloc: Global, places: &[(u32, u64)]) -> Option<Tray> {
     Some(tray)
 }
 
-#[test]
-fn merges_by_sender_and_number(rt: HostRuntime) -> Result<(), Fail> {
-    let Some(tray) = tray_of(rt.alloc(), &[(2, 0), (0, 1), (1, 0), (0, 0)]) else {
+/// What a tray with such letters gives is merged to these.
+fn expect_merged(rt: &impl Abort, alloc: Global, places: &[(u32, u64)], wanted: &[Letter]) {
+    let Some(tray) = tray_of(alloc, places) else {
         assert!(rt; false);
-        return Ok(());
+        return;
     };
-    let merged = merge(rt.alloc(), tray.into_letters())?;
-    expect_same(
-        &rt,
-        merged.as_slice(),
-        &[letter(0, 0), letter(0, 1), letter(1, 0), letter(2, 0)],
-    );
-    Ok(())
+    match merge(alloc, tray.into_letters()) {
+        Ok(merged) => expect_same(rt, merged.as_slice(), wanted),
+        Err(_) => assert!(rt; false),
+    }
 }
 
 #[test]
-fn merges_none(rt: HostRuntime) -> Result<(), Fail> {
-    let merged = merge(rt.alloc(), Tray::new(rt.alloc()).into_letters())?;
-    expect_same(&rt, merged.len(), 0);
-    Ok(())
+fn merges_by_sender_and_number(rt: HostRuntime) {
+    expect_merged(
+        &rt,
+        rt.alloc(),
+        &[(2, 0), (0, 1), (1, 0), (0, 0)],
+        &[letter(0, 0), letter(0, 1), letter(1, 0), letter(2, 0)],
+    );
+}
+
+#[test]
+fn merges_none(rt: HostRuntime) {
+    expect_merged(&rt, rt.alloc(), &[], &[]);
 }
 
 /// A letter that finds no memory comes back, and the tray keeps what it had.
@@ -91,7 +95,8 @@ fn refused_merge(rt: HostRuntime) {
 /// Ten letters of each of four senders, in order.
 fn expect_forty(rt: &impl Abort, merged: &[Letter]) {
     expect_same(rt, merged.len(), 40);
-    for (place, merged) in (0..40_u32).zip(merged.iter()) {
-        expect_same(rt, *merged, letter(place / 10, u64::from(place % 10)));
+    for place in 0..40_u32 {
+        let wanted = letter(place / 10, u64::from(place % 10));
+        expect_same(rt, merged.get(place as usize), Some(&wanted));
     }
 }

@@ -23,3 +23,5 @@ mod run_tests;
 mod trees;
 #[cfg(test)]
 mod tried;
+#[cfg(test)]
+mod work_tests;

@@ -52,9 +52,9 @@ impl Plain {
         self.held.iter().find(|held| held.id == id).copied()
     }
 
-    fn push(&mut self, priority: i32, parent: Option<u64>, level: u8) -> Result<u64, AllocError> {
+    fn push(&mut self, priority: i32, parent: Option<u64>, level: u8) -> Result<u64, RowsFault> {
         let id = self.next_id;
-        self.held.push(Held {
+        let held = Held {
             id,
             priority,
             order: self.next_order,
@@ -62,24 +62,27 @@ impl Plain {
             level,
             ready: -1,
             count: 0,
-        })?;
+        };
+        if self.held.push(held).is_err() {
+            return Err(RowsFault::OutOfMemory);
+        }
         self.next_id = id.saturating_add(1);
         self.next_order = self.next_order.saturating_add(1);
         Ok(id)
     }
 
-    pub(crate) fn attach(&mut self, priority: i32) -> Result<u64, AllocError> {
+    pub(crate) fn attach(&mut self, priority: i32) -> Result<u64, RowsFault> {
         self.push(priority, None, 1)
     }
 
-    pub(crate) fn add_child(&mut self, parent: u64) -> Result<Result<u64, RowsFault>, AllocError> {
+    pub(crate) fn add_child(&mut self, parent: u64) -> Result<u64, RowsFault> {
         let Some(above) = self.find(parent) else {
-            return Ok(Err(RowsFault::NoSource));
+            return Err(RowsFault::NoSource);
         };
         match (self.levels, above.level) {
-            (Levels::Two, 2) => Ok(Err(RowsFault::IsChild)),
-            (Levels::Four, 4) => Ok(Err(RowsFault::TooDeep)),
-            (_, level) => Ok(Ok(self.push(above.priority, Some(parent), level.saturating_add(1))?)),
+            (Levels::Two, 2) => Err(RowsFault::IsChild),
+            (Levels::Four, 4) => Err(RowsFault::TooDeep),
+            (_, level) => self.push(above.priority, Some(parent), level.saturating_add(1)),
         }
     }
 
@@ -197,8 +200,14 @@ impl Plain {
         let mut first: Option<Held> = None;
         for held in self.held.iter() {
             let place = (held.priority, held.order);
-            let is_behind = last.is_none_or(|last| last < place);
-            let is_first = first.is_none_or(|first| place < (first.priority, first.order));
+            let is_behind = match last {
+                Some(last) => last < place,
+                None => true,
+            };
+            let is_first = match first {
+                Some(first) => place < (first.priority, first.order),
+                None => true,
+            };
             if held.parent == parent && is_behind && is_first {
                 first = Some(*held);
             }

@@ -1,31 +1,14 @@
-//! Work lists and offices: two threads that post, two that take, and memory refused.
-ghost use Rattle.std.specs.Prelude.{◌≡◌, ℕ, IfOk};
+//! Offices: two threads that post, and memory refused.
+ghost use Rattle.std.specs.Prelude.{◌≡◌};
 
 use crate::expected::expect_same;
-use post_office::{
-    Body, Letter, LetterQueue, Numbered, Office, OfficePass, OutOfMemory, Post, WorkList, WorkPass,
-    WorkQueue,
-};
-use std::alloc::{AllocError, Global};
+use post_office::{Body, Letter, LetterQueue, Office, OfficePass, OutOfMemory, Post};
+use std::alloc::Global;
+use std::ops::Range;
 use std::process::Abort;
 use std::sync::Wait;
-use std::test::Fail;
 use std::thread;
 use std::thread::Threads;
-
-/// What is put into a work list.
-#[derive(Drop)]
-struct Job {
-    number: u32,
-}
-
-impl Numbered for Job {
-    ghost number_of = { λ job. job.number };
-
-    fn number(&self) -> u32 {
-        self.number
-    }
-}
 
 fn letter(sender: u32, number: u64) -> Letter {
     Letter {
@@ -36,310 +19,57 @@ fn letter(sender: u32, number: u64) -> Letter {
     }
 }
 
-/// Posts the letters 0, 1 and 2 of a sender: two as a worker does itself, and one through a post that is lent to a turn.
-fn post_three<R: Wait>(
-    rt: &R,
-    queue: &LetterQueue,
-    sender: u32,
-    mut pass: OfficePass,
-) -> Result<OfficePass, Letter>
-    requires { pass.home ≡ queue.now }
-    ensures { IfOk result (λ back. back.home ≡ queue.now) }
-{
-    queue.post_as(rt, &mut pass, letter(sender, 0))?;
-    let mut lent = queue.lend(rt, pass);
-    let posted = lent.post(letter(sender, 1));
-    let mut pass = lent.into_pass();
-    posted?;
-    queue.post_as(rt, &mut pass, letter(sender, 2))?;
-    Ok(pass)
-}
+/// How many letters each of two threads posts.
+const MOST: u64 = 40;
 
-/// Two threads post three letters each.
-fn post_six<R: Threads + Wait + Sync>(
-    rt: &R,
-    queue: &LetterQueue,
-    one: OfficePass,
-    two: OfficePass,
-) -> (Result<OfficePass, Letter>, Result<OfficePass, Letter>)
-    requires { (one.home ≡ queue.now) × (two.home ≡ queue.now) }
-    ensures one { IfOk result.0 (λ back. back.home ≡ queue.now) }
-    ensures two { IfOk result.1 (λ back. back.home ≡ queue.now) }
-{
-    thread::join(
-        rt,
-        move || post_three(rt, queue, 1, one),
-        move || post_three(rt, queue, 2, two),
-    )
-}
-
-/// The numbers of a sender's letters, in their order.
-fn numbers_of(alloc: Global, letters: &[Letter], sender: u32) -> Result<Vec<u64>, AllocError> {
-    let mut numbers = Vec::new(alloc);
-    for letter in letters {
-        if letter.sender == sender {
-            numbers.push(letter.number)?;
+/// Whether a letter was posted; where it was not, it is what comes back.
+fn is_posted(rt: &impl Abort, posted: Result<(), Letter>, wanted: Letter) -> bool {
+    match posted {
+        Ok(()) => true,
+        Err(back) => {
+            expect_same(rt, back, wanted);
+            false
         }
     }
-    Ok(numbers)
 }
 
-/// The office's own calls, which pass on to its queue: a letter posted, one through a post that is lent, and another.
-fn post_by_the_office<R: Wait>(
+/// Posts letters by number, as a worker does itself, and tells how many were posted.
+fn post_some<R: Wait + Abort>(
     rt: &R,
-    office: &Office,
-    mut pass: OfficePass,
-) -> Result<OfficePass, Letter>
-    requires { pass.home ≡ office.now.home }
-    ensures { IfOk result (λ back. back.home ≡ office.now.home) }
-{
-    office.post_as(rt, &mut pass, letter(1, 0))?;
-    let mut lent = office.lend(rt, pass);
-    let posted = lent.post(letter(1, 1));
-    let mut pass = lent.into_pass();
-    posted?;
-    office.post_as(rt, &mut pass, letter(1, 2))?;
-    Ok(pass)
-}
-
-#[test]
-fn letters_by_the_office(rt: HostRuntime) -> Result<(), Fail> {
-    let mut office = Office::new(rt.alloc())?;
-    let pass = office.pass()?;
-    let Ok(pass) = post_by_the_office(&rt, &office, pass) else {
-        return Err(OutOfMemory.into());
-    };
-    office.take_back(pass);
-    let letters = office.drain(&rt, rt.alloc())?;
-    expect_three(&rt, rt.alloc(), &letters, 1)?;
-    Ok(())
-}
-
-#[test]
-fn letters_of_two_threads(rt: HostRuntime) -> Result<(), Fail> {
-    let mut office = Office::new(rt.alloc())?;
-    let one = office.pass()?;
-    let two = office.pass()?;
-    let (one, two) = post_six(&rt, office.queue(), one, two);
-    let (Ok(one), Ok(two)) = (one, two) else {
-        return Err(OutOfMemory.into());
-    };
-    office.take_back(two);
-    office.take_back(one);
-    let letters = office.drain(&rt, rt.alloc())?;
-    expect_six(&rt, rt.alloc(), &letters)?;
-    Ok(())
-}
-
-/// Three letters of each of two senders.
-fn expect_six(rt: &impl Abort, alloc: Global, letters: &[Letter]) -> Result<(), AllocError> {
-    expect_same(rt, letters.len(), 6);
-    expect_three(rt, alloc, letters, 1)?;
-    expect_three(rt, alloc, letters, 2)
-}
-
-/// A sender's letters are 0, 1 and 2, in their order.
-fn expect_three(
-    rt: &impl Abort,
-    alloc: Global,
-    letters: &[Letter],
+    queue: &LetterQueue,
     sender: u32,
-) -> Result<(), AllocError> {
-    let numbers = numbers_of(alloc, letters, sender)?;
-    expect_same(rt, numbers.as_slice(), &[0, 1, 2]);
-    Ok(())
-}
-
-/// Takes four times, and tells the numbers of what was taken.
-fn take_four<R: Wait>(
-    rt: &R,
-    queue: &WorkQueue<Job>,
-    mut pass: WorkPass<Job>,
-) -> (WorkPass<Job>, [Option<u32>; 4])
-    requires { pass.home ≡ queue.now }
-    ensures { result.0.home ≡ queue.now }
-{
-    let taken = [
-        take_number(rt, queue, &mut pass),
-        take_number(rt, queue, &mut pass),
-        take_number(rt, queue, &mut pass),
-        take_number(rt, queue, &mut pass),
-    ];
-    (pass, taken)
-}
-
-fn take_number<R: Wait>(rt: &R, queue: &WorkQueue<Job>, pass: &mut WorkPass<Job>) -> Option<u32>
+    pass: &mut OfficePass,
+    numbers: Range<u64>,
+) -> usize
     requires { pass.old.home ≡ queue.now }
     ensures { pass.new.home ≡ queue.now }
 {
-    queue.take(rt, pass).map(|job| job.number())
+    let mut posted: usize = 0;
+    for number in numbers {
+        let it = letter(sender, number);
+        if is_posted(rt, queue.post_as(rt, pass, it), it) {
+            posted = posted.saturating_add(1);
+        }
+    }
+    posted
 }
 
-/// Two threads take four times each.
-fn take_eight<R: Threads + Wait + Sync>(
+/// Posts a letter through a post that is lent to a turn.
+fn post_lent<R: Wait>(
     rt: &R,
-    queue: &WorkQueue<Job>,
-    one: WorkPass<Job>,
-    two: WorkPass<Job>,
-) -> (
-    (WorkPass<Job>, [Option<u32>; 4]),
-    (WorkPass<Job>, [Option<u32>; 4]),
-)
-    requires { (one.home ≡ queue.now) × (two.home ≡ queue.now) }
-    ensures one { result.0.0.home ≡ queue.now }
-    ensures two { result.1.0.home ≡ queue.now }
+    queue: &LetterQueue,
+    pass: OfficePass,
+    letter: Letter,
+) -> (OfficePass, Result<(), Letter>)
+    requires { pass.home ≡ queue.now }
+    ensures { result.0.home ≡ queue.now }
 {
-    thread::join(
-        rt,
-        move || take_four(rt, queue, one),
-        move || take_four(rt, queue, two),
-    )
+    let mut lent = queue.lend(rt, pass);
+    let posted = lent.post(letter);
+    (lent.into_pass(), posted)
 }
 
-/// Puts the jobs 0, 1 and 2.
-fn put_three<R: Wait>(rt: &R, list: &mut WorkList<Job>) -> Result<(), Job>
-    requires { list.old.out ≡ 0 }
-    ensures { list.new.out ≡ 0 }
-{
-    list.put(rt, Job { number: 0 })?;
-    list.put(rt, Job { number: 1 })?;
-    list.put(rt, Job { number: 2 })
-}
-
-/// How often a number was taken.
-fn times_taken(taken: &[Option<u32>; 4], number: u32) -> usize {
-    taken.iter().filter(|&&one| one == Some(number)).count()
-}
-
-/// Each of three was taken once, by one or the other, and then none is left for either.
-fn expect_each_once(rt: &impl Abort, one: &[Option<u32>; 4], two: &[Option<u32>; 4]) {
-    for number in 0..3 {
-        let times = (times_taken(one, number), times_taken(two, number));
-        assert!(rt; times == (1, 0) || times == (0, 1), "{number}");
-    }
-    expect_same(rt, (one[3], two[3]), (None, None));
-}
-
-#[test]
-fn work_of_two_threads(rt: HostRuntime) -> Result<(), Fail> {
-    let mut list = WorkList::new(rt.alloc())?;
-    if put_three(&rt, &mut list).is_err() {
-        return Err(OutOfMemory.into());
-    }
-    let one = list.pass()?;
-    let two = list.pass()?;
-    let (first, second) = take_eight(&rt, list.queue(), one, two);
-    let (one, of_one) = first;
-    let (two, of_two) = second;
-    expect_each_once(&rt, &of_one, &of_two);
-    list.take_back(two);
-    list.take_back(one);
-    expect_left(&rt, &mut list, None);
-    Ok(())
-}
-
-/// Takes by the list's own call, which passes on to its queue.
-fn take_by_the_list<R: Wait>(rt: &R, list: &WorkList<Job>, pass: &mut WorkPass<Job>) -> Option<u32>
-    requires { pass.old.home ≡ list.now.home }
-    ensures { pass.new.home ≡ list.now.home }
-{
-    list.take(rt, pass).map(|job| job.number())
-}
-
-#[test]
-fn work_by_the_list(rt: HostRuntime) -> Result<(), Fail> {
-    let mut list = WorkList::new(rt.alloc())?;
-    if put_three(&rt, &mut list).is_err() {
-        return Err(OutOfMemory.into());
-    }
-    let mut pass = list.pass()?;
-    let taken = [
-        take_by_the_list(&rt, &list, &mut pass),
-        take_by_the_list(&rt, &list, &mut pass),
-        take_by_the_list(&rt, &list, &mut pass),
-        take_by_the_list(&rt, &list, &mut pass),
-    ];
-    list.take_back(pass);
-    assert!(rt; taken == [Some(0), Some(1), Some(2), None]);
-    Ok(())
-}
-
-/// Puts jobs by number, tells of each whether it was put, and expects back what was not.
-fn put_all(rt: &(impl Wait + Abort), list: &mut WorkList<Job>) -> [bool; 40]
-    requires { list.old.out ≡ 0 }
-    ensures { list.new.out ≡ 0 }
-{
-    let mut put = [false; 40];
-    for (number, done) in (0..).zip(put.iter_mut()) {
-        match list.put(rt, Job { number }) {
-            Ok(()) => *done = true,
-            Err(back) => expect_same(rt, back.number(), number),
-        }
-    }
-    put
-}
-
-/// Whether one of two took a number, which both may not, and neither where it was not put.
-fn is_taken(
-    rt: &impl Abort,
-    one: &[Option<u32>; 4],
-    two: &[Option<u32>; 4],
-    number: u32,
-    put: bool,
-) -> bool {
-    let times = (times_taken(one, number), times_taken(two, number));
-    let taken = times == (1, 0) || times == (0, 1);
-    assert!(rt; times == (0, 0) || taken && put, "{number}");
-    taken
-}
-
-/// What a list gives once all passes are back.
-fn expect_left(rt: &(impl Wait + Abort), list: &mut WorkList<Job>, wanted: Option<u32>)
-    requires { list.old.out ≡ 0 }
-    ensures { list.new.out ≡ 0 }
-{
-    let left = list.take_rest(rt).map(|job| job.number());
-    expect_same(rt, left, wanted);
-}
-
-/// What was put and neither took is left, and no more.
-fn expect_rest(
-    rt: &(impl Wait + Abort),
-    list: &mut WorkList<Job>,
-    put: &[bool; 40],
-    one: &[Option<u32>; 4],
-    two: &[Option<u32>; 4],
-)
-    requires { list.old.out ≡ 0 }
-{
-    for (number, done) in (0..).zip(put) {
-        if !is_taken(rt, one, two, number, *done) && *done {
-            expect_left(rt, list, Some(number));
-        }
-    }
-    expect_left(rt, list, None);
-}
-
-/// Whatever request is refused, what was put is taken once, by one of two threads or at the end, and what comes back is
-/// what was to be put.
-#[test]
-fn refused_work(rt: HostRuntime) {
-    let Ok(mut list) = WorkList::new(rt.alloc()) else {
-        return;
-    };
-    let put = put_all(&rt, &mut list);
-    let (Ok(one), Ok(two)) = (list.pass(), list.pass()) else {
-        return;
-    };
-    let (first, second) = take_eight(&rt, list.queue(), one, two);
-    let (one, of_one) = first;
-    let (two, of_two) = second;
-    list.take_back(two);
-    list.take_back(one);
-    expect_rest(&rt, &mut list, &put, &of_one, &of_two);
-}
-
-/// Posts letters by number, tells how many were posted, and expects back what was not.
+/// Posts a thread's letters, the second of them through a post that is lent, and tells how many were posted.
 fn post_all<R: Wait + Abort>(
     rt: &R,
     queue: &LetterQueue,
@@ -349,17 +79,15 @@ fn post_all<R: Wait + Abort>(
     requires { pass.home ≡ queue.now }
     ensures { result.0.home ≡ queue.now }
 {
-    let mut posted = 0;
-    for number in 0..40 {
-        match queue.post_as(rt, &mut pass, letter(sender, number)) {
-            Ok(()) => posted += 1,
-            Err(back) => expect_same(rt, back, letter(sender, number)),
-        }
-    }
-    (pass, posted)
+    let first = post_some(rt, queue, sender, &mut pass, 0..1);
+    let it = letter(sender, 1);
+    let (mut pass, lent) = post_lent(rt, queue, pass, it);
+    let second = usize::from(is_posted(rt, lent, it));
+    let others = post_some(rt, queue, sender, &mut pass, 2..MOST);
+    (pass, first.saturating_add(second).saturating_add(others))
 }
 
-/// Two threads post forty letters each, where memory may be refused.
+/// Two threads post their letters, where memory may be refused.
 fn post_eighty<R: Threads + Wait + Sync + Abort>(
     rt: &R,
     queue: &LetterQueue,
@@ -377,41 +105,114 @@ fn post_eighty<R: Threads + Wait + Sync + Abort>(
     )
 }
 
-/// A sender's letters come by rising number, as they were posted, and there are so many.
-fn expect_rising(rt: &impl Abort, letters: &[Letter], sender: u32, count: usize) {
+/// How many letters a sender has; they come by rising number, as they were posted.
+fn count_rising(rt: &impl Abort, letters: &[Letter], sender: u32) -> usize {
+    let mut count: usize = 0;
     let mut next = 0;
     for letter in letters {
         if letter.sender == sender {
-            assert!(rt; next <= letter.number);
+            assert!(rt; next <= letter.number && letter.number < MOST);
             next = letter.number.saturating_add(1);
+            count = count.saturating_add(1);
         }
     }
-    let found = letters.iter().filter(|letter| letter.sender == sender);
-    expect_same(rt, found.count(), count);
+    count
+}
+
+/// What an office drains. Where memory may be refused it is asked again, since a drain that is refused changes nothing.
+fn drain<R: Wait>(
+    rt: &R,
+    alloc: Global,
+    office: &mut Office,
+    may_be_refused: bool,
+) -> Result<Vec<Letter>, OutOfMemory>
+    requires { office.old.out ≡ 0 }
+{
+    match office.drain(rt, alloc) {
+        Err(OutOfMemory) if may_be_refused => office.drain(rt, alloc),
+        letters => letters,
+    }
+}
+
+/// How many letters each of two threads posted to an office, which drains them, each sender's in its order; none where it can't.
+fn post_and_drain<R: Threads + Wait + Sync + Abort>(
+    rt: &R,
+    alloc: Global,
+    office: &mut Office,
+    may_be_refused: bool,
+) -> Option<[usize; 2]>
+    requires { office.old.out ≡ 0 }
+{
+    let (Ok(one), Ok(two)) = (office.pass(), office.pass()) else {
+        return None;
+    };
+    let ((one, by_one), (two, by_two)) = post_eighty(rt, office.queue(), one, two);
+    office.take_back(two);
+    office.take_back(one);
+    let letters = drain(rt, alloc, office, may_be_refused).ok()?;
+    expect_same(rt, count_rising(rt, &letters, 1), by_one);
+    expect_same(rt, count_rising(rt, &letters, 2), by_two);
+    expect_same(rt, letters.len(), by_one.saturating_add(by_two));
+    Some([by_one, by_two])
+}
+
+/// The same of a new office.
+fn post_to_new<R: Threads + Wait + Sync + Abort>(
+    rt: &R,
+    alloc: Global,
+    may_be_refused: bool,
+) -> Option<[usize; 2]> {
+    let mut office = Office::new(alloc).ok()?;
+    post_and_drain(rt, alloc, &mut office, may_be_refused)
+}
+
+#[test]
+fn letters_of_two_threads(rt: HostRuntime) {
+    expect_same(&rt, post_to_new(&rt, rt.alloc(), false), Some([40, 40]));
 }
 
 /// Whatever request is refused, what two threads posted is drained, each sender's in its order, and what comes back is what
-/// was to be posted. A drain that is refused changes nothing, so that the next one gives all.
+/// was to be posted.
 #[test]
 fn refused_letters(rt: HostRuntime) {
-    let Ok(mut office) = Office::new(rt.alloc()) else {
-        return;
-    };
-    let (Ok(one), Ok(two)) = (office.pass(), office.pass()) else {
-        return;
-    };
-    let (first, second) = post_eighty(&rt, office.queue(), one, two);
-    let (one, by_one) = first;
-    let (two, by_two) = second;
-    office.take_back(two);
-    office.take_back(one);
-    let letters = match office.drain(&rt, rt.alloc()) {
-        Ok(letters) => letters,
-        Err(OutOfMemory) => match office.drain(&rt, rt.alloc()) {
-            Ok(letters) => letters,
-            Err(OutOfMemory) => return,
-        },
-    };
-    expect_rising(&rt, &letters, 1, by_one);
-    expect_rising(&rt, &letters, 2, by_two);
+    let _posted = post_to_new(&rt, rt.alloc(), true);
+}
+
+/// The office's own calls, which pass on to its queue: a letter posted, one through a post that is lent, and another.
+fn post_by_the_office<R: Wait + Abort>(rt: &R, office: &Office, mut pass: OfficePass) -> OfficePass
+    requires { pass.home ≡ office.now.home }
+    ensures { result.home ≡ office.now.home }
+{
+    expect_same(rt, office.post_as(rt, &mut pass, letter(1, 0)), Ok(()));
+    let mut lent = office.lend(rt, pass);
+    expect_same(rt, lent.post(letter(1, 1)), Ok(()));
+    let mut pass = lent.into_pass();
+    expect_same(rt, office.post_as(rt, &mut pass, letter(1, 2)), Ok(()));
+    pass
+}
+
+/// What an office drains after its own calls, unless memory is refused.
+fn drain_by_the_office<R: Wait + Abort>(
+    rt: &R,
+    alloc: Global,
+    office: &mut Office,
+) -> Result<Vec<Letter>, OutOfMemory>
+    requires { office.old.out ≡ 0 }
+{
+    let pass = office.pass()?;
+    let pass = post_by_the_office(rt, office, pass);
+    office.take_back(pass);
+    office.drain(rt, alloc)
+}
+
+#[test]
+fn letters_by_the_office(rt: HostRuntime) -> Result<(), OutOfMemory> {
+    let mut office = Office::new(rt.alloc())?;
+    let letters = drain_by_the_office(&rt, rt.alloc(), &mut office)?;
+    expect_same(
+        &rt,
+        letters.as_slice(),
+        &[letter(1, 0), letter(1, 1), letter(1, 2)],
+    );
+    Ok(())
 }

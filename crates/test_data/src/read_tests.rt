@@ -2,10 +2,10 @@
 ghost use Rattle.std.specs.Prelude.{◌≡◌};
 
 use crate::expected::expect_same;
-use loop_script::{Action, Body, Script, ScriptFault};
+use crate::trees::task_at;
+use loop_script::{Action, Body, Script, ScriptFault, TaskSpec};
 use std::alloc::Global;
 use std::process::Abort;
-use std::test::Fail;
 
 // (texts stand in functions of their own: a proof that sees a literal reads it byte by byte)
 
@@ -44,21 +44,18 @@ fn expect_lists(rt: &impl Abort, script: &Script) {
     expect(rt, script.loop_context(0).into(), 0);
 }
 
-#[test]
-fn tells_its_parts(rt: HostRuntime) -> Result<(), Fail> {
-    let script = Script::read(rt.alloc(), first_run().as_bytes())?;
-    expect_parts(&rt, &script);
-    expect_bodies(&rt, &script);
-    expect_lists(&rt, &script);
-    Ok(())
-}
-
 /// The number of the one action of a list, which is to log it; 0 where there is none such.
 fn only_log(actions: &[Action]) -> u32 {
     match actions {
         [Action::Log(n)] => *n,
         _ => 0,
     }
+}
+
+fn expect_first_run(rt: &impl Abort, script: &Script) {
+    expect_parts(rt, script);
+    expect_bodies(rt, script);
+    expect_lists(rt, script);
 }
 
 fn two_descriptors() -> &'static str {
@@ -84,14 +81,6 @@ fn expect_levels(rt: &impl Abort, script: &Script) {
     assert!(rt; changes(script) == [Some(5), None]);
 }
 
-/// The levels of two descriptors, and each word of a kind, as the format writes it.
-#[test]
-fn tells_levels(rt: HostRuntime) -> Result<(), Fail> {
-    let script = Script::read(rt.alloc(), two_descriptors().as_bytes())?;
-    expect_levels(&rt, &script);
-    Ok(())
-}
-
 fn posts_in_one_tick() -> &'static str {
     r#"{"version":1,"ticks":3,"tick_us":1000,"loops":[0,1,2],"procs":[{"do":[["invoke",1,3],["invoke",1,4]]},{"do":[["invoke",1,5]]},{"do":[["log",20]]},{"do":[["log",30]]},{"do":[["log",40]]},{"do":[["log",50]]}],"lanes":[{"contexts":1,"start":[["attach",0,0,{"kind":["timeout",1],"call":0}],["run",0]]},{"contexts":1,"start":[["push",1],["task",{"tree":["value",5],"call":2}],["run",1]]},{"contexts":1,"start":[["attach",2,0,{"kind":["timeout",1],"call":1}],["run",2]]}]}"#
 }
@@ -110,14 +99,6 @@ fn counts(script: &Script) -> [u32; 4] {
     ]
 }
 
-/// Whatever request is refused, the script is not read, and then it is read again.
-fn read_at_last(alloc: Global, text: &str) -> Result<Script, ScriptFault> {
-    match Script::read(alloc, text.as_bytes()) {
-        Err(ScriptFault::OutOfMemory) => Script::read(alloc, text.as_bytes()),
-        found => found,
-    }
-}
-
 /// How many lanes, loops, cancellables there are, and how long lists are.
 fn expect_sizes(rt: &impl Abort, script: &Script, known: [u32; 4], lengths: &[(Body, usize)]) {
     expect_same(rt, counts(script), known);
@@ -126,12 +107,9 @@ fn expect_sizes(rt: &impl Abort, script: &Script, known: [u32; 4], lengths: &[(B
     }
 }
 
-/// What the procedures from the third on log.
-fn expect_logs(rt: &impl Abort, script: &Script, logs: [u32; 4]) {
-    for (proc, log) in (2..).zip(logs) {
-        let found = only_log(script.actions(Body::Procedure(proc)));
-        expect(rt, found.into(), log.into());
-    }
+/// What a procedure logs.
+fn logged(script: &Script, proc: u32) -> u32 {
+    only_log(script.actions(Body::Procedure(proc)))
 }
 
 const LENGTHS_OF_POSTS: [(Body, usize); 5] = [
@@ -144,15 +122,13 @@ const LENGTHS_OF_POSTS: [(Body, usize); 5] = [
 
 fn expect_posts(rt: &impl Abort, script: &Script) {
     expect_sizes(rt, script, [3, 3, 3, 0], &LENGTHS_OF_POSTS);
-    expect_logs(rt, script, [20, 30, 40, 50]);
-}
-
-#[test]
-fn refused_read_of_posts(rt: HostRuntime) {
-    match read_at_last(rt.alloc(), posts_in_one_tick()) {
-        Ok(script) => expect_posts(&rt, &script),
-        Err(fault) => expect_same(&rt, Some(fault), None),
-    }
+    let logs = [
+        logged(script, 2),
+        logged(script, 3),
+        logged(script, 4),
+        logged(script, 5),
+    ];
+    expect_same(rt, logs, [20, 30, 40, 50]);
 }
 
 /// What the script says of a task beside its tree.
@@ -163,14 +139,11 @@ struct Flags {
     return_on_cancel: bool,
 }
 
-fn flags_of(action: &Action) -> Option<Flags> {
-    match action {
-        Action::Task(spec) => Some(Flags {
-            cancel: spec.cancel,
-            check: spec.check,
-            return_on_cancel: spec.return_on_cancel,
-        }),
-        _ => None,
+fn flags_of(spec: &TaskSpec) -> Flags {
+    Flags {
+        cancel: spec.cancel,
+        check: spec.check,
+        return_on_cancel: spec.return_on_cancel,
     }
 }
 
@@ -206,21 +179,81 @@ const LENGTHS_OF_TASKS: [(Body, usize); 3] = [
     (Body::Procedure(1), 2),
 ];
 
-fn expect_flags(rt: &impl Abort, action: &Action, wanted: &Flags) {
-    assert!(rt; flags_of(action) == Some(*wanted));
+/// The tasks of actions have these flags.
+fn expect_flags(rt: &impl Abort, actions: &[Action], wanted: &[Flags]) {
+    for (place, wanted) in wanted.iter().enumerate() {
+        match task_at(actions, place) {
+            Some(spec) => assert!(rt; flags_of(spec) == *wanted),
+            None => assert!(rt; false, "no task"),
+        }
+    }
 }
 
 fn expect_tasks(rt: &impl Abort, script: &Script) {
     expect_sizes(rt, script, [7, 1, 1, 1], &LENGTHS_OF_TASKS);
-    for (action, wanted) in script.actions(Body::Start(0)).iter().zip(&OF_TASKS) {
-        expect_flags(rt, action, wanted);
+    expect_flags(rt, script.actions(Body::Start(0)), &OF_TASKS);
+}
+
+/// A script of which a test knows what it tells.
+#[derive(Clone, Copy)]
+enum Known {
+    FirstRun,
+    Descriptors,
+    Posts,
+    Tasks,
+}
+
+fn text_of(known: Known) -> &'static str {
+    match known {
+        Known::FirstRun => first_run(),
+        Known::Descriptors => two_descriptors(),
+        Known::Posts => posts_in_one_tick(),
+        Known::Tasks => tasks(),
+    }
+}
+
+fn expect_told(rt: &impl Abort, script: &Script, known: Known) {
+    match known {
+        Known::FirstRun => expect_first_run(rt, script),
+        Known::Descriptors => expect_levels(rt, script),
+        Known::Posts => expect_posts(rt, script),
+        Known::Tasks => expect_tasks(rt, script),
+    }
+}
+
+/// Reads a script; where memory may be refused it is then not read, and is read again.
+fn read(alloc: Global, text: &str, may_be_refused: bool) -> Result<Script, ScriptFault> {
+    match Script::read(alloc, text.as_bytes()) {
+        Err(ScriptFault::OutOfMemory) if may_be_refused => Script::read(alloc, text.as_bytes()),
+        found => found,
+    }
+}
+
+fn expect_read(rt: &impl Abort, alloc: Global, known: Known, may_be_refused: bool) {
+    match read(alloc, text_of(known), may_be_refused) {
+        Ok(script) => expect_told(rt, &script, known),
+        Err(fault) => expect_same(rt, Some(fault), None),
     }
 }
 
 #[test]
+fn tells_its_parts(rt: HostRuntime) {
+    expect_read(&rt, rt.alloc(), Known::FirstRun, false);
+}
+
+/// The levels of two descriptors, and each word of a kind, as the format writes it.
+#[test]
+fn tells_levels(rt: HostRuntime) {
+    expect_read(&rt, rt.alloc(), Known::Descriptors, false);
+}
+
+/// Whatever request is refused.
+#[test]
+fn refused_read_of_posts(rt: HostRuntime) {
+    expect_read(&rt, rt.alloc(), Known::Posts, true);
+}
+
+#[test]
 fn refused_read_of_tasks(rt: HostRuntime) {
-    match read_at_last(rt.alloc(), tasks()) {
-        Ok(script) => expect_tasks(&rt, &script),
-        Err(fault) => expect_same(&rt, Some(fault), None),
-    }
+    expect_read(&rt, rt.alloc(), Known::Tasks, true);
 }

@@ -110,60 +110,6 @@ const STEPS_OF_FOUR_LEVELS: [Known; 14] = [
     (Step::Destroy(5), Ok(1), &[6, 1, 8]),
 ];
 
-/// Takes a step of which the answer and the order after it are known.
-fn expect_step(
-    rt: &impl Abort,
-    alloc: Global,
-    rows: &mut Tried,
-    known: &Known,
-) -> Result<(), AllocError> {
-    let (step, answer, order) = known;
-    expect_same(rt, take(rows, step), *answer);
-    assert!(rt; rows.is_one_order());
-    expect_same(rt, rows.ids(alloc)?.as_slice(), *order);
-    Ok(())
-}
-
-/// Takes such steps.
-fn expect_steps_of(
-    rt: &impl Abort,
-    alloc: Global,
-    rows: &mut Tried,
-    steps: &[Known],
-) -> Result<(), AllocError> {
-    for known in steps {
-        expect_step(rt, alloc, rows, known)?;
-    }
-    Ok(())
-}
-
-/// The same of new rows.
-fn expect_steps(
-    rt: &impl Abort,
-    alloc: Global,
-    levels: Levels,
-    steps: &[Known],
-) -> Result<(), AllocError> {
-    let mut rows = Tried::new(alloc, levels);
-    expect_steps_of(rt, alloc, &mut rows, steps)
-}
-
-#[test]
-fn two_levels(rt: HostRuntime) -> Result<(), AllocError> {
-    expect_steps(&rt, rt.alloc(), Levels::Two, &STEPS_OF_TWO_LEVELS)
-}
-
-#[test]
-fn roots(rt: HostRuntime) -> Result<(), AllocError> {
-    expect_steps(&rt, rt.alloc(), Levels::Two, &STEPS_OF_ROOTS)?;
-    expect_steps(&rt, rt.alloc(), Levels::Four, &STEPS_OF_ROOTS)
-}
-
-#[test]
-fn four_levels(rt: HostRuntime) -> Result<(), AllocError> {
-    expect_steps(&rt, rt.alloc(), Levels::Four, &STEPS_OF_FOUR_LEVELS)
-}
-
 /// The first eight rows.
 fn first_rows(rows: &Tried) -> [Option<Row>; 8] {
     [1, 2, 3, 4, 5, 6, 7, 8].map(|id| rows.rows.row(id))
@@ -186,44 +132,72 @@ fn retake(rt: &impl Abort, rows: &mut Tried, step: &Step, ids: &[u64]) -> Result
     }
 }
 
-/// Whatever request is refused, rows are as they were or as the step leaves them, also for all steps that come after.
-fn expect_retaken(rt: &impl Abort, rows: &mut Tried, steps: &[Known]) {
+/// Takes steps of which the answers and the order after each are known, once more where memory may be refused.
+fn expect_steps_of(rt: &impl Abort, rows: &mut Tried, steps: &[Known], may_be_refused: bool) {
     let mut before: &[u64] = &[];
-    for (step, answer, order) in steps.iter() {
-        let found = retake(rt, rows, step, before);
-        assert!(rt; found == *answer);
+    for (step, answer, order) in steps {
+        let found = if may_be_refused {
+            retake(rt, rows, step, before)
+        } else {
+            take(rows, step)
+        };
+        expect_same(rt, found, *answer);
+        assert!(rt; rows.is_one_order());
         assert!(rt; are_in_order(rows, order));
         before = *order;
     }
 }
 
-fn expect_refused(rt: &impl Abort, alloc: Global, levels: Levels, steps: &[Known]) {
+/// The same of new rows.
+fn expect_steps(
+    rt: &impl Abort,
+    alloc: Global,
+    levels: Levels,
+    steps: &[Known],
+    may_be_refused: bool,
+) {
     let mut rows = Tried::new(alloc, levels);
-    expect_retaken(rt, &mut rows, steps);
+    expect_steps_of(rt, &mut rows, steps, may_be_refused);
 }
 
 #[test]
+fn two_levels(rt: HostRuntime) {
+    expect_steps(&rt, rt.alloc(), Levels::Two, &STEPS_OF_TWO_LEVELS, false);
+}
+
+fn expect_roots(rt: &impl Abort, alloc: Global, levels: Levels, may_be_refused: bool) {
+    expect_steps(rt, alloc, levels, &STEPS_OF_ROOTS, may_be_refused);
+}
+
+#[test]
+fn roots(rt: HostRuntime) {
+    expect_roots(&rt, rt.alloc(), Levels::Two, false);
+    expect_roots(&rt, rt.alloc(), Levels::Four, false);
+}
+
+#[test]
+fn four_levels(rt: HostRuntime) {
+    expect_steps(&rt, rt.alloc(), Levels::Four, &STEPS_OF_FOUR_LEVELS, false);
+}
+
+/// Whatever request is refused, rows are as they were or as the step leaves them, also for all steps that come after.
+#[test]
 fn refused_rows_of_two_levels(rt: HostRuntime) {
-    expect_refused(&rt, rt.alloc(), Levels::Two, &STEPS_OF_TWO_LEVELS);
+    expect_steps(&rt, rt.alloc(), Levels::Two, &STEPS_OF_TWO_LEVELS, true);
 }
 
 #[test]
 fn refused_rows_of_roots(rt: HostRuntime) {
-    expect_refused(&rt, rt.alloc(), Levels::Two, &STEPS_OF_ROOTS);
+    expect_roots(&rt, rt.alloc(), Levels::Two, true);
 }
 
 #[test]
 fn refused_rows_of_four_levels(rt: HostRuntime) {
-    expect_refused(&rt, rt.alloc(), Levels::Four, &STEPS_OF_FOUR_LEVELS);
+    expect_steps(&rt, rt.alloc(), Levels::Four, &STEPS_OF_FOUR_LEVELS, true);
 }
 
 /// Whether one random edit of the rows and of the plain ones has one answer; none is given a child where they do not nest.
-fn answers_alike(
-    random: &mut Pcg32,
-    rows: &mut Tried,
-    plain: &mut Plain,
-    nests: bool,
-) -> Result<bool, AllocError> {
+fn answers_alike(random: &mut Pcg32, rows: &mut Tried, plain: &mut Plain, nests: bool) -> bool {
     let choice = if plain.len() > 24 {
         12
     } else {
@@ -235,45 +209,27 @@ fn answers_alike(
         priority: random.random_range(-1..2_i32) * 100,
         ..IDLE
     };
-    Ok(match choice {
-        4..=9 if nests => rows.add_child(id, spec, 0) == plain.add_child(id)?,
-        0..=9 => rows.attach(spec, 0) == Ok(plain.attach(spec.priority)?),
+    match choice {
+        4..=9 if nests => rows.add_child(id, spec, 0) == plain.add_child(id),
+        0..=9 => rows.attach(spec, 0) == plain.attach(spec.priority),
         10..=13 => rows.destroy(id) == plain.destroy(id),
         14..=15 => rows.set_ready(id, ready) == plain.set_ready(id, ready),
         16..=17 => rows.set_priority(id, spec.priority) == plain.set_priority(id, spec.priority),
         _ => rows.dispatched(id) == plain.dispatched(id),
-    })
+    }
 }
 
-fn expect_edit(
-    rt: &impl Abort,
-    random: &mut Pcg32,
-    rows: &mut Tried,
-    plain: &mut Plain,
-    nests: bool,
-) -> Result<(), AllocError> {
-    let alike = answers_alike(random, rows, plain, nests)?;
-    assert!(rt; alike, "one answer");
-    Ok(())
-}
-
-/// Both have the same rows, in the same order, and the same next ready time.
-fn expect_alike(
-    rt: &impl Abort,
-    alloc: Global,
-    rows: &Tried,
-    plain: &Plain,
-) -> Result<(), AllocError> {
+/// Both have the same rows, and the same next ready time; the rows stand in the order of these ids.
+fn expect_alike(rt: &impl Abort, rows: &Tried, plain: &Plain, ids: &[u64]) {
     assert!(rt;
         rows.rows.next_ready(20) == plain.next_ready(20),
         "one ready time"
     );
     assert!(rt; rows.is_one_order());
-    expect_same(rt, rows.ids(alloc)?, plain.ordered(alloc)?);
+    assert!(rt; are_in_order(rows, ids));
     for row in rows.rows.in_order() {
         assert!(rt; plain.has(&row), "a row as it was made and edited");
     }
-    Ok(())
 }
 
 /// Random edits, of which the first five hundred give no children.
@@ -285,8 +241,9 @@ fn expect_edits_of(
     plain: &mut Plain,
 ) -> Result<(), AllocError> {
     for step in 0..2_500_u64 {
-        expect_edit(rt, random, rows, plain, step >= 500)?;
-        expect_alike(rt, alloc, rows, plain)?;
+        let alike = answers_alike(random, rows, plain, step >= 500);
+        assert!(rt; alike, "one answer");
+        expect_alike(rt, rows, plain, &plain.ordered(alloc)?);
     }
     Ok(())
 }
@@ -328,16 +285,19 @@ fn destroy_all(rt: &impl Abort, rows: &mut Tried, first: u64, last: u64) {
     }
 }
 
+fn expect_low(rt: &impl Abort, rows: &mut Tried) {
+    attach_all(rt, rows, 100_000);
+    expect_same(rt, rows.next_ready(0), 2_000);
+    delay_all(rt, rows, 90_000);
+    expect_same(rt, rows.next_ready(0), 92_000);
+    destroy_all(rt, rows, 90_001, 100_000);
+    destroy_all(rt, rows, 101, 90_000);
+    expect_same(rt, rows.next_ready(0), 500_001);
+}
+
 /// Ready times that come one behind the other, that are changed from the first on, and that go from the first on, stand in
 /// a low tree: in one that leans so many would stand above each other that a call finds no stack, or no end.
 #[test]
 fn low_tree(rt: HostRuntime) {
-    let mut rows = Tried::new(rt.alloc(), Levels::Two);
-    attach_all(&rt, &mut rows, 100_000);
-    expect_same(&rt, rows.next_ready(0), 2_000);
-    delay_all(&rt, &mut rows, 90_000);
-    expect_same(&rt, rows.next_ready(0), 92_000);
-    destroy_all(&rt, &mut rows, 90_001, 100_000);
-    destroy_all(&rt, &mut rows, 101, 90_000);
-    expect_same(&rt, rows.next_ready(0), 500_001);
+    expect_low(&rt, &mut Tried::new(rt.alloc(), Levels::Two));
 }

@@ -2,11 +2,19 @@
 ghost use Rattle.std.specs.Prelude.{◌<◌, ◌≤◌};
 ghost use Rattle.loop_script.specs.Bounds.{longest_time};
 
-use loop_script::{Node, TaskTree};
+use loop_script::{Action, Node, TaskSpec, TaskTree};
 use std::alloc::{AllocError, Global};
 use std::sync::Arc;
 
-pub(crate) fn value(value: i64) -> TaskTree {
+/// The task that an action starts; none where there is no such action, or it does something else.
+pub(crate) fn task_at(actions: &[Action], place: usize) -> Option<&TaskSpec> {
+    match actions.get(place) {
+        Some(Action::Task(spec)) => Some(spec),
+        _ => None,
+    }
+}
+
+fn value(value: i64) -> TaskTree {
     TaskTree {
         node: Node::Value(value),
     }
@@ -28,28 +36,24 @@ fn sleep(us: u64) -> TaskTree
     }
 }
 
-fn seq(alloc: Global, first: TaskTree, next: TaskTree) -> Result<TaskTree, AllocError> {
-    let first = Arc::new(alloc, first)?;
-    let next = Arc::new(alloc, next)?;
-    Ok(TaskTree {
-        node: Node::Seq { first, next },
-    })
-}
-
-fn both(alloc: Global, one: TaskTree, other: TaskTree) -> Result<TaskTree, AllocError> {
+/// Two trees as one, in order, at once, or as the first of both to end.
+fn joined(
+    alloc: Global,
+    form: u64,
+    one: TaskTree,
+    other: TaskTree,
+) -> Result<TaskTree, AllocError> {
     let one = Arc::new(alloc, one)?;
     let other = Arc::new(alloc, other)?;
-    Ok(TaskTree {
-        node: Node::Both { one, other },
-    })
-}
-
-fn first(alloc: Global, one: TaskTree, other: TaskTree) -> Result<TaskTree, AllocError> {
-    let one = Arc::new(alloc, one)?;
-    let other = Arc::new(alloc, other)?;
-    Ok(TaskTree {
-        node: Node::First { one, other },
-    })
+    let node = match form {
+        0 => Node::Seq {
+            first: one,
+            next: other,
+        },
+        1 => Node::Both { one, other },
+        _ => Node::First { one, other },
+    };
+    Ok(TaskTree { node })
 }
 
 fn within(alloc: Global, us: u64, body: TaskTree) -> Result<TaskTree, AllocError>
@@ -113,11 +117,7 @@ pub(crate) fn tree_of(
     } else {
         (small, deep)
     };
-    match form {
-        0 => seq(alloc, a, b),
-        1 => both(alloc, a, b),
-        _ => first(alloc, a, b),
-    }
+    joined(alloc, form, a, b)
 }
 
 /// The form of a part: sleeps often, faults seldom.

@@ -3,7 +3,7 @@ ghost use Rattle.std.specs.Prelude.{◌+◌, ◌≤◌, ◌^◌};
 
 use loop_script::SourceSpec;
 use source_rows::{Levels, Rows, RowsFault};
-use std::alloc::{AllocError, Global};
+use std::alloc::Global;
 
 /// Rows, and how many edits are left that take an id or an order number.
 #[derive(Drop)]
@@ -84,11 +84,6 @@ impl Tried {
 
     pub(crate) fn destroy(&mut self, id: u64) -> bool {
         self.rows.destroy(id)
-    }
-
-    /// The ids in the order of the rows.
-    pub(crate) fn ids(&self, alloc: Global) -> Result<Vec<u64>, AllocError> {
-        self.rows.ordered().copied().collect(alloc)
     }
 
     /// Whether both of the iterators over rows have one order.

@@ -1,7 +1,8 @@
 //! The phases on single contexts, in a table; the stack of thread-default contexts; and what is acquired.
+ghost use Rattle.std.specs.Prelude.{◌≡◌};
+
 use crate::expected::{expect, expect_same};
-use crate::made::{Source, made, viewed};
-use cancel_view::View;
+use crate::made::{Asked, Source, made};
 use context_core::{Context, DefaultStack, Interest, Prepared};
 use loop_script::Kind;
 use source_rows::Levels;
@@ -114,12 +115,12 @@ fn expect_asked(
 fn expect_selected(
     rt: &impl Abort,
     alloc: Global,
-    context: &Context,
-    view: &View,
+    made: &Asked,
     wanted: &Phases,
 ) -> Result<(), AllocError> {
-    let prepared = context.prepare(0, &[], view);
-    let selected = context.check(alloc, &prepared, 0, &[], view, wanted.shown)?;
+    let context = &made.tried.context;
+    let prepared = context.prepare(0, &[], &made.view);
+    let selected = context.check(alloc, &prepared, 0, &[], &made.view, wanted.shown)?;
     expect_same(
         rt,
         (wanted.what, selected.as_slice()),
@@ -132,93 +133,87 @@ fn expect_selected(
 fn expect_phases(
     rt: &impl Abort,
     alloc: Global,
-    context: &Context,
-    view: &View,
+    made: &Asked,
     wanted: &Phases,
 ) -> Result<(), AllocError> {
-    let prepared = context.prepare(0, &[], view);
+    let context = &made.tried.context;
+    let prepared = context.prepare(0, &[], &made.view);
     expect_same(rt, (wanted.what, prepared), (wanted.what, wanted.prepared));
     expect_asked(rt, alloc, context, &prepared, wanted)?;
-    expect_selected(rt, alloc, context, view, wanted)
+    expect_selected(rt, alloc, made, wanted)
 }
 
 /// Whether the phases are told, and then they are right: at once or, where memory may be refused, asked for again.
 fn are_told(
     rt: &impl Abort,
     alloc: Global,
-    context: &Context,
-    view: &View,
+    made: &Asked,
     wanted: &Phases,
     may_be_refused: bool,
 ) -> bool {
-    expect_phases(rt, alloc, context, view, wanted).is_ok()
-        || may_be_refused && expect_phases(rt, alloc, context, view, wanted).is_ok()
+    expect_phases(rt, alloc, made, wanted).is_ok()
+        || may_be_refused && expect_phases(rt, alloc, made, wanted).is_ok()
 }
 
-/// The same by a row's view; nothing where that finds no memory.
-fn are_told_in(
-    rt: &impl Abort,
-    alloc: Global,
-    context: &Context,
-    row: &Phases,
-    may_be_refused: bool,
-) -> Option<bool> {
-    let view = viewed(alloc, row.cancelled)?;
-    Some(are_told(rt, alloc, context, &view, row, may_be_refused))
+/// The same of a row's sources and view.
+fn expect_told(rt: &impl Abort, alloc: Global, row: &Phases, may_be_refused: bool) {
+    match made(alloc, Levels::Two, row.sources, row.cancelled) {
+        Some(made) => expect(rt, are_told(rt, alloc, &made, row, may_be_refused)),
+        None => expect(rt, may_be_refused),
+    }
 }
 
-/// The same of a row's sources.
-fn are_told_of(rt: &impl Abort, alloc: Global, row: &Phases, may_be_refused: bool) -> Option<bool> {
-    let tried = made(alloc, Levels::Two, row.sources)?;
-    are_told_in(rt, alloc, &tried.context, row, may_be_refused)
-}
-
-fn expect_told(rt: &impl Abort, alloc: Global, rows: &[Phases]) {
+fn expect_all_told(rt: &impl Abort, alloc: Global, rows: &[Phases], may_be_refused: bool) {
     for row in rows {
-        expect(rt, are_told_of(rt, alloc, row, false) == Some(true));
+        expect_told(rt, alloc, row, may_be_refused);
     }
 }
 
 #[test]
 fn phases_of_descriptors(rt: HostRuntime) {
-    expect_told(&rt, rt.alloc(), &OF_DESCRIPTORS);
+    expect_all_told(&rt, rt.alloc(), &OF_DESCRIPTORS, false);
 }
 
 #[test]
 fn phases_of_others(rt: HostRuntime) {
-    expect_told(&rt, rt.alloc(), &OF_OTHERS);
+    expect_all_told(&rt, rt.alloc(), &OF_OTHERS, false);
 }
 
 /// Whatever request is refused, a phase answers what it has to, or is asked again and does.
 #[test]
 fn refused_phases(rt: HostRuntime) {
-    for row in &OF_DESCRIPTORS {
-        expect(&rt, are_told_of(&rt, rt.alloc(), row, true) != Some(false));
-    }
+    expect_all_told(&rt, rt.alloc(), &OF_DESCRIPTORS, true);
+}
+
+fn expect_popped(rt: &impl Abort, stack: &mut DefaultStack) {
+    expect(rt, stack.push(1).is_ok());
+    expect(rt, stack.push(2).is_ok());
+    expect(rt, !stack.pop(1));
+    expect(rt, stack.pop(2));
+    expect(rt, stack.top() == Some(1));
+    expect(rt, stack.contains(1) && !stack.contains(2));
 }
 
 /// Two pushes: the one below can't be popped before the one on top.
 #[test]
-fn pops_what_is_on_top(rt: HostRuntime) -> Result<(), AllocError> {
-    let mut stack = DefaultStack::new(rt.alloc());
-    stack.push(1)?;
-    stack.push(2)?;
-    expect(&rt, !stack.pop(1));
-    expect(&rt, stack.pop(2));
-    expect(&rt, stack.top() == Some(1));
-    expect(&rt, stack.contains(1) && !stack.contains(2));
-    Ok(())
+fn pops_what_is_on_top(rt: HostRuntime) {
+    expect_popped(&rt, &mut DefaultStack::new(rt.alloc()));
+}
+
+fn expect_released(rt: &impl Abort, context: &mut Context)
+    requires { context.old.acquires ≡ 0 }
+{
+    context.acquire();
+    expect(rt, context.is_owned());
+    expect(rt, context.release());
+    expect(rt, !context.release());
+    expect(rt, !context.is_owned());
 }
 
 /// An acquire that is taken back, and a release too many.
 #[test]
 fn releases_what_was_acquired(rt: HostRuntime) {
-    let mut context = Context::new(rt.alloc(), Levels::Two);
-    context.acquire();
-    expect(&rt, context.is_owned());
-    expect(&rt, context.release());
-    expect(&rt, !context.release());
-    expect(&rt, !context.is_owned());
+    expect_released(&rt, &mut Context::new(rt.alloc(), Levels::Two));
 }
 
 /// Pushes. Where memory is refused the stack is as it was, and a second call pushes.
@@ -231,17 +226,24 @@ fn push_again(rt: &impl Abort, stack: &mut DefaultStack, context: u32) {
     }
 }
 
+fn pop_from_the_top(rt: &impl Abort, stack: &mut DefaultStack, context: u32) {
+    expect(rt, stack.top() == Some(context));
+    expect(rt, stack.pop(context));
+}
+
+fn push_and_pop_nine(rt: &impl Abort, stack: &mut DefaultStack) {
+    for context in 1..10_u32 {
+        push_again(rt, stack, context);
+    }
+    expect(rt, !stack.pop(1));
+    for left in 0..9_u32 {
+        pop_from_the_top(rt, stack, 9 - left);
+    }
+    expect(rt, stack.top().is_none());
+}
+
 /// Whatever request is refused, what was pushed is popped from the top on, for so many that the stack grows.
 #[test]
 fn refused_push(rt: HostRuntime) {
-    let mut stack = DefaultStack::new(rt.alloc());
-    for context in 1..=9 {
-        push_again(&rt, &mut stack, context);
-    }
-    expect(&rt, !stack.pop(1));
-    for context in (1..=9).rev() {
-        expect(&rt, stack.top() == Some(context));
-        expect(&rt, stack.pop(context));
-    }
-    expect(&rt, stack.top() == None);
+    push_and_pop_nine(&rt, &mut DefaultStack::new(rt.alloc()));
 }

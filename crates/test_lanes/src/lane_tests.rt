@@ -3,13 +3,15 @@ ghost use Rattle.std.specs.Prelude.{◌≡◌, ℕ, ◌^◌, false, Err, IsTrue}
 ghost use Rattle.lane_turn.specs.Sound.{IsReady};
 
 use crate::expected::{expect, expect_same};
+use crate::hand_tests::{gives_script, take_given};
+use crate::step_tests::{expect_drawn, step_or_spend, takeover_script};
 use lane_turn::{Event, HandFault, LaneFault, LaneState, Line};
-use loop_script::{Outcome, Script, ScriptFault};
+use loop_script::{Outcome, Script};
 use post_office::Tray;
 use std::alloc::Global;
 use std::process::Abort;
 
-pub(crate) fn first_run_script() -> &'static str {
+fn first_run_script() -> &'static str {
     r#"{"version":1,"ticks":2,"tick_us":1000,"loops":[0],"procs":[{"do":[["log",7]]}],"lanes":[{"contexts":1,"start":[["attach",0,0,{"kind":["idle"],"call":0}],["run",0]]}]}"#
 }
 
@@ -40,38 +42,109 @@ fn two_turns(alloc: Global, script: &Script, lane: &mut LaneState) -> Result<(),
     lane.turn(script, 1, &mut tray)
 }
 
-/// What lane 0 writes in two turns.
-fn expect_first_run(rt: &impl Abort, alloc: Global, script: &Script) -> Result<(), LaneFault> {
-    let mut lane = LaneState::new(alloc, script, 0)?;
-    two_turns(alloc, script, &mut lane)?;
-    expect_lines(rt, &lane, &LINES);
-    expect(rt, !lane.halted());
-    Ok(())
+/// A lane that gave no context hands none over, whether it has it or not, and stays as it is.
+fn expect_not_given(rt: &impl Abort, lane: &mut LaneState, context: u32)
+    ensures { lane.new ≡ lane.old }
+{
+    match lane.hand_over(context) {
+        Err(fault) => expect_same(rt, fault, HandFault::NotGiven),
+        Ok(_) => expect(rt, false),
+    }
 }
 
-/// A new lane 0 hands over neither the context that it has nor one that it has not.
-fn expect_nothing_given(rt: &impl Abort, alloc: Global, script: &Script) -> Result<(), LaneFault> {
-    let mut lane = LaneState::new(alloc, script, 0)?;
-    expect(rt, lane.hand_over(0).err() == Some(HandFault::NotGiven));
-    expect(rt, lane.hand_over(1).err() == Some(HandFault::NotGiven));
-    Ok(())
+/// A new lane 0 hands nothing over, and writes the first run's lines in two turns.
+fn run_first(
+    rt: &impl Abort,
+    alloc: Global,
+    script: &Script,
+    lane: &mut LaneState,
+    may_be_refused: bool,
+)
+    requires fresh { lane.old.spent ≡ false }
+    requires ready { IsReady script.now 0 1 lane.old.lane }
+{
+    expect_not_given(rt, lane, 0);
+    expect_not_given(rt, lane, 1);
+    let ended = two_turns(alloc, script, lane);
+    expect_lines_or_spent(rt, alloc, script, lane, ended, &LINES, may_be_refused);
 }
 
-/// The lines of a whole run; and a lane that gave no context hands none over, whether it has it or not.
-fn expect_whole(rt: &impl Abort, alloc: Global, script: &Script) {
-    expect(rt, expect_first_run(rt, alloc, script).is_ok());
-    expect(rt, expect_nothing_given(rt, alloc, script).is_ok());
+/// What is tried of a new lane.
+#[derive(Clone, Copy)]
+pub(crate) enum Case {
+    /// Lane 0 of the first run, a turn at a time.
+    Turns,
+    /// The same, a step at a time.
+    Steps,
+    /// Lane 0 in a turn whose steps are drawn.
+    Drawn,
+    /// Lane 0, whose task replies.
+    Reply,
+    /// Lane 1, which takes over what lane 0 gives.
+    Given,
+}
+
+fn script_of(case: Case) -> &'static str {
+    match case {
+        Case::Turns | Case::Steps => first_run_script(),
+        Case::Drawn => takeover_script(),
+        Case::Reply => reply_script(),
+        Case::Given => gives_script(),
+    }
+}
+
+fn lane_of(case: Case) -> u32 {
+    match case {
+        Case::Given => 1,
+        _ => 0,
+    }
+}
+
+fn try_lane(
+    rt: &impl Abort,
+    alloc: Global,
+    script: &Script,
+    lane: &mut LaneState,
+    case: Case,
+    may_be_refused: bool,
+)
+    requires fresh { lane.old.spent ≡ false }
+    requires ready { IsReady script.now 0 1 lane.old.lane }
+{
+    match case {
+        Case::Turns => run_first(rt, alloc, script, lane, may_be_refused),
+        Case::Steps => step_or_spend(rt, alloc, script, lane, may_be_refused),
+        Case::Drawn => expect_drawn(rt, alloc, script, lane),
+        Case::Reply => reply_or_spend(rt, alloc, script, lane, may_be_refused),
+        Case::Given => take_given(rt, alloc, script, lane, may_be_refused),
+    }
+}
+
+/// A new lane of a script.
+fn try_new_lane(rt: &impl Abort, alloc: Global, script: &Script, case: Case, may_be_refused: bool) {
+    match LaneState::new(alloc, script, lane_of(case)) {
+        Ok(mut lane) => try_lane(rt, alloc, script, &mut lane, case, may_be_refused),
+        Err(_) => expect(rt, may_be_refused),
+    }
+}
+
+/// A case with ample memory, or where a request may be refused.
+pub(crate) fn try_case(rt: &impl Abort, alloc: Global, case: Case, may_be_refused: bool) {
+    match Script::read(alloc, script_of(case).as_bytes()) {
+        Ok(script) => try_new_lane(rt, alloc, &script, case, may_be_refused),
+        Err(_) => expect(rt, may_be_refused),
+    }
 }
 
 #[test]
-fn first_run(rt: HostRuntime) -> Result<(), ScriptFault> {
-    let script = Script::read(rt.alloc(), first_run_script().as_bytes())?;
-    expect_whole(&rt, rt.alloc(), &script);
-    Ok(())
+fn first_run(rt: HostRuntime) {
+    try_case(&rt, rt.alloc(), Case::Turns, false);
 }
 
-pub(crate) fn expect_lines(rt: &impl Abort, lane: &LaneState, lines: &[Line]) {
-    expect_same(rt, lane.trace(), lines);
+/// Whatever request is refused, the lines are right or the lane is spent.
+#[test]
+fn refused_turn(rt: HostRuntime) {
+    try_case(&rt, rt.alloc(), Case::Turns, true);
 }
 
 /// A spent lane answers so to each call that may be refused, and stays as it is.
@@ -92,7 +165,7 @@ fn stays_spent(alloc: Global, script: &Script, lane: &mut LaneState) -> bool
     answers_spent(alloc, script, lane) && answers_spent(alloc, script, lane)
 }
 
-/// The lines are right, or memory ran out and the lane is spent.
+/// The lines are right and the lane is not halted; or memory ran out, where it may, and the lane is spent.
 pub(crate) fn expect_lines_or_spent(
     rt: &impl Abort,
     alloc: Global,
@@ -100,29 +173,19 @@ pub(crate) fn expect_lines_or_spent(
     lane: &mut LaneState,
     ended: Result<(), LaneFault>,
     lines: &[Line],
+    may_be_refused: bool,
 )
     requires { ended ≡ Err LaneFault.OutOfMemory → IsTrue lane.old.spent }
 {
     match ended {
-        Ok(()) => expect_lines(rt, lane, lines),
+        Ok(()) => {
+            expect_same(rt, lane.trace(), lines);
+            expect(rt, !lane.halted());
+        }
         Err(LaneFault::Spent) => expect(rt, false),
-        Err(LaneFault::OutOfMemory) => expect(rt, stays_spent(alloc, script, lane)),
-    }
-}
-
-/// The lines of a new lane's two turns, or it is spent; none where there is no memory for it.
-fn run_or_spend(rt: &impl Abort, alloc: Global, script: &Script) {
-    if let Ok(mut lane) = LaneState::new(alloc, script, 0) {
-        let ended = two_turns(alloc, script, &mut lane);
-        expect_lines_or_spent(rt, alloc, script, &mut lane, ended, &LINES);
-    }
-}
-
-/// Whatever request is refused, the lines are right or the lane is spent.
-#[test]
-fn refused_turn(rt: HostRuntime) {
-    if let Ok(script) = Script::read(rt.alloc(), first_run_script().as_bytes()) {
-        run_or_spend(&rt, rt.alloc(), &script);
+        Err(LaneFault::OutOfMemory) => {
+            expect(rt, may_be_refused && stays_spent(alloc, script, lane));
+        }
     }
 }
 
@@ -173,32 +236,27 @@ fn take_reply(alloc: Global, script: &Script, lane: &mut LaneState) -> Result<()
 }
 
 /// What lane 0 writes up to its task's reply.
-fn expect_reply(rt: &impl Abort, alloc: Global, script: &Script) -> Result<(), LaneFault> {
-    let mut lane = LaneState::new(alloc, script, 0)?;
-    take_reply(alloc, script, &mut lane)?;
-    expect_lines(rt, &lane, &REPLY_LINES);
-    Ok(())
+fn reply_or_spend(
+    rt: &impl Abort,
+    alloc: Global,
+    script: &Script,
+    lane: &mut LaneState,
+    may_be_refused: bool,
+)
+    requires fresh { lane.old.spent ≡ false }
+    requires ready { IsReady script.now 0 1 lane.old.lane }
+{
+    let ended = take_reply(alloc, script, lane);
+    expect_lines_or_spent(rt, alloc, script, lane, ended, &REPLY_LINES, may_be_refused);
 }
 
 #[test]
-fn takes_a_reply(rt: HostRuntime) -> Result<(), ScriptFault> {
-    let script = Script::read(rt.alloc(), reply_script().as_bytes())?;
-    expect(&rt, expect_reply(&rt, rt.alloc(), &script).is_ok());
-    Ok(())
-}
-
-/// The same, or the lane is spent; nothing where there is no memory for it.
-fn take_reply_or_spend(rt: &impl Abort, alloc: Global, script: &Script) {
-    if let Ok(mut lane) = LaneState::new(alloc, script, 0) {
-        let ended = take_reply(alloc, script, &mut lane);
-        expect_lines_or_spent(rt, alloc, script, &mut lane, ended, &REPLY_LINES);
-    }
+fn takes_a_reply(rt: HostRuntime) {
+    try_case(&rt, rt.alloc(), Case::Reply, false);
 }
 
 /// Whatever request is refused, the lines are right or the lane is spent.
 #[test]
 fn refused_reply(rt: HostRuntime) {
-    if let Ok(script) = Script::read(rt.alloc(), reply_script().as_bytes()) {
-        take_reply_or_spend(&rt, rt.alloc(), &script);
-    }
+    try_case(&rt, rt.alloc(), Case::Reply, true);
 }

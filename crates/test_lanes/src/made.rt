@@ -31,6 +31,16 @@ impl Tried {
         }
     }
 
+    /// Adds sources, and tells whether there is memory for all.
+    fn add_all(&mut self, sources: &[Source]) -> bool {
+        for source in sources {
+            if self.add(source).is_err() {
+                return false;
+            }
+        }
+        true
+    }
+
     fn add(&mut self, source: &Source) -> Result<u64, RowsFault> {
         if self.left == 0 {
             return Err(RowsFault::OutOfMemory);
@@ -57,20 +67,35 @@ fn spec(kind: Kind, priority: i32) -> SourceSpec {
     }
 }
 
-/// A context with these sources, the first of which is 1; none where one is refused.
-pub(crate) fn made(alloc: Global, levels: Levels, sources: &[Source]) -> Option<Tried> {
-    let mut tried = Tried::new(alloc, levels);
-    for source in sources {
-        tried.add(source).ok()?;
-    }
-    Some(tried)
+/// A context, and the view that it is asked by.
+#[derive(Drop)]
+pub(crate) struct Asked {
+    pub(crate) tried: Tried,
+    pub(crate) view: View,
 }
 
-/// The view of one cancellable, before it is cancelled or after; none where memory is refused.
-pub(crate) fn viewed(alloc: Global, cancelled: bool) -> Option<View> {
+/// A context with these sources, the first of which is 1, and the view of one cancellable, before it is cancelled or after; none where
+/// memory is refused.
+pub(crate) fn made(
+    alloc: Global,
+    levels: Levels,
+    sources: &[Source],
+    cancelled: bool,
+) -> Option<Asked> {
+    let mut tried = Tried::new(alloc, levels);
+    if !tried.add_all(sources) {
+        return None;
+    }
+    match viewed(alloc, cancelled) {
+        Some(view) => Some(Asked { tried, view }),
+        None => None,
+    }
+}
+
+fn viewed(alloc: Global, cancelled: bool) -> Option<View> {
     let mut view = View::new(alloc, 1).ok()?;
-    if cancelled {
-        view.cancel(alloc, 0).ok()?;
+    if cancelled && view.cancel(alloc, 0).is_err() {
+        return None;
     }
     Some(view)
 }

@@ -1,8 +1,7 @@
 //! What an iteration would do with each source of a context, worked out by hand, in a table.
 use crate::expected::{expect, expect_same};
-use crate::made::{Source, made, viewed};
-use cancel_view::View;
-use context_core::{Context, Standing};
+use crate::made::{Asked, Source, made};
+use context_core::Standing;
 use loop_script::Kind;
 use source_rows::Levels;
 use std::alloc::{AllocError, Global};
@@ -167,11 +166,11 @@ const OF_WAITS: [Known; 2] = [BEFORE_CANCEL, AFTER_CANCEL];
 fn expect_standings(
     rt: &impl Abort,
     alloc: Global,
-    context: &Context,
-    view: &View,
+    made: &Asked,
     known: &Known,
 ) -> Result<(), AllocError> {
-    let found = context.standings(alloc, 0, known.busy, view, known.shown)?;
+    let context = &made.tried.context;
+    let found = context.standings(alloc, 0, known.busy, &made.view, known.shown)?;
     expect_same(
         rt,
         (known.what, found.as_slice()),
@@ -184,41 +183,25 @@ fn expect_standings(
 fn are_told(
     rt: &impl Abort,
     alloc: Global,
-    context: &Context,
-    view: &View,
+    made: &Asked,
     known: &Known,
     may_be_refused: bool,
 ) -> bool {
-    expect_standings(rt, alloc, context, view, known).is_ok()
-        || may_be_refused && expect_standings(rt, alloc, context, view, known).is_ok()
+    expect_standings(rt, alloc, made, known).is_ok()
+        || may_be_refused && expect_standings(rt, alloc, made, known).is_ok()
 }
 
-/// The same by a row's view; nothing where that finds no memory.
-fn are_told_in(
-    rt: &impl Abort,
-    alloc: Global,
-    context: &Context,
-    known: &Known,
-    may_be_refused: bool,
-) -> Option<bool> {
-    let view = viewed(alloc, known.cancelled)?;
-    Some(are_told(rt, alloc, context, &view, known, may_be_refused))
+/// The same of a row's sources and view.
+fn expect_told(rt: &impl Abort, alloc: Global, known: &Known, may_be_refused: bool) {
+    match made(alloc, known.levels, known.sources, known.cancelled) {
+        Some(made) => expect(rt, are_told(rt, alloc, &made, known, may_be_refused)),
+        None => expect(rt, may_be_refused),
+    }
 }
 
-/// The same of a row's sources.
-fn are_told_of(
-    rt: &impl Abort,
-    alloc: Global,
-    known: &Known,
-    may_be_refused: bool,
-) -> Option<bool> {
-    let tried = made(alloc, known.levels, known.sources)?;
-    are_told_in(rt, alloc, &tried.context, known, may_be_refused)
-}
-
-fn expect_told(rt: &impl Abort, alloc: Global, rows: &[Known]) {
+fn expect_all_told(rt: &impl Abort, alloc: Global, rows: &[Known], may_be_refused: bool) {
     for known in rows {
-        expect(rt, are_told_of(rt, alloc, known, false) == Some(true));
+        expect_told(rt, alloc, known, may_be_refused);
     }
 }
 
@@ -226,31 +209,26 @@ fn expect_told(rt: &impl Abort, alloc: Global, rows: &[Known]) {
 
 #[test]
 fn standings_in_calls(rt: HostRuntime) {
-    expect_told(&rt, rt.alloc(), &IN_CALLS);
+    expect_all_told(&rt, rt.alloc(), &IN_CALLS, false);
 }
 
 #[test]
 fn standings_of_lenders(rt: HostRuntime) {
-    expect_told(&rt, rt.alloc(), &OF_LENDERS);
+    expect_all_told(&rt, rt.alloc(), &OF_LENDERS, false);
 }
 
 #[test]
 fn standings_by_kind(rt: HostRuntime) {
-    expect_told(&rt, rt.alloc(), &OF_KINDS);
+    expect_all_told(&rt, rt.alloc(), &OF_KINDS, false);
 }
 
 #[test]
 fn standings_of_what_waits(rt: HostRuntime) {
-    expect_told(&rt, rt.alloc(), &OF_WAITS);
+    expect_all_told(&rt, rt.alloc(), &OF_WAITS, false);
 }
 
 /// Whatever request is refused, the standings are right, or are asked for again and are.
 #[test]
 fn refused_standings(rt: HostRuntime) {
-    for known in &OF_WAITS {
-        expect(
-            &rt,
-            are_told_of(&rt, rt.alloc(), known, true) != Some(false),
-        );
-    }
+    expect_all_told(&rt, rt.alloc(), &OF_WAITS, true);
 }

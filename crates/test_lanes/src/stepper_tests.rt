@@ -3,7 +3,7 @@ ghost use Rattle.std.specs.Prelude.{◌≡◌, ◌<◌, length, IfOk, IfSome};
 
 use crate::expected::{expect, expect_same};
 use lane_turn::{Event, Line};
-use loop_script::{Script, ScriptFault};
+use loop_script::Script;
 use std::alloc::{AllocError, Global};
 use std::process::Abort;
 use std::sync::Wait;
@@ -14,121 +14,126 @@ fn two_lanes() -> &'static str {
     r#"{"version":1,"ticks":2,"tick_us":1000,"loops":[0,1],"lanes":[{"contexts":1,"start":[["attach",0,0,{"kind":["idle"]}],["run",0]]},{"contexts":1,"start":[["attach",1,0,{"kind":["idle"]}],["run",1]]}]}"#
 }
 
-fn stepper(
-    alloc: Global,
+/// How workers share lanes.
+#[derive(Clone, Copy)]
+enum Way {
+    Round,
+    Queue,
+    /// Each lane's worker.
+    Table(&'static [u32]),
+}
+
+/// So many workers, which share lanes in a way; and a fault, where that is refused.
+#[derive(Clone, Copy)]
+struct Shared {
     workers: u32,
-    sharing: Sharing,
-) -> Result<Result<Stepper, StepFault>, ScriptFault> {
-    let script = Script::read(alloc, two_lanes().as_bytes())?;
-    Ok(Stepper::new(alloc, script, workers, sharing))
+    way: Way,
+    fault: Option<StepFault>,
 }
 
-fn table(alloc: Global, workers: &[u32]) -> Result<Sharing, AllocError> {
-    Ok(Sharing::Fixed(workers.to_vec(alloc)?))
-}
-
-/// So many workers are refused with a fault, or with none.
-fn expect_refusal(
-    rt: &impl Abort,
-    alloc: Global,
-    workers: u32,
-    sharing: Sharing,
-    wanted: Option<StepFault>,
-) -> Result<(), ScriptFault> {
-    let refused = stepper(alloc, workers, sharing)?.err();
-    expect_same(rt, refused, wanted);
-    Ok(())
-}
-
-/// The same of two workers by a table of theirs.
-fn expect_of_table(
-    rt: &impl Abort,
-    alloc: Global,
-    workers: &[u32],
-    wanted: Option<StepFault>,
-) -> Result<(), ScriptFault> {
-    let sharing = table(alloc, workers)?;
-    expect_refusal(rt, alloc, 2, sharing, wanted)
-}
-
-/// None and too many, and more than there are lanes.
-fn expect_by_number(rt: &impl Abort, alloc: Global) -> Result<(), ScriptFault> {
-    expect_refusal(rt, alloc, 0, Sharing::Round, Some(StepFault::Workers))?;
-    expect_refusal(rt, alloc, 65, Sharing::Round, Some(StepFault::Workers))?;
-    expect_refusal(rt, alloc, 4, Sharing::Round, None)
-}
-
-/// Tables that are short or name a worker too far, and a right one.
-fn expect_by_table(rt: &impl Abort, alloc: Global) -> Result<(), ScriptFault> {
-    expect_of_table(rt, alloc, &[0], Some(StepFault::Table))?;
-    expect_of_table(rt, alloc, &[0, 2], Some(StepFault::Table))?;
-    expect_of_table(rt, alloc, &[1, 0], None)
-}
-
-#[test]
-fn workers_share_lanes(rt: HostRuntime) -> Result<(), ScriptFault> {
-    expect_by_number(&rt, rt.alloc())?;
-    expect_by_table(&rt, rt.alloc())
-}
-
-/// Steps both ticks, and asks for a third.
-fn step_all<T: Threads + Wait + Sync>(rt: &T, stepper: &mut Stepper) -> Result<[bool; 3], StepFault>
-    ensures { stepper.new.script ≡ stepper.old.script }
-{
-    let first = stepper.tick(rt, &OpenGate)?;
-    let second = stepper.tick(rt, &OpenGate)?;
-    let third = stepper.tick(rt, &OpenGate)?;
-    Ok([first, second, third])
-}
-
-fn expect_ticks<T: Threads + Wait + Sync + Abort>(rt: &T, stepper: Result<Stepper, StepFault>) {
-    match stepper {
-        Ok(mut stepper) => {
-            expect(rt, step_all(rt, &mut stepper) == Ok([true, true, false]));
-        }
-        Err(fault) => expect_same(rt, Some(fault), None),
+fn sharing(alloc: Global, way: Way) -> Option<Sharing> {
+    match way {
+        Way::Round => Some(Sharing::Round),
+        Way::Queue => Some(Sharing::Queue),
+        Way::Table(workers) => match workers.to_vec(alloc) {
+            Ok(table) => Some(Sharing::Fixed(table)),
+            Err(AllocError) => None,
+        },
     }
 }
 
-/// The ticks of two workers.
-fn expect_ticks_by<T: Threads + Wait + Sync + Abort>(
-    rt: &T,
-    alloc: Global,
-    sharing: Sharing,
-) -> Result<(), ScriptFault> {
-    expect_ticks(rt, stepper(alloc, 2, sharing)?);
-    Ok(())
+/// A script of two lanes; none where it finds no memory.
+fn script_of_two(alloc: Global) -> Option<Script>
+    ensures { IfSome result (λ script. 1 < length script.lanes) }
+{
+    match Script::read(alloc, two_lanes().as_bytes()) {
+        Ok(script) if 1 < script.lanes() => Some(script),
+        _ => None,
+    }
 }
 
-#[test]
-fn ticks_to_the_last(rt: HostRuntime) -> Result<(), ScriptFault> {
-    expect_ticks_by(&rt, rt.alloc(), Sharing::Round)?;
-    expect_ticks_by(&rt, rt.alloc(), Sharing::Queue)
-}
-
-/// A stepper, or its refusal; none where the script finds no memory.
-fn made(alloc: Global, workers: u32, sharing: Sharing) -> Option<Result<Stepper, StepFault>>
+/// A stepper, or its refusal; none where the script or the table finds no memory.
+fn made(alloc: Global, shared: &Shared) -> Option<Result<Stepper, StepFault>>
     ensures { IfSome result (λ made. IfOk made (λ s. 1 < length s.script.lanes)) }
 {
-    let script = Script::read(alloc, two_lanes().as_bytes()).ok()?;
-    if script.lanes() < 2 {
-        return None;
+    let script = script_of_two(alloc)?;
+    match sharing(alloc, shared.way) {
+        Some(sharing) => Some(Stepper::new(alloc, script, shared.workers, sharing)),
+        None => None,
     }
-    Some(Stepper::new(alloc, script, workers, sharing))
 }
 
-/// A spent stepper answers so to each call that may be refused.
-fn expect_spent<T: Threads + Wait + Sync + Abort>(rt: &T, stepper: &mut Stepper)
-    requires { 1 < length stepper.old.script.lanes }
-    ensures { stepper.new.script ≡ stepper.old.script }
-{
-    expect_same(
-        rt,
-        stepper.tick(rt, &OpenGate).err(),
-        Some(StepFault::Spent),
-    );
-    expect_same(rt, stepper.run(rt, &OpenGate).err(), Some(StepFault::Spent));
-    expect_same(rt, stepper.trace(0).err(), Some(StepFault::Spent));
+/// None and too many; tables that are short or name a worker too far.
+const WRONG: [Shared; 5] = [
+    Shared {
+        workers: 0,
+        way: Way::Round,
+        fault: Some(StepFault::Workers),
+    },
+    Shared {
+        workers: 65,
+        way: Way::Round,
+        fault: Some(StepFault::Workers),
+    },
+    Shared {
+        workers: 65,
+        way: Way::Queue,
+        fault: Some(StepFault::Workers),
+    },
+    Shared {
+        workers: 2,
+        way: Way::Table(&[0]),
+        fault: Some(StepFault::Table),
+    },
+    Shared {
+        workers: 2,
+        way: Way::Table(&[0, 2]),
+        fault: Some(StepFault::Table),
+    },
+];
+
+/// More workers than there are lanes, and a right table.
+const RIGHT: [Shared; 2] = [
+    Shared {
+        workers: 4,
+        way: Way::Round,
+        fault: None,
+    },
+    Shared {
+        workers: 2,
+        way: Way::Table(&[1, 0]),
+        fault: None,
+    },
+];
+
+/// A stepper is refused with its fault, or with none.
+fn expect_fault(rt: &impl Abort, alloc: Global, shared: &Shared, may_be_refused: bool) {
+    match made(alloc, shared) {
+        Some(made) => expect_same(rt, made.err(), shared.fault),
+        None => expect(rt, may_be_refused),
+    }
+}
+
+fn expect_faults(rt: &impl Abort, alloc: Global, rows: &[Shared], may_be_refused: bool) {
+    for shared in rows {
+        expect_fault(rt, alloc, shared, may_be_refused);
+    }
+}
+
+#[test]
+fn workers_share_lanes(rt: HostRuntime) {
+    expect_faults(&rt, rt.alloc(), &RIGHT, false);
+}
+
+#[test]
+fn workers_share_no_lanes(rt: HostRuntime) {
+    expect_faults(&rt, rt.alloc(), &WRONG, false);
+}
+
+/// A refusal with another cause is looked at first, and takes no memory.
+#[test]
+fn refused_sharing(rt: HostRuntime) {
+    expect_faults(&rt, rt.alloc(), &WRONG, true);
 }
 
 /// The dispatch of a lane's one source, in the context of its number.
@@ -160,108 +165,155 @@ fn expect_traces(rt: &impl Abort, stepper: &Stepper)
     expect_trace(rt, stepper.trace(1), 1);
 }
 
-/// Steps to the end, or the stepper is spent, and is so a second time too.
-fn step_or_spend<T: Threads + Wait + Sync + Abort>(rt: &T, stepper: &mut Stepper)
+/// Steps both ticks, and asks for a third.
+fn tick_all<T: Threads + Wait + Sync + Abort>(
+    rt: &T,
+    stepper: &mut Stepper,
+) -> Result<(), StepFault>
+    ensures { stepper.new.script ≡ stepper.old.script }
+{
+    let first = stepper.tick(rt, &OpenGate)?;
+    let second = stepper.tick(rt, &OpenGate)?;
+    let third = stepper.tick(rt, &OpenGate)?;
+    expect_same(rt, [first, second, third], [true, true, false]);
+    Ok(())
+}
+
+/// The same, or all ticks by the caller alone.
+fn step_all<T: Threads + Wait + Sync + Abort>(
+    rt: &T,
+    stepper: &mut Stepper,
+    alone: bool,
+) -> Result<(), StepFault>
+    ensures { stepper.new.script ≡ stepper.old.script }
+{
+    if alone {
+        stepper.run_alone()
+    } else {
+        tick_all(rt, stepper)
+    }
+}
+
+/// A spent stepper answers so to each call that may be refused.
+fn expect_spent<T: Threads + Wait + Sync + Abort>(rt: &T, stepper: &mut Stepper)
+    requires { 1 < length stepper.old.script.lanes }
+    ensures { stepper.new.script ≡ stepper.old.script }
+{
+    let ticked = stepper.tick(rt, &OpenGate).err();
+    let ran = stepper.run(rt, &OpenGate).err();
+    let ran_alone = stepper.run_alone().err();
+    let spent = Some(StepFault::Spent);
+    expect_same(rt, [ticked, ran, ran_alone], [spent, spent, spent]);
+    expect_same(rt, stepper.trace(0).err(), spent);
+}
+
+/// Steps to the end; or memory ran out, where it may, and the stepper is spent, and is so a second time too.
+fn step_or_spend<T: Threads + Wait + Sync + Abort>(
+    rt: &T,
+    stepper: &mut Stepper,
+    alone: bool,
+    may_be_refused: bool,
+)
     requires { 1 < length stepper.old.script.lanes }
 {
-    match step_all(rt, stepper) {
-        Ok(stepped) => {
-            expect(rt, stepped == [true, true, false]);
-            expect_traces(rt, stepper);
-        }
+    match step_all(rt, stepper, alone) {
+        Ok(()) => expect_traces(rt, stepper),
         Err(fault) => {
-            expect_same(rt, Some(fault), Some(StepFault::OutOfMemory));
+            expect_same(rt, (may_be_refused, fault), (true, StepFault::OutOfMemory));
             expect_spent(rt, stepper);
             expect_spent(rt, stepper);
         }
     }
 }
 
-/// Whatever request is refused: a stepper that steps all ticks, or one that is spent, or none where memory ran out.
+/// A stepper steps all ticks; where memory may be refused it may be spent, or there is none.
 fn expect_stepped<T: Threads + Wait + Sync + Abort>(
     rt: &T,
     alloc: Global,
-    workers: u32,
-    sharing: Sharing,
+    shared: &Shared,
+    alone: bool,
+    may_be_refused: bool,
 ) {
-    match made(alloc, workers, sharing) {
-        None => {}
-        Some(Ok(mut stepper)) => step_or_spend(rt, &mut stepper),
-        Some(Err(fault)) => expect_same(rt, Some(fault), Some(StepFault::OutOfMemory)),
+    match made(alloc, shared) {
+        None => expect(rt, may_be_refused),
+        Some(Ok(mut stepper)) => step_or_spend(rt, &mut stepper, alone, may_be_refused),
+        Some(Err(fault)) => expect_same(
+            rt,
+            (may_be_refused, fault),
+            (true, StepFault::OutOfMemory),
+        ),
     }
 }
 
-/// All ticks, by the caller alone, or the stepper is spent.
-fn step_alone_or_spend<T: Threads + Wait + Sync + Abort>(rt: &T, stepper: &mut Stepper)
-    requires { 1 < length stepper.old.script.lanes }
-{
-    match stepper.run_alone() {
-        Ok(()) => expect_traces(rt, stepper),
-        Err(fault) => {
-            expect_same(rt, Some(fault), Some(StepFault::OutOfMemory));
-            expect_same(rt, stepper.run_alone().err(), Some(StepFault::Spent));
-            expect_spent(rt, stepper);
-        }
+fn expect_all_stepped<T: Threads + Wait + Sync + Abort>(
+    rt: &T,
+    alloc: Global,
+    rows: &[Shared],
+    may_be_refused: bool,
+) {
+    for shared in rows {
+        expect_stepped(rt, alloc, shared, false, may_be_refused);
     }
 }
 
-/// All ticks, by the caller alone.
-fn expect_alone(rt: &impl Abort, stepper: &mut Stepper)
-    requires { 1 < length stepper.old.script.lanes }
-{
-    expect_same(rt, stepper.run_alone().err(), None);
-    expect_traces(rt, stepper);
-}
+/// Two workers that take the lanes in rounds, or from a queue.
+const OF_TWO: [Shared; 2] = [
+    Shared {
+        workers: 2,
+        way: Way::Round,
+        fault: None,
+    },
+    Shared {
+        workers: 2,
+        way: Way::Queue,
+        fault: None,
+    },
+];
 
 #[test]
+fn ticks_to_the_last(rt: HostRuntime) {
+    expect_all_stepped(&rt, rt.alloc(), &OF_TWO, false);
+}
+
+/// More workers than there are lanes, two that take the lanes from a queue, and two by a table.
+const OF_EACH: [Shared; 3] = [
+    Shared {
+        workers: 4,
+        way: Way::Round,
+        fault: None,
+    },
+    Shared {
+        workers: 2,
+        way: Way::Queue,
+        fault: None,
+    },
+    Shared {
+        workers: 2,
+        way: Way::Table(&[1, 0]),
+        fault: None,
+    },
+];
+
+/// Whatever request is refused: a stepper that steps all ticks, or one that is spent, or none where memory ran out.
+#[test]
+fn refused_stepper(rt: HostRuntime) {
+    expect_all_stepped(&rt, rt.alloc(), &OF_EACH, true);
+}
+
+const ONE: Shared = Shared {
+    workers: 1,
+    way: Way::Round,
+    fault: None,
+};
+
+/// All ticks, by the caller alone.
+#[test]
 fn steps_alone(rt: HostRuntime) {
-    match made(rt.alloc(), 1, Sharing::Round) {
-        Some(Ok(mut stepper)) => expect_alone(&rt, &mut stepper),
-        _ => expect(&rt, false),
-    }
+    expect_stepped(&rt, rt.alloc(), &ONE, true, false);
 }
 
 /// Whatever request is refused.
 #[test]
 fn refused_alone(rt: HostRuntime) {
-    if let Some(Ok(mut stepper)) = made(rt.alloc(), 1, Sharing::Round) {
-        step_alone_or_spend(&rt, &mut stepper);
-    }
-}
-
-/// A table of the two lanes' workers.
-fn expect_stepped_by_table<T: Threads + Wait + Sync + Abort>(rt: &T, alloc: Global) {
-    if let Ok(table) = table(alloc, &[1, 0]) {
-        expect_stepped(rt, alloc, 2, table);
-    }
-}
-
-#[test]
-fn refused_stepper(rt: HostRuntime) {
-    expect_stepped(&rt, rt.alloc(), 4, Sharing::Round);
-    expect_stepped(&rt, rt.alloc(), 2, Sharing::Queue);
-    expect_stepped_by_table(&rt, rt.alloc());
-}
-
-/// A refusal with another cause is looked at first, and takes no memory.
-fn expect_cause(rt: &impl Abort, alloc: Global, workers: u32, sharing: Sharing, cause: StepFault) {
-    if let Some(made) = made(alloc, workers, sharing) {
-        expect_same(rt, made.err(), Some(cause));
-    }
-}
-
-/// The same of a wrong table, where there is memory for it.
-fn expect_wrong_table(rt: &impl Abort, alloc: Global, workers: &[u32]) {
-    if let Ok(table) = table(alloc, workers) {
-        expect_cause(rt, alloc, 2, table, StepFault::Table);
-    }
-}
-
-#[test]
-fn refused_sharing(rt: HostRuntime) {
-    let alloc = rt.alloc();
-    expect_cause(&rt, alloc, 0, Sharing::Round, StepFault::Workers);
-    expect_cause(&rt, alloc, 65, Sharing::Queue, StepFault::Workers);
-    expect_wrong_table(&rt, alloc, &[0]);
-    expect_wrong_table(&rt, alloc, &[0, 2]);
+    expect_stepped(&rt, rt.alloc(), &ONE, true, true);
 }

@@ -4,6 +4,7 @@ ghost use Rattle.std.specs.Prelude.{◌+◌, ◌≤◌, ◌^◌};
 use crate::expected::expect;
 use cancel_view::{Connected, Fired, OutOfMemory, View};
 use std::alloc::Global;
+use std::process::Abort;
 
 /// A call, and what it has to answer.
 #[derive(Clone, Copy)]
@@ -76,6 +77,21 @@ impl Tried {
         }
     }
 
+    /// Whether each step answers what it has to, at once or, where memory may be refused, taken again.
+    fn are_right(&mut self, alloc: Global, steps: &[Step], may_be_refused: bool) -> bool {
+        for step in steps {
+            let answer = if may_be_refused {
+                self.retake(alloc, step)
+            } else {
+                self.take(alloc, step)
+            };
+            if answer != Ok(true) {
+                return false;
+            }
+        }
+        true
+    }
+
     /// Whether a refused step's handler is not connected, or its cancellable not cancelled.
     fn is_before(&mut self, step: &Step) -> bool {
         match *step {
@@ -137,43 +153,32 @@ const EACH: [Step; 9] = [
     Connect(0, 7, Connected::Already),
 ];
 
-/// Whether each step answers what it has to, at once or, where memory may be refused, taken again; nothing where the view finds none.
-fn are_right(alloc: Global, steps: &[Step], may_be_refused: bool) -> Option<bool> {
-    let mut view = Tried::new(alloc, 2).ok()?;
-    for step in steps {
-        let answer = if may_be_refused {
-            view.retake(alloc, step)
-        } else {
-            view.take(alloc, step)
-        };
-        if answer != Ok(true) {
-            return Some(false);
-        }
+/// The steps of a new view of two cancellables; where memory may be refused the view may find none.
+fn expect_right(rt: &impl Abort, alloc: Global, steps: &[Step], may_be_refused: bool) {
+    match Tried::new(alloc, 2) {
+        Ok(mut view) => expect(rt, view.are_right(alloc, steps, may_be_refused)),
+        Err(OutOfMemory) => expect(rt, may_be_refused),
     }
-    Some(true)
 }
 
 #[test]
 fn handlers_come_and_go(rt: HostRuntime) {
-    expect(
-        &rt,
-        are_right(rt.alloc(), &COME_AND_GO, false) == Some(true),
-    );
-    expect(&rt, are_right(rt.alloc(), &EACH, false) == Some(true));
+    expect_right(&rt, rt.alloc(), &COME_AND_GO, false);
+    expect_right(&rt, rt.alloc(), &EACH, false);
 }
 
 #[test]
 fn cancelled_for_good(rt: HostRuntime) {
-    expect(&rt, are_right(rt.alloc(), &FOR_GOOD, false) == Some(true));
+    expect_right(&rt, rt.alloc(), &FOR_GOOD, false);
 }
 
 #[test]
 fn handlers_by_rising_id(rt: HostRuntime) {
-    expect(&rt, are_right(rt.alloc(), &OF_TWO, false) == Some(true));
+    expect_right(&rt, rt.alloc(), &OF_TWO, false);
 }
 
 /// Whatever request is refused, the view is as it was or as the call leaves it, also for all calls that come after.
 #[test]
 fn refused_view(rt: HostRuntime) {
-    expect(&rt, are_right(rt.alloc(), &EACH, true) != Some(false));
+    expect_right(&rt, rt.alloc(), &EACH, true);
 }

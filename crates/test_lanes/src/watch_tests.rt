@@ -26,6 +26,18 @@ fn sleeper(us: u64) -> TaskSpec
     }
 }
 
+/// Starts such a task in tick 0, after its polls.
+fn start(watch: &mut Watch, us: u64) -> Result<(), OutOfMemory>
+    requires short { us ≤ 1000000000000000 }
+    requires tick { watch.old.tasks.tick ≡ 1 }
+    requires room { watch.old.tasks.next < 1000 }
+    requires known { 0 < length watch.old.view.members }
+    ensures tick { watch.new.tasks.tick ≡ 1 }
+    ensures view { watch.new.view ≡ watch.old.view }
+{
+    watch.start(&sleeper(us), 0, 0)
+}
+
 /// A watch whose first polls are over.
 fn polled_once(alloc: Global) -> Result<Watch, OutOfMemory>
     ensures id { IfOk result (λ w. w.view.next_id ≡ 1) }
@@ -38,13 +50,32 @@ fn polled_once(alloc: Global) -> Result<Watch, OutOfMemory>
     Ok(watch)
 }
 
-/// Polls in a tick.
-fn poll(watch: &mut Watch, alloc: Global, tick: u32) -> Result<Polled, OutOfMemory>
+/// What is polled is one reply or none, and these tasks that end late.
+fn expect_polled(rt: &impl Abort, polled: &Polled, reply: Option<Outcome>, late: &[u64]) {
+    match polled.replies.as_slice() {
+        [] => expect_same(rt, None, reply),
+        [found] => expect_same(rt, Some(found.outcome), reply),
+        _ => expect(rt, false),
+    }
+    expect_same(rt, polled.late.as_slice(), late);
+}
+
+/// Polls in a tick, and compares.
+fn poll(
+    rt: &impl Abort,
+    alloc: Global,
+    watch: &mut Watch,
+    tick: u32,
+    reply: Option<Outcome>,
+    late: &[u64],
+) -> Result<(), OutOfMemory>
     requires now { watch.old.tasks.tick ≡ tick }
     requires early { tick < 1000 }
     ensures { OnOk result (watch.new.tasks.tick ≡ tick + 1) }
 {
-    watch.poll(alloc, tick)
+    let polled = watch.poll(alloc, tick)?;
+    expect_polled(rt, &polled, reply, late);
+    Ok(())
 }
 
 /// Cancels in a tick; whether the cancellable came into the view.
@@ -53,21 +84,6 @@ fn cancel(watch: &mut Watch, alloc: Global, tick: u32) -> Result<bool, OutOfMemo
     ensures { OnOk result (watch.new.tasks.tick ≡ tick + 1) }
 {
     Ok(watch.cancel(alloc, tick, 0)?.is_some())
-}
-
-/// One reply, and none that is late.
-fn expect_reply(rt: &impl Abort, polled: &Polled, outcome: Outcome) {
-    match polled.replies.as_slice() {
-        [reply] => expect_same(rt, reply.outcome, outcome),
-        _ => expect(rt, false),
-    }
-    expect(rt, polled.late.as_slice().is_empty());
-}
-
-/// No reply, and task 0 late.
-fn expect_late(rt: &impl Abort, polled: &Polled) {
-    expect(rt, polled.replies.as_slice().is_empty());
-    expect(rt, polled.late.as_slice() == [0].as_slice());
 }
 
 /// The task of a watch, as it is shown.
@@ -98,53 +114,32 @@ fn start_and_cancel(rt: &impl Abort, alloc: Global, watch: &mut Watch) -> Result
     requires known { 0 < length watch.old.view.members }
     ensures { OnOk result (watch.new.tasks.tick ≡ 2) }
 {
-    watch.start(&sleeper(3000), 0, 0)?;
+    start(watch, 3000)?;
     expect_shown(rt, watch, alloc, false, 1)?;
-    poll(watch, alloc, 1)?;
+    poll(rt, alloc, watch, 1, None, &[])?;
     expect(rt, cancel(watch, alloc, 1)?);
     Ok(())
 }
 
-/// It replies in tick 2.
-fn expect_reply_in_two(rt: &impl Abort, alloc: Global, watch: &mut Watch) -> Result<(), OutOfMemory>
-    requires { watch.old.tasks.tick ≡ 2 }
-    ensures { OnOk result (watch.new.tasks.tick ≡ 3) }
-{
-    let polled = poll(watch, alloc, 2)?;
-    expect_reply(rt, &polled, Outcome::Cancelled);
-    Ok(())
-}
-
-/// It ends late, in tick 4.
-fn expect_end_in_four(rt: &impl Abort, alloc: Global, watch: &mut Watch) -> Result<(), OutOfMemory>
-    requires { watch.old.tasks.tick ≡ 3 }
-{
-    poll(watch, alloc, 3)?;
-    let polled = poll(watch, alloc, 4)?;
-    expect_late(rt, &polled);
-    Ok(())
-}
-
-/// It sleeps up to tick 4.
+/// It sleeps up to tick 4, replies in tick 2, and ends late.
 fn expect_cancelled(rt: &impl Abort, alloc: Global, watch: &mut Watch) -> Result<(), OutOfMemory>
     requires { watch.old.tasks.tick ≡ 2 }
 {
     expect(rt, watch.view().is_cancelled(0));
     expect_shown(rt, watch, alloc, false, 4)?;
-    expect_reply_in_two(rt, alloc, watch)?;
+    poll(rt, alloc, watch, 2, Some(Outcome::Cancelled), &[])?;
     expect_shown(rt, watch, alloc, true, 4)?;
-    expect_end_in_four(rt, alloc, watch)
+    poll(rt, alloc, watch, 3, None, &[])?;
+    poll(rt, alloc, watch, 4, None, &[0])
 }
 
-fn run_cancelled(rt: &impl Abort, alloc: Global) -> Result<(), OutOfMemory> {
-    let mut watch = polled_once(alloc)?;
-    start_and_cancel(rt, alloc, &mut watch)?;
-    expect_cancelled(rt, alloc, &mut watch)
-}
-
-#[test]
-fn task_that_is_cancelled(rt: HostRuntime) -> Result<(), OutOfMemory> {
-    run_cancelled(&rt, rt.alloc())
+fn run_cancelled(rt: &impl Abort, alloc: Global, watch: &mut Watch) -> Result<(), OutOfMemory>
+    requires tick { watch.old.tasks.tick ≡ 1 }
+    requires room { watch.old.tasks.next < 1000 }
+    requires known { 0 < length watch.old.view.members }
+{
+    start_and_cancel(rt, alloc, watch)?;
+    expect_cancelled(rt, alloc, watch)
 }
 
 /// Connects a handler that is to have an id.
@@ -159,53 +154,35 @@ fn connect(rt: &impl Abort, watch: &mut Watch, proc: u32, id: u64) -> Result<(),
     Ok(())
 }
 
-/// Handlers 1 and 2 of its cancellable beside a task; the first goes again.
-fn connect_two(rt: &impl Abort, watch: &mut Watch) -> Result<(), OutOfMemory>
-    requires tick { watch.old.tasks.tick ≡ 1 }
-    requires room { watch.old.tasks.next < 1000 }
-    requires known { 0 < length watch.old.view.members }
-    requires id { watch.old.view.next_id ≡ 1 }
-    ensures { OnOk result (watch.new.tasks.tick ≡ 1) }
-{
-    watch.start(&sleeper(3000), 0, 0)?;
-    connect(rt, watch, 5, 1)?;
-    connect(rt, watch, 6, 2)?;
-    expect(rt, watch.disconnect(1));
-    Ok(())
-}
-
-/// A first cancel, which is to call handler 2.
-fn expect_fired(rt: &impl Abort, alloc: Global, watch: &mut Watch) -> Result<(), OutOfMemory>
+/// A first cancel, which is to call one handler. Where memory is refused the watch is as it was.
+fn expect_fired(
+    rt: &impl Abort,
+    alloc: Global,
+    watch: &mut Watch,
+    wanted: Fired,
+) -> Result<(), OutOfMemory>
     requires { watch.old.tasks.tick ≡ 1 }
+    ensures { OnErr result (watch.new ≡ watch.old) }
 {
     match watch.cancel(alloc, 0, 0)? {
-        Some(fired) => expect_same(rt, fired.as_slice(), &[Fired { id: 2, proc: 6 }]),
+        Some(fired) => expect_same(rt, fired.as_slice(), &[wanted]),
         None => expect(rt, false),
     }
     Ok(())
 }
 
-fn run_handlers(rt: &impl Abort, alloc: Global) -> Result<(), OutOfMemory> {
-    let mut watch = polled_once(alloc)?;
-    connect_two(rt, &mut watch)?;
-    expect_fired(rt, alloc, &mut watch)
-}
-
-#[test]
-fn handlers_of_a_watch(rt: HostRuntime) -> Result<(), OutOfMemory> {
-    run_handlers(&rt, rt.alloc())
-}
-
-fn expect_no_reply(rt: &impl Abort, polled: Result<Polled, OutOfMemory>) {
-    if let Ok(polled) = polled {
-        expect(rt, polled.replies.as_slice().is_empty());
-    }
-}
-
-fn expect_its_end(rt: &impl Abort, polled: Result<Polled, OutOfMemory>) {
-    if let Ok(polled) = polled {
-        expect_reply(rt, &polled, Outcome::Ok(0));
-    }
+/// Handlers 1 and 2 of its cancellable beside a task; the first goes again, and a cancel calls the second.
+fn run_handlers(rt: &impl Abort, alloc: Global, watch: &mut Watch) -> Result<(), OutOfMemory>
+    requires tick { watch.old.tasks.tick ≡ 1 }
+    requires room { watch.old.tasks.next < 1000 }
+    requires known { 0 < length watch.old.view.members }
+    requires id { watch.old.view.next_id ≡ 1 }
+{
+    start(watch, 3000)?;
+    connect(rt, watch, 5, 1)?;
+    connect(rt, watch, 6, 2)?;
+    expect(rt, watch.disconnect(1));
+    expect_fired(rt, alloc, watch, Fired { id: 2, proc: 6 })
 }
 
 /// A watch that was refused memory has forgotten its tasks, and goes on.
@@ -214,35 +191,22 @@ fn start_or_forget(rt: &impl Abort, alloc: Global, watch: &mut Watch)
     requires room { watch.old.tasks.next < 1000 }
     requires known { 0 < length watch.old.view.members }
 {
-    match watch.start(&sleeper(0), 0, 0) {
-        Err(OutOfMemory) => expect_no_reply(rt, watch.poll(alloc, 1)),
-        Ok(()) => expect_its_end(rt, watch.poll(alloc, 1)),
-    }
-}
-
-/// Whatever request is refused.
-#[test]
-fn refused_watch(rt: HostRuntime) {
-    if let Ok(mut watch) = polled_once(rt.alloc()) {
-        start_or_forget(&rt, rt.alloc(), &mut watch);
-    }
+    let reply = match start(watch, 0) {
+        Err(OutOfMemory) => None,
+        Ok(()) => Some(Outcome::Ok(0)),
+    };
+    let _polled = poll(rt, alloc, watch, 1, reply, &[]);
 }
 
 /// Cancels, which is to call one handler. Where memory is refused the view is as it was, and a second call does.
 fn cancel_again(rt: &impl Abort, alloc: Global, watch: &mut Watch)
     requires { watch.old.tasks.tick ≡ 1 }
 {
-    let fired = match watch.cancel(alloc, 0, 0) {
-        Err(OutOfMemory) => {
-            expect(rt, !watch.view().is_cancelled(0));
-            watch.cancel(alloc, 0, 0)
-        }
-        fired => fired,
-    };
-    expect(
-        rt,
-        fired.is_ok_and(|fired| fired.is_some_and(|fired| fired.len() == 1)),
-    );
+    let first = Fired { id: 1, proc: 5 };
+    if expect_fired(rt, alloc, watch, first).is_err() {
+        expect(rt, !watch.view().is_cancelled(0));
+        expect(rt, expect_fired(rt, alloc, watch, first).is_ok());
+    }
     expect(rt, watch.view().is_cancelled(0));
 }
 
@@ -264,16 +228,61 @@ fn call_again(rt: &impl Abort, alloc: Global, watch: &mut Watch)
     requires known { 0 < length watch.old.view.members }
     requires id { watch.old.view.next_id ≡ 1 }
 {
-    if watch.start(&sleeper(3000), 0, 0).is_ok() {
+    if start(watch, 3000).is_ok() {
         connect_again(rt, watch);
         cancel_again(rt, alloc, watch);
     }
 }
 
+/// What is tried of a watch.
+#[derive(Clone, Copy)]
+enum Case {
+    Cancelled,
+    Handlers,
+    RefusedTask,
+    RefusedHandlers,
+}
+
+fn try_watch(rt: &impl Abort, alloc: Global, watch: &mut Watch, case: Case)
+    requires tick { watch.old.tasks.tick ≡ 1 }
+    requires room { watch.old.tasks.next < 1000 }
+    requires known { 0 < length watch.old.view.members }
+    requires id { watch.old.view.next_id ≡ 1 }
+{
+    match case {
+        Case::Cancelled => expect_same(rt, run_cancelled(rt, alloc, watch), Ok(())),
+        Case::Handlers => expect_same(rt, run_handlers(rt, alloc, watch), Ok(())),
+        Case::RefusedTask => start_or_forget(rt, alloc, watch),
+        Case::RefusedHandlers => call_again(rt, alloc, watch),
+    }
+}
+
+/// A case with ample memory, or where a request may be refused.
+fn try_case(rt: &impl Abort, alloc: Global, case: Case, may_be_refused: bool) {
+    match polled_once(alloc) {
+        Ok(mut watch) => try_watch(rt, alloc, &mut watch, case),
+        Err(OutOfMemory) => expect(rt, may_be_refused),
+    }
+}
+
+#[test]
+fn task_that_is_cancelled(rt: HostRuntime) {
+    try_case(&rt, rt.alloc(), Case::Cancelled, false);
+}
+
+#[test]
+fn handlers_of_a_watch(rt: HostRuntime) {
+    try_case(&rt, rt.alloc(), Case::Handlers, false);
+}
+
+/// Whatever request is refused.
+#[test]
+fn refused_watch(rt: HostRuntime) {
+    try_case(&rt, rt.alloc(), Case::RefusedTask, true);
+}
+
 /// Whatever request is refused, what the view has and its handlers are as they were or as the call leaves them.
 #[test]
 fn refused_handlers(rt: HostRuntime) {
-    if let Ok(mut watch) = polled_once(rt.alloc()) {
-        call_again(&rt, rt.alloc(), &mut watch);
-    }
+    try_case(&rt, rt.alloc(), Case::RefusedHandlers, true);
 }

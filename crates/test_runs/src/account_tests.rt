@@ -8,7 +8,6 @@ use loop_script::{Body, Script};
 use mainctx::{OutOfMemory, add_text};
 use std::alloc::Global;
 use std::process::Abort;
-use std::test::Fail;
 
 /// More moments than a worked script has.
 const MOST: u32 = 2000;
@@ -65,71 +64,43 @@ fn first_moment(k: u32) -> Moment {
     }
 }
 
-/// Each moment, and then the end of the run.
-fn expect_moments(rt: &impl Abort, account: &mut Account) -> Result<(), AccountFault> {
-    for k in 0..13 {
-        expect_same(rt, account.next()?, Some(first_moment(k)));
+/// The first action attaches source 1.
+fn first_attached(k: u32) -> Option<Place> {
+    match k {
+        1 => Some(Place { context: 0, id: 1 }),
+        _ => None,
     }
-    expect_same(rt, account.next()?, None);
-    expect_same(rt, account.tick(), 2);
-    Ok(())
 }
 
-/// The account of the worked first run.
-fn of_first_run(alloc: Global) -> Result<Account, Fail> {
-    let script = Script::read(alloc, first_run().as_bytes())?;
-    Ok(Account::new(alloc, script)?)
+/// The first iteration selects source 1, and the second nothing.
+fn first_selected(k: u32) -> Option<&'static [u64]> {
+    match k {
+        3 => Some(&[1]),
+        10 => Some(&[]),
+        _ => None,
+    }
 }
 
-#[test]
-fn tells_the_first_run(rt: HostRuntime) -> Result<(), Fail> {
-    let mut account = of_first_run(rt.alloc())?;
-    assert!(rt; expect_moments(&rt, &mut account).is_ok());
-    Ok(())
-}
-
-/// What a moment attached and selected, where it did either.
-fn expect_gained(
-    rt: &impl Abort,
-    account: &Account,
-    moment: &Moment,
-    attached: Option<Place>,
-    selected: Option<&[u64]>,
-) {
+/// What a moment of it attached and selected.
+fn expect_gained(rt: &impl Abort, account: &Account, k: u32) {
     match account.lane(0) {
         Some(lane) => {
-            expect_same(rt, moment.attached(account.script(), lane), attached);
-            expect_same(rt, moment.selected(account.script(), lane), selected);
+            let (moment, script) = (first_moment(k), account.script());
+            expect_same(rt, moment.attached(script, lane), first_attached(k));
+            expect_same(rt, moment.selected(script, lane), first_selected(k));
         }
         None => assert!(rt; false),
     }
 }
 
-/// The first action attaches source 1, the first iteration selects it, and the second nothing.
-fn expect_gains(rt: &impl Abort, account: &mut Account) -> Result<(), AccountFault> {
+/// Each moment, and then the end of the run.
+fn expect_moments(rt: &impl Abort, account: &mut Account) -> Result<(), AccountFault> {
     for k in 0..13 {
-        let Some(moment) = account.next()? else {
-            break;
-        };
-        let attached = if k == 1 {
-            Some(Place { context: 0, id: 1 })
-        } else {
-            None
-        };
-        let selected: Option<&[u64]> = match k {
-            3 => Some(&[1]),
-            10 => Some(&[]),
-            _ => None,
-        };
-        expect_gained(rt, account, &moment, attached, selected);
+        expect_same(rt, account.next()?, Some(first_moment(k)));
+        expect_gained(rt, account, k);
     }
-    Ok(())
-}
-
-#[test]
-fn tells_what_is_attached_and_selected(rt: HostRuntime) -> Result<(), Fail> {
-    let mut account = of_first_run(rt.alloc())?;
-    assert!(rt; expect_gains(&rt, &mut account).is_ok());
+    expect_same(rt, account.next()?, None);
+    expect_same(rt, account.tick(), 2);
     Ok(())
 }
 
@@ -145,15 +116,14 @@ fn count_lines(account: &mut Account) -> Result<usize, AccountFault> {
     Ok(0)
 }
 
-/// The text of what the lanes have written.
-fn text_of(alloc: Global, account: &Account) -> Result<Vec<u8>, OutOfMemory> {
-    let mut text = Vec::new(alloc);
+/// Adds the text of what the lanes have written.
+fn add_texts(text: &mut Vec<u8>, account: &Account) -> Result<(), OutOfMemory> {
     for number in 0..account.script().lanes() {
         if let Some(lane) = account.lane(number) {
-            add_text(&mut text, number, lane.trace())?;
+            add_text(text, number, lane.trace())?;
         }
     }
-    Ok(text)
+    Ok(())
 }
 
 /// The text is that of the vector, where there is memory for it, and the moments wrote each line but for a heading for each lane.
@@ -164,7 +134,8 @@ fn expect_text(rt: &impl Abort, alloc: Global, account: &Account, worked: &Worke
         worked.text.lines().count(),
         lines.saturating_add(headings),
     );
-    if let Ok(text) = text_of(alloc, account) {
+    let mut text = Vec::new(alloc);
+    if add_texts(&mut text, account).is_ok() {
         expect_same(rt, text.as_slice(), worked.text.as_bytes());
     }
 }
@@ -183,16 +154,43 @@ fn tell_or_spend(rt: &impl Abort, alloc: Global, account: &mut Account, worked: 
     }
 }
 
-/// A worked script's account; none where it finds no memory.
-fn of_worked(alloc: Global, worked: &Worked) -> Option<Account> {
-    let script = Script::read(alloc, worked.script.as_bytes()).ok()?;
+/// A script whose run is told.
+#[derive(Clone, Copy)]
+enum Told {
+    /// The first run, moment by moment.
+    First,
+    /// A worked script, by its text, where memory may be refused.
+    Text(Worked),
+}
+
+fn tell(rt: &impl Abort, alloc: Global, account: &mut Account, told: &Told) {
+    match told {
+        Told::First => expect_same(rt, expect_moments(rt, account), Ok(())),
+        Told::Text(worked) => tell_or_spend(rt, alloc, account, worked),
+    }
+}
+
+/// A script's account; none where it finds no memory.
+fn account_of(alloc: Global, script: &str) -> Option<Account> {
+    let script = Script::read(alloc, script.as_bytes()).ok()?;
     Account::new(alloc, script).ok()
 }
 
-fn expect_or_spent(rt: &impl Abort, alloc: Global, worked: Worked) {
-    if let Some(mut account) = of_worked(alloc, &worked) {
-        tell_or_spend(rt, alloc, &mut account, &worked);
+fn expect_told(rt: &impl Abort, alloc: Global, script: &str, told: Told) {
+    match account_of(alloc, script) {
+        Some(mut account) => tell(rt, alloc, &mut account, &told),
+        None => assert!(rt; matches!(told, Told::Text(_))),
     }
+}
+
+fn expect_or_spent(rt: &impl Abort, alloc: Global, worked: Worked) {
+    expect_told(rt, alloc, worked.script, Told::Text(worked));
+}
+
+/// What the moments do, attach and select.
+#[test]
+fn tells_the_first_run(rt: HostRuntime) {
+    expect_told(&rt, rt.alloc(), first_run(), Told::First);
 }
 
 #[test]

@@ -1,15 +1,16 @@
 //! Writers that take little, refuse or fail to flush, and a reader that breaks off.
 use crate::expected::expect_same;
-use crate::refused_tests::{all_came, expecting, nothing_came, right_arguments};
+use crate::refused_tests::{all_came, nothing_came, right_arguments, served};
 use crate::script_tests::{first_run, first_run_text};
-use mainctx::{MainFault, OverWrite, run_bytes, serve};
+use crate::table_tests::{Way, run};
+use mainctx::{MainFault, OverWrite};
 use std::alloc::Global;
 use std::io;
 use std::io::{ErrorKind, Read, Write};
 use std::process::Abort;
 use std::sync::Wait;
 use std::thread::Threads;
-use tick_stepper::{OpenGate, Sharing};
+use tick_stepper::OpenGate;
 
 /// Takes so many bytes, three at a time, and then does what `then` says.
 #[derive(Drop)]
@@ -65,15 +66,8 @@ fn ran_over<T: Threads + Wait + Sync>(
     then: Then,
 ) -> (Result<(), MainFault>, Vec<u8>) {
     let mut short = Short::new(alloc, room, then);
-    let result = run_bytes(
-        rt,
-        alloc,
-        first_run().as_bytes(),
-        1,
-        Sharing::Round,
-        &OpenGate,
-        &mut OverWrite::new(&mut short),
-    );
+    let mut out = OverWrite::new(&mut short);
+    let result = run(rt, alloc, first_run(), 1, Way::Round, &OpenGate, &mut out);
     (result, short.got)
 }
 
@@ -90,14 +84,18 @@ fn expect_got<T: Threads + Wait + Sync + Abort>(
     expect_same(rt, (room, got.as_slice()), (room, wanted));
 }
 
+/// The bytes of the text for which there is room, however little.
+fn expect_prefixes<T: Threads + Wait + Sync + Abort>(rt: &T, alloc: Global, then: Then) {
+    let text = first_run_text().as_bytes();
+    for room in 0..text.len() {
+        expect_got(rt, alloc, room, then, &text[..room]);
+    }
+}
+
 #[test]
 fn writes_a_prefix(rt: HostRuntime) {
-    let text = first_run_text().as_bytes();
-    for then in [Then::Fail, Then::TakeNone] {
-        for room in 0..text.len() {
-            expect_got(&rt, rt.alloc(), room, then, &text[..room]);
-        }
-    }
+    expect_prefixes(&rt, rt.alloc(), Then::Fail);
+    expect_prefixes(&rt, rt.alloc(), Then::TakeNone);
 }
 
 fn ten_bytes() -> &'static str {
@@ -142,23 +140,27 @@ fn expect_read<T: Threads + Wait + Sync + Abort>(
     args: &[String],
     given: &[u8],
 ) {
-    let mut out = OverWrite::new(expecting(first_run_text()));
-    let mut errors = expecting(read());
-    let mut input = Broken { rest: given };
-    let status = serve(rt, alloc, args, &mut input, &mut out, &mut errors);
-    assert!(rt; status == 4);
-    assert!(rt; nothing_came(&out.into_inner(), first_run_text()));
-    assert!(rt; all_came(&errors));
+    let served = served(rt, alloc, args, &mut Broken { rest: given }, read());
+    let nothing_written = nothing_came(&served.out, first_run_text());
+    expect_same(
+        rt,
+        (served.status, nothing_written, all_came(&served.errors)),
+        (4, true, true),
+    );
+}
+
+fn expect_no_prefix<T: Threads + Wait + Sync + Abort>(rt: &T, alloc: Global, args: &[String]) {
+    let script = first_run().as_bytes();
+    for given in 0..=script.len() {
+        expect_read(rt, alloc, args, &script[..given]);
+    }
 }
 
 /// Wherever the input breaks off, behind its last byte too.
 #[test]
 fn reads_no_prefix(rt: HostRuntime) {
-    let script = first_run().as_bytes();
-    let Some(args) = right_arguments(rt.alloc()) else {
-        return;
-    };
-    for given in 0..=script.len() {
-        expect_read(&rt, rt.alloc(), &args, &script[..given]);
+    match right_arguments(rt.alloc()) {
+        Some(args) => expect_no_prefix(&rt, rt.alloc(), &args),
+        None => assert!(rt; false),
     }
 }

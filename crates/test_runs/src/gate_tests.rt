@@ -2,19 +2,18 @@
 ghost use Rattle.std.specs.Prelude.{◌+◌, ◌≤◌, ◌<◌, ◌^◌};
 
 use crate::expected::expect_same;
+use crate::table_tests::{Way, ran};
 use lane_turn::{LaneFault, LaneState};
 use loop_script::Script;
-use mainctx::{OverWrite, run_bytes};
 use post_office::Post;
 use std::alloc::Global;
 use std::process::Abort;
 use std::sync::Wait;
 use std::sync::atomic::Ordering::SeqCst;
 use std::sync::atomic::{AtomicU32, AtomicUsize};
-use std::test::Fail;
 use std::thread;
 use std::thread::Threads;
-use tick_stepper::{Gate, Sharing};
+use tick_stepper::Gate;
 
 /// What the turns of a lane show to the other lane's.
 #[derive(Drop)]
@@ -121,22 +120,6 @@ fn two_lanes() -> &'static str {
     r#"{"version": 1, "ticks": 20, "tick_us": 1000, "loops": [0, 1], "lanes": [{"contexts": 1, "start": [["attach", 0, 0, {"kind": ["idle"]}], ["run", 0]]}, {"contexts": 1, "start": [["attach", 1, 0, {"kind": ["idle"]}], ["run", 1]]}]}"#
 }
 
-/// Runs two lanes with two workers through such a gate, which then tells what it saw.
-fn met<T: Threads + Wait + Sync>(rt: &T, alloc: Global, sharing: Sharing) -> Result<Meeting, Fail> {
-    let gate = Meeting::new();
-    let mut out = OverWrite::new(Vec::new(alloc));
-    run_bytes(
-        rt,
-        alloc,
-        two_lanes().as_bytes(),
-        2,
-        sharing,
-        &gate,
-        &mut out,
-    )?;
-    Ok(gate)
-}
-
 /// A line a tick was written through the gate, and not all turns were taken one after another.
 fn expect_side_by_side(rt: &impl Abort, gate: &Meeting) {
     expect_same(rt, gate.first.lines.load(SeqCst), 20);
@@ -144,36 +127,33 @@ fn expect_side_by_side(rt: &impl Abort, gate: &Meeting) {
     assert!(rt; gate.have_met());
 }
 
-#[test]
-fn turns_run_side_by_side_in_rounds(rt: HostRuntime) -> Result<(), Fail> {
-    let gate = met(&rt, rt.alloc(), Sharing::Round)?;
-    expect_side_by_side(&rt, &gate);
-    expect_same(&rt, gate.workers(), (0b01, 0b10));
-    Ok(())
-}
-
-/// The workers, a bit each, that took the turns of either lane by a table.
-fn expect_by_a_table<T: Threads + Wait + Sync + Abort>(
+/// Runs two lanes with two workers through such a gate, which then tells the workers, a bit each, that took the turns of either lane.
+fn expect_met<T: Threads + Wait + Sync + Abort>(
     rt: &T,
     alloc: Global,
-    table: &[u32],
-    workers: (u32, u32),
-) -> Result<(), Fail> {
-    let gate = met(rt, alloc, Sharing::Fixed(table.to_vec(alloc)?))?;
+    way: Way,
+    workers: Option<(u32, u32)>,
+) {
+    let gate = Meeting::new();
+    assert!(rt; ran(rt, alloc, two_lanes(), 2, way, &gate).is_ok());
     expect_side_by_side(rt, &gate);
-    expect_same(rt, gate.workers(), workers);
-    Ok(())
+    if let Some(workers) = workers {
+        expect_same(rt, gate.workers(), workers);
+    }
 }
 
 #[test]
-fn turns_run_side_by_side_by_a_table(rt: HostRuntime) -> Result<(), Fail> {
-    expect_by_a_table(&rt, rt.alloc(), &[0, 1], (0b01, 0b10))?;
-    expect_by_a_table(&rt, rt.alloc(), &[1, 0], (0b10, 0b01))
+fn turns_run_side_by_side_in_rounds(rt: HostRuntime) {
+    expect_met(&rt, rt.alloc(), Way::Round, Some((0b01, 0b10)));
 }
 
 #[test]
-fn turns_run_side_by_side_by_a_queue(rt: HostRuntime) -> Result<(), Fail> {
-    let gate = met(&rt, rt.alloc(), Sharing::Queue)?;
-    expect_side_by_side(&rt, &gate);
-    Ok(())
+fn turns_run_side_by_side_by_a_table(rt: HostRuntime) {
+    expect_met(&rt, rt.alloc(), Way::Table(&[0, 1]), Some((0b01, 0b10)));
+    expect_met(&rt, rt.alloc(), Way::Table(&[1, 0]), Some((0b10, 0b01)));
+}
+
+#[test]
+fn turns_run_side_by_side_by_a_queue(rt: HostRuntime) {
+    expect_met(&rt, rt.alloc(), Way::Queue, None);
 }

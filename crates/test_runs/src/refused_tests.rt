@@ -1,15 +1,16 @@
 //! Runs with memory refused, over writers that only compare.
 use crate::expected::expect_same;
 use crate::script_tests::{first_run, first_run_text};
+use crate::table_tests::{Way, run};
 use crate::worked::{Worked, cancels, given_with_letters, gives, ownership, posts, tasks};
-use mainctx::{MainFault, OverWrite, run_alone, run_bytes, serve};
+use mainctx::{MainFault, OverWrite, run_alone, serve};
 use std::alloc::Global;
 use std::io;
-use std::io::{Cursor, Write};
+use std::io::{Cursor, Read, Write};
 use std::process::Abort;
 use std::sync::Wait;
 use std::thread::Threads;
-use tick_stepper::{OpenGate, Sharing};
+use tick_stepper::OpenGate;
 
 /// Compares what it is given with the rest of a text, and keeps nothing.
 #[derive(Drop)]
@@ -48,28 +49,6 @@ pub(crate) fn nothing_came(it: &Compared<'_>, text: &str) -> bool {
     !it.differs && it.rest.len() == text.len()
 }
 
-/// Runs a script with so many workers, and answers what a writer that expects its text then still does.
-fn ran<T: Threads + Wait + Sync>(
-    rt: &T,
-    alloc: Global,
-    script: &str,
-    text: &'static str,
-    workers: u32,
-    sharing: Sharing,
-) -> (Result<(), MainFault>, Compared<'static>) {
-    let mut out = OverWrite::new(expecting(text));
-    let result = run_bytes(
-        rt,
-        alloc,
-        script.as_bytes(),
-        workers,
-        sharing,
-        &OpenGate,
-        &mut out,
-    );
-    (result, out.into_inner())
-}
-
 /// Where a request for memory was refused: nothing written, or the exact text.
 fn expect(rt: &impl Abort, answer: Result<(), MainFault>, out: &Compared<'_>, text: &str) {
     match answer {
@@ -81,17 +60,25 @@ fn expect(rt: &impl Abort, answer: Result<(), MainFault>, out: &Compared<'_>, te
     }
 }
 
+/// Whether a run of a script with so many workers found no memory; its text is right where it did.
+fn is_refused<T: Threads + Wait + Sync + Abort>(
+    rt: &T,
+    alloc: Global,
+    script: &str,
+    text: &'static str,
+    workers: u32,
+    way: Way,
+) -> bool {
+    let mut out = OverWrite::new(expecting(text));
+    let result = run(rt, alloc, script, workers, way, &OpenGate, &mut out);
+    expect(rt, result, &out.into_inner(), text);
+    result.is_err()
+}
+
 #[test]
 fn refused_run(rt: HostRuntime) {
-    let (result, out) = ran(
-        &rt,
-        rt.alloc(),
-        first_run(),
-        first_run_text(),
-        1,
-        Sharing::Round,
-    );
-    expect(&rt, result, &out, first_run_text());
+    let text = first_run_text();
+    let _refused = is_refused(&rt, rt.alloc(), first_run(), text, 1, Way::Round);
 }
 
 /// The same of a script whose lanes so many workers share in each way: one run of three may find no memory.
@@ -100,33 +87,14 @@ fn expect_shared<T: Threads + Wait + Sync + Abort>(
     alloc: Global,
     worked: Worked,
     workers: u32,
-    table: &[u32],
+    table: &'static [u32],
 ) {
-    let Ok(table) = table.to_vec(alloc) else {
-        return;
-    };
-    let rounds = is_refused(rt, alloc, &worked, workers, Sharing::Round);
-    let queue = is_refused(rt, alloc, &worked, workers, Sharing::Queue);
-    let fixed = is_refused(rt, alloc, &worked, workers, Sharing::Fixed(table));
-    assert!(rt;
-        matches!(
-            (rounds, queue, fixed),
-            (false, false, _) | (false, _, false) | (_, false, false)
-        )
-    );
-}
-
-/// Whether a run found no memory; its text is right where it did.
-fn is_refused<T: Threads + Wait + Sync + Abort>(
-    rt: &T,
-    alloc: Global,
-    worked: &Worked,
-    workers: u32,
-    sharing: Sharing,
-) -> bool {
-    let (result, out) = ran(rt, alloc, worked.script, worked.text, workers, sharing);
-    expect(rt, result, &out, worked.text);
-    result.is_err()
+    let script = worked.script;
+    let rounds = is_refused(rt, alloc, script, worked.text, workers, Way::Round);
+    let queue = is_refused(rt, alloc, script, worked.text, workers, Way::Queue);
+    let table = Way::Table(table);
+    let fixed = is_refused(rt, alloc, script, worked.text, workers, table);
+    assert!(rt; !(rounds && queue || rounds && fixed || queue && fixed));
 }
 
 fn expect_alone<T: Threads + Wait + Sync + Abort>(rt: &T, alloc: Global, worked: Worked) {
@@ -197,11 +165,21 @@ fn refused_give_with_letters_of_two_workers(rt: HostRuntime) {
     expect_of_two(&rt, rt.alloc(), given_with_letters());
 }
 
-/// The same by the caller's thread alone, which needs no handle.
+/// The same of a run by the caller's thread alone, which needs no handle.
+pub(crate) fn is_refused_alone(
+    rt: &impl Abort,
+    alloc: Global,
+    script: &str,
+    text: &'static str,
+) -> bool {
+    let mut out = OverWrite::new(expecting(text));
+    let result = run_alone(alloc, script.as_bytes(), &mut out);
+    expect(rt, result, &out.into_inner(), text);
+    result.is_err()
+}
+
 fn expect_by_caller(rt: &impl Abort, alloc: Global, worked: Worked) {
-    let mut out = OverWrite::new(expecting(worked.text));
-    let result = run_alone(alloc, worked.script.as_bytes(), &mut out);
-    expect(rt, result, &out.into_inner(), worked.text);
+    let _refused = is_refused_alone(rt, alloc, worked.script, worked.text);
 }
 
 #[test]
@@ -230,37 +208,51 @@ pub(crate) fn right_arguments(alloc: Global) -> Option<[String; 2]> {
     }
 }
 
-/// Serves the first script, and answers the status and what both writers then expect.
-fn served<T: Threads + Wait + Sync>(
+/// What came of an input that was served: the status, and what writers that expect the first script's text and a line then still do.
+#[derive(Drop)]
+pub(crate) struct Ended {
+    pub(crate) status: u8,
+    pub(crate) out: Compared<'static>,
+    pub(crate) errors: Compared<'static>,
+}
+
+pub(crate) fn served<T: Threads + Wait + Sync, R: Read>(
     rt: &T,
     alloc: Global,
     args: &[String],
-) -> (u8, Compared<'static>, Compared<'static>) {
+    input: &mut R,
+    line: &'static str,
+) -> Ended {
     let mut out = OverWrite::new(expecting(first_run_text()));
-    let mut errors = expecting(memory());
-    let mut input = Cursor::new(first_run().as_bytes());
-    let status = serve(rt, alloc, args, &mut input, &mut out, &mut errors);
-    (status, out.into_inner(), errors)
+    let mut errors = expecting(line);
+    let status = serve(rt, alloc, args, input, &mut out, &mut errors);
+    Ended {
+        status,
+        out: out.into_inner(),
+        errors,
+    }
 }
 
 /// The text and no line, or the line and no text.
-fn expect_served(rt: &impl Abort, status: u8, out: &Compared<'_>, errors: &Compared<'_>) {
-    if status == 0 {
-        assert!(rt; all_came(out));
-        assert!(rt; nothing_came(errors, memory()));
+fn is_whole(served: &Ended) -> bool {
+    if served.status == 0 {
+        all_came(&served.out) && nothing_came(&served.errors, memory())
     } else {
-        assert!(rt; status == 3);
-        assert!(rt; nothing_came(out, first_run_text()));
-        assert!(rt; all_came(errors));
+        served.status == 3
+            && nothing_came(&served.out, first_run_text())
+            && all_came(&served.errors)
     }
+}
+
+fn expect_served<T: Threads + Wait + Sync + Abort>(rt: &T, alloc: Global, args: &[String]) {
+    let mut input = Cursor::new(first_run().as_bytes());
+    assert!(rt; is_whole(&served(rt, alloc, args, &mut input, memory())));
 }
 
 /// The same through `serve`, whose line is then `memory`.
 #[test]
 fn refused_serve(rt: HostRuntime) {
-    let Some(args) = right_arguments(rt.alloc()) else {
-        return;
-    };
-    let (status, out, errors) = served(&rt, rt.alloc(), &args);
-    expect_served(&rt, status, &out, &errors);
+    if let Some(args) = right_arguments(rt.alloc()) {
+        expect_served(&rt, rt.alloc(), &args);
+    }
 }

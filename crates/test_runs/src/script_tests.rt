@@ -1,10 +1,10 @@
 //! One script and its text, and each form of a line; other whole scripts are vectors.
 use crate::expected::expect_same;
+use crate::refused_tests::is_refused_alone;
+use crate::table_tests::{Way, expect_ran};
 use lane_turn::{Event, Invoked, Line, Word};
 use loop_script::Outcome;
-use mainctx::{OverWrite, add_text, run_alone, run_bytes};
-use std::test::Fail;
-use tick_stepper::{OpenGate, Sharing};
+use mainctx::add_text;
 
 // (texts stand in functions of their own: a proof that sees a literal reads it byte by byte)
 
@@ -17,35 +17,15 @@ pub(crate) fn first_run_text() -> &'static str {
 }
 
 #[test]
-fn writes_the_text(rt: HostRuntime) -> Result<(), Fail> {
-    let mut out = OverWrite::new(Vec::new(rt.alloc()));
-    run_bytes(
-        &rt,
-        rt.alloc(),
-        first_run().as_bytes(),
-        1,
-        Sharing::Round,
-        &OpenGate,
-        &mut out,
-    )?;
-    expect_same(
-        &rt,
-        out.into_inner().as_slice(),
-        first_run_text().as_bytes(),
-    );
-    Ok(())
+fn writes_the_text(rt: HostRuntime) {
+    let wanted = first_run_text().as_bytes();
+    expect_ran(&rt, rt.alloc(), first_run(), 1, Way::Round, wanted);
 }
 
 #[test]
-fn writes_the_text_alone(rt: HostRuntime) -> Result<(), Fail> {
-    let mut out = OverWrite::new(Vec::new(rt.alloc()));
-    run_alone(rt.alloc(), first_run().as_bytes(), &mut out)?;
-    expect_same(
-        &rt,
-        out.into_inner().as_slice(),
-        first_run_text().as_bytes(),
-    );
-    Ok(())
+fn writes_the_text_alone(rt: HostRuntime) {
+    let refused = is_refused_alone(&rt, rt.alloc(), first_run(), first_run_text());
+    assert!(rt; !refused);
 }
 
 fn each_line() -> &'static str {
@@ -53,46 +33,97 @@ fn each_line() -> &'static str {
 }
 
 /// Each form of a line, once.
-#[test]
-fn writes_each_line(rt: HostRuntime) -> Result<(), Fail> {
-    let mut text = Vec::new(rt.alloc());
-    let lines = [
-        Event::Dispatch {
+const EACH_LINE: [Line; 17] = [
+    Line {
+        tick: 4,
+        event: Event::Dispatch {
             context: 0,
             source: 1,
             priority: -100,
             depth: 2,
         },
-        Event::Iterate(1, true),
-        Event::Pending(2, false),
-        Event::LoopEnd(3),
-        Event::Acquire(4, true),
-        Event::Default(5),
-        Event::Invoke(6, Invoked::Posted),
-        Event::Arrive(7, 8),
-        Event::Cancel(9),
-        Event::Handler(0),
-        Event::Task {
+    },
+    Line {
+        tick: 4,
+        event: Event::Iterate(1, true),
+    },
+    Line {
+        tick: 4,
+        event: Event::Pending(2, false),
+    },
+    Line {
+        tick: 4,
+        event: Event::LoopEnd(3),
+    },
+    Line {
+        tick: 4,
+        event: Event::Acquire(4, true),
+    },
+    Line {
+        tick: 4,
+        event: Event::Default(5),
+    },
+    Line {
+        tick: 4,
+        event: Event::Invoke(6, Invoked::Posted),
+    },
+    Line {
+        tick: 4,
+        event: Event::Arrive(7, 8),
+    },
+    Line {
+        tick: 4,
+        event: Event::Cancel(9),
+    },
+    Line {
+        tick: 4,
+        event: Event::Handler(0),
+    },
+    Line {
+        tick: 4,
+        event: Event::Task {
             lane: 1,
             number: 2,
             outcome: Outcome::Ok(-3),
         },
-        Event::Task {
+    },
+    Line {
+        tick: 4,
+        event: Event::Task {
             lane: 1,
             number: 2,
             outcome: Outcome::TimedOut,
         },
-        Event::TaskLate(1, 2),
-        Event::Give {
+    },
+    Line {
+        tick: 4,
+        event: Event::TaskLate(1, 2),
+    },
+    Line {
+        tick: 4,
+        event: Event::Give {
             context: 1,
             lane: 0,
         },
-        Event::Hold(1),
-        Event::Miss(Word::SetReady),
-        Event::HaltDepth,
-    ]
-    .map(|event| Line { tick: 4, event });
-    add_text(&mut text, 10, &lines)?;
+    },
+    Line {
+        tick: 4,
+        event: Event::Hold(1),
+    },
+    Line {
+        tick: 4,
+        event: Event::Miss(Word::SetReady),
+    },
+    Line {
+        tick: 4,
+        event: Event::HaltDepth,
+    },
+];
+
+#[test]
+fn writes_each_line(rt: HostRuntime) {
+    let mut text = Vec::new(rt.alloc());
+    let added = add_text(&mut text, 10, &EACH_LINE);
+    assert!(rt; added.is_ok());
     expect_same(&rt, text.as_slice(), each_line().as_bytes());
-    Ok(())
 }

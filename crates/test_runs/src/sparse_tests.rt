@@ -1,16 +1,16 @@
 //! Ticks in which nothing is to be done: a gate counts the turns that are taken, and notes their ticks.
+use crate::expected::expect_same;
+use crate::table_tests::{Way, ran};
 use lane_turn::{LaneFault, LaneState};
 use loop_script::Script;
-use mainctx::{OverWrite, run_bytes};
 use post_office::Post;
 use std::alloc::Global;
 use std::process::Abort;
 use std::sync::Wait;
 use std::sync::atomic::Ordering::SeqCst;
 use std::sync::atomic::{AtomicU32, AtomicUsize};
-use std::test::Fail;
 use std::thread::Threads;
-use tick_stepper::{Gate, Sharing};
+use tick_stepper::Gate;
 
 /// A gate that counts turns, and notes the ticks of the first five.
 #[derive(Drop)]
@@ -62,38 +62,34 @@ fn fresh() -> Counter {
     }
 }
 
-/// The gate after a run of a script with one worker.
-fn counted<T: Threads + Wait + Sync>(
-    rt: &T,
-    alloc: Global,
-    script: &str,
-    sharing: Sharing,
-) -> Result<Counter, Fail> {
-    let gate = fresh();
-    let mut out = OverWrite::new(Vec::new(alloc));
-    run_bytes(rt, alloc, script.as_bytes(), 1, sharing, &gate, &mut out)?;
-    Ok(gate)
+/// The ticks that a gate noted.
+fn noted(gate: &Counter) -> [u32; 5] {
+    [
+        gate.ticks[0].load(SeqCst),
+        gate.ticks[1].load(SeqCst),
+        gate.ticks[2].load(SeqCst),
+        gate.ticks[3].load(SeqCst),
+        gate.ticks[4].load(SeqCst),
+    ]
 }
 
 /// The ticks of the turns, one after another.
 fn expect_ticks(rt: &impl Abort, gate: &Counter, ticks: &[u32]) {
-    assert!(rt; gate.turns.load(SeqCst) == ticks.len());
-    for (noted, tick) in gate.ticks.iter().zip(ticks) {
-        assert!(rt; noted.load(SeqCst) == *tick);
-    }
+    expect_same(rt, gate.turns.load(SeqCst), ticks.len());
+    expect_same(rt, noted(gate).get(..ticks.len()), Some(ticks));
 }
 
-/// The same of a run of a script.
+/// The same of a run of a script with one worker.
 fn expect_turns<T: Threads + Wait + Sync + Abort>(
     rt: &T,
     alloc: Global,
     script: &str,
-    sharing: Sharing,
+    way: Way,
     ticks: &[u32],
-) -> Result<(), Fail> {
-    let gate = counted(rt, alloc, script, sharing)?;
+) {
+    let gate = fresh();
+    assert!(rt; ran(rt, alloc, script, 1, way, &gate).is_ok());
     expect_ticks(rt, &gate, ticks);
-    Ok(())
 }
 
 /// The same in each way of sharing.
@@ -101,24 +97,23 @@ fn expect_of_each<T: Threads + Wait + Sync + Abort>(
     rt: &T,
     alloc: Global,
     script: &str,
-    table: &[u32],
+    table: &'static [u32],
     ticks: &[u32],
-) -> Result<(), Fail> {
-    let table = table.to_vec(alloc)?;
-    expect_turns(rt, alloc, script, Sharing::Fixed(table), ticks)?;
-    expect_turns(rt, alloc, script, Sharing::Round, ticks)?;
-    expect_turns(rt, alloc, script, Sharing::Queue, ticks)
+) {
+    expect_turns(rt, alloc, script, Way::Table(table), ticks);
+    expect_turns(rt, alloc, script, Way::Round, ticks);
+    expect_turns(rt, alloc, script, Way::Queue, ticks);
 }
 
 #[test]
-fn empty_ticks_take_no_turn(rt: HostRuntime) -> Result<(), Fail> {
-    expect_of_each(&rt, rt.alloc(), two_of_a_thousand(), &[0], &[0, 400, 800])
+fn empty_ticks_take_no_turn(rt: HostRuntime) {
+    expect_of_each(&rt, rt.alloc(), two_of_a_thousand(), &[0], &[0, 400, 800]);
 }
 
 /// A context that was given keeps no lane awake, neither the one that gave it nor the one that has it now: there is the turn that
 /// gives, and four of the lane that takes over, its first, that in which its loop ends, and two in which the timeout is dispatched.
 #[test]
-fn empty_ticks_after_a_give_take_no_turn(rt: HostRuntime) -> Result<(), Fail> {
+fn empty_ticks_after_a_give_take_no_turn(rt: HostRuntime) {
     let ticks = [0, 0, 1, 400, 800];
-    expect_of_each(&rt, rt.alloc(), given_timeout(), &[0, 0], &ticks)
+    expect_of_each(&rt, rt.alloc(), given_timeout(), &[0, 0], &ticks);
 }

@@ -1,32 +1,60 @@
 //! Lanes that a table gives to workers, with 1, 2 and 64 workers: halted lanes, and many posts in a tick.
 use crate::expected::expect_same;
-use mainctx::{OverWrite, run_bytes};
-use std::alloc::Global;
+use mainctx::{MainFault, Out, OverWrite, run_bytes};
+use std::alloc::{AllocError, Global};
 use std::process::Abort;
 use std::sync::Wait;
-use std::test::Fail;
 use std::thread::Threads;
-use tick_stepper::{OpenGate, Sharing};
+use tick_stepper::{Gate, OpenGate, Sharing};
 
-/// Runs a script with so many workers.
-fn ran<T: Threads + Wait + Sync>(
+/// How workers share lanes.
+#[derive(Clone, Copy)]
+pub(crate) enum Way {
+    Round,
+    Queue,
+    /// Each lane's worker.
+    Table(&'static [u32]),
+}
+
+fn sharing(alloc: Global, way: Way) -> Result<Sharing, MainFault> {
+    match way {
+        Way::Round => Ok(Sharing::Round),
+        Way::Queue => Ok(Sharing::Queue),
+        Way::Table(workers) => match workers.to_vec(alloc) {
+            Ok(table) => Ok(Sharing::Fixed(table)),
+            Err(AllocError) => Err(MainFault::OutOfMemory),
+        },
+    }
+}
+
+/// Runs a script with so many workers, which share its lanes in a way and take each turn through a gate.
+pub(crate) fn run<T: Threads + Wait + Sync, G: Gate, W: Out>(
     rt: &T,
     alloc: Global,
     script: &str,
     workers: u32,
-    sharing: Sharing,
-) -> Result<Vec<u8>, Fail> {
+    way: Way,
+    gate: &G,
+    out: &mut W,
+) -> Result<(), MainFault> {
+    let sharing = sharing(alloc, way)?;
+    run_bytes(rt, alloc, script.as_bytes(), workers, sharing, gate, out)
+}
+
+/// The text of a script.
+pub(crate) fn ran<T: Threads + Wait + Sync, G: Gate>(
+    rt: &T,
+    alloc: Global,
+    script: &str,
+    workers: u32,
+    way: Way,
+    gate: &G,
+) -> Result<Vec<u8>, MainFault> {
     let mut out = OverWrite::new(Vec::new(alloc));
-    run_bytes(
-        rt,
-        alloc,
-        script.as_bytes(),
-        workers,
-        sharing,
-        &OpenGate,
-        &mut out,
-    )?;
-    Ok(out.into_inner())
+    match run(rt, alloc, script, workers, way, gate, &mut out) {
+        Ok(()) => Ok(out.into_inner()),
+        Err(fault) => Err(fault),
+    }
 }
 
 /// The text of a script with so many workers.
@@ -35,27 +63,84 @@ pub(crate) fn expect_ran<T: Threads + Wait + Sync + Abort>(
     alloc: Global,
     script: &str,
     workers: u32,
-    sharing: Sharing,
+    way: Way,
     wanted: &[u8],
-) -> Result<(), Fail> {
-    let found = ran(rt, alloc, script, workers, sharing)?;
-    expect_same(rt, found.as_slice(), wanted);
-    Ok(())
+) {
+    match ran(rt, alloc, script, workers, way, &OpenGate) {
+        Ok(found) => expect_same(rt, found.as_slice(), wanted),
+        Err(fault) => expect_same(rt, Some(fault), None),
+    }
 }
 
-/// The text by a table of two workers, by one of 64, and by one of the only worker.
+/// So many workers, and each lane's.
+#[derive(Clone, Copy)]
+struct Crew {
+    workers: u32,
+    table: &'static [u32],
+}
+
+/// One lane of the only worker, of one of two, and of one of 64.
+const OF_ONE_LANE: [Crew; 3] = [
+    Crew {
+        workers: 1,
+        table: &[0],
+    },
+    Crew {
+        workers: 2,
+        table: &[1],
+    },
+    Crew {
+        workers: 64,
+        table: &[63],
+    },
+];
+
+/// The same of two lanes.
+const OF_TWO_LANES: [Crew; 3] = [
+    Crew {
+        workers: 1,
+        table: &[0, 0],
+    },
+    Crew {
+        workers: 2,
+        table: &[1, 0],
+    },
+    Crew {
+        workers: 64,
+        table: &[63, 5],
+    },
+];
+
+/// The text by each table.
 fn expect_by_tables<T: Threads + Wait + Sync + Abort>(
     rt: &T,
     alloc: Global,
     script: &str,
     wanted: &[u8],
-    lanes: usize,
-) -> Result<(), Fail> {
-    for (workers, table) in [(1, [0, 0]), (2, [1, 0]), (64, [63, 5])] {
-        let table = Sharing::Fixed(table[..lanes.min(2)].to_vec(alloc)?);
-        expect_ran(rt, alloc, script, workers, table, wanted)?;
+    crews: &[Crew],
+) {
+    for crew in crews {
+        let way = Way::Table(crew.table);
+        expect_ran(rt, alloc, script, crew.workers, way, wanted);
     }
-    Ok(())
+}
+
+fn expect_of_one_lane<T: Threads + Wait + Sync + Abort>(
+    rt: &T,
+    alloc: Global,
+    script: &str,
+    wanted: &str,
+) {
+    expect_by_tables(rt, alloc, script, wanted.as_bytes(), &OF_ONE_LANE);
+}
+
+fn expect_of_two_lanes<T: Threads + Wait + Sync + Abort>(
+    rt: &T,
+    alloc: Global,
+    script: &str,
+    wanted: &[u8],
+) {
+    expect_by_tables(rt, alloc, script, wanted, &OF_TWO_LANES);
 }
 
 fn self_invoking() -> &'static str {
@@ -68,26 +153,22 @@ fn self_invoking_text() -> &'static str {
 
 /// A procedure that invokes itself halts its lane at the 33rd call.
 #[test]
-fn self_invoking_by_tables(rt: HostRuntime) -> Result<(), Fail> {
-    expect_by_tables(
-        &rt,
-        rt.alloc(),
-        self_invoking(),
-        self_invoking_text().as_bytes(),
-        1,
-    )
+fn self_invoking_by_tables(rt: HostRuntime) {
+    expect_of_one_lane(&rt, rt.alloc(), self_invoking(), self_invoking_text());
 }
 
 fn halted_task() -> &'static str {
     r#"{"version":1,"ticks":4,"tick_us":1000,"procs":[{"do":[["invoke",0,0]]},{"do":[]}],"lanes":[{"contexts":1,"start":[["task",{"tree":["sleep",2000],"call":1}],["invoke",0,0]]}]}"#
 }
 
+fn halted_task_text() -> &'static str {
+    "thread 0\n0 invoke ctx 0 direct\n0 invoke ctx 0 direct\n0 invoke ctx 0 direct\n0 invoke ctx 0 direct\n0 invoke ctx 0 direct\n0 invoke ctx 0 direct\n0 invoke ctx 0 direct\n0 invoke ctx 0 direct\n0 invoke ctx 0 direct\n0 invoke ctx 0 direct\n0 invoke ctx 0 direct\n0 invoke ctx 0 direct\n0 invoke ctx 0 direct\n0 invoke ctx 0 direct\n0 invoke ctx 0 direct\n0 invoke ctx 0 direct\n0 invoke ctx 0 direct\n0 invoke ctx 0 direct\n0 invoke ctx 0 direct\n0 invoke ctx 0 direct\n0 invoke ctx 0 direct\n0 invoke ctx 0 direct\n0 invoke ctx 0 direct\n0 invoke ctx 0 direct\n0 invoke ctx 0 direct\n0 invoke ctx 0 direct\n0 invoke ctx 0 direct\n0 invoke ctx 0 direct\n0 invoke ctx 0 direct\n0 invoke ctx 0 direct\n0 invoke ctx 0 direct\n0 invoke ctx 0 direct\n0 halt depth\n3 arrive ctx 0 source 1\n"
+}
+
 /// A lane that is halted in tick 0 gets the reply of its task in tick 3.
 #[test]
-fn halted_task_by_tables(rt: HostRuntime) -> Result<(), Fail> {
-    let mut wanted = self_invoking_text().to_string(rt.alloc())?;
-    wanted.push_str("3 arrive ctx 0 source 1\n")?;
-    expect_by_tables(&rt, rt.alloc(), halted_task(), wanted.as_bytes(), 1)
+fn halted_task_by_tables(rt: HostRuntime) {
+    expect_of_one_lane(&rt, rt.alloc(), halted_task(), halted_task_text());
 }
 
 fn post_to_halted() -> &'static str {
@@ -100,49 +181,50 @@ fn post_to_halted_text() -> &'static str {
 
 /// Another lane's invoke reaches a lane that is halted in the same tick.
 #[test]
-fn post_to_halted_by_tables(rt: HostRuntime) -> Result<(), Fail> {
-    expect_by_tables(
-        &rt,
-        rt.alloc(),
-        post_to_halted(),
-        post_to_halted_text().as_bytes(),
-        2,
-    )
+fn post_to_halted_by_tables(rt: HostRuntime) {
+    let wanted = post_to_halted_text().as_bytes();
+    expect_of_two_lanes(&rt, rt.alloc(), post_to_halted(), wanted);
+}
+
+fn add_times(script: &mut String, piece: &str, times: u32) -> Result<(), AllocError> {
+    for _ in 0..times {
+        script.push_str(piece)?;
+    }
+    Ok(())
 }
 
 /// A storm of posts: 39 sources of one lane whose procedure invokes 254 times in the other's context. `log` is what the invoked
 /// procedure does: a log of its own makes the other lane halt.
-fn storm(alloc: Global, log: &str) -> Result<String, Fail> {
-    let mut script =
-        r#"{"version":1,"ticks":2,"tick_us":1000,"loops":[0,1],"procs":[{"do":[["invoke",1,1]"#.to_string(
-            alloc,
-        )?;
-    for _ in 1..254 {
-        script.push_str(r#",["invoke",1,1]"#)?;
-    }
+fn add_storm(script: &mut String, log: &str) -> Result<(), AllocError> {
+    script.push_str(
+        r#"{"version":1,"ticks":2,"tick_us":1000,"loops":[0,1],"procs":[{"do":[["invoke",1,1]"#,
+    )?;
+    add_times(script, r#",["invoke",1,1]"#, 253)?;
     script.push_str(r#"]},{"do":["#)?;
     script.push_str(log)?;
     script.push_str(r#"]}],"lanes":[{"contexts":1,"start":["#)?;
-    for _ in 0..39 {
-        script.push_str(r#"["attach",0,0,{"kind":["idle"],"call":0}],"#)?;
-    }
-    script.push_str(r#"["run",0]]},{"contexts":1,"start":[["run",1]]}]}"#)?;
-    Ok(script)
+    add_times(script, r#"["attach",0,0,{"kind":["idle"],"call":0}],"#, 39)?;
+    script.push_str(r#"["run",0]]},{"contexts":1,"start":[["run",1]]}]}"#)
 }
 
 /// The text is that of rounds with one worker, which vectors/13-limits holds.
-fn expect_storm<T: Threads + Wait + Sync + Abort>(
-    rt: &T,
-    alloc: Global,
-    log: &str,
-) -> Result<(), Fail> {
-    let script = storm(alloc, log)?;
-    let wanted = ran(rt, alloc, script.as_str(), 1, Sharing::Round)?;
-    expect_by_tables(rt, alloc, script.as_str(), &wanted, 2)
+fn expect_storm_of<T: Threads + Wait + Sync + Abort>(rt: &T, alloc: Global, script: &str) {
+    match ran(rt, alloc, script, 1, Way::Round, &OpenGate) {
+        Ok(wanted) => expect_of_two_lanes(rt, alloc, script, &wanted),
+        Err(fault) => expect_same(rt, Some(fault), None),
+    }
+}
+
+fn expect_storm<T: Threads + Wait + Sync + Abort>(rt: &T, alloc: Global, log: &str) {
+    let mut script = String::new(alloc);
+    match add_storm(&mut script, log) {
+        Ok(()) => expect_storm_of(rt, alloc, script.as_str()),
+        Err(AllocError) => assert!(rt; false),
+    }
 }
 
 #[test]
-fn storms_by_tables(rt: HostRuntime) -> Result<(), Fail> {
-    expect_storm(&rt, rt.alloc(), "")?;
-    expect_storm(&rt, rt.alloc(), r#"["log",1]"#)
+fn storms_by_tables(rt: HostRuntime) {
+    expect_storm(&rt, rt.alloc(), "");
+    expect_storm(&rt, rt.alloc(), r#"["log",1]"#);
 }
