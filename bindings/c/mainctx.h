@@ -25,6 +25,10 @@ enum {
     MAINCTX_FAULTS = 8      /* all that is wrong with the script is told in the room; of mainctx_check alone */
 };
 
+/* In the place of a thread's number: each thread; of the number of a step: the end of the turn. */
+#define MAINCTX_EACH_THREAD UINT32_MAX
+#define MAINCTX_END_OF_TURN UINT64_MAX
+
 /* Runs a script of numbers to its end in the caller's thread, and puts its text into the room. It answers one of the first eight numbers
    above. One with names (docs/NAMES.md) is refused, as MAINCTX_SHAPE: what mainctx_translate gives of it runs.
 
@@ -64,30 +68,54 @@ uint32_t mainctx_translate(const uint8_t *script, size_t script_size, uint8_t *r
    All else is as of mainctx_run. */
 uint32_t mainctx_check(const uint8_t *script, size_t script_size, uint8_t *room, size_t room_size, size_t *needed);
 
+/* Runs a script of either form, and puts the text of the run into the room: of a script with names with these and with times in the place of
+   ticks, and of one of numbers as mainctx_run does. Where `notes` is not 0, a line stands behind what a move writes where the real GLib does
+   otherwise in it, as mainctx_notes tells it.
+
+   It answers as mainctx_translate does, with this text, in UTF-8, in place of the script; and so do the calls below. */
+uint32_t mainctx_text(const uint8_t *script, size_t script_size, uint32_t notes, uint8_t *room, size_t room_size, size_t *needed);
+
+/* Tells each source and loop of a run in one line, and what was silent: sources that were never dispatched, loops that did not end, threads
+   that halted, and why, as the program mainctx_inspect summary tells it. */
+uint32_t mainctx_summary(const uint8_t *script, size_t script_size, uint8_t *room, size_t room_size, size_t *needed);
+
+/* Tells where the real GLib would do otherwise than a run, and by which row of docs/GLIB.md, or that nothing is known in which it would, as the
+   program mainctx_inspect notes tells it. */
+uint32_t mainctx_notes(const uint8_t *script, size_t script_size, uint8_t *room, size_t room_size, size_t *needed);
+
 /* Runs a script of either form, and tells what the run does, a move at a time: the account of the run as JSON, an object a line
    (docs/ACCOUNT.md), from the move `first` on, counted from 0, and of `most` moves at most. The account's first line goes before them, and
    its last line, whose `did` is "over", comes where the run is over behind them: who finds none asks again from `first + most` on. Each
-   call runs the script anew.
-
-   It answers as mainctx_translate does, with the lines in place of the script. They are UTF-8. */
+   call runs the script anew. */
 uint32_t mainctx_account(const uint8_t *script, size_t script_size, uint64_t first, uint64_t most, uint8_t *room, size_t room_size,
                          size_t *needed);
 
 /* Runs a script of either form, and tells in words why sources were dispatched or not: each iteration that is begun in the ticks from
    `first` to `last`, with a table of its context's sources, as the program mainctx_inspect why tells it. The run ends behind the tick
-   `last`.
-
-   It answers as mainctx_translate does, with these words, in UTF-8, in place of the script. */
+   `last`. */
 uint32_t mainctx_why(const uint8_t *script, size_t script_size, uint32_t first, uint32_t last, uint8_t *room, size_t room_size,
                      size_t *needed);
 
 /* Runs a script of either form, and tells in words the life of the source with this id in a context, as the program mainctx_inspect why
    --source tells it: attached by whom, each dispatch, each iteration in the ticks from `first` to `last` that left it out and why,
-   destroyed by whom.
-
-   It answers as mainctx_translate does, with these words, in UTF-8, in place of the script. */
+   destroyed by whom. */
 uint32_t mainctx_life(const uint8_t *script, size_t script_size, uint32_t context, uint64_t id, uint32_t first, uint32_t last,
                       uint8_t *room, size_t room_size, size_t *needed);
+
+/* Tells each step of each turn of a thread, or of each, in the ticks from `first` to `last`, in a row: what is done, what is in progress after it
+   from the outermost inwards, and the lines of the text that it writes, as the program mainctx_inspect steps tells it. */
+uint32_t mainctx_steps(const uint8_t *script, size_t script_size, uint32_t thread, uint32_t first, uint32_t last, uint8_t *room,
+                       size_t room_size, size_t *needed);
+
+/* Tells what a thread is in the middle of at one moment of a tick, after `step` steps of its turn, where 0 is before the first, or at the turn's
+   end, as the program mainctx_inspect stack tells it. Where the run has no such thread, tick or step, nothing is told: *needed is 0. */
+uint32_t mainctx_stack(const uint8_t *script, size_t script_size, uint32_t thread, uint32_t tick, uint64_t step, uint8_t *room,
+                       size_t room_size, size_t *needed);
+
+/* Draws the run of a thread, or of each, in the ticks from `first` to `last`: a row for each source, loop, task and cancellable, with time going
+   right, in lines of `columns` characters at most, 50 at least, as the program mainctx_inspect timeline draws it. */
+uint32_t mainctx_timeline(const uint8_t *script, size_t script_size, uint32_t thread, uint32_t first, uint32_t last, uint32_t columns,
+                          uint8_t *room, size_t room_size, size_t *needed);
 
 /* The version of these calls: MAINCTX_VERSION of the header with which the library was made. It rises where one of them is changed in a
    way that a caller may notice. */

@@ -8,7 +8,10 @@ from pathlib import Path
 
 from .common import C, MOST, NAMED, SCRIPT, SCRIPTS, TOP, Built, Fault, Missing, Test, ends, vectors
 
-EXPORTED = {"mainctx_account", "mainctx_check", "mainctx_life", "mainctx_run", "mainctx_translate", "mainctx_version", "mainctx_why"}
+EXPORTED = {
+    f"mainctx_{name}"
+    for name in ("account", "check", "life", "notes", "run", "stack", "steps", "summary", "text", "timeline", "translate", "version", "why")
+}
 INSTALLED = {"include/mainctx.h", "lib/libmainctx.a", "lib/libmainctx.so", "lib/libmainctx.so.0", "lib/pkgconfig/mainctx.pc"}
 SANITIZERS = ("-fsanitize=address,undefined", "-fno-sanitize-recover=all")
 WARNINGS = ("-std=c11", "-O1", "-g", "-Wall", "-Wextra", "-Werror")

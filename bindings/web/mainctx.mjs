@@ -12,8 +12,12 @@ const ROOM = 4_194_304, ROOM_OF_A_MOMENT = 120, LARGE_ROOM = 16_777_216, SIZE = 
 /** Bytes of memory beyond which an instance is dropped after a call, since a module's memory never gets smaller. */
 const KEPT_AT_MOST = 268_435_456;
 
-/** How many moments an account has at most, and which tick is the last of which is told, where nothing is said of it. */
-const ALL = Number.MAX_SAFE_INTEGER, LAST_TICK = 0xffff_ffff;
+/** How many moments an account has at most, and which tick is the last of which is told, where nothing is said of it; the number that stands for each
+ * thread, and that for the end of a turn. */
+const ALL = Number.MAX_SAFE_INTEGER, LAST_TICK = 0xffff_ffff, EACH_THREAD = 0xffff_ffff, END_OF_TURN = 2n ** 64n - 1n;
+
+/** The characters of a line of a picture, where nothing is said of them. */
+const COLUMNS = 80;
 
 /** A call that gives no answer. `fault` says why: "not json", "shape", "limit", "reference" or "rule", where the script is refused; "memory";
  * "trap", where the module stopped; "call", where it has no such call; and of a worker "aborted". */
@@ -87,6 +91,36 @@ export class Mainctx {
     /** The life of the source with this id (a number or a BigInt) in a context, as `mainctx_inspect why --source` tells it. */
     async life(script, context, id, first = 0, last = LAST_TICK) {
         return { text: decoded(await this.#asked("mainctx_life", script, [context, BigInt(id), first, last])) };
+    }
+
+    /** The text of a run, with the names of the script where it has some; with `notes` also where the real GLib does otherwise. */
+    async text(script, notes = false) {
+        return { text: decoded(await this.#asked("mainctx_text", script, [Number(notes)])) };
+    }
+
+    /** Each source and loop of a run in one line, and what was silent. */
+    async summary(script) {
+        return { text: decoded(await this.#asked("mainctx_summary", script, [])) };
+    }
+
+    /** Where the real GLib would do otherwise than a run, and by which row of docs/GLIB.md. */
+    async notes(script) {
+        return { text: decoded(await this.#asked("mainctx_notes", script, [])) };
+    }
+
+    /** Each step of each turn in these ticks, of one thread or of each, with what is in progress after it. */
+    async steps(script, first = 0, last = LAST_TICK, thread = EACH_THREAD) {
+        return { text: decoded(await this.#asked("mainctx_steps", script, [thread, first, last])) };
+    }
+
+    /** What a thread is in the middle of in a tick, after so many steps of its turn, or at its end; an empty text where there is no such moment. */
+    async stack(script, thread, tick, step = END_OF_TURN) {
+        return { text: decoded(await this.#asked("mainctx_stack", script, [thread, tick, BigInt(step)])) };
+    }
+
+    /** A picture of a run, in lines of so many characters at most. */
+    async timeline(script, columns = COLUMNS, first = 0, last = LAST_TICK, thread = EACH_THREAD) {
+        return { text: decoded(await this.#asked("mainctx_timeline", script, [thread, first, last, columns])) };
     }
 
     /** The version of the module's calls, as bindings/c/mainctx.h has it. */

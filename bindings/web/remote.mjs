@@ -49,6 +49,30 @@ class Remote {
         return this.#called("life", script, context, id, first, last);
     }
 
+    text(script, notes) {
+        return this.#called("text", script, notes);
+    }
+
+    summary(script) {
+        return this.#called("summary", script);
+    }
+
+    notes(script) {
+        return this.#called("notes", script);
+    }
+
+    steps(script, first, last, thread) {
+        return this.#called("steps", script, first, last, thread);
+    }
+
+    stack(script, thread, tick, step) {
+        return this.#called("stack", script, thread, tick, step);
+    }
+
+    timeline(script, columns, first, last, thread) {
+        return this.#called("timeline", script, columns, first, last, thread);
+    }
+
     version() {
         return this.#called("version");
     }

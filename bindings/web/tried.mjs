@@ -50,6 +50,7 @@ async function vector(engine, { script, wanted }) {
     const classOf = told.startsWith("script: ") ? CLASSES.indexOf(told.slice("script: ".length, -1)) : Infinity;
     if (first !== classOf) return `faults of class ${first} in place of ${classOf}`;
     if (!engine.tells || classOf !== Infinity) return null;
+    if ((await engine.text(bytes)).text !== right) return "another text by its own call";
     return textOf(await engine.account(bytes)) === right ? null : "another text by its account";
 }
 
@@ -128,6 +129,13 @@ const ends = (words) => (text) => (text.split("\n").at(-2)?.startsWith(words) ? 
 /** An example of which is told why, and its source that is told of. */
 const TOLD = "examples/nested_drop.json", CONTEXT = 0, SOURCE = 4n;
 
+/** The other calls that tell of it: what they take beside the script, and a part of what they say. */
+const TELLING = [
+    ["summary", [], has("dispatched")], ["notes", [], (text) => (text === "" || text.endsWith("\n") ? null : text)], ["steps", [0, 0, 0], has("is dispatched")],
+    ["stack", [0, 0, 0], has("before its first step")], ["stack", [0, 0], has("at the end of its turn")], ["stack", [9, 0], (text) => text || null],
+    ["timeline", [50, 0, 0, 0], has("a tick a column")], ["text", [true], has("thread 0\n")],
+];
+
 export async function all(source, cases, named) {
     const count = new Count(), engine = await load(source), remote = await open(source);
     for (const it of cases) await count.take(it.name, () => vector(engine, it));
@@ -137,6 +145,7 @@ export async function all(source, cases, named) {
     const example = cases.find(({ name }) => name === TOLD), script = example && bytesOf(example.script), both = [engine, remote];
     if (example) await count.take("why", () => told(both, "why", [script, 0, 0], has("to be dispatched")));
     if (example) await count.take("a source's life", () => told(both, "life", [script, CONTEXT, SOURCE], ends("end of the run")));
+    if (example) for (const [call, words, test] of TELLING) await count.take(call, () => told(both, call, [script, ...words], test));
     await count.take("its version", () => told(both, "version", [], (version) => (version === VERSION ? null : `it is ${version}`)));
     await count.take("a run that is stopped", () => stopped(remote));
     await count.take("a script that is too large for any memory", () => short(engine));

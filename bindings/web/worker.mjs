@@ -2,7 +2,7 @@
 // {id, answer} or {id, fault, message}; the first one's `call` is "load".
 import { load, MainctxError } from "./mainctx.mjs";
 
-const CALLS = ["run", "translate", "check", "account", "why", "life", "version"];
+const CALLS = ["run", "translate", "check", "account", "why", "life", "text", "summary", "notes", "steps", "stack", "timeline", "version"];
 const inBrowser = typeof globalThis.postMessage === "function";
 const port = inBrowser ? globalThis : (await import("node:worker_threads")).parentPort;
 let engine = null;

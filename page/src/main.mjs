@@ -25,7 +25,7 @@ const pause = (ms = 0) => new Promise((go) => setTimeout(go, ms));
 const examples = JSON.parse(given("examples"));
 const pick = (place) => go(place, true);
 const picture = new Picture(part("picture"), pick), steps = new Steps(part("steps")), text = new Text(part("text"));
-const detail = new Detail(part("detail"), new Why(ask));
+const why = new Why(ask), detail = new Detail(part("detail"), why);
 const editor = new Editor({ area: part("script"), back: part("back"), numbers: part("numbers"), list: part("faults") }, later);
 const engine = await begun(await inflated(bytesOf(given("module"))), part("worker").textContent);
 
@@ -99,6 +99,7 @@ async function show(script, isLatest) {
         if (ran) text.show((shown.text = ran.text), model);
     }
     summed(model);
+    if (model.moments.isOver) why.summary(part("summary"), model);
 }
 
 /** Shows what is known of a model. */
@@ -108,6 +109,7 @@ function present(model) {
     model.places.settle(part("folds").checked);
     if (isNew) {
         part("picture").scrollTo(0, 0);
+        part("summary").textContent = "…";
         picture.current = shown.current = null;
         text.show((shown.text = ""), model);
     }

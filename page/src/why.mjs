@@ -1,4 +1,4 @@
-// What the engine says of why sources were dispatched or not: of a moment's tick, and of the life of a source.
+// What the engine says of why sources were dispatched or not: of a moment's tick, of the life of a source, and of the whole run.
 import { element } from "./parts.mjs";
 
 const STILL = 150; // milliseconds for which a moment is the current one before the engine is asked
@@ -43,6 +43,10 @@ export class Why {
 
     life(shown, model, context, source) {
         return this.#asked(shown, "life", [model, context, source], (text) => told(shown, text.split("\n").slice(0, -1), "nothing"));
+    }
+
+    summary(shown, model) {
+        return this.#asked(shown, "summary", [model], (text) => told(shown, text.split("\n").slice(0, -1), "nothing"));
     }
 
     #asked(shown, call, words, tell) {

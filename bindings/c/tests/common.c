@@ -5,7 +5,7 @@
 #include <stdlib.h>
 #include <string.h>
 
-enum { FIRST_ROOM = 4096 };
+enum { FIRST_ROOM = 4096, COLUMNS = 80 };
 
 noreturn void wrong(const char *what, ...) {
     va_list values;
@@ -33,6 +33,10 @@ struct bytes file(const char *path) {
     return bytes;
 }
 
+uint32_t text(const uint8_t *script, size_t script_size, uint8_t *room, size_t room_size, size_t *needed) {
+    return mainctx_text(script, script_size, 1, room, room_size, needed);
+}
+
 uint32_t account(const uint8_t *script, size_t script_size, uint8_t *room, size_t room_size, size_t *needed) {
     return mainctx_account(script, script_size, 0, UINT64_MAX, room, room_size, needed);
 }
@@ -43,6 +47,18 @@ uint32_t why(const uint8_t *script, size_t script_size, uint8_t *room, size_t ro
 
 uint32_t life(const uint8_t *script, size_t script_size, uint8_t *room, size_t room_size, size_t *needed) {
     return mainctx_life(script, script_size, 0, 1, 0, UINT32_MAX, room, room_size, needed);
+}
+
+uint32_t steps(const uint8_t *script, size_t script_size, uint8_t *room, size_t room_size, size_t *needed) {
+    return mainctx_steps(script, script_size, MAINCTX_EACH_THREAD, 0, UINT32_MAX, room, room_size, needed);
+}
+
+uint32_t stack(const uint8_t *script, size_t script_size, uint8_t *room, size_t room_size, size_t *needed) {
+    return mainctx_stack(script, script_size, 0, 0, MAINCTX_END_OF_TURN, room, room_size, needed);
+}
+
+uint32_t timeline(const uint8_t *script, size_t script_size, uint8_t *room, size_t room_size, size_t *needed) {
+    return mainctx_timeline(script, script_size, MAINCTX_EACH_THREAD, 0, UINT32_MAX, COLUMNS, room, room_size, needed);
 }
 
 struct bytes text_of(struct call call, struct bytes script) {

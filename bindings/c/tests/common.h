@@ -19,11 +19,18 @@ struct call {
     uint32_t whole;
 };
 
-/* the calls that take more than a script, each of the whole run; of a life that of source 1 of context 0 */
-library_function account, why, life;
+/* the calls that take more than a script, each of the whole run: of a text with notes, of a life that of source 1 of context 0, of a stack that of thread
+   0 at the end of tick 0, of a picture lines of 80 characters */
+library_function text, account, why, life, steps, stack, timeline;
 
-static const struct call RUN = {mainctx_run, MAINCTX_TEXT}, TRANSLATE = {mainctx_translate, MAINCTX_TEXT}, CHECK = {mainctx_check, MAINCTX_FAULTS},
-                         ACCOUNT = {account, MAINCTX_TEXT}, WHY = {why, MAINCTX_TEXT}, LIFE = {life, MAINCTX_TEXT};
+static const struct call RUN = {mainctx_run, MAINCTX_TEXT}, TRANSLATE = {mainctx_translate, MAINCTX_TEXT}, CHECK = {mainctx_check, MAINCTX_FAULTS};
+
+/* those that tell of a run of a script of either form */
+static const struct call TELLING[] = {
+    {account, MAINCTX_TEXT},         {why, MAINCTX_TEXT},   {life, MAINCTX_TEXT},  {text, MAINCTX_TEXT},     {mainctx_summary, MAINCTX_TEXT},
+    {mainctx_notes, MAINCTX_TEXT}, {steps, MAINCTX_TEXT}, {stack, MAINCTX_TEXT}, {timeline, MAINCTX_TEXT},
+};
+enum { TELLING_COUNT = sizeof TELLING / sizeof *TELLING };
 
 /* ends the test: what is wrong, as printf says it */
 noreturn void wrong(const char *what, ...);

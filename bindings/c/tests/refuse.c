@@ -1,5 +1,5 @@
-/* refuse SCRIPT..: each request for memory of each call is refused in turn. Then the answer is MAINCTX_MEMORY, or what it would have been
-   where the call can do without; and no block is left taken. Linked with -Wl,--wrap=malloc,--wrap=realloc,--wrap=free. */
+/* refuse SCRIPT..: each request for memory of each call is refused in turn, of those that tell of a run of the first three, and with the last script
+   of all. Then the answer is MAINCTX_MEMORY, or what it would have been where the call can do without; and no block is left taken. Linked with -Wl,--wrap=malloc,--wrap=realloc,--wrap=free. */
 #include "common.h"
 #include <stdio.h>
 #include <stdlib.h>
@@ -73,11 +73,16 @@ static size_t refuse_each(struct call call, const char *path) {
     return requests;
 }
 
+enum { FEW = 3 };
+
 int main(int count, char **words) {
     size_t requests = 0;
-    const struct call calls[] = {RUN, TRANSLATE, CHECK, ACCOUNT, WHY, LIFE};
-    for (int word = 1; word < count; word++)
+    const struct call calls[] = {RUN, TRANSLATE, CHECK};
+    for (int word = 1; word < count; word++) {
         for (size_t call = 0; call < sizeof calls / sizeof *calls; call++) requests += refuse_each(calls[call], words[word]);
+        size_t telling = word == count - 1 ? TELLING_COUNT : FEW;
+        for (size_t call = 0; call < telling; call++) requests += refuse_each(TELLING[call], words[word]);
+    }
     printf("%zu requests refused\n", requests);
     return 0;
 }

@@ -65,9 +65,15 @@ static void try_told(struct call call, struct bytes script) {
 
 /* so of each call that tells of a run */
 static void try_each(struct bytes script) {
-    try_told(ACCOUNT, script);
-    try_told(WHY, script);
-    try_told(LIFE, script);
+    for (size_t call = 0; call < TELLING_COUNT; call++) try_told(TELLING[call], script);
+}
+
+/* a moment that no run has: nothing is told */
+static void try_nowhere(struct bytes script) {
+    uint8_t room[1] = {FILLED};
+    size_t needed = SIZE_MAX;
+    uint32_t answer = mainctx_stack(script.at, script.size, UINT32_MAX, 0, MAINCTX_END_OF_TURN, room, sizeof room, &needed);
+    if (answer != MAINCTX_TEXT || needed != 0 || room[0] != FILLED) wrong("no such thread: %u, and %zu are needed", (unsigned)answer, needed);
 }
 
 int main(int count, char **words) {
@@ -81,15 +87,18 @@ int main(int count, char **words) {
     try_told(TRANSLATE, named);
     try_each(script);
     try_each(named);
+    try_nowhere(script);
     try_none(mainctx_translate, "", MAINCTX_NOT_JSON);
     try_none(mainctx_translate, "{}", MAINCTX_SHAPE);
     try_none(mainctx_translate, FORM "\"ticks\":1,\"threads\":{\"t\":{\"start\":[{\"iterate\":\"u\"}]}}}", MAINCTX_SHAPE);
     try_none(mainctx_translate, FORM "\"ticks\":0,\"threads\":{\"t\":{\"start\":[]}}}", MAINCTX_LIMIT);
-    try_none(account, FORM "\"ticks\":0,\"threads\":{\"t\":{\"start\":[]}}}", MAINCTX_LIMIT);
+    for (size_t call = 0; call < TELLING_COUNT; call++) {
+        try_none(TELLING[call].function, FORM "\"ticks\":0,\"threads\":{\"t\":{\"start\":[]}}}", MAINCTX_LIMIT);
+        try_none(TELLING[call].function, "{}", MAINCTX_SHAPE);
+        try_none(TELLING[call].function, "", MAINCTX_NOT_JSON);
+    }
     try_none(mainctx_check, FORM "\"ticks\":1,\"threads\":{\"t\":{\"start\":[]}}}", MAINCTX_TEXT);
     try_none(mainctx_run, FORM "\"ticks\":1,\"threads\":{\"t\":{\"start\":[]}}}", MAINCTX_SHAPE);
-    try_none(account, "{}", MAINCTX_SHAPE);
-    try_none(why, "", MAINCTX_NOT_JSON);
     try_none(life, "[]", MAINCTX_SHAPE);
     try_none(mainctx_run, "", MAINCTX_NOT_JSON);
     try_none(mainctx_run, "{}", MAINCTX_SHAPE);

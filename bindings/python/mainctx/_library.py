@@ -31,6 +31,9 @@ CALLS: dict[str, list[Any]] = {  # what each call takes between the script and t
     "mainctx_account": [ctypes.c_uint64, ctypes.c_uint64],
     "mainctx_why": [ctypes.c_uint32, ctypes.c_uint32],
     "mainctx_life": [ctypes.c_uint32, ctypes.c_uint64, ctypes.c_uint32, ctypes.c_uint32],
+    "mainctx_text": [ctypes.c_uint32],
+    "mainctx_summary": [],
+    "mainctx_notes": [],
 }
 
 
@@ -114,6 +117,24 @@ def life_of(script: bytes, context: int, source: int, first: int, last: int) -> 
     """The life of a source in these ticks, in words."""
     __tracebackhide__ = True
     return _told("mainctx_life", script, context, source, first, last).decode("utf-8")
+
+
+def named_text_of(script: bytes, notes: bool) -> str:
+    """The text of a run with the names of its script, and where that is asked for with a line where the real GLib does otherwise."""
+    __tracebackhide__ = True
+    return _told("mainctx_text", script, int(notes)).decode("utf-8")
+
+
+def summary_of(script: bytes) -> str:
+    """Each source and loop of a run in one line, and what was silent."""
+    __tracebackhide__ = True
+    return _told("mainctx_summary", script).decode("utf-8")
+
+
+def notes_of(script: bytes) -> str:
+    """Where the real GLib would do otherwise than a run."""
+    __tracebackhide__ = True
+    return _told("mainctx_notes", script).decode("utf-8")
 
 
 def faults_of(script: bytes) -> tuple[ScriptFault, ...]:

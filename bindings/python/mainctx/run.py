@@ -9,7 +9,7 @@ from functools import cached_property
 from pathlib import Path
 from typing import Any, SupportsIndex, TypeVar, Union, overload
 
-from ._library import ALL, EVER, account_of, faults_of, life_of, numbers_of, text_of, why_of
+from ._library import ALL, EVER, account_of, faults_of, life_of, named_text_of, notes_of, numbers_of, summary_of, text_of, why_of
 from .errors import Fault, ScriptError, ScriptFault
 from .lines import Dispatch, Line, Source, read_lines
 from .timeline import draw
@@ -138,6 +138,18 @@ class Run:
         """
         first, last = (0, EVER) if tick is None else (tick, tick)
         return why_of(self.script, first, last) if source is None else life_of(self.script, *source, first, last)
+
+    def named_text(self, notes: bool = False) -> str:
+        """Its text with the names of the script, where it has some, and with times; with `notes` also a line where the real GLib does otherwise."""
+        return named_text_of(self.script, notes)
+
+    def summary(self) -> str:
+        """Each source and loop in one line, and what was silent: sources that were never dispatched, loops that did not end, and why."""
+        return summary_of(self.script)
+
+    def notes(self) -> str:
+        """Where the real GLib would do otherwise, and by which row of docs/GLIB.md; or that nothing is known in which it would."""
+        return notes_of(self.script)
 
     def timeline(self, *sources: tuple[int, int], around: int = 0) -> str:
         """A picture of the dispatches in each tick, with a row for each source, and for these sources though nothing dispatches them.

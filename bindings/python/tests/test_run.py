@@ -46,6 +46,25 @@ NAMED = {
     ]}},
     "procedures": {"on_idle": {"do": [{"log": "idle"}], "keep": 1}, "on_timeout": {"do": [{"quit": "main_loop"}]}},
 }  # fmt: skip
+NAMED_TEXT = """\
+thread main
+0 ms  dispatch my_idle -> on_idle (DEFAULT_IDLE)
+0 ms  log "idle"
+1 ms  dispatch my_idle -> on_idle (DEFAULT_IDLE)
+1 ms  log "idle"
+2 ms  dispatch my_timeout -> on_timeout (DEFAULT)
+2 ms  loop main_loop end
+2 ms  log "over"
+2 ms  end
+"""
+SUMMARY = """\
+ticks 0 to 3 (0 to 3 ms)
+my_idle, idle, priority DEFAULT_IDLE, attached in tick 0 (0 ms): dispatched 2 times, ticks 0 to 1 (0 to 1 ms)
+my_timeout, timeout of 2 ms, priority DEFAULT, attached in tick 0 (0 ms): dispatched once, tick 2 (2 ms)
+loop main_loop: 3 iterations, ticks 0 to 2 (0 to 2 ms); ended 1 time, tick 2 (2 ms)
+
+Each source was dispatched, and each loop that ran ended.
+"""
 NUMBERS = {**TEN_LINES, "procs": [{"do": [["log", 1]], "keep": 1}, {"do": [["quit", 0]]}], "lanes": [{"contexts": 1, "start": [
     ["attach", 0, 0, {"kind": ["idle"], "call": 0}], ["attach", 0, 1, {"kind": ["timeout", 2], "call": 1}], ["run", 0], ["log", 0]]}]}  # fmt: skip
 LANE = {"contexts": 1, "start": [["attach", 0, 0, {"kind": ["idle"], "call": 0}], ["attach", 0, 1, {"kind": ["idle"]}], ["run", 0]]}
@@ -105,6 +124,12 @@ class Named(unittest.TestCase):
         self.assertIn("  my_idle, idle, priority DEFAULT_IDLE: to be dispatched", told)
         self.assertIn("  source 1, idle, priority 200: to be dispatched", numbers.why(tick=0).splitlines())
         self.assertIn("my_timeout", run.why((0, 2)))
+
+    def test_in_words(self) -> None:
+        run = mainctx.run(NAMED)
+        self.assertEqual((run.named_text(), run.named_text(notes=True)), (NAMED_TEXT, NAMED_TEXT))
+        self.assertEqual((run.summary(), run.notes()), (SUMMARY, "Nothing is known in which GLib would do otherwise.\n"))
+        self.assertEqual(mainctx.run(TEN_LINES).named_text(), TEXT)
 
     def test_what_is_refused(self) -> None:
         unknown: dict[str, object] = {**NAMED, "loops": {"other_loop": "ui"}}

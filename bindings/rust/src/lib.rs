@@ -32,6 +32,8 @@ mod fault;
 
 pub use fault::Fault;
 
+use std::ops::RangeInclusive;
+
 /// What a call answers where the whole text is in the room, where the room is too short, and where faults are told (mainctx.h). The
 /// others are faults.
 const TEXT: u32 = 0;
@@ -41,50 +43,49 @@ const FAULTS: u32 = 8;
 /// The bytes of the first room, which is enough for most texts.
 const FIRST_ROOM: usize = 65_536;
 
-extern "C" {
-    fn mainctx_run(
-        script: *const u8,
-        script_size: usize,
-        room: *mut u8,
-        room_size: usize,
-        needed: *mut usize,
-    ) -> u32;
+/// Declares calls of the library, by what each takes between the script and the room.
+macro_rules! calls {
+    ($($name:ident($($word:ident: $number:ty),*);)*) => {
+        extern "C" {
+            $(fn $name(
+                script: *const u8,
+                script_size: usize,
+                $($word: $number,)*
+                room: *mut u8,
+                room_size: usize,
+                needed: *mut usize,
+            ) -> u32;)*
+        }
+    };
+}
 
-    fn mainctx_translate(
-        script: *const u8,
-        script_size: usize,
-        room: *mut u8,
-        room_size: usize,
-        needed: *mut usize,
-    ) -> u32;
+calls! {
+    mainctx_run();
+    mainctx_translate();
+    mainctx_check();
+    mainctx_text(notes: u32);
+    mainctx_summary();
+    mainctx_notes();
+    mainctx_account(first: u64, most: u64);
+    mainctx_why(first: u32, last: u32);
+    mainctx_steps(thread: u32, first: u32, last: u32);
+    mainctx_stack(thread: u32, tick: u32, step: u64);
+    mainctx_timeline(thread: u32, first: u32, last: u32, columns: u32);
+}
 
-    fn mainctx_check(
-        script: *const u8,
-        script_size: usize,
-        room: *mut u8,
-        room_size: usize,
-        needed: *mut usize,
-    ) -> u32;
+/// The numbers that stand for each thread and for the end of a turn (mainctx.h).
+const EACH_THREAD: u32 = u32::MAX;
+const END_OF_TURN: u64 = u64::MAX;
 
-    fn mainctx_account(
-        script: *const u8,
-        script_size: usize,
-        first: u64,
-        most: u64,
-        room: *mut u8,
-        room_size: usize,
-        needed: *mut usize,
-    ) -> u32;
-
-    fn mainctx_why(
-        script: *const u8,
-        script_size: usize,
-        first: u32,
-        last: u32,
-        room: *mut u8,
-        room_size: usize,
-        needed: *mut usize,
-    ) -> u32;
+/// What a call tells of a script.
+macro_rules! told_by {
+    ($call:ident, $script:expr $(, $word:expr)*) => {
+        // SAFETY: script, room and `needed` are apart, the library reads and writes within their sizes and keeps none of them, and no pointer
+        // is null, not even of an empty slice.
+        told(|room, needed| unsafe {
+            $call($script.as_ptr(), $script.len(), $($word,)* room.as_mut_ptr(), room.len(), needed)
+        })
+    };
 }
 
 /// A room of so many bytes, where memory is there.
@@ -119,17 +120,7 @@ fn told(call: impl Fn(&mut [u8], &mut usize) -> u32) -> Result<String, Fault> {
 ///
 /// The first class of which the script has a fault, or `OutOfMemory`; then nothing is left of the run.
 pub fn run(script: &[u8]) -> Result<String, Fault> {
-    // SAFETY: the three are apart, the library reads and writes within their sizes and keeps none of them, and no pointer is null,
-    // not even of an empty slice. So it is of each call below.
-    told(|room, needed| unsafe {
-        mainctx_run(
-            script.as_ptr(),
-            script.len(),
-            room.as_mut_ptr(),
-            room.len(),
-            needed,
-        )
-    })
+    told_by!(mainctx_run, script)
 }
 
 /// Answers the script of numbers that a script with names stands for, and of a script of numbers its own text.
@@ -139,15 +130,7 @@ pub fn run(script: &[u8]) -> Result<String, Fault> {
 /// Where a script with names stands for a script of numbers that is refused, that one's first class of fault; for each other fault of a
 /// script with names `Shape`; of a script of numbers its first class; or `OutOfMemory`.
 pub fn translate(script: &[u8]) -> Result<String, Fault> {
-    told(|room, needed| unsafe {
-        mainctx_translate(
-            script.as_ptr(),
-            script.len(),
-            room.as_mut_ptr(),
-            room.len(),
-            needed,
-        )
-    })
+    told_by!(mainctx_translate, script)
 }
 
 /// Tells what is wrong with a script of either form: each fault as a JSON object on a line, with its class, its place and what was
@@ -157,15 +140,7 @@ pub fn translate(script: &[u8]) -> Result<String, Fault> {
 ///
 /// `OutOfMemory` alone.
 pub fn check(script: &[u8]) -> Result<String, Fault> {
-    told(|room, needed| unsafe {
-        mainctx_check(
-            script.as_ptr(),
-            script.len(),
-            room.as_mut_ptr(),
-            room.len(),
-            needed,
-        )
-    })
+    told_by!(mainctx_check, script)
 }
 
 /// Tells what the run of a script of either form does, a move at a time, each as a JSON object on a line (docs/ACCOUNT.md of the
@@ -176,17 +151,7 @@ pub fn check(script: &[u8]) -> Result<String, Fault> {
 ///
 /// As of [`translate`].
 pub fn account(script: &[u8], first: u64, most: u64) -> Result<String, Fault> {
-    told(|room, needed| unsafe {
-        mainctx_account(
-            script.as_ptr(),
-            script.len(),
-            first,
-            most,
-            room.as_mut_ptr(),
-            room.len(),
-            needed,
-        )
-    })
+    told_by!(mainctx_account, script, first, most)
 }
 
 /// Tells in words why sources were dispatched or not: each iteration in these ticks, with a table of its sources. The script and its names
@@ -195,16 +160,92 @@ pub fn account(script: &[u8], first: u64, most: u64) -> Result<String, Fault> {
 /// # Errors
 ///
 /// As of [`translate`].
-pub fn why(script: &[u8], ticks: std::ops::RangeInclusive<u32>) -> Result<String, Fault> {
-    told(|room, needed| unsafe {
-        mainctx_why(
-            script.as_ptr(),
-            script.len(),
-            *ticks.start(),
-            *ticks.end(),
-            room.as_mut_ptr(),
-            room.len(),
-            needed,
-        )
-    })
+pub fn why(script: &[u8], ticks: RangeInclusive<u32>) -> Result<String, Fault> {
+    told_by!(mainctx_why, script, *ticks.start(), *ticks.end())
+}
+
+/// Answers the text of the run of a script of either form: of one with names with these and with times, and of one of numbers as [`run`]
+/// does; with `notes` also where the real GLib does otherwise. The script and its names are as of [`account`].
+///
+/// # Errors
+///
+/// As of [`translate`].
+pub fn text(script: &[u8], notes: bool) -> Result<String, Fault> {
+    told_by!(mainctx_text, script, u32::from(notes))
+}
+
+/// Tells each source and loop of a run in one line, and what was silent. The script and its names are as of [`account`].
+///
+/// # Errors
+///
+/// As of [`translate`].
+pub fn summary(script: &[u8]) -> Result<String, Fault> {
+    told_by!(mainctx_summary, script)
+}
+
+/// Tells where the real GLib would do otherwise than a run, or that nothing is known in which it would. The script and its names are as of [`account`].
+///
+/// # Errors
+///
+/// As of [`translate`].
+pub fn notes(script: &[u8]) -> Result<String, Fault> {
+    told_by!(mainctx_notes, script)
+}
+
+/// Tells each step of each turn in these ticks, of one thread or of each, with what is in progress after it. The script and its names are as
+/// of [`account`].
+///
+/// # Errors
+///
+/// As of [`translate`].
+pub fn steps(
+    script: &[u8],
+    thread: Option<u32>,
+    ticks: RangeInclusive<u32>,
+) -> Result<String, Fault> {
+    told_by!(
+        mainctx_steps,
+        script,
+        thread.unwrap_or(EACH_THREAD),
+        *ticks.start(),
+        *ticks.end()
+    )
+}
+
+/// Tells what a thread is in the middle of in a tick, after so many steps of its turn, or at its end; nothing where the run has no such
+/// moment. The script and its names are as of [`account`].
+///
+/// # Errors
+///
+/// As of [`translate`].
+pub fn stack(script: &[u8], thread: u32, tick: u32, step: Option<u64>) -> Result<String, Fault> {
+    told_by!(
+        mainctx_stack,
+        script,
+        thread,
+        tick,
+        step.unwrap_or(END_OF_TURN)
+    )
+}
+
+/// Draws the run of one thread or of each in these ticks, in lines of so many characters at most, 50 at least. The script and its names are as
+/// of [`account`].
+///
+/// # Errors
+///
+/// As of [`translate`].
+pub fn timeline(
+    script: &[u8],
+    thread: Option<u32>,
+    ticks: RangeInclusive<u32>,
+    columns: u32,
+) -> Result<String, Fault> {
+    told_by!(
+        mainctx_timeline,
+        script,
+        thread.unwrap_or(EACH_THREAD),
+        *ticks.start(),
+        *ticks.end(),
+        columns
+    )
 }

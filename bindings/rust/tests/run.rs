@@ -68,6 +68,17 @@ fn what_is_asked_of_a_run() -> Result<(), Fault> {
     );
     assert!(mainctx::why(&script, 0..=0)?.contains("to be dispatched"));
     assert_eq!(mainctx::why(b"", 0..=0), Err(Fault::NotJson));
+    assert_eq!(mainctx::text(&script, false)?, text_of(1));
+    assert!(mainctx::summary(&script)?.contains("dispatched once, tick 0 (0 ms)\n"));
+    assert_eq!(
+        mainctx::notes(&script)?,
+        "Nothing is known in which GLib would do otherwise.\n"
+    );
+    assert_eq!(mainctx::steps(&script, Some(1), 0..=0)?, "");
+    assert!(mainctx::steps(&script, None, 0..=0)?.contains("source 0.1 is dispatched"));
+    assert_eq!(mainctx::stack(&script, 0, 1, None)?, "");
+    assert!(mainctx::stack(&script, 0, 0, Some(0))?.contains("before its first step\n"));
+    assert!(mainctx::timeline(&script, None, 0..=0, 0)?.contains("  0.1 idle"));
     Ok(())
 }
 
@@ -83,6 +94,8 @@ fn a_script_with_names() -> Result<(), Fault> {
     assert_eq!(mainctx::translate(numbers.as_bytes())?, numbers);
     assert_eq!(run(named), Err(Fault::Shape));
     assert_eq!(mainctx::check(named)?, "");
+    let words = "thread main\n0 ms  dispatch twice -> on_idle (DEFAULT_IDLE)\n0 ms  log \"hello\"\n0 ms  iterate ui: true\n0 ms  end\n";
+    assert_eq!(mainctx::text(named, false)?, words);
     let told = "  twice, idle, priority DEFAULT_IDLE: to be dispatched\n";
     assert!(mainctx::why(named, 0..=0)?.contains(told));
     assert!(mainctx::why(numbers.as_bytes(), 0..=0)?

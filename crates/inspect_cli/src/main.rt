@@ -6,7 +6,6 @@ mod failure;
 mod first_lines;
 mod program;
 mod progress;
-mod teller;
 
 use std::process::ExitCode;
 

@@ -1,12 +1,12 @@
 //! The program `mainctx_inspect` in order: reads arguments and script, opens the run, writes what is asked, and refuses numbers that the run has not.
-use crate::arguments::point_of;
+use crate::arguments::{asked_of, point_of};
 use crate::failure::{Failure, Numbered};
 use crate::first_lines::FirstLines;
 use crate::progress::Progress;
-use crate::teller::Teller;
 use account::Account;
 use inspect_arguments::{Asked, Command, Order, read_inspect_words};
 use inspect_picture::{Point, Reach, Stack};
+use inspect_run::Teller;
 use inspect_words::{Run, Words, follow_names};
 use loop_script::{Script, ScriptFault};
 use mainctx::{MainFault, OverWrite, run_alone};
@@ -231,7 +231,7 @@ fn tell_each(
         script: &script,
         names: &names,
     };
-    let mut teller = Teller::begin(rt.alloc(), order, words, &mut output.text)?;
+    let mut teller = Teller::begin(rt.alloc(), asked_of(order), words, &mut output.text)?;
     let mut account = Account::new(rt.alloc(), script)?;
     tell_moments(&mut account, &mut names, &mut teller, &mut output, progress)
 }

@@ -2,7 +2,6 @@
 #![tactic(auto)]
 
 mod alike;
-mod asked;
 mod block;
 mod counts;
 mod life;
@@ -16,7 +15,6 @@ mod silent;
 mod summary;
 mod why;
 
-pub use asked::{Asked, push_asked};
 pub use life::Life;
 pub use moments::Moments;
 pub use noted::NoteList;

@@ -1,12 +1,12 @@
 -- What a caller finds in its room.
-use Rattle.std.specs.Prelude.{◌≡◌, ◌<◌, ◌≤◌, ℕ, List, Some, length, take, drop}
+use Rattle.std.specs.Prelude.{◌≡◌, ◌<◌, ◌≤◌, ◌⊎◌, ℕ, List, Some, true, length, take, drop}
 use Rattle.loop_script.specs.declared.plan.Plan.{Plan}
 use Rattle.loop_script.specs.declared.fault.ScriptFault.{ScriptFault}
 use Rattle.loop_script.specs.declared.fault.ScriptFault.TheVariants.{NotJson, Shape, Limit, Reference, Rule, OutOfMemory}
 use Rattle.mainctx.specs.Run.{IsFaultOf, IsScriptOf}
 use Rattle.mainctx.specs.Text.{text_of}
 use Rattle.mainctx_c.specs.Form.{IsRefusedBy, numbers_of}
-use Rattle.script_report.specs.Verdict.{IsOfForm}
+use Rattle.script_report.specs.Verdict.{IsOfForm, JudgesEither}
 use Rattle.script_report.specs.declared.forms.Either.{Either}
 
 -- the number of a class of fault
@@ -73,3 +73,14 @@ pub record HoldsNumbersFront (bytes room : List ℕ) (needed : ℕ) : Type 0 whe
 pub record LeavesRest (needed : ℕ) (before room : List ℕ) : Type 0 where
   pub fits : needed ≤ length room
   pub rest : drop needed room ≡ drop needed before
+
+-- what a call leaves that tells of the run of a script of either form, by the number that it answers: where that is 0 all that is told, where it is 7
+-- the beginning of more than there is room for, and else nothing, since the bytes are no script (1 to 5), or memory was refused (6)
+pub record Tells (bytes : List ℕ) (answer : ℕ) (before room : List ℕ) (needed : ℕ) : Type 0 where
+  pub answers : answer ≤ 7
+  pub script : (answer ≡ 0) ⊎ (answer ≡ 7) → JudgesEither bytes true
+  pub whole : answer ≡ 0 → LeavesRest needed before room
+  pub short : answer ≡ 7 → length room < needed
+  pub fault : 1 ≤ answer → answer < 6 → HasEithersFaultOf bytes answer
+  pub stays : 1 ≤ answer → answer ≤ 6 → room ≡ before
+  pub none : 1 ≤ answer → answer ≤ 6 → needed ≡ 0

@@ -23,6 +23,15 @@ pub(crate) const SHORT_ROOM: u32 = 7;
 /// Something is wrong with the script, and all of it is told in the room.
 pub(crate) const FAULTS: u32 = 8;
 
+/// The number of no thread, by which a call tells of each.
+pub(crate) const EACH_THREAD: u32 = u32::MAX;
+
+/// The number of no step, by which a call tells of the end of a turn.
+pub(crate) const END_OF_TURN: u64 = u64::MAX;
+
+/// How many characters a line of a picture has at least.
+pub(crate) const LEAST_COLUMNS: u32 = 50;
+
 /// The version of the calls.
 pub(crate) const VERSION: u32 = 2;
 

@@ -2,16 +2,15 @@
 #![tactic(auto)]
 
 ghost use Rattle.std.specs.Prelude.{◌≡◌, ◌≤◌, ◌<◌, ◌⊎◌, true, false, length};
-ghost use Rattle.mainctx_c.specs.Room.{HasAll, HasFront, HasFaultOf, HasEithersFaultOf, HoldsText, HoldsFront, HoldsNumbers, HoldsNumbersFront, LeavesRest};
+ghost use Rattle.mainctx_c.specs.Room.{HasAll, HasFront, HasFaultOf, HasEithersFaultOf, HoldsText, HoldsFront, HoldsNumbers, HoldsNumbersFront};
 ghost use Rattle.script_report.specs.Verdict.{JudgesEither};
 
 mod answer;
 mod reading;
+mod telling;
 
 use crate::answer::{FAULTS, MEMORY, SHORT_ROOM, TEXT, VERSION, class_of};
-use crate::reading::{names_of, read_script};
-use inspect_text::{Asked, push_asked};
-use inspect_words::{SourceName, Window};
+use crate::reading::read_script;
 use mainctx::{MainFault, OverWrite, run_alone};
 use script_report::{Form, Language, check_either};
 use std::alloc::Global;
@@ -136,126 +135,6 @@ pub extern "C" fn mainctx_check(
             }
         }
     }
-}
-
-/// Puts what is asked of the run of a script of either form into a room, with its names where it has some.
-fn tell(alloc: Global, script: &[u8], asked: Asked, room: &mut [u8], needed: &mut usize) -> u32
-    ensures script { (result ≡ TEXT) ⊎ (result ≡ SHORT_ROOM) → JudgesEither script.now true }
-    ensures whole { result ≡ TEXT → LeavesRest needed.new room.old room.new }
-    ensures short { result ≡ SHORT_ROOM → length room.new < needed.new }
-    ensures fault { 1 ≤ result → result < MEMORY → HasEithersFaultOf script.now result }
-    ensures stays { 1 ≤ result → result ≤ MEMORY → room.new ≡ room.old }
-    ensures none { 1 ≤ result → result ≤ MEMORY → needed.new ≡ 0 }
-    ensures answers { result ≤ SHORT_ROOM }
-{
-    *needed = 0;
-    let reading = match read_script(alloc, script) {
-        Ok(reading) => reading,
-        Err(fault) => return class_of(fault),
-    };
-    let Ok(names) = names_of(alloc, script, &reading.form) else {
-        return MEMORY;
-    };
-    let mut told = String::new(alloc);
-    match push_asked(alloc, reading.script, names, asked, &mut told) {
-        Err(_) => MEMORY,
-        Ok(()) => {
-            *needed = told.len();
-            fill(told.as_bytes(), room)
-        }
-    }
-}
-
-/// Tells what a run of a script of either form does, a move at a time: the account of the run (docs/ACCOUNT.md), from the move `first` on,
-/// counted from 0, and of `most` moves at most. The account's first line goes before them, and its last line comes where the run is over
-/// behind them. It has the names of the script where there are some, and none where the script is what `mainctx_translate` gives.
-///
-/// It answers 0 where all of that is in the room, and 7 where the room is too short, and has as much of it as fits; in both cases
-/// `needed` is its length. Else it answers 1 to 5 where the bytes are a script of neither form, as `mainctx_translate` does, and 6 where
-/// a request for memory was refused: then `needed` is 0, and the room is as it was. What is behind the text in the room stays too.
-#[unsafe(no_mangle)]
-pub extern "C" fn mainctx_account(
-    alloc: Global,
-    script: &[u8],
-    first: u64,
-    most: u64,
-    room: &mut [u8],
-    needed: &mut usize,
-) -> u32
-    ensures script { (result ≡ TEXT) ⊎ (result ≡ SHORT_ROOM) → JudgesEither script.now true }
-    ensures whole { result ≡ TEXT → LeavesRest needed.new room.old room.new }
-    ensures short { result ≡ SHORT_ROOM → length room.new < needed.new }
-    ensures fault { 1 ≤ result → result < MEMORY → HasEithersFaultOf script.now result }
-    ensures stays { 1 ≤ result → result ≤ MEMORY → room.new ≡ room.old }
-    ensures none { 1 ≤ result → result ≤ MEMORY → needed.new ≡ 0 }
-    ensures answers { result ≤ SHORT_ROOM }
-{
-    tell(alloc, script, Asked::Account { first, most }, room, needed)
-}
-
-/// Tells why sources were dispatched or not, in words: each iteration that is begun in the ticks from `first` to `last`, with a table of its context's
-/// sources, as `mainctx_inspect why` tells it.
-///
-/// Of which scripts it tells, with which names, what it answers, and what it leaves, is as of `mainctx_account`.
-#[unsafe(no_mangle)]
-pub extern "C" fn mainctx_why(
-    alloc: Global,
-    script: &[u8],
-    first: u32,
-    last: u32,
-    room: &mut [u8],
-    needed: &mut usize,
-) -> u32
-    ensures script { (result ≡ TEXT) ⊎ (result ≡ SHORT_ROOM) → JudgesEither script.now true }
-    ensures whole { result ≡ TEXT → LeavesRest needed.new room.old room.new }
-    ensures short { result ≡ SHORT_ROOM → length room.new < needed.new }
-    ensures fault { 1 ≤ result → result < MEMORY → HasEithersFaultOf script.now result }
-    ensures stays { 1 ≤ result → result ≤ MEMORY → room.new ≡ room.old }
-    ensures none { 1 ≤ result → result ≤ MEMORY → needed.new ≡ 0 }
-    ensures answers { result ≤ SHORT_ROOM }
-{
-    let lane = None;
-    tell(
-        alloc,
-        script,
-        Asked::Why(Window { lane, first, last }),
-        room,
-        needed,
-    )
-}
-
-/// Tells the life of one source, in words, in the ticks from `first` to `last`: attached by whom, each dispatch, each iteration that left it out and
-/// why, destroyed by whom, as `mainctx_inspect why --source CONTEXT.ID` tells it. Where the script has no such context, or never such
-/// a source, it says that it was not attached.
-///
-/// Of which scripts it tells, with which names, what it answers, and what it leaves, is as of `mainctx_account`.
-#[unsafe(no_mangle)]
-pub extern "C" fn mainctx_life(
-    alloc: Global,
-    script: &[u8],
-    context: u32,
-    id: u64,
-    first: u32,
-    last: u32,
-    room: &mut [u8],
-    needed: &mut usize,
-) -> u32
-    ensures script { (result ≡ TEXT) ⊎ (result ≡ SHORT_ROOM) → JudgesEither script.now true }
-    ensures whole { result ≡ TEXT → LeavesRest needed.new room.old room.new }
-    ensures short { result ≡ SHORT_ROOM → length room.new < needed.new }
-    ensures fault { 1 ≤ result → result < MEMORY → HasEithersFaultOf script.now result }
-    ensures stays { 1 ≤ result → result ≤ MEMORY → room.new ≡ room.old }
-    ensures none { 1 ≤ result → result ≤ MEMORY → needed.new ≡ 0 }
-    ensures answers { result ≤ SHORT_ROOM }
-{
-    let (lane, name) = (None, SourceName { context, id });
-    tell(
-        alloc,
-        script,
-        Asked::Life(name, Window { lane, first, last }),
-        room,
-        needed,
-    )
 }
 
 /// The version of these calls. It rises where one of them is changed in a way that a caller may notice.
