@@ -1,4 +1,4 @@
-//! What a lane has seen cancelled, with its handlers. A cancel comes to `lane_watch` first, which keeps its tick too.
+//! What a lane has seen cancelled, a set of cancellables, with its handlers. A cancel comes to `lane_watch` first, which keeps its tick too.
 ghost use Rattle.std.specs.Prelude.{◌≡◌, ◌+◌, ◌<◌, [], Some, None, true, false, replicate, slice_index_or, slice_set, IsTrue, IsOk, IfOk, OnOk, OnErr, option_map, if◌then◌else◌};
 ghost use Rattle.cancel_view.specs.Bounds.{count_end};
 

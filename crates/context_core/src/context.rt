@@ -14,8 +14,8 @@ ghost use Rattle.context_core.specs.Phases.{ms_until, least_ready, wait_of, inte
 use crate::busy::{Busy, BusyTable};
 use crate::free::FreeRows;
 use crate::interest::{Interest, Prepared, Shown};
-use crate::polled::{Polled, classes_of_shown};
-use crate::ready::{interest, is_beyond, is_free, level_at, ms_until, own_ready, sooner};
+use crate::polled::{Polled, classes_of_shown, level_at};
+use crate::ready::{interest, is_beyond, is_free, ms_until, own_ready, sooner};
 use crate::standing::{Standing, stand};
 use crate::visit::{visit, visit_free};
 use cancel_view::View;

@@ -1,4 +1,4 @@
-//! The types of what the phases tell one another: what is asked of descriptors, the most urgent level, the wait.
+//! The types of what the phases tell one another: what is asked of descriptors, the most urgent priority, the wait.
 
 /// What `prepare` tells.
 #[derive(Clone, Copy, Debug, PartialEq, Eq)]

@@ -1,4 +1,4 @@
-//! What descriptors show, as a poll told it, and at which level each of them stands.
+//! What descriptors show, as a poll told it: looked up by descriptor, or by place in what was handed in.
 ghost use Rattle.std.specs.Prelude.{◌≡◌, ◌==◌, [], Some, IfSome, slice_get};
 ghost use Rattle.std.specs.List.{find};
 ghost use Rattle.context_core.specs.Phases.{shown};
@@ -63,7 +63,7 @@ impl<'a> Polled<'a> {
             return 0;
         }
         if place < FAR {
-            if let Some(level) = level_at(self.list, place as usize - 1, fd) {
+            if let Some(level) = shown_at(self.list, place as usize - 1, fd) {
                 return level;
             }
         }
@@ -72,7 +72,7 @@ impl<'a> Polled<'a> {
 }
 
 /// The level at a place, where the descriptor stands there.
-fn level_at(list: &[Shown], place: usize, fd: u32) -> Option<u8>
+fn shown_at(list: &[Shown], place: usize, fd: u32) -> Option<u8>
     ensures { IfSome result (λ level. slice_get list.now place ≡ Some (record { fd = fd; level = level })) }
 {
     match list.get(place) {
@@ -110,4 +110,11 @@ pub(crate) fn classes_of_shown(list: &[Shown]) -> Classes
         classes.note(u64::from(one.fd), place);
     }
     classes
+}
+
+/// The level that was handed in at a place.
+pub(crate) fn level_at(levels: &[u8], place: usize) -> Option<u8>
+    ensures { result ≡ slice_get levels.now place }
+{
+    levels.get(place).copied()
 }

@@ -1,5 +1,6 @@
-//! Whether one source is ready, by its kind and the time, and whether it is blocked or beyond the level that is dispatched.
-ghost use Rattle.std.specs.Prelude.{◌≡◌, ◌≤◌, ◌^◌, ◌==◌, Some, None, IfSome, IsTrue, int_lt, slice_get, pos, true, if◌then◌else◌};
+//! Whether one source is ready, by its kind and the time; whether it is blocked, or less urgent than what is dispatched;
+//! what it asks of its descriptor, and the time until it is due.
+ghost use Rattle.std.specs.Prelude.{◌≡◌, ◌≤◌, ◌^◌, ◌==◌, Some, None, IfSome, IsTrue, int_lt, pos, true, if◌then◌else◌};
 ghost use Rattle.loop_script.specs.Bounds.{latest};
 ghost use Rattle.source_rows.specs.Rows.{is_under, sooner};
 ghost use Rattle.std.specs.List.{find, list_any};
@@ -134,11 +135,4 @@ pub(crate) fn ms_until(now: u64, time: Option<i64>) -> i64
         None => -1,
         Some(time) => (time as u64 - now).div_ceil(1000) as i64,
     }
-}
-
-/// The level at a place.
-pub(crate) fn level_at(levels: &[u8], place: usize) -> Option<u8>
-    ensures { result ≡ slice_get levels.now place }
-{
-    levels.get(place).copied()
 }

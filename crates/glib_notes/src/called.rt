@@ -1,4 +1,4 @@
-//! What GLib does otherwise as a call begins (of a source, of a reply) or returns, and as a source comes from another thread.
+//! What GLib does otherwise as a call begins (of a source, of a reply), returns or is over, and as a source comes from another thread.
 use crate::difference::Difference;
 use crate::kept::{Called, ReplyKept, ThreadKept, holds};
 use crate::notes::{Kept, Note, Scene};

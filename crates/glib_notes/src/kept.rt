@@ -1,4 +1,5 @@
-//! What is kept of each source, context and thread beside what the lanes show, to know what GLib would do. Other files fill and ask it.
+//! What is kept of each source, context and thread beside what the lanes show, to know what GLib would do: in which
+//! iterations a thread is, what a source was named. `notes` takes each move into it.
 use lane_turn::Place;
 use loop_script::Script;
 use std::alloc::{AllocError, Global};

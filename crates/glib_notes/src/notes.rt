@@ -1,4 +1,5 @@
-//! The notes of a run: each move comes in here and goes to the file of its kind. It keeps iterations as they begin, take ids, end, and which call is innermost.
+//! The notes of a run: each move with its scene comes in here. `Kept`, all that is kept of the run so far, notes the move
+//! and hands it to the file of its kind.
 use crate::acted::acted;
 use crate::called::{arrived, begun_call, polled, returned, settle};
 use crate::cancelled::handlers_called;

@@ -1,4 +1,4 @@
-//! The commands of `mainctx_inspect`, as `clap` has them: what each is for, its flags, and its help.
+//! The commands of `mainctx_inspect` as `clap` has them: what each is for, its flags, and its help.
 use crate::flags::{columns, file, lane, most_lines, notes, numbers, source, step, tick, ticks};
 use crate::{orders, texts};
 use clap::{Arg, Command};

@@ -45,13 +45,13 @@ fn order_of<'a>(command: Command, found: &ArgMatches<'a>) -> Result<Order<'a>, W
 {
     Ok(Order {
         command,
-        lane: number_of(found, LANE),
+        lane: flag_number(found, LANE),
         ticks: ticks_of(found)?,
         source: source_of(found)?,
-        tick: number_of(found, TICK),
-        step: number_of(found, STEP),
+        tick: flag_number(found, TICK),
+        step: flag_number(found, STEP),
         columns: columns_of(found),
-        most_lines: number_of(found, MOST_LINES),
+        most_lines: flag_number(found, MOST_LINES),
         notes: found.get_flag(NOTES),
         numbers: found.get_flag(NUMBERS),
         file: found.get_str(FILE),
@@ -79,7 +79,7 @@ fn source_of<'a>(found: &ArgMatches<'a>) -> Result<Option<Source>, WrongValue<'a
 }
 
 /// The number behind a flag; `clap` lets no greater one through.
-fn number_of(found: &ArgMatches<'_>, flag: &str) -> Option<u32>
+fn flag_number(found: &ArgMatches<'_>, flag: &str) -> Option<u32>
     ensures { IfSome result (λ number. number ≤ MOST_NUMBER) }
 {
     match found.get_one::<u32>(flag) {

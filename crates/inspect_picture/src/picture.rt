@@ -1,4 +1,4 @@
-//! Draws what `timeline` gathered: a line of times, a row of marks for each thing, with time going right, and what the marks mean.
+//! Draws what `timeline` gathered: a heading, a line of times, a row of marks for each thing, with time going right, and what the marks mean.
 use crate::legend::Legend;
 use crate::mark::Mark;
 use crate::row_name::{RowName, RowOf};

@@ -1,4 +1,4 @@
-//! What is asked of a whole run as one text, for callers of the library for C; `mainctx_inspect` goes moment by moment.
+//! What is asked of a whole run as one text, moment by moment, for callers of the library for C; `mainctx_inspect` goes through the moments itself.
 use crate::asked::{Asked, Part};
 use crate::teller::Teller;
 use account::{Account, Moment};

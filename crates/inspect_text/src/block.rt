@@ -1,4 +1,5 @@
-//! One iteration in words: the sources of its context, each with what it does with it, those that are alike joined.
+//! One iteration in words: the sources of its context, each with what it does with it and how many stand below it, those
+//! that are alike joined, and which line was shown before.
 use context_core::Standing;
 use inspect_words::{Words, push_source, push_standing};
 use run_names::RunNames;

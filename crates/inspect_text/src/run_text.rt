@@ -1,4 +1,4 @@
-//! An account of a run as text: each tick, turn and step with the lines that it wrote.
+//! An account of a run as text: of each thread its ticks, turns and steps with the lines that they wrote.
 ghost use Rattle.std.specs.Prelude.{◌≡◌, ◌++◌, [], codes, true, false, replicate, length, IfOk, OnOk, is_some, map, string_bytes};
 ghost use Rattle.run_names.specs.declared.thing.Thing.TheVariants as things;
 ghost use Rattle.run_names.specs.Text.{full_text};

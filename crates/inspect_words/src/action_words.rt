@@ -1,4 +1,4 @@
-//! Actions in words, and what did one: a call, a handler, a step.
+//! Actions in words, the thing that each is about, and what did one: a call, a handler, a step.
 use account::{Deed, Moment};
 use loop_script::{Action, Body};
 use run_names::{RunNames, Thing};

@@ -1,4 +1,4 @@
-//! What sources and handlers are called, as they come.
+//! What sources and handlers are called, given as they come, move by move.
 use account::{Account, Deed, Moment};
 use lane_turn::{Event, LaneState, Named, Place};
 use loop_script::{Action, Body};

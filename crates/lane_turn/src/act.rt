@@ -1,4 +1,5 @@
-//! What each action does.
+//! What each action does: those on sources, loops and tasks here, on cancellables in `handlers`, on who owns a context in
+//! `owned`, `give` in `handover`.
 ghost use Rattle.std.specs.Prelude.{◌≡◌, ◌+◌, ◌^◌, ◌<◌, ◌≤◌, true, length, OnOk};
 ghost use Rattle.loop_script.specs.References.{sizes, action_refers};
 ghost use Rattle.lane_turn.specs.Acted.{attach, child, destroy, set_ready, set_priority, iterate, pending, run, quit, start_task, acted};

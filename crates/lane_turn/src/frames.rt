@@ -1,4 +1,4 @@
-//! What a lane is in the middle of. Contracts see a flat list of frames, the innermost first.
+//! What a lane is in the middle of, and what of it blocks a source or owns a context. Contracts see a flat list of frames, the innermost first.
 ghost use Rattle.std.specs.Prelude.{◌≡◌, ℕ, ◌∷◌, ◌<◌, ◌≤◌, ◌^◌, ◌==◌, [], Some, reverse, drop, length, OnOk, IfOk, if◌then◌else◌};
 ghost use Rattle.std.specs.List.{list_any};
 ghost use Rattle.lane_turn.specs.Frames.{CallOf, IterOf, LoopOf, top_of, emptied, depth, calls_in_progress, busy, owns, IsTaken};
@@ -119,7 +119,7 @@ impl Frames {
         requires { length self.now < count_end }
         ensures { result ≡ list_any (has_rest context) self.now }
     {
-        self.inwards().any(|one| one.has_rest(context))
+        self.inwards().any(|one| one.has_ids_left(context))
     }
 
     /// Whether something in progress owns a context.

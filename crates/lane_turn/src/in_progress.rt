@@ -32,7 +32,7 @@ pub enum Activity<'a> {
 
 impl Activity<'_> {
     /// Whether it is an iteration of a context that has ids left.
-    pub(crate) fn has_rest(&self, context: u32) -> bool
+    pub(crate) fn has_ids_left(&self, context: u32) -> bool
         ensures { result ≡ has_rest context (frame_shown self.now) }
     {
         match self {

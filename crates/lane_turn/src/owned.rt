@@ -1,4 +1,4 @@
-//! Who owns a context, and what is done where it is owned or not.
+//! Who owns a context, and the actions that go by it: push, pop, acquire, release, invoke; and the thread-default context.
 ghost use Rattle.std.specs.Prelude.{◌≡◌, ◌≤◌, ◌^◌, true, false, None, OnOk};
 ghost use Rattle.context_core.specs.Defaults.{acquired, released};
 ghost use Rattle.lane_turn.specs.Lane.{context_at, with_context};

@@ -22,6 +22,9 @@ use loop_script::{Kind, Script};
 use source_rows::{Row, Sight};
 use std::iter::Iterator;
 
+/// The bits of an error, a hang-up and an invalid descriptor, which are told whatever is asked for.
+const ALWAYS_TOLD: u8 = 56;
+
 /// The sooner of two ticks, where none is never.
 pub(crate) fn sooner(a: Option<u64>, b: Option<u64>) -> Option<u64>
     ensures { (k : ℕ) → IsAfter k result → IsAfter k a × IsAfter k b }
@@ -66,7 +69,7 @@ fn is_by(wake: Option<u64>, tick: u32) -> bool
 fn has_bit(level: u8, bits: u8) -> bool
     ensures { result ≡ has_bit level bits }
 {
-    level & (bits | 56) != 0
+    level & (bits | ALWAYS_TOLD) != 0
 }
 
 /// When a descriptor may show a bit that is asked for: at once, or when it shows something else next.

@@ -1,4 +1,4 @@
-//! The type of which list of actions a call takes.
+//! The type of which list of actions a call takes: a lane's start list, or a procedure's.
 
 /// The list of actions that a call takes.
 #[derive(Clone, Copy, Debug, PartialEq, Eq)]

@@ -1,4 +1,4 @@
-//! A list that was read.
+//! A list of parts of a script, as it stands once it was read; `form` has its reading.
 use std::marker::Model;
 
 /// Items in order; contracts see the list of them.

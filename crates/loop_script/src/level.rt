@@ -1,4 +1,4 @@
-//! The list of levels of one descriptor: which holds at a tick, and when the next begins. `script` has the calls that ask it.
+//! The levels of one descriptor: which holds at a tick, and when the next begins. `script` has the calls that ask for them.
 ghost use Rattle.std.specs.Prelude.{◌≡◌, true};
 ghost use Rattle.loop_script.specs.Level.{rises, come, to_come, bits_at, change_after};
 

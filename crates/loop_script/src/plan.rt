@@ -1,4 +1,4 @@
-//! The types of a script as a whole, and the reading of a value or of bytes into one.
+//! The types of a script as a whole, its lanes and procedures, and the reading of a value or of bytes into one.
 ghost use Rattle.std.specs.Prelude.{◌≡◌, ◌≤◌, length, sum_by, IfOk, IfSome, OnOk};
 ghost use Rattle.serde_json.specs.View.{view};
 ghost use Rattle.loop_script.specs.Bounds.{most_items, most_lanes};

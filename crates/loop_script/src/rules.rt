@@ -1,4 +1,5 @@
-//! Whether a script keeps the rules on its parts beside one another.
+//! Whether a script keeps the rules on its parts beside one another: levels whose ticks rise, what a handler and what is
+//! invoked at once may do, tasks that reply on a cancel.
 ghost use Rattle.std.specs.Prelude.{◌≡◌};
 ghost use Rattle.std.specs.List.{list_all};
 ghost use Rattle.loop_script.specs.Level.{rises};

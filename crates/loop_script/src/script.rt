@@ -1,4 +1,5 @@
-//! A script that was read, by its public calls: its times and lanes, the levels of a descriptor, and whether a source stays after a dispatch.
+//! A script that was read, by its public calls: its times and lanes, where its contexts are at home, the actions of its
+//! procedures, the levels of a descriptor, and whether a source stays after a dispatch.
 ghost use Rattle.std.specs.Prelude.{◌≡◌, ◌≤◌, ◌<◌, ◌^◌, length, slice_get, Some, true};
 ghost use Rattle.std.specs.List.{list_all};
 ghost use Rattle.loop_script.specs.Bounds.{most_lanes, most_items, most_ticks, longest_tick, latest};

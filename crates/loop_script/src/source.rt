@@ -47,7 +47,7 @@ pub(crate) fn read_source(value: Option<&Value>, faults: &mut Faults) -> SourceS
 {
     only_keys(value, &["kind", "priority", "recurse", "call"], faults);
     let kind = read_kind(field_of(value, "kind"), faults);
-    let priority = read_priority(field_of(value, "priority"), kind, faults);
+    let priority = read_source_priority(field_of(value, "priority"), kind, faults);
     let recurse = optional_flag(field_of(value, "recurse"), false, faults);
     let call = optional_index(field_of(value, "call"), faults);
     SourceSpec {
@@ -77,7 +77,7 @@ pub(crate) fn read_child(value: Option<&Value>, faults: &mut Faults) -> SourceSp
 }
 
 #[tactic(auto, unfolding(crate::specs::Source::priority_or))]
-fn read_priority(value: Option<&Value>, kind: Kind, faults: &mut Faults) -> i32
+fn read_source_priority(value: Option<&Value>, kind: Kind, faults: &mut Faults) -> i32
     ensures value { result ≡ (priority_or kind (seen value.entry)).value }
     ensures faults { faults.new ≡ after faults.old (priority_or kind (seen value.entry)) }
 {

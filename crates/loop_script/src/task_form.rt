@@ -41,7 +41,7 @@ pub(crate) fn read_task(
     let cancel = optional_index(field_of(value, "cancel"), faults);
     let check = optional_flag(field_of(value, "check"), true, faults);
     let return_on_cancel = optional_flag(field_of(value, "return_on_cancel"), false, faults);
-    let priority = read_priority(field_of(value, "priority"), faults);
+    let priority = read_task_priority(field_of(value, "priority"), faults);
     Ok(TaskSpec {
         tree,
         call,
@@ -72,7 +72,7 @@ fn read_shallow_tree(
 }
 
 #[tactic(auto, unfolding(crate::specs::TaskForm::priority_or_zero))]
-fn read_priority(value: Option<&Value>, faults: &mut Faults) -> i32
+fn read_task_priority(value: Option<&Value>, faults: &mut Faults) -> i32
     ensures value { result ≡ (priority_or_zero (seen value.entry)).value }
     ensures faults { faults.new ≡ after faults.old (priority_or_zero (seen value.entry)) }
 {

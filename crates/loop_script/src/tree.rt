@@ -1,4 +1,4 @@
-//! The tree of a task: its type, whose parts are shared by all that run it, and the calls that make each kind.
+//! The tree of a task: its type, whose parts are shared by all that run it, the calls that make each kind, and whether it fits into so many levels.
 ghost use Rattle.std.specs.Prelude.{◌≡◌, IfOk};
 
 use std::alloc::{AllocError, Global};

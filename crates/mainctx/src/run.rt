@@ -1,4 +1,4 @@
-//! The public calls: from the bytes of a script to the bytes of its text, by workers or on one thread.
+//! The public calls: from the bytes of a script to the bytes of its text, by workers or on one thread, with the faults that they answer.
 ghost use Rattle.std.specs.Prelude.{◌≡◌, ◌≢◌, ◌<◌, ◌++◌, ◌↔◌, OnOk, OnErr, IfOk, IfErr, Err};
 ghost use Rattle.mainctx.specs.Run.{IsCrewFor, IsLoneFaultOf, IsRunFaultOf, IsScriptOf, IsWriteFault, Writes, WritesPrefix, HoldsText};
 ghost use Rattle.mainctx.specs.Text.{text_of};

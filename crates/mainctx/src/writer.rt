@@ -1,4 +1,4 @@
-//! Writers that tell what they take and count what fails.
+//! Writers that tell what they take and count what fails, and the writing of all bytes to one.
 ghost use Rattle.std.specs.Prelude.{◌≡◌, ℕ, ◌+◌, ◌<◌, ◌≤◌, List, [], ◌++◌, Option, length, is_ok, if◌then◌else◌, IfOk, OnOk, OnErr};
 ghost use Rattle.std.specs.Io.KnownBytes.{Keeps, WriteAppends};
 ghost use Rattle.mainctx.specs.Writing.{took, missed, AddsPrefix, GrowAlike};

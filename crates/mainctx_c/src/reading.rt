@@ -1,4 +1,4 @@
-//! Reading a script of either form for a call from C.
+//! Reading a script of either form for a call from C, and the names that it gives.
 ghost use Rattle.std.specs.Prelude.{◌≡◌, ◌≢◌, Some, Ok, IfOk, IfErr};
 ghost use Rattle.loop_script.specs.Script.{Answers};
 ghost use Rattle.loop_script.specs.declared.fault.ScriptFault.TheVariants.{OutOfMemory};

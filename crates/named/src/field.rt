@@ -1,4 +1,5 @@
-//! The keys of each object in a script of numbers, what a script with names has in their place, and which keys may stand in each.
+//! The keys of each object in a script of numbers, the parts of a pair, what a script with names has in their place, and
+//! which keys may stand in each.
 ghost use Rattle.std.specs.Prelude.{◌≡◌};
 ghost use Rattle.named.specs.Tables.{fields, keys, each, pair};
 

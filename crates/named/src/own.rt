@@ -1,4 +1,4 @@
-//! What is wrong with one value of a script with names itself, the values in it apart: its size, its keys, those that it lacks.
+//! What is wrong with one value of a script with names itself, the values in it apart: its size, its keys, those that it lacks or that must be there.
 ghost use Rattle.std.specs.Prelude.{◌≡◌, ◌++◌, ◌==◌, not, is_none, IfOk, OnOk};
 ghost use Rattle.std.specs.List.{list_any};
 ghost use Rattle.std.specs.Str.{bytes_eq};

@@ -1,4 +1,5 @@
-//! The words of each choice, with what a script of numbers has behind them: their parts, the keys beside them, and the word that stands for each there.
+//! The words of each choice, with what a script of numbers has behind them: their parts, the keys beside them, and the word
+//! that stands for each there.
 ghost use Rattle.std.specs.Prelude.{◌≡◌};
 ghost use Rattle.named.specs.Tables.{words, parts, parts_of_action, parts_of_source, parts_of_tree, beside, numbered_word, makes_source};
 

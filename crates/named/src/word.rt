@@ -1,4 +1,4 @@
-//! The words and the keys of both forms, and how each is spelt.
+//! The words and the keys of both forms of a script, and how each is spelt.
 ghost use Rattle.std.specs.Prelude.{◌≡◌};
 ghost use Rattle.named.specs.Words.{text_of};
 

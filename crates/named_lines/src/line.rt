@@ -1,11 +1,11 @@
-//! A line of a run with names: the text of each event.
+//! A line of a run with names: the text of each event, with what it calls, a question and its answer.
 ghost use Rattle.std.specs.Prelude.{◌≡◌, ◌++◌, ◌≤◌, codes, OnOk, string_bytes};
 ghost use Rattle.loop_script.specs.Bounds.{longest_tick};
 ghost use Rattle.named.specs.declared.sort.Kind.TheVariants as kinds;
 ghost use Rattle.run_names.specs.Text.{called, source_text, thing_text};
 ghost use Rattle.named_lines.specs.Lines as lines;
 
-use crate::part::{answer, invoked, push_depth, push_milliseconds, push_outcome, push_priority};
+use crate::part::{answer, invoked, push_milliseconds, push_outcome, push_urgency};
 use crate::told_line::Told;
 use lane_turn::{Event, Invoked};
 use mainctx::action_word;
@@ -119,16 +119,6 @@ fn push_callee(out: &mut String, names: &RunNames, callee: Option<u32>) -> Resul
         Some(procedure) => push_with(out, names, " -> ", Thing::Procedure(procedure)),
         None => Ok(()),
     }
-}
-
-/// Adds the priority of a dispatch, and how deep it is where that is more than one.
-fn push_urgency(out: &mut String, priority: i32, depth: u64) -> Result<(), AllocError>
-    ensures { OnOk result (string_bytes out.new ≡ string_bytes out.old ++ (codes " (" ++ (lines.priority_text priority ++ (lines.depth_text depth ++ codes ")")))) }
-{
-    out.push_str(" (")?;
-    push_priority(out, priority)?;
-    push_depth(out, depth)?;
-    out.push_str(")")
 }
 
 /// Adds a question about a context, and its answer.

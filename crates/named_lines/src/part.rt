@@ -1,5 +1,5 @@
-//! Parts of a line with names: a time, a priority, a depth, an outcome, an answer.
-ghost use Rattle.std.specs.Prelude.{◌≡◌, ◌++◌, OnOk, string_bytes};
+//! Parts of a line with names: a time in milliseconds, a priority, a depth, an outcome, an answer.
+ghost use Rattle.std.specs.Prelude.{◌≡◌, ◌++◌, codes, OnOk, string_bytes};
 ghost use Rattle.named_lines.specs.Lines as lines;
 
 use lane_turn::Invoked;
@@ -62,7 +62,7 @@ pub fn push_priority(out: &mut String, priority: i32) -> Result<(), AllocError>
 }
 
 /// Adds how deep a call is, where that is more than one.
-pub(crate) fn push_depth(out: &mut String, depth: u64) -> Result<(), AllocError>
+fn push_depth(out: &mut String, depth: u64) -> Result<(), AllocError>
     ensures { OnOk result (string_bytes out.new ≡ string_bytes out.old ++ lines.depth_text depth) }
 {
     if depth == 1 {
@@ -70,6 +70,16 @@ pub(crate) fn push_depth(out: &mut String, depth: u64) -> Result<(), AllocError>
     } else {
         write!(out, ", depth {depth}")
     }
+}
+
+/// Adds the priority of a dispatch, and how deep it is where that is more than one.
+pub(crate) fn push_urgency(out: &mut String, priority: i32, depth: u64) -> Result<(), AllocError>
+    ensures { OnOk result (string_bytes out.new ≡ string_bytes out.old ++ (codes " (" ++ (lines.priority_text priority ++ (lines.depth_text depth ++ codes ")")))) }
+{
+    out.push_str(" (")?;
+    push_priority(out, priority)?;
+    push_depth(out, depth)?;
+    out.push_str(")")
 }
 
 /// Adds how a task ended.

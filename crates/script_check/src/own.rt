@@ -1,4 +1,4 @@
-//! What is wrong with one value of a script of numbers itself, its parts apart: its size, its keys, those that it lacks.
+//! What is wrong with one value of a script of numbers itself, its parts apart: its size, its keys and words, those that it lacks.
 ghost use Rattle.std.specs.Prelude.{◌≡◌, ◌++◌, ◌&&◌, ◌≤ℤ◌, [], codes, pos, not, nat_lt, map, is_some, is_none, if◌then◌else◌, option_map, option_to_list, IfOk, OnOk};
 ghost use Rattle.std.specs.List.{list_any};
 ghost use Rattle.std.specs.Str.{bytes_eq};

@@ -1,4 +1,4 @@
-//! Which rule an action breaks.
+//! Which rule an action breaks: whether what it calls stays, or has actions that handlers may not take.
 ghost use Rattle.std.specs.Prelude.{◌≡◌, ◌++◌, map, slice_get, OnOk};
 ghost use Rattle.loop_script.specs.Parts.{actions_of_proc, keeps};
 ghost use Rattle.loop_script.specs.Rules.{is_plain};

@@ -1,4 +1,4 @@
-//! The keys of each object and the words of each choice, as the program has them.
+//! The keys of each object and the words of each choice, as the program has them, with the text of each name.
 ghost use Rattle.std.specs.Prelude.{◌≡◌, map, option_map};
 ghost use Rattle.loop_script.specs.Tables.{keys, words};
 ghost use Rattle.loop_script.specs.Place.{parts_of as spec_parts};

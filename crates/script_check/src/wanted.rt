@@ -1,4 +1,4 @@
-//! The types of what should stand at a place of a script, by its meaning, and the shape of each.
+//! The types of what should stand at a place of a script, by its meaning, and the shape of each; `script_report` has their words.
 ghost use Rattle.std.specs.Prelude.{◌≡◌};
 ghost use Rattle.script_check.specs.Views.{form_of, shape_of};
 

@@ -1,4 +1,4 @@
-//! The whole answer for the bytes of a script: its summary, or its faults.
+//! The whole answer for the bytes of a script: its summary, or its faults as `forms` has them told.
 ghost use Rattle.std.specs.Prelude.{IfOk};
 ghost use Rattle.script_report.specs.Verdict.{Judges};
 

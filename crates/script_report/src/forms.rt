@@ -1,4 +1,4 @@
-//! Which form a script has, of numbers or with names, and its reading and checking by that.
+//! Which form a script has, of numbers or with names, and its reading, checking and telling of faults by that.
 ghost use Rattle.std.specs.Prelude.{IfOk};
 ghost use Rattle.script_report.specs.Verdict.{Judges, IsOfForm, JudgesEither};
 

@@ -1,4 +1,4 @@
-//! The faults of a script with names, with their places.
+//! The faults of a script with names as text and JSON, each where it lies in the bytes.
 use crate::cursor::Cursor;
 use crate::layout::{Layout, layout_of};
 use crate::named_entries::{Entry, entries_of};

@@ -1,4 +1,4 @@
-//! What was wanted in a script with names, and what stands there.
+//! What was wanted in a script with names, as the words of a choice, and what stands there, in a user's words.
 use crate::named_keys::{SCRIPT, known_keys, meant_key, nth_key, slip_among, slip_for};
 use crate::nearest::nearest;
 use crate::words::push_quoted;

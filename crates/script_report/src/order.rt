@@ -1,4 +1,4 @@
-//! The faults in the order of their places.
+//! The faults of a script of numbers in the order of their places.
 ghost use Rattle.std.specs.Prelude.{◌≡◌, map, length, IfOk, IsPermutation};
 ghost use Rattle.std.specs.List.{range_with_len};
 ghost use Rattle.std.specs.List.Sorted.{IsNonDecreasingBy};

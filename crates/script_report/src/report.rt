@@ -1,4 +1,4 @@
-//! The faults of a script with their places, as text and as JSON: each in its entry, and their number.
+//! The faults of a script with their places, as text and as JSON: each in its entry, and their number; whether a file is TOML, by its name.
 ghost use Rattle.std.specs.Prelude.{◌≤◌};
 ghost use Rattle.serde_json.specs.Data.{depth};
 ghost use Rattle.serde_json.specs.Read.{max_depth};

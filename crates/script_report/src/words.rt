@@ -1,4 +1,4 @@
-//! What was wanted of a script of numbers and what stands there, in a user's words.
+//! What was wanted of a script of numbers and what stands there, in a user's words: a shape, other keys and words, the key that may be meant.
 use crate::nearest::push_nearest;
 use script_check::{Cause, Choice, Fault, Object, Shape, Wanted, keys_of, parts_of, words_of};
 use serde_json::Value;

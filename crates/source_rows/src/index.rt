@@ -1,4 +1,4 @@
-//! The slot of each id, by rising id: found by its distance from the first, and else by halving.
+//! The slot of each id, by rising id: found by its distance from the first, and else by halving. Entries whose row is gone are left out in time.
 ghost use Rattle.std.specs.Prelude.{◌≡◌, ◌<◌, ◌++◌, ◌∷◌, [], true, filter, OnOk, OnErr, IfSome, IfNone};
 ghost use Rattle.std.specs.List.{AllByRecursion};
 ghost use Rattle.std.specs.Map.{lookup, remove_entry};

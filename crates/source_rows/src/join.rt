@@ -1,5 +1,5 @@
 //! Joining two trees of seats into one, and the key of the last seat. When that is done stands in `seat_order`.
-ghost use Rattle.std.specs.Prelude.{◌≡◌, ◌≤◌, ◌+◌, max, length, [], ◌∷◌, ◌++◌, true, IfSome, IfNone};
+ghost use Rattle.std.specs.Prelude.{◌≡◌, ◌≤◌, ◌+◌, max, length, [], ◌∷◌, ◌++◌, IfSome, IfNone};
 ghost use Rattle.loop_script.specs.Bounds.{count_end};
 ghost use Rattle.source_rows.specs.Seats.{IsLow};
 ghost use Rattle.source_rows.specs.SeatOrder.{IsLastKey};
@@ -10,13 +10,6 @@ use crate::seats::{Fork, Seats};
 use std::mem;
 
 impl Seats {
-    /// Whether there is no seat.
-    pub fn is_empty(&self) -> bool
-        ensures { result ≡ true → self.now ≡ ([], 0) }
-    {
-        self.root.is_none()
-    }
-
     /// The key of the last seat.
     pub fn last_key(&self) -> Option<Key>
         ensures some { IfSome result (IsLastKey self.now.0) }

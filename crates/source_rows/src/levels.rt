@@ -1,4 +1,4 @@
-//! How deep the rows of a context may stand: two levels, or four.
+//! At how many levels the trees of a context may stand: two, or four.
 ghost use Rattle.std.specs.Prelude.{◌≡◌};
 ghost use Rattle.source_rows.specs.Rows.{level_count};
 

@@ -1,4 +1,5 @@
-//! What is kept of a source, and what is asked of that alone: its key in the order, its times, its child.
+//! What is kept of a source, and what is asked of that alone: its key in the order, its lineage and path, its times,
+//! whether it is awake; a root or a child as it is made.
 ghost use Rattle.std.specs.Prelude.{◌≡◌, ◌<◌, ◌≤◌, ◌==◌, length};
 ghost use Rattle.loop_script.specs.Bounds.{latest};
 ghost use Rattle.source_rows.specs.Rows.{key_of, stands_before};

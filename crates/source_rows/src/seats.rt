@@ -158,6 +158,13 @@ impl Seats {
         Seats { root: None }
     }
 
+    /// Whether there is no seat.
+    pub fn is_empty(&self) -> bool
+        ensures { result ≡ true → self.now ≡ ([], 0) }
+    {
+        self.root.is_none()
+    }
+
     /// How many seats stand above each other at most.
     #[tactic(auto, using(crate::proofs::Low::low_even))]
     pub fn height(&self) -> u64

@@ -1,4 +1,4 @@
-//! What a poll of all tasks makes of one, whether it goes on, and whether the next poll replies to it as cancelled.
+//! What a poll of all tasks makes of one, its reply and its late end added; whether it goes on, and whether the next poll replies to it as cancelled.
 ghost use Rattle.std.specs.Prelude.{◌≡◌, ◌++◌, ◌∷◌, [], if◌then◌else◌, option_to_list, IfOk, OnOk};
 ghost use Rattle.task_steps.specs.Book.{sees};
 ghost use Rattle.task_steps.specs.Polls.{CanPollAll, HasPolledAll, owes_reply};

@@ -1,4 +1,5 @@
-//! Tasks in start order, of which a poll looks at those alone that wake or are cancelled.
+//! Tasks in start order, in a tree whose nodes have a mark of all tasks from there on, so that a poll looks at those alone
+//! that wake or are cancelled.
 ghost use Rattle.std.specs.Prelude.{◌≡◌, ◌+◌, ◌<◌, ◌++◌, [], IsOk, IfOk, OnOk, IfSome, IfNone, false, true, IsTrue, ◌↔◌, map};
 ghost use Rattle.std.specs.List.{list_any};
 ghost use Rattle.task_steps.specs.BookInside.{entries_of, mark_of, joined_mark, shown, IsMarked, IsQuiet};

@@ -1,4 +1,4 @@
-//! What goes to a worker that stays for a run, and what comes back.
+//! The types of what goes to a worker that stays for a run, and of what comes back; `stay` fills them.
 ghost use Rattle.std.specs.Coded.{codes};
 ghost use Rattle.loop_script.specs.contracts.tree.TaskTree as task_tree;
 ghost use Rattle.tick_stepper.specs.Call.{IsCall, IsReply};

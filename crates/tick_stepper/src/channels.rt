@@ -1,7 +1,6 @@
 //! The channels between the caller of a run and the workers that stay for it.
 use crate::calls::{Call, Planned, Reply};
-use crate::crew::{Crew, Sharing};
-use crate::queue::least;
+use crate::crew::{Crew, Sharing, workers_for};
 use crossbeam_channel::{Receiver, Sender, bounded};
 use lane_turn::LaneFault;
 use std::alloc::{AllocError, Global};
@@ -110,7 +109,7 @@ pub(crate) fn open_channels<J: Planned>(
     crew: &Crew,
     lanes: usize,
 ) -> Result<Opened<J>, AllocError> {
-    let others = least(crew.workers, lanes).saturating_sub(1);
+    let others = workers_for(crew.workers, lanes).saturating_sub(1);
     match crew.sharing {
         Sharing::Queue => open_queue(alloc, others, lanes),
         Sharing::Round | Sharing::Fixed(_) => open_own(alloc, others),

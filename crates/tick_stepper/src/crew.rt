@@ -1,4 +1,4 @@
-//! The workers, and which lanes are whose.
+//! The workers: which lanes are whose, and how many of them so many lanes need.
 ghost use Rattle.std.specs.Prelude.{◌≡◌, ◌<◌, nat_lt, length};
 ghost use Rattle.std.specs.List.{list_all};
 ghost use Rattle.tick_stepper.specs.Crew.{worker_of, names_workers, refusal_of};
@@ -72,5 +72,14 @@ impl Crew {
             return Some(StepFault::Table);
         }
         None
+    }
+}
+
+/// So many workers, or as many as there are lanes where these are fewer.
+pub(crate) fn workers_for(workers: u32, lanes: usize) -> u32 {
+    if lanes < workers as usize {
+        lanes as u32
+    } else {
+        workers
     }
 }

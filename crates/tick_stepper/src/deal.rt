@@ -1,4 +1,4 @@
-//! Lanes go to their workers, and come back.
+//! Where lanes are dealt in a tick: they go to their workers as shares, and come back.
 ghost use Rattle.std.specs.Prelude.{◌≡◌, ◌<◌, [], ◌∷◌, ◌++◌, List, OnOk, IfOk, true, vec_len, IsPermutation};
 ghost use Rattle.std.specs.List.{All, filter};
 ghost use Rattle.lane_turn.specs.Lane.{State};

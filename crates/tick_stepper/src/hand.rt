@@ -1,4 +1,4 @@
-//! Contexts go from lane to lane at the end of a tick, and then letters are delivered.
+//! Contexts go from lane to lane at the end of a tick, and the letters are delivered behind that, as `deliver` does it.
 ghost use Rattle.std.specs.Prelude.{◌≡◌, ◌+◌, ◌<◌, ◌≤◌, Some, is_some, map, length, OnOk, IfOk};
 ghost use Rattle.std.specs.Option.{option_and_then};
 ghost use Rattle.loop_script.specs.Bounds.{most_lanes, most_ticks};
@@ -89,7 +89,7 @@ fn hand_all(tick: u32, lanes: &mut [LaneState], letters: &[Letter]) -> Result<()
 }
 
 /// Ends a tick of lanes that took their turns: the contexts that letters give go over, and then all letters are delivered.
-pub(crate) fn bring(
+pub(crate) fn hand_and_deliver(
     script: &Script,
     tick: u32,
     lanes: &mut [LaneState],

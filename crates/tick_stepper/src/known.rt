@@ -1,4 +1,4 @@
-//! Lanes that rested in a tick whose letters tell no cancellation: one to which nothing is written rests on, and is not asked again.
+//! Lanes that rested in a tick whose letters tell no cancellation: those to which nothing is written rest on, and are not asked again.
 ghost use Rattle.std.specs.Prelude.{◌≡◌, ◌+◌, ◌<◌, ◌≤◌, ◌++◌, map, IfOk, IsPermutation};
 ghost use Rattle.std.specs.List.{All};
 ghost use Rattle.std.specs.List.Sorted.{IsNonDecreasingBy};

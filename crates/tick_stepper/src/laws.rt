@@ -1,4 +1,5 @@
-//! Laws of the order of turns: that lanes commute, and that quiet turns need not be taken. As functions that do nothing.
+//! Laws of the order of turns: that lanes commute, that quiet turns need not be taken, and what moves of contexts lead to.
+//! As functions that do nothing.
 ghost use Rattle.tick_stepper.specs.Law.{EachTurnedOnce, DeliveryIsOne, TickIsOne, ChangesArePartial, ClaimsHappen};
 ghost use Rattle.tick_stepper.specs.Sparse.{SparseIsDense};
 ghost use Rattle.tick_stepper.specs.Tie.{QueuesMove};

@@ -1,4 +1,4 @@
-//! Lanes are taken from a queue in a single tick, by workers that start for it; and how many workers so many lanes need, in a run too.
+//! Lanes are taken from a queue in a single tick, by workers that start for it.
 ghost use Rattle.std.specs.Prelude.{◌≡◌, ◌+◌, ◌<◌, ◌++◌, [], ◌∷◌, map, vec_len, OnOk, IfOk, IsPermutation};
 ghost use Rattle.std.specs.List.{All, AllByRecursion, flat_map};
 ghost use Rattle.loop_script.specs.Bounds.{most_ticks};
@@ -7,6 +7,7 @@ ghost use Rattle.post_office.specs.Passes.{takes_in, closes};
 ghost use Rattle.tick_stepper.specs.Share.{turned_one, out_of_one, IsReadyOne, IsRound};
 ghost use Rattle.tick_stepper.specs.Queue.{filled, IsHired, MayWork, IsHaul, IsOf, IsTakenIn};
 
+use crate::crew::workers_for;
 use crate::fault::OutOfMemory;
 use crate::gate::Gate;
 use crate::share::in_order;
@@ -156,15 +157,6 @@ fn finish<R: Wait, G: Gate>(
     unreachable!()
 }
 
-/// So many workers, or as many as there are lanes where these are fewer.
-pub(crate) fn least(workers: u32, lanes: usize) -> u32 {
-    if lanes < workers as usize {
-        lanes as u32
-    } else {
-        workers
-    }
-}
-
 /// Lanes after their turns at a tick, by number, and what they posted, by sender and number. Each worker
 /// takes a lane that waits and turns it, until none does; the tick goes on when all are back.
 pub(crate) fn turn_by_queue<R: Threads + Wait + Sync, G: Gate>(
@@ -181,7 +173,7 @@ pub(crate) fn turn_by_queue<R: Threads + Wait + Sync, G: Gate>(
     ensures lanes { IfOk result (λ r. r.0.items ≡ map (turned_one script.now tick) lanes.items) }
     ensures letters { IfOk result (λ r. r.1.items ≡ flat_map (out_of_one script.now tick) lanes.items) }
 {
-    let workers = least(workers, lanes.len());
+    let workers = workers_for(workers, lanes.len());
     let mut list = fill(rt, alloc, lanes)?;
     let mut office = Office::new(alloc)?;
     let all = hire(alloc, workers, &mut list, &mut office)?;

@@ -1,4 +1,5 @@
-//! One tick of all lanes: those that are due take their turns, by workers or alone, and what they sent is delivered.
+//! One tick of all lanes, from its begin to its end: those that are due take their turns, by workers as in `deal` or
+//! `queue`, or alone, and what they sent is delivered.
 ghost use Rattle.std.specs.Prelude.{◌≡◌, ℕ, true, ◌+◌, ◌<◌, ◌≤◌, ◌++◌, [], None, map, length, IfOk, IsPermutation, vec_len, slice_index_or};
 ghost use Rattle.std.specs.List.{All, AllByRecursion, flat_map};
 ghost use Rattle.loop_script.specs.Bounds.{most_lanes, most_ticks};
@@ -13,7 +14,7 @@ use crate::crew::{Crew, Sharing};
 use crate::deal::{deal, gather};
 use crate::fault::OutOfMemory;
 use crate::gate::{Gate, OpenGate};
-use crate::hand::bring;
+use crate::hand::hand_and_deliver;
 use crate::known::{apart, awake, by_lane, cancel_nothing, settle};
 use crate::queue::turn_by_queue;
 use crate::rest::{Resting, by_number, part, wake_all};
@@ -117,7 +118,7 @@ fn deliver_to_all(
 {
     let lanes = wake_all(tick + 1, done, resting)?;
     let mut lanes = in_order(lanes)?;
-    bring(script, tick, lanes.as_mut_slice(), letters)?;
+    hand_and_deliver(script, tick, lanes.as_mut_slice(), letters)?;
     Ok(settle(alloc, script, tick, lanes, &[])?)
 }
 
@@ -141,7 +142,7 @@ fn deliver_quietly(
 {
     let all = awake(alloc, tick + 1, done, resting, letters)?;
     let (mut lanes, rested) = apart(alloc, by_lane(all)?)?;
-    bring(script, tick, lanes.as_mut_slice(), letters)?;
+    hand_and_deliver(script, tick, lanes.as_mut_slice(), letters)?;
     Ok(settle(alloc, script, tick, lanes, rested.as_slice())?)
 }
 

@@ -1,4 +1,4 @@
-//! Workers that stay for a run, and the turns that they take.
+//! Workers that stay for a run: the turns that they take, and how their caller sends them calls and takes what they answer.
 ghost use Rattle.std.specs.Prelude.{◌≡◌, ◌++◌, true, map, IfOk, OnOk};
 ghost use Rattle.std.specs.List.{All, flat_map};
 ghost use Rattle.lane_turn.specs.Lane.{State};

@@ -27,15 +27,15 @@ turns c =
     sorted_turns script tick (map (λ (one : Known). one.lane) all) (map (λ (one : Known). one.lane) sorted) perm (IsPermutation-map (λ (one : Known). one.lane) all sorted c.in_ok-by_lane.ensures.same)
     (order_seen (λ (one : Known). one.lane) (λ (s : State). s.lane.number) sorted c.in_ok-by_lane.ensures.order)
 
-pub bring-requires-clause-lanes : goal.bring-requires-clause-lanes
-bring-requires-clause-lanes c = c.as_mut_slice.ensures.value ∙ (c.in_ok-lanes.ensures.lanes ∙ turns c)
+pub hand_and_deliver-requires-clause-lanes : goal.hand_and_deliver-requires-clause-lanes
+hand_and_deliver-requires-clause-lanes c = c.as_mut_slice.ensures.value ∙ (c.in_ok-lanes.ensures.lanes ∙ turns c)
 
 pub settle-requires-clause-ready : goal.settle-requires-clause-ready
 settle-requires-clause-ready c =
     let script = c.args.script.now in
     let tick = c.args.tick in
     let P : State → Type 0 = IsReadyOne script (tick + 1) in
-    let all = take_at c.bring.new.lanes _ c.in_ok-lanes.lanes.len (omega (arith, c.bring.auto.lanes, c.as_mut_slice.ensures.len)) ∙ c.in_ok-bring.ensures in
+    let all = take_at c.hand_and_deliver.new.lanes _ c.in_ok-lanes.lanes.len (omega (arith, c.hand_and_deliver.auto.lanes, c.as_mut_slice.ensures.len)) ∙ c.in_ok-hand_and_deliver.ensures in
     of_rec P _ (subst (AllByRecursion P) (sym all) (ready_next script tick c.requires.few c.requires.tick))
 
 pub settle-requires-clause-known : goal.settle-requires-clause-known
@@ -43,7 +43,7 @@ settle-requires-clause-known c =
     let script = c.args.script.now in
     let tick = c.args.tick in
     let P : Known → Type 0 = Was script tick c.args.letters.now in
-    let all = take_at c.bring.new.lanes _ c.in_ok-lanes.lanes.len (omega (arith, c.bring.auto.lanes, c.as_mut_slice.ensures.len)) ∙ c.in_ok-bring.ensures in
+    let all = take_at c.hand_and_deliver.new.lanes _ c.in_ok-lanes.lanes.len (omega (arith, c.hand_and_deliver.auto.lanes, c.as_mut_slice.ensures.len)) ∙ c.in_ok-hand_and_deliver.ensures in
     let were : AllByRecursion P c.in_ok-all.all.items = subst (AllByRecursion P) (sym c.in_ok-all.ensures) (all_were script tick c.args.letters.now c.args.done.items c.args.resting.items c.requires.rest) in
     let sorted : AllByRecursion P c.in_ok-by_lane.field-0.items = rec_of P _ (All-permutation P c.in_ok-all.all.items _ c.in_ok-by_lane.ensures.same (of_rec P _ were)) in
     let known = known_next script tick c.args.letters.now c.in_ok-by_lane.field-0.items (sym c.requires.letters) c.requires.quiet (turns c.before.before.before.before.before.before) sorted in
@@ -54,5 +54,5 @@ pub returns : goal.returns
 returns c =
     let script = c.args.script.now in
     let tick = c.args.tick in
-    let all = take_at c.bring.new.lanes _ c.in_ok-lanes.lanes.len (omega (arith, c.bring.auto.lanes, c.as_mut_slice.ensures.len)) ∙ c.in_ok-bring.ensures in
+    let all = take_at c.hand_and_deliver.new.lanes _ c.in_ok-lanes.lanes.len (omega (arith, c.hand_and_deliver.auto.lanes, c.as_mut_slice.ensures.len)) ∙ c.in_ok-hand_and_deliver.ensures in
     settled_at script tick c.in_ok-settle.field-0.items c.requires.few c.requires.tick (subst (λ (l : List State). IsSettled script tick l c.in_ok-settle.field-0.items) all c.in_ok-settle.ensures)

@@ -12,8 +12,8 @@ use Rattle.tick_stepper.proofs.RestsOn.{none_known}
 use Rattle.tick_stepper.proofs.Resting.{sorted_turns, settled_at}
 use Rattle.tick_stepper.proofs.round.deliver_to_all.Goals as goal
 
-pub bring-requires-clause-lanes : goal.bring-requires-clause-lanes
-bring-requires-clause-lanes c =
+pub hand_and_deliver-requires-clause-lanes : goal.hand_and_deliver-requires-clause-lanes
+hand_and_deliver-requires-clause-lanes c =
     let script = c.args.script.now in
     let turns = unspent_all (map (turned script c.args.tick) (lanes_at script c.args.tick)) in
     let sorted = sorted_turns script c.args.tick c.in_ok-lanes.lanes.items c.in_ok-lanes-2.lanes.items (subst (IsPermutation turns) (sym c.in_ok-lanes.ensures) c.requires.lanes) c.in_ok-lanes-2.ensures.same c.in_ok-lanes-2.ensures.order in
@@ -24,7 +24,7 @@ settle-requires-clause-ready c =
     let script = c.args.script.now in
     let tick = c.args.tick in
     let P : State → Type 0 = IsReadyOne script (tick + 1) in
-    let all = take_at c.bring.new.lanes _ c.in_ok-lanes-2.lanes.len (omega (arith, c.bring.auto.lanes, c.as_mut_slice.ensures.len)) ∙ c.in_ok-bring.ensures in
+    let all = take_at c.hand_and_deliver.new.lanes _ c.in_ok-lanes-2.lanes.len (omega (arith, c.hand_and_deliver.auto.lanes, c.as_mut_slice.ensures.len)) ∙ c.in_ok-hand_and_deliver.ensures in
     of_rec P _ (subst (AllByRecursion P) (sym all) (ready_next script tick c.requires.few c.requires.tick))
 
 pub settle-requires-clause-known : goal.settle-requires-clause-known
@@ -34,5 +34,5 @@ pub returns : goal.returns
 returns c =
     let script = c.args.script.now in
     let tick = c.args.tick in
-    let all = take_at c.bring.new.lanes _ c.in_ok-lanes-2.lanes.len (omega (arith, c.bring.auto.lanes, c.as_mut_slice.ensures.len)) ∙ c.in_ok-bring.ensures in
+    let all = take_at c.hand_and_deliver.new.lanes _ c.in_ok-lanes-2.lanes.len (omega (arith, c.hand_and_deliver.auto.lanes, c.as_mut_slice.ensures.len)) ∙ c.in_ok-hand_and_deliver.ensures in
     settled_at script tick c.in_ok-settle.field-0.items c.requires.few c.requires.tick (subst (λ (l : List State). IsSettled script tick l c.in_ok-settle.field-0.items) all c.in_ok-settle.ensures)

@@ -8,7 +8,7 @@ use Rattle.tick_stepper.proofs.Counted.{counted_turned}
 use Rattle.tick_stepper.proofs.Lined.{lined}
 use Rattle.tick_stepper.proofs.Rounds.{ready_over_at}
 use Rattle.tick_stepper.proofs.Resting.{handed_at, delivered_at}
-use Rattle.tick_stepper.proofs.hand.bring.Goals as goal
+use Rattle.tick_stepper.proofs.hand.hand_and_deliver.Goals as goal
 
 pub hand_all-requires : goal.hand_all-requires
 hand_all-requires c =
