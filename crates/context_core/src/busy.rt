@@ -96,7 +96,7 @@ impl<'a> Busy<'a> {
         if place == 0 {
             return false;
         }
-        stands_at(self.ids, place as usize - 1, id) || is_listed(self.ids, id)
+        stands_at(self.ids, place as usize - 1, id) || is_busy_id(self.ids, id)
     }
 }
 
@@ -112,7 +112,7 @@ fn stands_at(ids: &[u64], place: usize, id: u64) -> bool
 }
 
 /// Whether an id is listed.
-fn is_listed(ids: &[u64], id: u64) -> bool
+fn is_busy_id(ids: &[u64], id: u64) -> bool
     ensures { result ≡ list_any (λ b. b == id) ids.now }
 {
     ids.iter().any(|b| *b == id)

@@ -15,7 +15,7 @@ use crate::busy::{Busy, BusyTable};
 use crate::free::FreeRows;
 use crate::interest::{Interest, Prepared, Shown};
 use crate::polled::{Polled, classes_of_shown, level_at};
-use crate::ready::{interest, is_beyond, is_free, ms_until, own_ready, sooner};
+use crate::ready::{interest, is_beyond, is_free, ms_until, own_ready, sooner_ready};
 use crate::standing::{Standing, stand};
 use crate::visit::{visit, visit_free};
 use cancel_view::View;
@@ -105,7 +105,7 @@ impl Context {
         let mut least = None;
         'rows: for row in self.rows.in_order() {
             if is_free(row, busy) {
-                least = sooner(least, row.ready, now);
+                least = sooner_ready(least, row.ready, now);
             }
         }
         ms_until(now, least)

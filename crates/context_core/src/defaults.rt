@@ -1,4 +1,4 @@
-//! The thread-default contexts of a lane.
+//! The stack of thread-default contexts of a lane.
 ghost use Rattle.std.specs.Prelude.{◌≡◌, [], OnOk, OnErr};
 ghost use Rattle.context_core.specs.Defaults.{top_of, is_on_top, is_pushed, pushed, popped};
 ghost use Rattle.context_core.specs.Pushed.{contexts_of};

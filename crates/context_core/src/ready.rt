@@ -112,7 +112,7 @@ pub(crate) fn interest(row: &Row, least: Option<i32>, busy: &Busy) -> Option<Int
 }
 
 /// The sooner of a ready time and one that there may be, where it is above now.
-pub(crate) fn sooner(least: Option<i64>, ready: i64, now: u64) -> Option<i64>
+pub(crate) fn sooner_ready(least: Option<i64>, ready: i64, now: u64) -> Option<i64>
     requires { now ≤ latest }
     ensures { result ≡ (if int_lt (pos now) ready then Some (sooner ready least) else least) }
 {

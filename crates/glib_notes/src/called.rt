@@ -89,14 +89,14 @@ fn begun_reply(
         thread.replies.push(ReplyKept {
             context: called.context,
             base: scene.lane.defaults().len(),
-            height: height_of(scene.lane),
+            height: frames_of(scene.lane),
         })?;
     }
     Ok(())
 }
 
 /// How much is in progress.
-fn height_of(lane: &LaneState) -> u64 {
+fn frames_of(lane: &LaneState) -> u64 {
     let mut height = 0u64;
     for _ in lane.frames() {
         height = height.saturating_add(1);
@@ -113,7 +113,7 @@ pub(crate) fn settle(
     let Some(reply) = thread.reply() else {
         return Ok(());
     };
-    if height_of(scene.lane) >= reply.height {
+    if frames_of(scene.lane) >= reply.height {
         return Ok(());
     }
     let _ = thread.replies.pop();

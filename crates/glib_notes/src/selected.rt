@@ -19,7 +19,7 @@ pub(crate) enum Look {
 }
 
 /// Whether a source is ready.
-pub(crate) fn is_ready(standing: Standing) -> bool {
+pub(crate) fn is_found_ready(standing: Standing) -> bool {
     matches!(standing, Standing::Selected | Standing::LessUrgent { .. })
 }
 
@@ -73,7 +73,7 @@ impl Urgent {
     }
 
     fn add(&mut self, row: &Row, standing: Standing, now: u64, view: &View) {
-        if is_ready(standing) {
+        if is_found_ready(standing) {
             self.all = more_urgent(self.all, row.priority);
             if is_ready_of_itself(row, now, view) {
                 self.itself = more_urgent(self.itself, row.priority);
@@ -122,7 +122,7 @@ pub(crate) fn look_over(
         if let Some(difference) = parts(scene, row, standing, kept.source(row.id), lets, shared) {
             found.push(scene.note(difference, Some(context), Some(row.id)))?;
         }
-        if is_ready(standing)
+        if is_found_ready(standing)
             && (most.all == Some(row.priority) || most.itself == Some(row.priority))
         {
             let mut source = kept.source(row.id);
@@ -143,7 +143,7 @@ fn heeded_of<'a>(
     let mut heeded = Vec::new(scene.alloc);
     for (row, standing) in rows.in_order().zip(standings.iter()) {
         let is_of_cancellable = matches!(row.kind, Kind::Cancel(_));
-        if is_ready(*standing) || is_of_cancellable || kept.source(row.id).may_be_ready() {
+        if is_found_ready(*standing) || is_of_cancellable || kept.source(row.id).may_be_ready() {
             heeded.push(Heeded {
                 row,
                 standing: *standing,
@@ -171,7 +171,7 @@ fn parts(
             return Some(Difference::CancellableSourceOnce);
         }
     }
-    if is_ready(standing) || is_blocked(standing) || !lets {
+    if is_found_ready(standing) || is_blocked(standing) || !lets {
         return None;
     }
     if source.flagged {

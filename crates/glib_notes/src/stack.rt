@@ -1,4 +1,4 @@
-//! The stack of thread-default contexts, which a task's callback has changed for GLib.
+//! What GLib does otherwise where a task's callback changed the stack of thread-default contexts.
 use crate::difference::Difference;
 use crate::kept::{ReplyKept, ThreadKept, hold};
 use crate::notes::{Kept, Note, Scene, add_note};

@@ -1,6 +1,7 @@
 //! What a run looks like: a picture of it, its steps as a table, and what a thread is in the middle of at one moment.
 #![tactic(auto)]
 
+mod column;
 mod legend;
 mod mark;
 mod picture;

@@ -1,9 +1,9 @@
 //! Draws what `timeline` gathered: a heading, a line of times, a row of marks for each thing, with time going right, and what the marks mean.
+use crate::column::{push_to_column, width_of};
 use crate::legend::Legend;
 use crate::mark::Mark;
 use crate::row_name::{RowName, RowOf};
 use crate::scale::Scale;
-use crate::steps::{push_to, width_of};
 use crate::timeline::Attached;
 use crate::track::Track;
 use crate::waiting::Waiting;
@@ -101,7 +101,7 @@ impl Picture<'_> {
             let place = column as usize;
             if place >= next {
                 next = place.saturating_add(steps.saturating_mul(RULER_STEP));
-                push_to(&mut line, begin.saturating_add(place))?;
+                push_to_column(&mut line, begin.saturating_add(place))?;
                 push_milliseconds(&mut line, script.now(scale.first_of(column)))?;
             }
         }
@@ -177,7 +177,7 @@ impl Picture<'_> {
         }
         line.push_str("  ")?;
         self.push_name(row, line)?;
-        push_to(line, begin)?;
+        push_to_column(line, begin)?;
         self.push_cells(track, scale, &mut drawing.legend, line)?;
         line.push_str("\n")?;
         out.push_str(line.as_str())

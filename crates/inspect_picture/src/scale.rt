@@ -25,7 +25,7 @@ impl Scale {
 
     /// The column of a tick, from 0.
     pub(crate) fn column_of(&self, tick: u32) -> u32 {
-        quotient(tick.saturating_sub(self.first), self.fold)
+        whole_parts(tick.saturating_sub(self.first), self.fold)
     }
 
     /// The first tick of a column.
@@ -34,15 +34,15 @@ impl Scale {
     }
 }
 
-/// How often a size goes into a count.
-fn quotient(count: u32, size: u32) -> u32 {
-    if size == 0 { 0 } else { count / size }
+/// How many whole parts of so many ticks each stand in ticks.
+fn whole_parts(ticks: u32, size: u32) -> u32 {
+    if size == 0 { 0 } else { ticks / size }
 }
 
-/// How many parts of a size a count has, of which the last may be less.
-fn parts(count: u32, size: u32) -> u32 {
-    let whole = quotient(count, size);
-    if whole.saturating_mul(size) < count {
+/// How many parts of so many ticks each ticks have, of which the last may be less.
+fn parts(ticks: u32, size: u32) -> u32 {
+    let whole = whole_parts(ticks, size);
+    if whole.saturating_mul(size) < ticks {
         whole.saturating_add(1)
     } else {
         whole

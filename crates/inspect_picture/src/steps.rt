@@ -1,4 +1,5 @@
 //! The steps of each turn, with the stack after each, as a table.
+use crate::column::push_to_column;
 use account::{Deed, Moment};
 use inspect_words::{Run, Window, Words, line_text_of, push_action, push_list, push_tick};
 use lane_turn::{Activity, LaneState, Origin};
@@ -67,9 +68,9 @@ impl Steps {
             let number = self.count;
             write!(row, "{number:>6}")?;
         }
-        push_to(&mut row, DONE_COLUMN)?;
+        push_to_column(&mut row, DONE_COLUMN)?;
         push_done(&mut row, words, moment.deed)?;
-        push_to(&mut row, STACK_COLUMN)?;
+        push_to_column(&mut row, STACK_COLUMN)?;
         push_stack(&mut row, words.names, lane)?;
         push_text(self.alloc, &mut row, run, moment)?;
         out.push_str(row.as_str())?;
@@ -105,31 +106,6 @@ pub(crate) fn is_step(deed: Deed) -> bool {
         Deed::Polled | Deed::Rests | Deed::HandedOver { .. } | Deed::Received { .. } => false,
         _ => true,
     }
-}
-
-/// How many characters a text has.
-pub(crate) fn width_of(text: &str) -> usize {
-    text.as_bytes()
-        .iter()
-        .filter(|byte| is_first(**byte))
-        .count()
-}
-
-/// Whether a character begins with a byte.
-fn is_first(byte: u8) -> bool {
-    byte & 0xC0 != 0x80
-}
-
-/// Adds spaces up to a column, and one at least where the row has something.
-pub(crate) fn push_to(row: &mut String, column: usize) -> Result<(), AllocError> {
-    let width = width_of(row.as_str());
-    if width >= column {
-        return row.push_str("  ");
-    }
-    for _ in width..column {
-        row.push_str(" ")?;
-    }
-    Ok(())
 }
 
 /// Adds what a move does.
@@ -250,7 +226,7 @@ fn push_text(
     if text.is_empty() {
         return Ok(());
     }
-    push_to(row, TEXT_COLUMN)?;
+    push_to_column(row, TEXT_COLUMN)?;
     for (n, line) in text.as_str().lines().enumerate() {
         if n != 0 {
             row.push_str("; ")?;

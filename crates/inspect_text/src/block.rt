@@ -94,7 +94,7 @@ impl<'a> Before<'a> {
 }
 
 /// Whether an iteration finds a source ready.
-fn is_ready(standing: Standing) -> bool {
+fn is_told_ready(standing: Standing) -> bool {
     matches!(standing, Standing::Selected | Standing::LessUrgent { .. })
 }
 
@@ -122,7 +122,7 @@ fn push_row(
     push_source(out, names, context, row)?;
     out.push_str(": ")?;
     push_standing(out, words, context, row.id, shown.standing)?;
-    if is_ready(shown.standing) {
+    if is_told_ready(shown.standing) {
         if let Some(below) = shown.below {
             out.push_str("; ")?;
             names.push_source(out, context, below)?;
@@ -175,7 +175,7 @@ impl Block {
         for (row, standing) in rows.in_order().zip(standings) {
             let shown = Shown::new(row, *standing, below.get(&row.id).copied());
             self.add(words, context, row, shown, &mut before)?;
-            if is_ready(*standing) {
+            if is_told_ready(*standing) {
                 add_below(below, row)?;
             }
         }

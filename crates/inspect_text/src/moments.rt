@@ -1,7 +1,7 @@
 //! The moments of a run as JSON, an object a line: what moved, by whom, what it wrote and left.
 use crate::name_lists::{push_name_lists, push_quoted_name};
 use account::{Account, Deed, Moment};
-use inspect_words::{Run, Window, Words, action_word, text_of};
+use inspect_words::{Run, Window, Words, action_in_a_word, text_of};
 use lane_turn::{LaneState, Place};
 use loop_script::{Body, Script};
 use std::alloc::{AllocError, Global};
@@ -60,7 +60,7 @@ impl Moments {
         write!(out, "{{\"tick\":{tick},\"lane\":{number},\"did\":")?;
         push_deed(out, run.account.script(), moment.deed)?;
         if let Some(lane) = run.account.lane(number) {
-            push_lines(self.alloc, out, lane, moment)?;
+            push_lines_key(self.alloc, out, lane, moment)?;
             push_gained(self.alloc, out, run.words(), lane, moment)?;
         }
         out.push_str("}\n")
@@ -78,7 +78,7 @@ impl Moments {
 }
 
 /// Adds a list of ids.
-fn push_ids(out: &mut String, ids: &[u64]) -> Result<(), AllocError> {
+fn push_id_array(out: &mut String, ids: &[u64]) -> Result<(), AllocError> {
     out.push_str("[")?;
     for (n, id) in ids.iter().enumerate() {
         if n != 0 {
@@ -105,25 +105,25 @@ fn push_gained(
     }
     if let Some(ids) = moment.selected(words.script, lane) {
         out.push_str(",\"selected\":")?;
-        push_ids(out, ids)?;
+        push_id_array(out, ids)?;
     }
     let depth = lane.calls();
     write!(out, ",\"depth\":{depth}")
 }
 
 /// Adds the key and the list of what a moment wrote.
-fn push_lines(
+fn push_lines_key(
     alloc: Global,
     out: &mut String,
     lane: &LaneState,
     moment: &Moment,
 ) -> Result<(), AllocError> {
     let text = text_of(alloc, lane, moment)?;
-    push_text(out, text.as_str())
+    push_line_array(out, text.as_str())
 }
 
 /// The same of a text, where it has a line.
-fn push_text(out: &mut String, text: &str) -> Result<(), AllocError> {
+fn push_line_array(out: &mut String, text: &str) -> Result<(), AllocError> {
     if text.is_empty() {
         return Ok(());
     }
@@ -147,7 +147,7 @@ fn push_body(out: &mut String, body: Body) -> Result<(), AllocError> {
 }
 
 /// Adds the word of what was done to a source, and its keys.
-fn push_of_source(
+fn push_source_object(
     out: &mut String,
     word: &str,
     context: u32,
@@ -157,7 +157,12 @@ fn push_of_source(
 }
 
 /// Adds the word of what a loop did, and its keys.
-fn push_of_loop(out: &mut String, word: &str, number: u32, context: u32) -> Result<(), AllocError> {
+fn push_loop_object(
+    out: &mut String,
+    word: &str,
+    number: u32,
+    context: u32,
+) -> Result<(), AllocError> {
     write!(out, "\"{word}\",\"loop\":{number},\"context\":{context}")
 }
 
@@ -171,7 +176,7 @@ fn push_acted(
     out.push_str("\"acted\"")?;
     push_body(out, body)?;
     let word = match script.actions(body).get(place) {
-        Some(action) => action_word(action),
+        Some(action) => action_in_a_word(action),
         None => "",
     };
     write!(out, ",\"place\":{place},\"action\":\"{word}\"")
@@ -186,19 +191,29 @@ fn push_deed(out: &mut String, script: &Script, deed: Deed) -> Result<(), AllocE
             out.push_str("\"returned\"")?;
             push_body(out, body)
         }
-        Deed::Dispatched { context, source } => push_of_source(out, "dispatched", context, source),
-        Deed::PassedOver { context, source } => push_of_source(out, "passed_over", context, source),
+        Deed::Dispatched { context, source } => push_source_object(
+            out,
+            "dispatched",
+            context,
+            source,
+        ),
+        Deed::PassedOver { context, source } => push_source_object(
+            out,
+            "passed_over",
+            context,
+            source,
+        ),
         Deed::IterationEnded { context } => {
             write!(out, "\"iteration_ended\",\"context\":{context}")
         }
         Deed::Iterated {
             loop_number,
             context,
-        } => push_of_loop(out, "iterated", loop_number, context),
+        } => push_loop_object(out, "iterated", loop_number, context),
         Deed::LoopEnded {
             loop_number,
             context,
-        } => push_of_loop(out, "loop_ended", loop_number, context),
+        } => push_loop_object(out, "loop_ended", loop_number, context),
         Deed::Rests => out.push_str("\"rests\""),
         Deed::HandedOver { context, from } => {
             write!(out, "\"handed_over\",\"context\":{context},\"from\":{from}")

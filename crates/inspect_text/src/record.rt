@@ -74,7 +74,7 @@ impl Record {
             out.push_str(": never dispatched")?;
         } else {
             out.push_str(": dispatched ")?;
-            push_times(out, self.dispatches.count)?;
+            push_dispatch_count(out, self.dispatches.count)?;
             out.push_str(", ")?;
             self.dispatches.push_ticks(out, words.script)?;
         }
@@ -102,8 +102,8 @@ impl Record {
     }
 }
 
-/// Adds how often.
-fn push_times(out: &mut String, count: u64) -> Result<(), AllocError> {
+/// Adds how often the source was dispatched.
+fn push_dispatch_count(out: &mut String, count: u64) -> Result<(), AllocError> {
     if count == 1 {
         out.push_str("once")
     } else {

@@ -56,7 +56,7 @@ impl RunText {
         ensures { is_some run.entry.names.now.names ≡ true → run.entry.account.now.spent ≡ false → OnOk result (Gathers run.entry.account.now run.entry.names.now moment.now self.old self.new) }
     {
         let lines = line_text_of(self.alloc, run, moment)?;
-        let notes = notes_of(self.alloc, run, moment, &mut self.noted)?;
+        let notes = notes_behind(self.alloc, run, moment, &mut self.noted)?;
         add(&mut self.threads, moment.lane, lines.as_str())?;
         add(&mut self.threads, moment.lane, notes.as_str())
     }
@@ -97,7 +97,7 @@ fn add(threads: &mut Vec<String>, thread: u32, text: &str) -> Result<(), AllocEr
 }
 
 /// The notes on a moment, where they are asked for.
-fn notes_of(
+fn notes_behind(
     alloc: Global,
     run: Run<'_>,
     moment: &Moment,

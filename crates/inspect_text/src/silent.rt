@@ -3,7 +3,7 @@ use crate::counts::{ContextCount, Counts};
 use crate::record::Record;
 use account::Account;
 use context_core::Standing;
-use inspect_words::{Run, Words, action_word, push_halt, push_many, push_standing, push_tick};
+use inspect_words::{Run, Words, action_in_a_word, push_halt, push_many, push_standing, push_tick};
 use lane_turn::{Activity, Awaited, LaneState, Origin};
 use loop_script::{Action, Body, Script};
 use run_names::Thing;
@@ -220,7 +220,7 @@ fn push_rest(
     let Some(next) = rest.first() else {
         return Ok(());
     };
-    let word = action_word(next);
+    let word = action_in_a_word(next);
     words.names.push(out, Thing::Thread(number))?;
     write!(
         out,
@@ -236,7 +236,7 @@ fn push_rest(
         words.names.push(out, Thing::Loop(running))?;
         out.push_str(" had not ended")?;
     }
-    let sources = attaches(rest);
+    let sources = never_attached(rest);
     if sources != 0 {
         out.push_str(": ")?;
         push_many(out, sources, "source was", "sources were")?;
@@ -245,8 +245,8 @@ fn push_rest(
     out.push_str("\n")
 }
 
-/// How many actions attach a source.
-fn attaches(actions: &[Action]) -> u64 {
+/// How many sources actions attach, of those that were never taken.
+fn never_attached(actions: &[Action]) -> u64 {
     let mut count = 0u64;
     for action in actions {
         if matches!(action, Action::Attach { .. } | Action::Child { .. }) {

@@ -5,7 +5,7 @@ use run_names::{RunNames, Thing};
 use std::alloc::AllocError;
 
 /// The word of an action, as scripts write it.
-pub fn action_word(action: &Action) -> &'static str {
+pub fn action_in_a_word(action: &Action) -> &'static str {
     match action {
         Action::Attach { .. } => "attach",
         Action::Child { .. } => "child",
@@ -65,7 +65,7 @@ pub fn push_cause(out: &mut String, names: &RunNames, moment: &Moment) -> Result
 
 /// Adds an action: its word, and what stands next to it in the script.
 pub fn push_action(out: &mut String, names: &RunNames, action: &Action) -> Result<(), AllocError> {
-    out.push_str(action_word(action))?;
+    out.push_str(action_in_a_word(action))?;
     let thing = if names.are_there() {
         named_thing_of(action)
     } else {

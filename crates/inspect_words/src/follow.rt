@@ -1,4 +1,4 @@
-//! What sources and handlers are called, given as they come, move by move.
+//! What sources and handlers are called, given as they come, move by move, and the procedure that a source calls.
 use account::{Account, Deed, Moment};
 use lane_turn::{Event, LaneState, Named, Place};
 use loop_script::{Action, Body};

@@ -13,7 +13,7 @@ mod window;
 mod words;
 mod written;
 
-pub use action_words::{action_word, push_action, push_cause, push_list};
+pub use action_words::{action_in_a_word, push_action, push_cause, push_list};
 pub use begun::{AskedBy, Begun, Caller, begun_by, caller_of};
 pub use follow::follow_names;
 pub use halt::{Halt, halt_of, halt_reason, push_halt};

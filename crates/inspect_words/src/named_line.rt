@@ -18,7 +18,7 @@ pub fn named_text_of(alloc: Global, run: Run<'_>, moment: &Moment) -> Result<Str
     ensures { run.entry.account.now.spent ≡ false → IfOk result (λ text. TellsOf run.entry.account.now run.entry.names.now moment.now (string_bytes text)) }
 {
     let mut text = String::new(alloc);
-    push_lines(&mut text, run, moment, lines_of(run.account, moment))?;
+    push_named_lines(&mut text, run, moment, lines_of(run.account, moment))?;
     Ok(text)
 }
 
@@ -33,7 +33,7 @@ fn lines_of<'a>(account: &'a Account, moment: &Moment) -> &'a [Line]
 }
 
 /// Adds lines that a moment wrote, with names.
-fn push_lines(
+fn push_named_lines(
     out: &mut String,
     run: Run<'_>,
     moment: &Moment,

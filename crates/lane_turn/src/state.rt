@@ -19,7 +19,7 @@ use crate::lane::{Lane, Status};
 use crate::line::Line;
 use crate::start::boxed_lane;
 use crate::turn::Turn;
-use crate::wakes::{sooner, tick_of};
+use crate::wakes::{sooner_turn, tick_of};
 use cancel_view::View;
 use loop_script::Script;
 use post_office::{Letter, Numbered, Post};
@@ -266,7 +266,7 @@ impl LaneState {
             return None;
         }
         let from = tick + 1;
-        let wake = sooner(
+        let wake = sooner_turn(
             self.lane.watch.next_wake(),
             self.lane.step_wake(script, from),
         );

@@ -40,7 +40,7 @@ pub struct Progress {
 fn result_of(view: &View, reply: Reply) -> Outcome
     ensures { result ≡ result_of view.now reply }
 {
-    if reply.check && sees(view, reply.cancel) {
+    if reply.check && sees_at_dispatch(view, reply.cancel) {
         Outcome::Cancelled
     } else {
         reply.outcome
@@ -48,7 +48,7 @@ fn result_of(view: &View, reply: Reply) -> Outcome
 }
 
 /// Whether a view has a cancellable that may be absent.
-fn sees(view: &View, cancel: Option<u32>) -> bool
+fn sees_at_dispatch(view: &View, cancel: Option<u32>) -> bool
     ensures { result ≡ sees view.now cancel }
 {
     match cancel {

@@ -26,7 +26,7 @@ use std::iter::Iterator;
 const ALWAYS_TOLD: u8 = 56;
 
 /// The sooner of two ticks, where none is never.
-pub(crate) fn sooner(a: Option<u64>, b: Option<u64>) -> Option<u64>
+pub(crate) fn sooner_turn(a: Option<u64>, b: Option<u64>) -> Option<u64>
     ensures { (k : ℕ) → IsAfter k result → IsAfter k a × IsAfter k b }
 {
     match (a, b) {
@@ -56,7 +56,7 @@ pub(crate) fn tick_of(wake: Option<u64>, from: u32, ticks: u32) -> Option<u32>
 }
 
 /// Whether a tick has come by another.
-fn is_by(wake: Option<u64>, tick: u32) -> bool
+fn row_wake_is_by(wake: Option<u64>, tick: u32) -> bool
     ensures { result ≡ true → (k : ℕ) → tick ≤ k → IsAfter k wake → ⊥ }
 {
     match wake {
@@ -66,7 +66,7 @@ fn is_by(wake: Option<u64>, tick: u32) -> bool
 }
 
 /// Whether a level has a bit that is asked for, or that of an error, a hang-up or an invalid descriptor.
-fn has_bit(level: u8, bits: u8) -> bool
+fn shows_any(level: u8, bits: u8) -> bool
     ensures { result ≡ has_bit level bits }
 {
     level & (bits | ALWAYS_TOLD) != 0
@@ -76,7 +76,7 @@ fn has_bit(level: u8, bits: u8) -> bool
 fn fd_wake(script: &Script, fd: u32, bits: u8, from: u32) -> Option<u64>
     ensures { (k : ℕ) → from ≤ k → IsAfter k result → has_bit (level_of script.now fd k) bits ≡ false }
 {
-    if has_bit(script.level(fd, from), bits) {
+    if shows_any(script.level(fd, from), bits) {
         return Some(u64::from(from));
     }
     match script.next_change(fd, from) {
@@ -117,7 +117,7 @@ fn due_wake(script: &Script, ready: i64) -> Option<u64>
 fn row_wake(script: &Script, row: &Row, from: u32, view: &View) -> Option<u64>
     ensures { (k : ℕ) → from ≤ k → IsAfter k result → own_ready_at script.now k view.now row.now ≡ false }
 {
-    sooner(
+    sooner_turn(
         kind_wake(script, row.kind, from, view),
         due_wake(script, row.ready),
     )
@@ -169,15 +169,15 @@ fn context_wake(
                     }
                 }
                 None => {
-                    wake = sooner(wake, own);
-                    if is_by(wake, from) {
+                    wake = sooner_turn(wake, own);
+                    if row_wake_is_by(wake, from) {
                         return wake;
                     }
                 }
             }
         }
     }
-    sooner(wake, next_due(script, context, from))
+    sooner_turn(wake, next_due(script, context, from))
 }
 
 impl Lane {

@@ -1,4 +1,4 @@
-//! The line of the dispatch that was written last.
+//! The line of the dispatch that was written last: what stands before and behind its source, kept for the next.
 ghost use Rattle.std.specs.Prelude.{◌≡◌, ◌+◌, ◌≤◌, ◌++◌, drop, length};
 ghost use Rattle.mainctx.specs.Bounds.{longest_line};
 ghost use Rattle.mainctx.specs.Text.{line_text};

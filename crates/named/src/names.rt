@@ -120,7 +120,7 @@ pub fn most(kind: Kind) -> usize
     }
 }
 
-fn is_among(names: &[&str], name: &str) -> bool
+fn has_name(names: &[&str], name: &str) -> bool
     ensures { result ≡ list_any (λ x. bytes_eq x.now name.now) names.now }
 {
     names.iter().any(|each| *each == name)
@@ -131,7 +131,7 @@ fn is_among(names: &[&str], name: &str) -> bool
 fn add<'a>(names: &mut Vec<&'a str>, limit: usize, name: &'a str) -> Result<(), AllocError>
     ensures { OnOk result (texts names.new.items ≡ added limit name.now (texts names.old.items)) }
 {
-    if !is_among(names.as_slice(), name) && names.len() < limit {
+    if !has_name(names.as_slice(), name) && names.len() < limit {
         names.push(name)?;
     }
     Ok(())

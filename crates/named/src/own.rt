@@ -32,7 +32,7 @@ pub(crate) fn own_causes(
 {
     let mut causes = Vec::new(alloc);
     match sort {
-        Sort::Leaf(leaf) => push_where(
+        Sort::Leaf(leaf) => push_cause_where(
             scalar_of(names, leaf, value).is_none(),
             Cause::Unfit,
             &mut causes,
@@ -44,14 +44,18 @@ pub(crate) fn own_causes(
         }
         Sort::An(object) => push_of_object(object, value, &mut causes)?,
         Sort::Pair => push_of_size(2, value, &mut causes)?,
-        Sort::Actions | Sort::Levels => push_where(!is_list(value), Cause::OtherType, &mut causes)?,
-        _ => push_where(!is_object(value), Cause::OtherType, &mut causes)?,
+        Sort::Actions | Sort::Levels => push_cause_where(
+            !is_list(value),
+            Cause::OtherType,
+            &mut causes,
+        )?,
+        _ => push_cause_where(!is_object(value), Cause::OtherType, &mut causes)?,
     }
     Ok(causes)
 }
 
 /// Adds a cause, where a test holds.
-fn push_where(so: bool, cause: Cause, causes: &mut Vec<Cause>) -> Result<(), AllocError>
+fn push_cause_where(so: bool, cause: Cause, causes: &mut Vec<Cause>) -> Result<(), AllocError>
     ensures { OnOk result (causes.new.items ≡ causes.old.items ++ where_so so cause) }
 {
     if so {
@@ -81,7 +85,7 @@ fn push_of_word(
     ensures { OnOk result (causes.new.items ≡ causes.old.items ++ of_word choice (value_view value.now) (chosen choice (value_view value.now))) }
 {
     let Some(word) = chosen(choice, value) else {
-        return push_where(true, Cause::NoWord, causes);
+        return push_cause_where(true, Cause::NoWord, causes);
     };
     let asked = parts(choice, word);
     match choice {
@@ -101,13 +105,13 @@ fn push_of_size(size: usize, value: &Value<'_>, causes: &mut Vec<Cause>) -> Resu
 {
     match value {
         Value::Array(items) => {
-            push_where(
+            push_cause_where(
                 !has_size(items.as_slice(), size),
                 Cause::OtherLength,
                 causes,
             )
         }
-        _ => push_where(true, Cause::OtherLength, causes),
+        _ => push_cause_where(true, Cause::OtherLength, causes),
     }
 }
 
@@ -123,7 +127,7 @@ fn push_lack(at: At, is_absent: bool, causes: &mut Vec<Cause>) -> Result<(), All
     ensures { OnOk result (causes.new.items ≡ causes.old.items ++ lack at is_absent) }
 {
     match at {
-        At::Key(word) => push_where(is_absent, Cause::NoKey(word), causes),
+        At::Key(word) => push_cause_where(is_absent, Cause::NoKey(word), causes),
         _ => Ok(()),
     }
 }
@@ -176,7 +180,7 @@ fn push_of_object(
 ) -> Result<(), AllocError>
     ensures { OnOk result (causes.new.items ≡ causes.old.items ++ of_object object (value_view value.now)) }
 {
-    push_where(!is_object(value), Cause::OtherType, causes)?;
+    push_cause_where(!is_object(value), Cause::OtherType, causes)?;
     push_field_lacks(fields(object), value, causes)?;
     push_unknown(keys(object), value, causes)
 }
@@ -210,7 +214,7 @@ fn push_twice_of(
     ensures { OnOk result (causes.new.items ≡ causes.old.items ++ twice kinds.now (names_of names.now) (value_view script.now)) }
 {
     for kind in kinds {
-        push_where(!names.has_all(*kind, script), Cause::Twice(*kind), causes)?;
+        push_cause_where(!names.has_all(*kind, script), Cause::Twice(*kind), causes)?;
     }
     Ok(())
 }
@@ -264,12 +268,16 @@ fn push_other_keys(
     ensures { OnOk result (causes.new.items ≡ causes.old.items ++ other_keys allowed.now 0 (members_view members.now)) }
 {
     for (n, member) in members.iter().enumerate() {
-        push_where(!is_among(allowed, member.0), Cause::OtherKey(n), causes)?;
+        push_cause_where(
+            !is_allowed_key(allowed, member.0),
+            Cause::OtherKey(n),
+            causes,
+        )?;
     }
     Ok(())
 }
 
-fn is_among(allowed: &[Word], key: &str) -> bool
+fn is_allowed_key(allowed: &[Word], key: &str) -> bool
     ensures { result ≡ list_any (λ w. bytes_eq (text_of w) key.now) allowed.now }
 {
     allowed.iter().any(|word| word.text() == key)

@@ -5,7 +5,7 @@ ghost use Rattle.named.specs.declared.sort.Kind.TheVariants as kinds;
 ghost use Rattle.run_names.specs.Text.{called, source_text, thing_text};
 ghost use Rattle.named_lines.specs.Lines as lines;
 
-use crate::part::{answer, invoked, push_milliseconds, push_outcome, push_urgency};
+use crate::part::{answer_part, invoked_part, push_milliseconds, push_outcome, push_urgency};
 use crate::told_line::Told;
 use lane_turn::{Event, Invoked};
 use mainctx::action_word;
@@ -132,7 +132,7 @@ fn push_answer(
     ensures { OnOk result (string_bytes out.new ≡ string_bytes out.old ++ (words.now ++ (called kinds.Context context names.now.names ++ lines.answer_text yes))) }
 {
     push_with(out, names, words, Thing::Context(context))?;
-    out.push_str(answer(yes))
+    out.push_str(answer_part(yes))
 }
 
 /// Adds an invoke: its context, what is invoked there, and how.
@@ -147,7 +147,7 @@ fn push_invoke(
 {
     push_with(out, names, "invoke in ", Thing::Context(context))?;
     push_callee(out, names, callee)?;
-    out.push_str(invoked(how))
+    out.push_str(invoked_part(how))
 }
 
 /// Adds a handler that is called; of one that is connected too late, the slot of the action that connects it.

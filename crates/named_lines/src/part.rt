@@ -94,15 +94,15 @@ pub(crate) fn push_outcome(out: &mut String, outcome: Outcome) -> Result<(), All
     }
 }
 
-/// An answer.
-pub(crate) fn answer(yes: bool) -> &'static str
+/// The part of a line that answers its question.
+pub(crate) fn answer_part(yes: bool) -> &'static str
     ensures { result.now ≡ lines.answer_text yes }
 {
     if yes { ": true" } else { ": false" }
 }
 
-/// How a procedure was invoked.
-pub(crate) fn invoked(how: Invoked) -> &'static str
+/// The part of a line that tells how a procedure was invoked.
+pub(crate) fn invoked_part(how: Invoked) -> &'static str
     ensures { result.now ≡ lines.invoked_text how }
 {
     match how {

@@ -36,7 +36,7 @@ impl Counts {
     {
         Counts {
             lanes: plan.lanes.as_slice().len() as u64,
-            contexts: context_count(plan.lanes.as_slice()),
+            contexts: contexts_in_all(plan.lanes.as_slice()),
             loops: plan.loops.as_slice().len() as u64,
             cancellables: u64::from(plan.cancellables),
             procs: plan.procs.as_slice().len() as u64,
@@ -74,7 +74,7 @@ impl Sort {
     }
 }
 
-fn context_count(lanes: &[LaneSpec]) -> u64
+fn contexts_in_all(lanes: &[LaneSpec]) -> u64
     requires { length lanes.now ≤ 64 }
     ensures { result ≡ sum_by (λ l. l.contexts) lanes.now }
 {

@@ -13,42 +13,42 @@ const FAULTS: u8 = 2;
 
 /// Why there is no answer.
 #[derive(Clone, Copy, Drop)]
-enum Failure {
+enum CheckFailure {
     Input(InputFault),
     Write,
 }
 
-impl From<AllocError> for Failure {
+impl From<AllocError> for CheckFailure {
     fn from(fault: AllocError) -> Self {
-        Failure::Input(fault.into())
+        CheckFailure::Input(fault.into())
     }
 }
 
-impl From<InputFault> for Failure {
+impl From<InputFault> for CheckFailure {
     fn from(fault: InputFault) -> Self {
-        Failure::Input(fault)
+        CheckFailure::Input(fault)
     }
 }
 
-impl Failure {
+impl CheckFailure {
     fn status(self) -> u8 {
         match self {
-            Failure::Input(fault) => fault.status(),
-            Failure::Write => 4,
+            CheckFailure::Input(fault) => fault.status(),
+            CheckFailure::Write => 4,
         }
     }
 
     fn line(self) -> &'static str {
         match self {
-            Failure::Input(fault) => fault.line(),
-            Failure::Write => "write\n",
+            CheckFailure::Input(fault) => fault.line(),
+            CheckFailure::Write => "write\n",
         }
     }
 }
 
 /// Does what the arguments say, and answers the exit status.
-pub(crate) fn run(rt: &HostRuntime) -> u8 {
-    match attempt(rt) {
+pub(crate) fn run_check(rt: &HostRuntime) -> u8 {
+    match try_check(rt) {
         Ok(status) => status,
         Err(failure) => {
             let _ = rt.stderr().write_all(failure.line().as_bytes());
@@ -57,7 +57,7 @@ pub(crate) fn run(rt: &HostRuntime) -> u8 {
     }
 }
 
-fn attempt(rt: &HostRuntime) -> Result<u8, Failure> {
+fn try_check(rt: &HostRuntime) -> Result<u8, CheckFailure> {
     let words = read_words(rt)?;
     match read_check_words(rt.alloc(), words.as_slice())? {
         Asked::Wrong(text) => {
@@ -65,7 +65,7 @@ fn attempt(rt: &HostRuntime) -> Result<u8, Failure> {
             Ok(USAGE)
         }
         Asked::Help(text) => {
-            write_out(rt, text.as_str())?;
+            write_answer(rt, text.as_str())?;
             Ok(0)
         }
         Asked::Run(CheckOrder { json, file }) => {
@@ -78,15 +78,15 @@ fn attempt(rt: &HostRuntime) -> Result<u8, Failure> {
             };
             let mut out = String::new(rt.alloc());
             let is_right = check_file(rt.alloc(), &form, bytes.as_slice(), &mut out)?;
-            write_out(rt, out.as_str())?;
+            write_answer(rt, out.as_str())?;
             Ok(if is_right { 0 } else { FAULTS })
         }
     }
 }
 
-fn write_out(rt: &HostRuntime, text: &str) -> Result<(), Failure> {
+fn write_answer(rt: &HostRuntime, text: &str) -> Result<(), CheckFailure> {
     match rt.stdout().write_all(text.as_bytes()) {
         Ok(()) => Ok(()),
-        Err(_) => Err(Failure::Write),
+        Err(_) => Err(CheckFailure::Write),
     }
 }

@@ -19,18 +19,18 @@ pub(crate) fn push_excerpt(
     let to = ending(bytes, at.byte);
     let marked = end.min(to).max(at.byte);
     let (Some(before), Some(here), Some(behind)) = (
-        text_of(bytes, from, at.byte),
-        text_of(bytes, at.byte, marked),
-        text_of(bytes, marked, to),
+        text_between(bytes, from, at.byte),
+        text_between(bytes, at.byte, marked),
+        text_between(bytes, marked, to),
     ) else {
         return Ok(());
     };
     let dots = if from > at.line_start { ".." } else { "" };
     let line = at.line;
     write!(out, "{line:>4} | {dots}")?;
-    push_plain(out, before)?;
-    push_plain(out, here)?;
-    push_plain(out, behind)?;
+    push_excerpt_part(out, before)?;
+    push_excerpt_part(out, here)?;
+    push_excerpt_part(out, behind)?;
     if is_cut(bytes, to) {
         out.push_str("..")?;
     }
@@ -42,8 +42,8 @@ pub(crate) fn push_excerpt(
 fn push_marks(out: &mut String, indent: &str, before: &str, here: &str) -> Result<(), AllocError> {
     out.push_str("\n       ")?;
     out.push_str(indent)?;
-    push_many(out, " ", before.chars().count())?;
-    push_many(out, "^", here.chars().count().max(1))?;
+    push_repeated(out, " ", before.chars().count())?;
+    push_repeated(out, "^", here.chars().count().max(1))?;
     out.push_str("\n")
 }
 
@@ -77,22 +77,22 @@ fn is_cut(bytes: &[u8], to: usize) -> bool {
     }
 }
 
-fn text_of(bytes: &[u8], from: usize, to: usize) -> Option<&str> {
+fn text_between(bytes: &[u8], from: usize, to: usize) -> Option<&str> {
     match bytes.get(from..to) {
         Some(part) => from_utf8(part).ok(),
         None => None,
     }
 }
 
-/// Adds a text, with a space for each tab.
-fn push_plain(out: &mut String, text: &str) -> Result<(), AllocError> {
+/// Adds a text, with a space for each control character.
+fn push_excerpt_part(out: &mut String, text: &str) -> Result<(), AllocError> {
     for character in text.chars() {
         out.push(if character < ' ' { ' ' } else { character })?;
     }
     Ok(())
 }
 
-fn push_many(out: &mut String, text: &str, count: usize) -> Result<(), AllocError> {
+fn push_repeated(out: &mut String, text: &str, count: usize) -> Result<(), AllocError> {
     for _ in 0..count {
         out.push_str(text)?;
     }

@@ -1,4 +1,4 @@
-//! Which form a script has, of numbers or with names, and its reading, checking and telling of faults by that.
+//! A script of either form, of numbers or with names, read, checked and told of by what `named` says that it is.
 ghost use Rattle.std.specs.Prelude.{IfOk};
 ghost use Rattle.script_report.specs.Verdict.{Judges, IsOfForm, JudgesEither};
 

@@ -13,7 +13,7 @@ pub(crate) fn wanted_text(
     let wanted = fault.wanted;
     match fault.cause {
         Cause::OtherKey(_) => keys_text(alloc, wanted),
-        Cause::NoKey(n) => needed_text(alloc, wanted, n),
+        Cause::NoKey(n) => no_key_text(alloc, wanted, n),
         Cause::OtherWord => words_text(alloc, wanted),
         Cause::OtherLength => length_text(alloc, wanted, value),
         Cause::OtherVersion => String::from_str(alloc, "give is an action of version 2"),
@@ -64,7 +64,7 @@ fn keys_text(alloc: Global, wanted: Wanted) -> Result<String, AllocError> {
     Ok(text)
 }
 
-fn needed_text(alloc: Global, wanted: Wanted, n: usize) -> Result<String, AllocError> {
+fn no_key_text(alloc: Global, wanted: Wanted, n: usize) -> Result<String, AllocError> {
     let name = name_of(wanted);
     let key = match wanted {
         Wanted::An(object) => match keys_of(object).get(n) {

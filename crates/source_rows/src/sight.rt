@@ -55,13 +55,13 @@ impl Sight {
     pub(crate) fn sleeps(&self, marks: u64, due: u64) -> bool
         ensures { result ≡ sleeps self.entry.now marks due }
     {
-        !meets(marks, self.marks) && self.now < due
+        !share_a_mark(marks, self.marks) && self.now < due
     }
 }
 
 /// Whether two sets have a mark in common.
 #[inline]
-fn meets(a: u64, b: u64) -> bool
+fn share_a_mark(a: u64, b: u64) -> bool
     ensures { result ≡ meets a b }
 {
     a & b != 0

@@ -39,7 +39,7 @@ fn call_each<R: Threads + Sync, J: Send + Drop, X: Send + Drop, F: Fn(J) -> X + 
         return Ok(Vec::new(alloc));
     };
     if jobs.is_empty() {
-        return alone(alloc, f(last));
+        return result_of_one_job(alloc, f(last));
     }
     let there = move || -> X
         requires { F.pre f.now last }
@@ -55,8 +55,8 @@ fn call_each<R: Threads + Sync, J: Send + Drop, X: Send + Drop, F: Fn(J) -> X + 
     Ok(all)
 }
 
-/// One result alone.
-fn alone<X: Drop>(alloc: Global, one: X) -> Result<Vec<X>, AllocError>
+/// The result of one job, where there are no others.
+fn result_of_one_job<X: Drop>(alloc: Global, one: X) -> Result<Vec<X>, AllocError>
     ensures { IfOk result (λ all. all.items ≡ one ∷ []) }
 {
     let mut all = Vec::new(alloc);

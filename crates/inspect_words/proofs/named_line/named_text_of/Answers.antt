@@ -5,5 +5,5 @@ use Rattle.inspect_words.proofs.named_line.named_text_of.Goals as goal
 
 pub returns : goal.returns
 returns c live =
-    of_moment (slice_get (lanes_in c.args.run.account.now.place) c.args.moment.now.lane) c.args.moment.now c.args.run.account.now.script.tick_us c.args.run.names.now c.lines_of.result.now (string_bytes c.new-text.result) (string_bytes c.push_lines.new.out)
-    (c.lines_of.ensures live) c.new-text.ensures.bytes (rw c.in_ok-push_lines.was at c.push_lines.ensures)
+    of_moment (slice_get (lanes_in c.args.run.account.now.place) c.args.moment.now.lane) c.args.moment.now c.args.run.account.now.script.tick_us c.args.run.names.now c.lines_of.result.now (string_bytes c.new-text.result) (string_bytes c.push_named_lines.new.out)
+    (c.lines_of.ensures live) c.new-text.ensures.bytes (rw c.in_ok-push_named_lines.was at c.push_named_lines.ensures)

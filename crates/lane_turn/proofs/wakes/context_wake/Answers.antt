@@ -55,11 +55,11 @@ loop-row-smaller-then-id-row c =
     ((some_in blocks c.in-Some.row.now.lineage (Some c.in-Some-blocker.id) there).0, c.leave.ensures.left, c.leave.ensures.same) c.in-Some.ensures.steps
 
 -- one that no call blocks is not ready by itself before its wake
-pub loop-row-preserved-else-is_by : goal.loop-row-preserved-else-is_by
-loop-row-preserved-else-is_by c = λ k le after.
+pub loop-row-preserved-else-row_wake_is_by : goal.loop-row-preserved-else-row_wake_is_by
+loop-row-preserved-else-row_wake_is_by c = λ k le after.
     let own : Own = own_ready_at c.args.script.now k c.args.view.now in
     let blocks : List ℕ = busy c.args.number c.args.frames.now in
-    let both = c.sooner-wake.ensures k after in
+    let both = c.sooner_turn-wake.ensures k after in
     any_free own blocks c.in-Some.row.now c.next.new.self (λ free. c.row_wake-own.ensures k le both.1)
     ∙ (ap (list_any (is_callable own blocks)) (sym c.in-Some.ensures.steps) ∙ c.loop-row.invariant k le both.0)
 
@@ -70,7 +70,7 @@ returns c = λ k le after.
     let rows = c.args.context.now.rows.rows in
     let same : c.rows.result.now ≡ c.args.context.now.rows = c.rows.ensures in
     let forest = subst (λ (s : RowSet). IsForest s.rows) same c.candidates-rows.ensures.forest in
-    let both = c.sooner.ensures k after in
+    let both = c.sooner_turn.ensures k after in
     let now = time_of c.args.script.now c.args.from in
     let sees = sees_view (λ fd. level_of c.args.script.now fd k) c.args.view.now now c.marks.result c.new.result c.marks.ensures (c.new.ensures ∙ ap (λ (n : ℕ). let s : Sight = record { now = n; marks = bit_or (bit_or c.marks.result always) descriptor } in s) c.now.ensures.now) in
     let it : c.candidates-rows.result ≡ candidates c.new.result rows = search rules in

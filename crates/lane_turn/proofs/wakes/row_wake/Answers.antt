@@ -13,5 +13,5 @@ pub returns : goal.returns
 returns c = λ k le after.
     let fits : SFits w64 c.args.row.now.ready = search rules in
     let same : to_z w64 (of_z w64 c.args.row.now.ready) ≡ c.args.row.now.ready = simp to_z-of_z in
-    let both = c.sooner.ensures k after in
+    let both = c.sooner_turn.ensures k after in
     neither _ _ (c.kind_wake.ensures k le both.0) (ap (is_due (time_of c.args.script.now k)) (sym same) ∙ c.due_wake.ensures k both.1)

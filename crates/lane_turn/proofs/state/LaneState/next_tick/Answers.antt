@@ -18,7 +18,7 @@ returns-clause-quiet c = λ unspent.
     (λ k low high after.
     let tasks : c.deref.result.now ≡ c.self.inside.lane.value = search rules in
     let steps : c.deref-2.result.now ≡ c.self.inside.lane.value = search rules in
-    let both = c.sooner-wake.ensures k (c.tick_of.ensures.before k (omega (arith, low)) (omega (arith, high, c.ticks.ensures.ticks)) after) in
+    let both = c.sooner_turn-wake.ensures k (c.tick_of.ensures.before k (omega (arith, low)) (omega (arith, high, c.ticks.ensures.ticks)) after) in
     quiet_turn script k lane
     (subst (λ (p : Fields). GivesNothing k (lane_of p).tasks) tasks (c.next_wake.ensures k (subst (λ (p : Fields). (lane_of p).tasks.tick ≤ k) (sym tasks) (omega (arith, low, ready.now))) both.0))
     (subst (λ (p : Fields). IsIdle script k (lane_of p)) steps (c.step_wake.ensures k (omega (arith, low)) both.1)))

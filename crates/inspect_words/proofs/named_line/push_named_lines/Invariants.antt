@@ -1,6 +1,6 @@
 use Rattle.std.proofs.Common.{string_bytes, take}
 use Rattle.inspect_words.specs.Named.{Adds}
-use Rattle.inspect_words.proofs.named_line.push_lines.Given as goal
+use Rattle.inspect_words.proofs.named_line.push_named_lines.Given as goal
 
 abbrev pub invariant-loop-line : goal.invariant-loop-line
 invariant-loop-line l =

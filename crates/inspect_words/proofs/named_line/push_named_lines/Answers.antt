@@ -1,7 +1,7 @@
 use Rattle.std.proofs.Common.{◌≡◌, ◌∙◌, ◌++◌, ap, string_bytes}
 use Rattle.named_lines.specs.Lines.{line_text}
 use Rattle.inspect_words.proofs.Telling.{one_more}
-use Rattle.inspect_words.proofs.named_line.push_lines.Goals as goal
+use Rattle.inspect_words.proofs.named_line.push_named_lines.Goals as goal
 
 pub loop-line-preserved : goal.loop-line-preserved
 loop-line-preserved c =
