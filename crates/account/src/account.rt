@@ -45,7 +45,7 @@ impl Model for Account {
     ghost invariant = { λ s. (s.tick ≤ s.script.ticks) × (length s.script.lanes ≤ most_lanes) × (s.spent ≡ false → IsCurrent s.script s.tick s.going) };
 }
 
-/// The lanes of a script before their first turn.
+/// The lanes of a script before their first turn, with which its account begins.
 fn open(alloc: Global, script: &Script) -> Result<Vec<LaneState>, OutOfMemory>
     ensures lanes { IfOk result (λ lanes. lanes_of lanes.items ≡ opened script.now) }
     ensures unspent { IfOk result (λ lanes. AreUnspent lanes.items) }

@@ -10,7 +10,7 @@ use lane_turn::{Activity, Event, Invoked, LaneState, Named, Place};
 use loop_script::{Action, Script};
 use source_rows::Rows;
 
-/// The source that a slot names.
+/// The source that a slot names once an action of the lane has attached one to it.
 fn named_by(lane: &LaneState, slot: u8) -> Option<Place>
     ensures { result ≡ place_at slot lane.now.lane }
 {

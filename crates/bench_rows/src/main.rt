@@ -1,5 +1,4 @@
-//! What the calls of `Rows` cost: makes rows, takes each of them in each of some rounds, and ends. It has no clock:
-//! bench/rows times it with and without its rounds.
+//! What the calls of `Rows` cost: makes rows, takes each of them in each of some rounds, and ends. It has no clock: bench/rows times it.
 #![tactic(auto)]
 
 mod bench;

@@ -1,5 +1,5 @@
-//! The rows that may be ready and are free, in order: an iterator over the candidates of a context. Where a call in progress blocks one,
-//! all that it blocks is left out by one search, so a context is looked at as if what is blocked were not there.
+//! An iterator over the rows of a context that may be ready and are free, in order.
+//! Where a call in progress blocks one, all that it blocks is left out by one search, so a context is looked at as if what is blocked were not there.
 ghost use Rattle.std.specs.Prelude.{◌≡◌, filter, length, not, true, false};
 ghost use Rattle.std.specs.Iterator.{at_most};
 ghost use Rattle.std.specs.Map.Iter.{TakesFirst};

@@ -1,5 +1,4 @@
-//! Whether one source is ready, by its kind and the time; whether it is blocked, or less urgent than what is dispatched;
-//! what it asks of its descriptor, and the time until it is due.
+//! Whether one source is ready, by its kind and the time, is blocked, or less urgent than what is dispatched; what it asks of its descriptor, when it is due.
 ghost use Rattle.std.specs.Prelude.{◌≡◌, ◌≤◌, ◌^◌, ◌==◌, Some, None, IfSome, IsTrue, int_lt, pos, true, if◌then◌else◌};
 ghost use Rattle.loop_script.specs.Bounds.{latest};
 ghost use Rattle.source_rows.specs.Rows.{is_under, sooner};

@@ -1,6 +1,6 @@
 //! What GLib does otherwise as a call begins (of a source, of a reply), returns or is over, and as a source comes from another thread.
 use crate::difference::Difference;
-use crate::kept::{Called, ReplyKept, ThreadKept, holds};
+use crate::kept::{Called, ReplyKept, ThreadKept, is_kept};
 use crate::notes::{Kept, Note, Scene};
 use lane_turn::{Activity, Event, LaneState, Origin};
 use loop_script::Kind;
@@ -19,7 +19,7 @@ pub(crate) fn polled(
         return Ok(());
     };
     for cancellable in 0..scene.script.cancellables() {
-        if holds(thread.started.as_slice(), cancellable)
+        if is_kept(thread.started.as_slice(), cancellable)
             && kept.shared.is_news_of(cancellable, scene.lane)
         {
             found.push(scene.note(Difference::CancelAtOnce, None, None))?;
@@ -67,6 +67,7 @@ fn has_ready_time_of_its_own(lane: &LaneState, called: Called) -> bool {
     }
 }
 
+/// Whether a line tells the result of a task that its callback took.
 fn is_result(event: Event) -> bool {
     matches!(event, Event::Task { .. })
 }

@@ -1,6 +1,6 @@
 //! What GLib does otherwise where something is cancelled, and where handlers are connected or called.
 use crate::difference::Difference;
-use crate::kept::{hold, holds};
+use crate::kept::{is_kept, keep_number};
 use crate::notes::{Kept, Note, Scene, add_note};
 use crate::sources::{changed, ready_set};
 use lane_turn::{Event, Named};
@@ -18,6 +18,7 @@ pub(crate) struct Connection {
     pub procedure: u32,
 }
 
+/// What GLib does otherwise where an action cancels: threads that have not seen it here hear of it at once there.
 pub(crate) fn cancelled(
     kept: &mut Kept,
     scene: &Scene<'_>,
@@ -38,7 +39,7 @@ pub(crate) fn cancelled(
                 kept.threads.get(number as usize),
                 scene.account.lane(number),
             ) {
-                let connected = holds(thread.connected.as_slice(), cancellable);
+                let connected = is_kept(thread.connected.as_slice(), cancellable);
                 heard = heard || connected && !lane.view().is_cancelled(cancellable);
             }
         }
@@ -50,6 +51,7 @@ pub(crate) fn cancelled(
     handlers_called(kept, scene, found)
 }
 
+/// What GLib does otherwise where a handler is connected; one that is called at once is looked at as any handler.
 pub(crate) fn connected(
     kept: &mut Kept,
     scene: &Scene<'_>,
@@ -68,7 +70,7 @@ pub(crate) fn connected(
         ),
         _ => {
             if let Some(thread) = kept.threads.get_mut(scene.moment.lane as usize) {
-                hold(&mut thread.connected, wanted.cancellable);
+                keep_number(&mut thread.connected, wanted.cancellable);
                 thread.handlers.push(wanted.procedure)?;
             }
             Ok(())

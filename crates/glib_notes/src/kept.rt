@@ -1,5 +1,5 @@
-//! What is kept of each source, context and thread beside what the lanes show, to know what GLib would do: in which
-//! iterations a thread is, what a source was named. `notes` takes each move into it.
+//! What is kept of each source, context and thread beside what the lanes show, to know what GLib would do, as what a source was named.
+//! `notes` takes each move into it.
 use lane_turn::Place;
 use loop_script::Script;
 use std::alloc::{AllocError, Global};
@@ -133,16 +133,16 @@ pub(crate) fn none_of(alloc: Global, count: u32) -> Result<Vec<bool>, AllocError
     Ok(all)
 }
 
-/// Whether it holds of a number.
-pub(crate) fn holds(all: &[bool], number: u32) -> bool {
+/// Whether a number is kept, as that of a cancellable to which a handler was connected.
+pub(crate) fn is_kept(all: &[bool], number: u32) -> bool {
     match all.get(number as usize) {
         Some(one) => *one,
         None => false,
     }
 }
 
-/// Lets it hold of a number.
-pub(crate) fn hold(all: &mut Vec<bool>, number: u32) {
+/// Keeps a number among so many, as that of a cancellable that was cancelled.
+pub(crate) fn keep_number(all: &mut Vec<bool>, number: u32) {
     if let Some(one) = all.get_mut(number as usize) {
         *one = true;
     }

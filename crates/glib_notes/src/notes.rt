@@ -1,5 +1,4 @@
-//! The notes of a run: each move with its scene comes in here. `Kept`, all that is kept of the run so far, notes the move
-//! and hands it to the file of its kind.
+//! The notes of a run: each move with its scene comes in here, is noted in what is kept (`Kept`), and goes on to the file of its kind.
 use crate::acted::acted;
 use crate::called::{arrived, begun_call, polled, returned, settle};
 use crate::cancelled::handlers_called;
@@ -149,6 +148,7 @@ impl Notes {
 }
 
 impl Kept {
+    /// Notes a move of any deed, and adds what GLib does otherwise in it.
     fn look(&mut self, scene: &Scene<'_>, found: &mut Vec<Note>) -> Result<(), AllocError> {
         match scene.moment.deed {
             Deed::Polled => polled(self, scene, found),

@@ -6,6 +6,7 @@ use crate::stack::{default_of, reply_of};
 use lane_turn::{Activity, Event, Invoked, LaneState, Origin, Word};
 use std::alloc::AllocError;
 
+/// What GLib does otherwise where an action acquires a context: there any thread acquires one that nobody owns.
 pub(crate) fn acquired(
     kept: &Kept,
     scene: &Scene<'_>,
@@ -18,6 +19,7 @@ pub(crate) fn acquired(
     Ok(())
 }
 
+/// What GLib does otherwise where a release misses: there a context is released on whatever ground it is owned.
 pub(crate) fn released(
     kept: &Kept,
     scene: &Scene<'_>,
@@ -49,6 +51,7 @@ fn has_taken_default(lane: &LaneState) -> bool {
     }
 }
 
+/// What GLib does otherwise where an action invokes a procedure in a context: when it is posted, attached or called at once.
 pub(crate) fn invoked(
     kept: &mut Kept,
     scene: &Scene<'_>,
@@ -78,6 +81,7 @@ pub(crate) fn invoked(
     }
 }
 
+/// Notes that a context was given, so that what its new thread does with it is known.
 pub(crate) fn given(kept: &mut Kept, scene: &Scene<'_>, context: u32) -> Result<(), AllocError> {
     if scene.has_missed(Word::Give) {
         return Ok(());

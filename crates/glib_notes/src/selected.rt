@@ -23,6 +23,7 @@ pub(crate) fn is_found_ready(standing: Standing) -> bool {
     matches!(standing, Standing::Selected | Standing::LessUrgent { .. })
 }
 
+/// Whether a source is left out since a call in progress blocks it.
 fn is_blocked(standing: Standing) -> bool {
     matches!(standing, Standing::Blocked { .. })
 }
@@ -72,6 +73,7 @@ impl Urgent {
         most
     }
 
+    /// Counts a source that is ready among those from which the most urgent priorities are taken.
     fn add(&mut self, row: &Row, standing: Standing, now: u64, view: &View) {
         if is_found_ready(standing) {
             self.all = more_urgent(self.all, row.priority);

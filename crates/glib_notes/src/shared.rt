@@ -1,5 +1,5 @@
 //! What threads do to each other within a tick, as GLib has it at once: cancels, sources that come, contexts that go over, who owns what.
-use crate::kept::{hold, holds, none_of};
+use crate::kept::{is_kept, keep_number, none_of};
 use account::Account;
 use lane_turn::LaneState;
 use loop_script::Script;
@@ -41,12 +41,12 @@ impl Shared {
 
     /// Whether a cancellable was cancelled in this tick.
     pub(crate) fn is_cancelled(&self, cancellable: u32) -> bool {
-        holds(self.cancelled.as_slice(), cancellable)
+        is_kept(self.cancelled.as_slice(), cancellable)
     }
 
     /// A cancellable is cancelled.
     pub(crate) fn cancel(&mut self, cancellable: u32) {
-        hold(&mut self.cancelled, cancellable);
+        keep_number(&mut self.cancelled, cancellable);
     }
 
     /// Whether a cancellable was cancelled in this tick by another thread, and this one was not told.
@@ -59,6 +59,7 @@ impl Shared {
         self.posted.iter().any(|one| *one == context)
     }
 
+    /// Notes that a letter for a context was posted in this tick.
     pub(crate) fn post(&mut self, context: u32) -> Result<(), AllocError> {
         self.posted.push(context)?;
         Ok(())
@@ -71,6 +72,7 @@ impl Shared {
         }
     }
 
+    /// Notes that a context was given in this tick.
     pub(crate) fn give(&mut self, context: u32) -> Result<(), AllocError> {
         self.given.push(context)?;
         Ok(())

@@ -30,6 +30,7 @@ fn made(
     Ok(())
 }
 
+/// What GLib does otherwise where an action attaches a source: there any thread does.
 pub(crate) fn attached(
     kept: &Kept,
     scene: &Scene<'_>,
@@ -92,6 +93,7 @@ pub(crate) fn changed(
     }
 }
 
+/// What GLib does otherwise where an action adds a child to the source of a slot.
 pub(crate) fn child_added(
     kept: &mut Kept,
     scene: &Scene<'_>,
@@ -134,6 +136,7 @@ fn count_below(kept: &mut Kept, scene: &Scene<'_>, parent: Place) -> Result<(), 
     Ok(())
 }
 
+/// What GLib does otherwise where the ready time of a source is set, as of one of a cancellable.
 pub(crate) fn ready_set(
     kept: &mut Kept,
     scene: &Scene<'_>,
@@ -168,6 +171,7 @@ pub(crate) fn ready_set(
     Ok(())
 }
 
+/// What GLib does otherwise where a source gets another priority: there its children change their order.
 pub(crate) fn priority_set(
     kept: &Kept,
     scene: &Scene<'_>,

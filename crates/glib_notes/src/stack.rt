@@ -1,6 +1,6 @@
 //! What GLib does otherwise where a task's callback changed the stack of thread-default contexts.
 use crate::difference::Difference;
-use crate::kept::{ReplyKept, ThreadKept, hold};
+use crate::kept::{ReplyKept, ThreadKept, keep_number};
 use crate::notes::{Kept, Note, Scene, add_note};
 use crate::shared::is_free;
 use lane_turn::{LaneState, Word};
@@ -38,6 +38,8 @@ pub(crate) fn default_used(
     }
 }
 
+/// What GLib does otherwise where an action starts a task: a cancellation of this tick is seen at once there, and the default
+/// context counts.
 pub(crate) fn task_started(
     kept: &mut Kept,
     scene: &Scene<'_>,
@@ -46,7 +48,7 @@ pub(crate) fn task_started(
 ) -> Result<(), AllocError> {
     if let Some(cancellable) = cancel {
         if let Some(thread) = kept.threads.get_mut(scene.moment.lane as usize) {
-            hold(&mut thread.started, cancellable);
+            keep_number(&mut thread.started, cancellable);
         }
         if kept.shared.is_news_of(cancellable, scene.lane) {
             add_note(scene, Difference::CancelAtOnce, None, found)?;
@@ -55,6 +57,7 @@ pub(crate) fn task_started(
     default_used(kept, scene, found)
 }
 
+/// What GLib does otherwise where a context is pushed on the stack of defaults: there any thread pushes one that nobody owns.
 pub(crate) fn pushed(
     kept: &mut Kept,
     scene: &Scene<'_>,
@@ -73,6 +76,7 @@ pub(crate) fn pushed(
     Ok(())
 }
 
+/// What GLib does otherwise where a context is popped, from a stack that is empty or within a task's callback.
 pub(crate) fn popped(
     kept: &Kept,
     scene: &Scene<'_>,

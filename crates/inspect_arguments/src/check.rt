@@ -28,6 +28,7 @@ pub fn read_check_words<'a>(
     }
 }
 
+/// The command line of `mainctx_check` as `clap` has it.
 fn check<'a>(alloc: Global) -> Result<Command<'a>, AllocError> {
     Command::new(alloc, "mainctx_check")
         .no_binary_name(true)

@@ -47,6 +47,7 @@ pub(crate) fn lane<'a>(alloc: Global, help: &'a str) -> Arg<'a> {
     number(alloc, LANE, "L").help(help)
 }
 
+/// The flag `--ticks A..B`.
 pub(crate) fn ticks<'a>(alloc: Global) -> Arg<'a> {
     Arg::new(alloc, TICKS)
         .long(TICKS)
@@ -54,6 +55,7 @@ pub(crate) fn ticks<'a>(alloc: Global) -> Arg<'a> {
         .help("the ticks from A to B alone, both included")
 }
 
+/// The flag `--source C.S`.
 pub(crate) fn source<'a>(alloc: Global) -> Arg<'a> {
     Arg::new(alloc, SOURCE).long(SOURCE).value_name("C.S").help(
         "source S of context C alone: when it was attached, dispatched, left out and
@@ -61,10 +63,12 @@ why, and destroyed",
     )
 }
 
+/// The flag `--tick T`.
 pub(crate) fn tick<'a>(alloc: Global) -> Arg<'a> {
     number(alloc, TICK, "T").help("tick T")
 }
 
+/// The flag `--step N`.
 pub(crate) fn step<'a>(alloc: Global) -> Arg<'a> {
     number(alloc, STEP, "N").help(
         "after step N of the thread in that tick, as steps numbers them, where 0 is before
@@ -72,6 +76,7 @@ the first; else at the end of its turn",
     )
 }
 
+/// The flag `--columns N`.
 pub(crate) fn columns<'a>(alloc: Global) -> Arg<'a> {
     let bounds = i64::from(LEAST_COLUMNS)..=i64::from(MOST_COLUMNS);
     Arg::new(alloc, COLUMNS)
@@ -81,10 +86,12 @@ pub(crate) fn columns<'a>(alloc: Global) -> Arg<'a> {
         .help("lines of N characters at most, 50 to 9999; else 80")
 }
 
+/// The flag `--most-lines N`.
 pub(crate) fn most_lines<'a>(alloc: Global) -> Arg<'a> {
     number(alloc, MOST_LINES, "N").help("N lines at most: then it ends")
 }
 
+/// The flag `--notes`.
 pub(crate) fn notes<'a>(alloc: Global) -> Arg<'a> {
     switch(alloc, NOTES).help(
         "with a line behind what a move writes where the real GLib does otherwise in
@@ -92,10 +99,12 @@ it, as notes tells it; it comes when the run is over",
     )
 }
 
+/// The flag `--numbers`.
 pub(crate) fn numbers<'a>(alloc: Global) -> Arg<'a> {
     switch(alloc, NUMBERS).help("numbers where the script has names")
 }
 
+/// The flag `--json`.
 pub(crate) fn json<'a>(alloc: Global) -> Arg<'a> {
     switch(alloc, JSON).help(
         "one object a line, with class, pointer, line, column, byte, wanted and found",

@@ -58,6 +58,7 @@ fn order_of<'a>(command: Command, found: &ArgMatches<'a>) -> Result<Order<'a>, W
     })
 }
 
+/// The ticks that `--ticks` gives, where it stands; its text where that is no pair of ticks.
 fn ticks_of<'a>(found: &ArgMatches<'a>) -> Result<Option<Ticks>, WrongValue<'a>> {
     let Some(text) = found.get_str(TICKS) else {
         return Ok(None);
@@ -68,6 +69,7 @@ fn ticks_of<'a>(found: &ArgMatches<'a>) -> Result<Option<Ticks>, WrongValue<'a>>
     }
 }
 
+/// The source that `--source` gives, where it stands; its text where that is no source.
 fn source_of<'a>(found: &ArgMatches<'a>) -> Result<Option<Source>, WrongValue<'a>> {
     let Some(text) = found.get_str(SOURCE) else {
         return Ok(None);

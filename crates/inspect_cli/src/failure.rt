@@ -13,6 +13,7 @@ pub(crate) enum Numbered {
 }
 
 impl Numbered {
+    /// What a number of the command line counts, in a word.
     fn word(self) -> &'static str {
         match self {
             Numbered::Thread => "thread",

@@ -66,6 +66,7 @@ pub(crate) fn run(rt: &HostRuntime) -> u8 {
     }
 }
 
+/// Does what the words of the command line ask, and answers the exit status, or why there is no answer.
 fn attempt(rt: &HostRuntime) -> Result<u8, Failure> {
     let words = read_words(rt)?;
     match read_inspect_words(rt.alloc(), words.as_slice())? {

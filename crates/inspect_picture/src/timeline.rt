@@ -1,5 +1,5 @@
-//! Follows a run move by move, for its picture: gathers when each source came and went, and the marks of each source, loop,
-//! task and cancellable. `picture` draws them in the end.
+//! Follows a run move by move, for its picture: gathers when each source came and went, and the marks of each source, loop, task and cancellable.
+//! `picture` draws them in the end.
 use crate::mark::Mark;
 use crate::picture::Picture;
 use crate::row_name::{RowName, RowOf};

@@ -1,5 +1,5 @@
-//! One iteration in words: the sources of its context, each with what it does with it and how many stand below it, those
-//! that are alike joined, and which line was shown before.
+//! One iteration in words: a line for each source of its context, with how it stands and how many stand below it, those that are alike joined.
+//! Lines that the block before it has are taken from there.
 use context_core::Standing;
 use inspect_words::{Words, push_source, push_standing};
 use run_names::RunNames;
@@ -108,6 +108,7 @@ fn add_below(below: &mut BTreeMap<u64, u64>, row: &Row) -> Result<(), AllocError
     Ok(())
 }
 
+/// Adds the line of a source in an iteration: its name, its kind, how it stands, and how many stand below it.
 fn push_row(
     out: &mut String,
     words: Words<'_>,

@@ -45,7 +45,7 @@ impl Iteration {
     }
 }
 
-/// Nothing of each of so many.
+/// A list of so many entries, one for each thread or context, of which none was told of yet.
 fn nothing_yet<T: Drop>(alloc: Global, count: u32) -> Result<Vec<Option<T>>, AllocError> {
     let mut list = Vec::new(alloc);
     for _ in 0..count {
@@ -97,6 +97,7 @@ impl Why {
         Ok(())
     }
 
+    /// Tells a move of a run: the iteration that it began, a source that is passed over since it was destroyed, or a halt.
     fn tell_move(
         &mut self,
         run: Run<'_>,
@@ -133,6 +134,7 @@ impl Why {
         Ok(())
     }
 
+    /// Gathers an iteration with its sources, joined to the one before where the two are alike; else that one is told.
     fn tell_iteration(
         &mut self,
         words: Words<'_>,
@@ -218,6 +220,7 @@ fn push_before(
     }
 }
 
+/// Adds the line of a source that was selected and is passed over, since it was destroyed by then.
 fn push_passed_over(
     out: &mut String,
     words: Words<'_>,

@@ -18,6 +18,7 @@ pub struct Words<'a> {
 }
 
 impl<'a> Run<'a> {
+    /// The script and the names of the run: what is needed to put something in words.
     pub fn words(self) -> Words<'a> {
         Words {
             script: self.account.script(),

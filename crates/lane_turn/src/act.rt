@@ -1,5 +1,4 @@
-//! What each action does: those on sources, loops and tasks here, on cancellables in `handlers`, on who owns a context in
-//! `owned`, `give` in `handover`.
+//! What each action does: those on sources, loops and tasks here, on cancellables in `handlers`, on who owns a context in `owned`, `give` in `handover`.
 ghost use Rattle.std.specs.Prelude.{◌≡◌, ◌+◌, ◌^◌, ◌<◌, ◌≤◌, true, length, OnOk};
 ghost use Rattle.loop_script.specs.References.{sizes, action_refers};
 ghost use Rattle.lane_turn.specs.Acted.{attach, child, destroy, set_ready, set_priority, iterate, pending, run, quit, start_task, acted};
@@ -17,6 +16,7 @@ use loop_script::{Action, Script, SourceSpec, TaskSpec};
 use std::alloc::{AllocError, Global};
 
 impl Lane {
+    /// Attaches a source to a context of the lane, and lets a slot name it; a context of another lane is a miss.
     fn act_attach(
         &mut self,
         tick: u32,
@@ -37,6 +37,8 @@ impl Lane {
         Ok(())
     }
 
+    /// Adds a child to the source that a slot names, and lets another slot name it; it misses where there is no such source or no
+    /// room below it.
     fn act_child(
         &mut self,
         tick: u32,
@@ -65,6 +67,7 @@ impl Lane {
         }
     }
 
+    /// Destroys the source that a slot names, with its children; it misses where that is gone.
     pub(crate) fn act_destroy(&mut self, tick: u32, slot: u8) -> Result<(), AllocError>
         ensures { OnOk result (lane_of self.new ≡ destroy tick slot (lane_of self.old)) }
     {
@@ -78,6 +81,7 @@ impl Lane {
         }
     }
 
+    /// Sets the ready time of the source that a slot names; it misses where that is gone.
     pub(crate) fn act_set_ready(
         &mut self,
         tick: u32,
@@ -96,6 +100,7 @@ impl Lane {
         }
     }
 
+    /// Sets the priority of the source that a slot names, with its children; it misses where that is gone or has a parent.
     fn act_set_priority(&mut self, tick: u32, slot: u8, priority: i32) -> Result<(), AllocError>
         requires { IsWithin most_count (lane_of self.old) }
         ensures { OnOk result (lane_of self.new ≡ set_priority tick slot priority (lane_of self.old)) }
@@ -110,6 +115,7 @@ impl Lane {
         }
     }
 
+    /// Begins an iteration of a context that does not block.
     fn act_iterate(
         &mut self,
         alloc: Global,
@@ -129,6 +135,7 @@ impl Lane {
             .begin_iteration(context, ids, Asker::Iterate(any))
     }
 
+    /// Writes whether something is ready in a context.
     fn act_pending(
         &mut self,
         alloc: Global,
@@ -142,6 +149,7 @@ impl Lane {
         self.write(tick, Event::Pending(context, any))
     }
 
+    /// Begins a run of a loop, with its iterations that block.
     fn act_run(&mut self, tick: u32, number: u32, context: u32) -> Result<(), AllocError>
         ensures { OnOk result (lane_of self.new ≡ run tick number context (lane_of self.old)) }
     {
@@ -153,6 +161,7 @@ impl Lane {
         }
     }
 
+    /// Lets a loop end: no iteration of it begins any more.
     pub(crate) fn act_quit(
         &mut self,
         tick: u32,

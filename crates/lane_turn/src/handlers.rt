@@ -55,6 +55,7 @@ impl Lane {
         Ok(())
     }
 
+    /// Cancels a cancellable, where the lane has not seen it cancelled yet, and calls the handlers that are connected to it.
     pub(crate) fn act_cancel(
         &mut self,
         alloc: Global,
@@ -76,6 +77,7 @@ impl Lane {
         }
     }
 
+    /// Connects a handler and lets a slot name it; where the cancellable was seen cancelled, it is called at once instead.
     pub(crate) fn act_connect(
         &mut self,
         script: &Script,
@@ -101,6 +103,7 @@ impl Lane {
         }
     }
 
+    /// Disconnects the handler that a slot names; it misses where that is gone.
     pub(crate) fn act_disconnect(&mut self, tick: u32, slot: u8) -> Result<(), AllocError>
         ensures { OnOk result (lane_of self.new ≡ disconnect tick slot (lane_of self.old)) }
     {

@@ -50,6 +50,7 @@ impl Lane {
         self.has(context) && !self.is_owned(context) && to < script.lanes() && to != self.number
     }
 
+    /// Gives a context to another lane at the end of the tick; it misses where the lane may not give it.
     pub(crate) fn act_give(
         &mut self,
         script: &Script,

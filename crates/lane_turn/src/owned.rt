@@ -95,6 +95,7 @@ impl Lane {
         }
     }
 
+    /// Pushes a context on the stack of thread-default contexts; one of another lane is a miss.
     pub(crate) fn act_push(&mut self, tick: u32, context: u32) -> Result<(), AllocError>
         ensures { OnOk result (lane_of self.new ≡ push tick context (lane_of self.old)) }
     {
@@ -104,6 +105,7 @@ impl Lane {
         self.defaults.push(context)
     }
 
+    /// Pops a context that is on top of the stack of thread-default contexts; else it misses.
     pub(crate) fn act_pop(&mut self, tick: u32, context: u32) -> Result<(), AllocError>
         ensures { OnOk result (lane_of self.new ≡ pop tick context (lane_of self.old)) }
     {
@@ -114,6 +116,7 @@ impl Lane {
         }
     }
 
+    /// Writes which context is the thread-default one.
     pub(crate) fn act_show_default(&mut self, tick: u32) -> Result<(), AllocError>
         ensures { OnOk result (lane_of self.new ≡ show_default tick (lane_of self.old)) }
     {
@@ -121,6 +124,7 @@ impl Lane {
         self.write(tick, Event::Default(context))
     }
 
+    /// Acquires a context of the lane, and writes whether it did.
     pub(crate) fn act_acquire(&mut self, tick: u32, context: u32) -> Result<(), AllocError>
         requires { IsWithin most_count (lane_of self.old) }
         ensures { OnOk result (lane_of self.new ≡ acquire tick context (lane_of self.old)) }
@@ -132,6 +136,7 @@ impl Lane {
         self.write(tick, Event::Acquire(context, has))
     }
 
+    /// Releases a context that an action acquired; else it misses.
     pub(crate) fn act_release(&mut self, tick: u32, context: u32) -> Result<(), AllocError>
         ensures { OnOk result (lane_of self.new ≡ release tick context (lane_of self.old)) }
     {
@@ -165,6 +170,7 @@ impl Lane {
         })
     }
 
+    /// Invokes a procedure in a context: at once where the lane owns it or has it as its default, as a source, or by a letter.
     pub(crate) fn act_invoke(
         &mut self,
         tick: u32,

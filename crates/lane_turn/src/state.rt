@@ -347,6 +347,7 @@ impl LaneState {
 impl Numbered for LaneState {
     ghost number_of = { λ s. s.lane.number };
 
+    /// The number of the lane.
     fn number(&self) -> u32 {
         self.lane.number
     }

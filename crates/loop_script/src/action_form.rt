@@ -19,6 +19,7 @@ impl Form for Action {
 
     ghost form = { action };
 
+    /// Reads an action, as an item of a lane's start list or a procedure's list, from its JSON value.
     fn read(
         alloc: Global,
         value: Option<&Value>,
@@ -28,6 +29,7 @@ impl Form for Action {
     }
 }
 
+/// Reads an action from its JSON value by the word at its front; another word is a fault of shape, read as a `log` of 0.
 #[tactic(auto, unfolding(crate::specs::Action::action))]
 fn read_action(
     alloc: Global,
@@ -66,6 +68,7 @@ fn read_action(
     }
 }
 
+/// Reads the action `["attach", CONTEXT, SLOT, SOURCE]` from its JSON value.
 #[tactic(auto, unfolding(crate::specs::Action::attach))]
 fn read_attach(value: Option<&Value>, faults: &mut Faults) -> Action
     ensures value { result ≡ (attach (seen value.entry)).value }
@@ -82,6 +85,7 @@ fn read_attach(value: Option<&Value>, faults: &mut Faults) -> Action
     }
 }
 
+/// Reads the action `["child", PARENT, SLOT, CHILD]` from its JSON value; both numbers are those of slots.
 #[tactic(auto, unfolding(crate::specs::Action::child))]
 fn read_child_action(value: Option<&Value>, faults: &mut Faults) -> Action
     ensures value { result ≡ (child (seen value.entry)).value }
@@ -94,6 +98,7 @@ fn read_child_action(value: Option<&Value>, faults: &mut Faults) -> Action
     Action::Child { parent, slot, spec }
 }
 
+/// Reads the action `["destroy", SLOT]` from its JSON value.
 #[tactic(auto, unfolding(crate::specs::Action::destroy))]
 fn read_destroy(value: Option<&Value>, faults: &mut Faults) -> Action
     ensures value { result ≡ (destroy (seen value.entry)).value }
@@ -103,6 +108,7 @@ fn read_destroy(value: Option<&Value>, faults: &mut Faults) -> Action
     Action::Destroy(slot_number(part_of(value, 1), faults))
 }
 
+/// Reads the action `["set_ready", SLOT, US]` from its JSON value.
 #[tactic(auto, unfolding(crate::specs::Action::set_ready))]
 fn read_set_ready(value: Option<&Value>, faults: &mut Faults) -> Action
     ensures value { result ≡ (set_ready (seen value.entry)).value }
@@ -114,6 +120,7 @@ fn read_set_ready(value: Option<&Value>, faults: &mut Faults) -> Action
     Action::SetReady(slot, us)
 }
 
+/// Reads the action `["set_priority", SLOT, PRIORITY]` from its JSON value.
 #[tactic(auto, unfolding(crate::specs::Action::set_priority))]
 fn read_set_priority(value: Option<&Value>, faults: &mut Faults) -> Action
     ensures value { result ≡ (set_priority (seen value.entry)).value }
@@ -125,6 +132,7 @@ fn read_set_priority(value: Option<&Value>, faults: &mut Faults) -> Action
     Action::SetPriority(slot, priority)
 }
 
+/// Reads the action `["iterate", CONTEXT]` from its JSON value.
 #[tactic(auto, unfolding(crate::specs::Action::iterate))]
 fn read_iterate(value: Option<&Value>, faults: &mut Faults) -> Action
     ensures value { result ≡ (iterate (seen value.entry)).value }
@@ -134,6 +142,7 @@ fn read_iterate(value: Option<&Value>, faults: &mut Faults) -> Action
     Action::Iterate(index_number(part_of(value, 1), faults))
 }
 
+/// Reads the action `["pending", CONTEXT]` from its JSON value.
 #[tactic(auto, unfolding(crate::specs::Action::pending))]
 fn read_pending(value: Option<&Value>, faults: &mut Faults) -> Action
     ensures value { result ≡ (pending (seen value.entry)).value }
@@ -143,6 +152,7 @@ fn read_pending(value: Option<&Value>, faults: &mut Faults) -> Action
     Action::Pending(index_number(part_of(value, 1), faults))
 }
 
+/// Reads the action `["run", LOOP]` from its JSON value.
 #[tactic(auto, unfolding(crate::specs::Action::run))]
 fn read_run(value: Option<&Value>, faults: &mut Faults) -> Action
     ensures value { result ≡ (run (seen value.entry)).value }
@@ -152,6 +162,7 @@ fn read_run(value: Option<&Value>, faults: &mut Faults) -> Action
     Action::Run(index_number(part_of(value, 1), faults))
 }
 
+/// Reads the action `["quit", LOOP]` from its JSON value.
 #[tactic(auto, unfolding(crate::specs::Action::quit))]
 fn read_quit(value: Option<&Value>, faults: &mut Faults) -> Action
     ensures value { result ≡ (quit (seen value.entry)).value }
@@ -161,6 +172,7 @@ fn read_quit(value: Option<&Value>, faults: &mut Faults) -> Action
     Action::Quit(index_number(part_of(value, 1), faults))
 }
 
+/// Reads the action `["cancel", CANCELLABLE]` from its JSON value.
 #[tactic(auto, unfolding(crate::specs::Action::cancel))]
 fn read_cancel(value: Option<&Value>, faults: &mut Faults) -> Action
     ensures value { result ≡ (cancel (seen value.entry)).value }
@@ -170,6 +182,7 @@ fn read_cancel(value: Option<&Value>, faults: &mut Faults) -> Action
     Action::Cancel(index_number(part_of(value, 1), faults))
 }
 
+/// Reads the action `["connect", CANCELLABLE, SLOT, PROCEDURE]` from its JSON value.
 #[tactic(auto, unfolding(crate::specs::Action::connect))]
 fn read_connect(value: Option<&Value>, faults: &mut Faults) -> Action
     ensures value { result ≡ (connect (seen value.entry)).value }
@@ -186,6 +199,7 @@ fn read_connect(value: Option<&Value>, faults: &mut Faults) -> Action
     }
 }
 
+/// Reads the action `["disconnect", SLOT]` from its JSON value.
 #[tactic(auto, unfolding(crate::specs::Action::disconnect))]
 fn read_disconnect(value: Option<&Value>, faults: &mut Faults) -> Action
     ensures value { result ≡ (disconnect (seen value.entry)).value }
@@ -195,6 +209,7 @@ fn read_disconnect(value: Option<&Value>, faults: &mut Faults) -> Action
     Action::Disconnect(slot_number(part_of(value, 1), faults))
 }
 
+/// Reads the action `["task", TASK]` from its JSON value, with the task in it.
 #[tactic(auto, unfolding(crate::specs::Action::task))]
 fn read_task_action(
     alloc: Global,
@@ -208,6 +223,7 @@ fn read_task_action(
     Ok(Action::Task(read_task(alloc, part_of(value, 1), faults)?))
 }
 
+/// Reads the action `["push", CONTEXT]` from its JSON value.
 #[tactic(auto, unfolding(crate::specs::Action::push))]
 fn read_push(value: Option<&Value>, faults: &mut Faults) -> Action
     ensures value { result ≡ (push (seen value.entry)).value }
@@ -217,6 +233,7 @@ fn read_push(value: Option<&Value>, faults: &mut Faults) -> Action
     Action::Push(index_number(part_of(value, 1), faults))
 }
 
+/// Reads the action `["pop", CONTEXT]` from its JSON value.
 #[tactic(auto, unfolding(crate::specs::Action::pop))]
 fn read_pop(value: Option<&Value>, faults: &mut Faults) -> Action
     ensures value { result ≡ (pop (seen value.entry)).value }
@@ -226,6 +243,7 @@ fn read_pop(value: Option<&Value>, faults: &mut Faults) -> Action
     Action::Pop(index_number(part_of(value, 1), faults))
 }
 
+/// Reads the action `["show_default"]`, which has no parts behind its word, from its JSON value.
 #[tactic(auto, unfolding(crate::specs::Action::show_default))]
 fn read_show_default(value: Option<&Value>, faults: &mut Faults) -> Action
     ensures value { result ≡ (show_default (seen value.entry)).value }
@@ -235,6 +253,7 @@ fn read_show_default(value: Option<&Value>, faults: &mut Faults) -> Action
     Action::ShowDefault
 }
 
+/// Reads the action `["acquire", CONTEXT]` from its JSON value.
 #[tactic(auto, unfolding(crate::specs::Action::acquire))]
 fn read_acquire(value: Option<&Value>, faults: &mut Faults) -> Action
     ensures value { result ≡ (acquire (seen value.entry)).value }
@@ -244,6 +263,7 @@ fn read_acquire(value: Option<&Value>, faults: &mut Faults) -> Action
     Action::Acquire(index_number(part_of(value, 1), faults))
 }
 
+/// Reads the action `["release", CONTEXT]` from its JSON value.
 #[tactic(auto, unfolding(crate::specs::Action::release))]
 fn read_release(value: Option<&Value>, faults: &mut Faults) -> Action
     ensures value { result ≡ (release (seen value.entry)).value }
@@ -253,6 +273,7 @@ fn read_release(value: Option<&Value>, faults: &mut Faults) -> Action
     Action::Release(index_number(part_of(value, 1), faults))
 }
 
+/// Reads the action `["invoke", CONTEXT, PROCEDURE]` from its JSON value.
 #[tactic(auto, unfolding(crate::specs::Action::invoke))]
 fn read_invoke(value: Option<&Value>, faults: &mut Faults) -> Action
     ensures value { result ≡ (invoke (seen value.entry)).value }
@@ -264,6 +285,7 @@ fn read_invoke(value: Option<&Value>, faults: &mut Faults) -> Action
     Action::Invoke { context, proc }
 }
 
+/// Reads the action `["give", CONTEXT, LANE]` from its JSON value, whatever the version of the script.
 #[tactic(auto, unfolding(crate::specs::Action::give))]
 fn read_give(value: Option<&Value>, faults: &mut Faults) -> Action
     ensures value { result ≡ (give (seen value.entry)).value }
@@ -275,6 +297,7 @@ fn read_give(value: Option<&Value>, faults: &mut Faults) -> Action
     Action::Give { context, lane }
 }
 
+/// Reads the action `["log", N]` from its JSON value.
 #[tactic(auto, unfolding(crate::specs::Action::log))]
 fn read_log(value: Option<&Value>, faults: &mut Faults) -> Action
     ensures value { result ≡ (log (seen value.entry)).value }

@@ -19,11 +19,13 @@ pub(crate) trait Form: Sized {
     /// The value of the data, and the faults in it.
     ghost form: { Option Data → Read Self };
 
+    /// Reads a part of a script, as a lane or an action, from its JSON value, if there is one, and marks the faults in it.
     fn read(alloc: Global, value: Option<&Value>, faults: &mut Faults) -> Result<Self, AllocError>
         ensures value { IfOk result (λ x. x ≡ (form (seen value.entry)).value) }
         ensures faults { OnOk result (faults.new ≡ after faults.old (form (seen value.entry))) };
 }
 
+/// Reads a list of a script's parts that must be there, with so many at least and at most; another count is a fault of limit.
 #[tactic(auto, unfolding(crate::specs::Rows::rows))]
 pub(crate) fn rows_within<T: Form + Drop>(
     alloc: Global,
@@ -48,6 +50,7 @@ pub(crate) fn rows_within<T: Form + Drop>(
     }
 }
 
+/// Reads each item of a JSON list as a part of a script, in order, however many there are.
 fn read_each<T: Form + Drop>(
     alloc: Global,
     values: &[Value],
@@ -63,6 +66,7 @@ fn read_each<T: Form + Drop>(
     Ok(Items::from_vec(items))
 }
 
+/// The parts of a list that was read, where their count is in its range; else it is a fault of limit, and the list is empty.
 fn counted_items<T: Drop>(
     alloc: Global,
     items: Items<T>,
@@ -83,7 +87,7 @@ fn counted_items<T: Drop>(
     }
 }
 
-/// The same, or nothing, which stands for an empty list.
+/// Reads a list of a script's parts that may be absent, which stands for an empty one, with so many at most.
 #[tactic(auto, unfolding(crate::specs::Rows::rows_or))]
 pub(crate) fn rows_or_none<T: Form + Drop>(
     alloc: Global,

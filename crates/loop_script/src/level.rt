@@ -25,6 +25,7 @@ impl Form for Level {
 
     ghost form = { level };
 
+    /// Reads a pair `[TICK, BITS]` of a descriptor from its JSON value.
     #[tactic(auto, unfolding(crate::specs::Level::level))]
     fn read(
         _alloc: Global,
@@ -46,6 +47,7 @@ impl Form for Items<Level> {
 
     ghost form = { levels };
 
+    /// Reads the levels of one descriptor, a list of at most 4096 pairs; whether their ticks rise is not looked at.
     #[tactic(auto, unfolding(crate::specs::Level::levels))]
     fn read(
         alloc: Global,

@@ -1,4 +1,4 @@
-//! The types of a script as a whole, its lanes and procedures, and the reading of a value or of bytes into one.
+//! The types of a script as a whole, its lanes and procedures, and their reading from a value. Of bytes it stands in `script`.
 ghost use Rattle.std.specs.Prelude.{◌≡◌, ◌≤◌, length, sum_by, IfOk, IfSome, OnOk};
 ghost use Rattle.serde_json.specs.View.{view};
 ghost use Rattle.loop_script.specs.Bounds.{most_items, most_lanes};
@@ -63,6 +63,7 @@ impl Form for LaneSpec {
 
     ghost form = { lane };
 
+    /// Reads a lane, an object with the keys `contexts` and `start`, from its JSON value.
     #[tactic(auto, unfolding(crate::specs::Plan::lane))]
     fn read(
         alloc: Global,
@@ -84,6 +85,7 @@ impl Form for Proc {
 
     ghost form = { procedure };
 
+    /// Reads a procedure, an object with the keys `do` and `keep`, from its JSON value.
     #[tactic(auto, unfolding(crate::specs::Plan::procedure))]
     fn read(alloc: Global, value: Option<&Value>, faults: &mut Faults) -> Result<Proc, AllocError> {
         only_keys(value, &["do", "keep"], faults);
@@ -93,6 +95,7 @@ impl Form for Proc {
     }
 }
 
+/// Reads the key `keep` of a procedure, which is 0 where it is absent; null is read as none, with which a source always stays.
 #[tactic(auto, unfolding(crate::specs::Plan::keep_or))]
 fn read_keep(value: Option<&Value>, faults: &mut Faults) -> Option<u32>
     ensures value { result ≡ (keep_or (seen value.entry)).value }
@@ -113,11 +116,13 @@ impl Form for u32 {
 
     ghost form = { index };
 
+    /// Reads the context of a loop, an item of the script's list `loops`, from its JSON value.
     fn read(_alloc: Global, value: Option<&Value>, faults: &mut Faults) -> Result<u32, AllocError> {
         Ok(index_number(value, faults))
     }
 }
 
+/// Reads a lane's `start` or a procedure's `do`, a list of at most 256 actions, from its JSON value.
 #[tactic(auto, unfolding(crate::specs::Plan::actions))]
 fn read_actions(
     alloc: Global,
@@ -130,6 +135,7 @@ fn read_actions(
     rows_within(alloc, value, 0, MOST_ITEMS, faults)
 }
 
+/// Reads the script's key `lanes`: 1 to 64 lanes, with at most 256 contexts together.
 #[tactic(auto, unfolding(crate::specs::Plan::lanes))]
 fn read_lanes(
     alloc: Global,
@@ -180,6 +186,7 @@ impl Plan {
         })
     }
 
+    /// Reads a whole script from its JSON object with `version`, `ticks`, `lanes` and so on, and marks faults of shape and limit.
     #[tactic(auto, unfolding(crate::specs::Plan::plan))]
     pub(crate) fn read(
         alloc: Global,

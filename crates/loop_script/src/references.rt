@@ -40,6 +40,7 @@ fn option_within(index: Option<u32>, size: u64) -> bool
 }
 
 impl Kind {
+    /// Whether the descriptor or the cancellable that a source's kind names is there in the script; other kinds name nothing.
     fn refers_within(self, sizes: &Sizes) -> bool
         ensures { result ≡ kind_refers sizes.now self }
     {
@@ -52,6 +53,7 @@ impl Kind {
 }
 
 impl SourceSpec {
+    /// Whether the procedure that a source calls, and what its kind names, are there in the script.
     fn refers_within(&self, sizes: &Sizes) -> bool
         ensures { result ≡ source_refers sizes.now self.now }
     {
@@ -60,6 +62,7 @@ impl SourceSpec {
 }
 
 impl TaskSpec {
+    /// Whether the procedure that a task's reply calls, and the task's cancellable, are there in the script.
     fn refers_within(&self, sizes: &Sizes) -> bool
         ensures { result ≡ task_refers sizes.now self.now }
     {
@@ -69,6 +72,7 @@ impl TaskSpec {
 }
 
 impl Action {
+    /// Whether an action, with the source or task in it, names only contexts, loops, procedures and so on that the script has.
     fn refers_within(&self, sizes: &Sizes) -> bool
         ensures { result ≡ action_refers sizes.now self.now }
     {
@@ -108,6 +112,7 @@ impl Action {
     }
 }
 
+/// Whether each action of a list that was read names only what the script has.
 fn actions_refer_within(actions: &[Action], sizes: &Sizes) -> bool
     ensures { result ≡ list_all (action_refers sizes.now) actions.now }
 {
@@ -115,6 +120,7 @@ fn actions_refer_within(actions: &[Action], sizes: &Sizes) -> bool
 }
 
 impl Plan {
+    /// Whether each number in a script that was read names something of it, as else the class of fault is reference.
     pub(crate) fn refers_within(&self) -> bool
         requires { length self.now.lanes ≤ most_lanes }
         ensures { result ≡ plan_refers self.now }
@@ -125,6 +131,7 @@ impl Plan {
             && loops_refer_within(self.loops.as_slice(), &sizes)
     }
 
+    /// Counts the lanes, contexts, cancellables, descriptors, loops and procedures of a script, to judge its references by.
     fn sizes(&self) -> Sizes
         requires { length self.now.lanes ≤ most_lanes }
         ensures { result ≡ sizes self.now }
@@ -140,6 +147,7 @@ impl Plan {
     }
 }
 
+/// Whether the actions in the start lists of all lanes name only what the script has.
 fn lanes_refer_within(lanes: &[LaneSpec], sizes: &Sizes) -> bool
     ensures { result ≡ list_all (λ l. list_all (action_refers sizes.now) l.start) lanes.now }
 {
@@ -148,12 +156,14 @@ fn lanes_refer_within(lanes: &[LaneSpec], sizes: &Sizes) -> bool
         .all(|lane| actions_refer_within(lane.start.as_slice(), sizes))
 }
 
+/// Whether the actions of all procedures name only what the script has.
 fn procs_refer_within(procs: &[Proc], sizes: &Sizes) -> bool
     ensures { result ≡ list_all (λ q. list_all (action_refers sizes.now) q.actions) procs.now }
 {
     procs.iter().all(|proc| actions_refer_within(proc.actions.as_slice(), sizes))
 }
 
+/// Whether the context of each loop is one of the script.
 fn loops_refer_within(loops: &[u32], sizes: &Sizes) -> bool
     ensures { result ≡ list_all (λ c. nat_lt c sizes.now.contexts) loops.now }
 {

@@ -1,5 +1,4 @@
-//! Whether a script keeps the rules on its parts beside one another: levels whose ticks rise, what a handler and what is
-//! invoked at once may do, tasks that reply on a cancel.
+//! Whether a script keeps the rules: levels whose ticks rise, what a handler and what is invoked at once may do, tasks that reply on a cancel.
 ghost use Rattle.std.specs.Prelude.{◌≡◌};
 ghost use Rattle.std.specs.List.{list_all};
 ghost use Rattle.loop_script.specs.Level.{rises};
@@ -12,6 +11,7 @@ use crate::plan::{LaneSpec, Plan, Proc};
 use crate::script::{is_kept, proc_actions};
 
 impl Plan {
+    /// Whether a script that was read keeps the rules: the ticks of its descriptors rise, and each of its actions keeps its own.
     pub(crate) fn keeps_rules(&self) -> bool
         ensures { result ≡ plan_rules self.now }
     {
@@ -22,12 +22,14 @@ impl Plan {
     }
 }
 
+/// Whether the ticks in the list of each descriptor rise strictly.
 fn all_rise(fds: &[Items<Level>]) -> bool
     ensures { result ≡ list_all rises fds.now }
 {
     fds.iter().all(|levels| rises(levels.as_slice()))
 }
 
+/// Whether each action in the start lists of lanes keeps the rules, `procs` being all procedures of the script.
 fn lanes_keep_rules(lanes: &[LaneSpec], procs: &[Proc]) -> bool
     ensures { result ≡ list_all (λ l. list_all (action_rules procs.now) l.start) lanes.now }
 {
@@ -44,12 +46,14 @@ fn procs_keep_rules(some: &[Proc], procs: &[Proc]) -> bool
         .all(|proc| actions_keep_rules(proc.actions.as_slice(), procs))
 }
 
+/// Whether each action of one list keeps the rules, `procs` being all procedures of the script.
 fn actions_keep_rules(actions: &[Action], procs: &[Proc]) -> bool
     ensures { result ≡ list_all (action_rules procs.now) actions.now }
 {
     actions.iter().all(|action| keeps_rules(action, procs))
 }
 
+/// Whether an action that was read keeps the rule on what it connects or invokes, or on its task that returns on cancel.
 fn keeps_rules(action: &Action, procs: &[Proc]) -> bool
     ensures { result ≡ action_rules procs.now action.now }
 {
@@ -80,7 +84,7 @@ fn goes_at_once(procs: &[Proc], proc: u32) -> bool
     }
 }
 
-/// Whether a handler may do this.
+/// Whether a handler may do this action; a script with a handler that does another is refused.
 fn is_plain(action: &Action) -> bool
     ensures { result ≡ is_plain action.now }
 {

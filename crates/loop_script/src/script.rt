@@ -1,5 +1,4 @@
-//! A script that was read, by its public calls: its times and lanes, where its contexts are at home, the actions of its
-//! procedures, the levels of a descriptor, and whether a source stays after a dispatch.
+//! A script that was read, by its public calls: its times and lanes, whose a context is, a procedure's actions, a descriptor's levels, what stays.
 ghost use Rattle.std.specs.Prelude.{◌≡◌, ◌≤◌, ◌<◌, ◌^◌, length, slice_get, Some, true};
 ghost use Rattle.std.specs.List.{list_all};
 ghost use Rattle.loop_script.specs.Bounds.{most_lanes, most_items, most_ticks, longest_tick, latest};
@@ -165,6 +164,7 @@ impl Script {
         change_after(self.levels(fd), tick)
     }
 
+    /// The levels of a descriptor by its number, with ticks that rise; empty for the number of no descriptor.
     #[tactic(auto, using(crate::proofs::Rising::levels_rise))]
     fn levels(&self, fd: u32) -> &[Level]
         ensures levels { result.now ≡ levels_of self.now fd }
@@ -214,6 +214,7 @@ impl Script {
     }
 }
 
+/// The start list of a lane by its number; empty for the number of no lane.
 fn start_actions(lanes: &[LaneSpec], lane: u32) -> &[Action]
     ensures { result.now ≡ start_of (slice_get lanes.now lane) }
 {
@@ -223,6 +224,7 @@ fn start_actions(lanes: &[LaneSpec], lane: u32) -> &[Action]
     }
 }
 
+/// The list of actions of a procedure by its number; empty for the number of no procedure.
 pub(crate) fn proc_actions(procs: &[Proc], proc: u32) -> &[Action]
     ensures { result.now ≡ actions_of_proc (slice_get procs.now proc) }
 {
@@ -257,6 +259,7 @@ fn home_among(lanes: &[LaneSpec], context: u32) -> u32
     lanes.len() as u32
 }
 
+/// The script of a plan that was read, or the first of its classes of fault, of which the reading has marked shape and limit.
 fn judged(plan: Plan, faults: Faults) -> Result<Script, ScriptFault>
     requires { IsBounded plan }
     ensures { result ≡ verdict faults plan }
@@ -274,6 +277,7 @@ fn judged(plan: Plan, faults: Faults) -> Result<Script, ScriptFault>
     }
 }
 
+/// Reads bytes as one JSON value; other bytes are the fault `NotJson`, and a refusal of memory is `OutOfMemory`.
 fn read_value(alloc: Global, bytes: &[u8]) -> Result<Value, ScriptFault>
     ensures { IsRead bytes.now result }
 {

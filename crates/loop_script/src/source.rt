@@ -40,6 +40,7 @@ pub struct SourceSpec {
     pub call: Option<u32>,
 }
 
+/// Reads the source of an `attach`, an object with the keys `kind`, `priority`, `recurse` and `call`, from its JSON value.
 #[tactic(auto, unfolding(crate::specs::Source::source_spec))]
 pub(crate) fn read_source(value: Option<&Value>, faults: &mut Faults) -> SourceSpec
     ensures value { result ≡ (source_spec (seen value.entry)).value }
@@ -76,6 +77,7 @@ pub(crate) fn read_child(value: Option<&Value>, faults: &mut Faults) -> SourceSp
     }
 }
 
+/// Reads the key `priority` of a source; where it is absent it goes by the kind.
 #[tactic(auto, unfolding(crate::specs::Source::priority_or))]
 fn read_source_priority(value: Option<&Value>, kind: Kind, faults: &mut Faults) -> i32
     ensures value { result ≡ (priority_or kind (seen value.entry)).value }
@@ -97,6 +99,7 @@ fn usual_priority(kind: Kind) -> i32
     }
 }
 
+/// Reads the kind of a source or a child from its JSON value by the word at its front; another word is a fault of shape.
 #[tactic(auto, unfolding(crate::specs::Source::kind))]
 fn read_kind(value: Option<&Value>, faults: &mut Faults) -> Kind
     ensures value { result ≡ (kind (seen value.entry)).value }
@@ -115,6 +118,7 @@ fn read_kind(value: Option<&Value>, faults: &mut Faults) -> Kind
     }
 }
 
+/// Reads the kind `["idle"]` of a source from its JSON value.
 #[tactic(auto, unfolding(crate::specs::Source::idle))]
 fn read_idle(value: Option<&Value>, faults: &mut Faults) -> Kind
     ensures value { result ≡ (idle (seen value.entry)).value }
@@ -124,6 +128,7 @@ fn read_idle(value: Option<&Value>, faults: &mut Faults) -> Kind
     Kind::Idle
 }
 
+/// Reads the kind `["timeout", MS]` of a source from its JSON value.
 #[tactic(auto, unfolding(crate::specs::Source::timeout))]
 fn read_timeout(value: Option<&Value>, faults: &mut Faults) -> Kind
     ensures value { result ≡ (timeout (seen value.entry)).value }
@@ -133,6 +138,7 @@ fn read_timeout(value: Option<&Value>, faults: &mut Faults) -> Kind
     Kind::Timeout(whole_number(part_of(value, 1), 0, 4_294_967_295, faults) as u32)
 }
 
+/// Reads the kind `["ready", US]` of a source from its JSON value.
 #[tactic(auto, unfolding(crate::specs::Source::ready))]
 fn read_ready(value: Option<&Value>, faults: &mut Faults) -> Kind
     ensures value { result ≡ (ready (seen value.entry)).value }
@@ -142,6 +148,7 @@ fn read_ready(value: Option<&Value>, faults: &mut Faults) -> Kind
     Kind::ReadyTime(ready_time(part_of(value, 1), faults))
 }
 
+/// Reads the kind `["fd", DESCRIPTOR, BITS]` of a source from its JSON value.
 #[tactic(auto, unfolding(crate::specs::Source::fd))]
 fn read_fd(value: Option<&Value>, faults: &mut Faults) -> Kind
     ensures value { result ≡ (fd (seen value.entry)).value }
@@ -153,6 +160,7 @@ fn read_fd(value: Option<&Value>, faults: &mut Faults) -> Kind
     Kind::Fd(descriptor, bits)
 }
 
+/// Reads the kind `["cancel", CANCELLABLE]` of a source from its JSON value.
 #[tactic(auto, unfolding(crate::specs::Source::cancel))]
 fn read_cancel(value: Option<&Value>, faults: &mut Faults) -> Kind
     ensures value { result ≡ (cancel (seen value.entry)).value }

@@ -71,6 +71,7 @@ fn read_shallow_tree(
     }
 }
 
+/// Reads the key `priority` of a task, which is that of its reply, and 0 where it is absent.
 #[tactic(auto, unfolding(crate::specs::TaskForm::priority_or_zero))]
 fn read_task_priority(value: Option<&Value>, faults: &mut Faults) -> i32
     ensures value { result ≡ (priority_or_zero (seen value.entry)).value }

@@ -90,6 +90,7 @@ impl TaskTree {
     ghost use Rattle.loop_script.specs.Tree.{value, fail, sleep, check, seq, both, first, within};
     ghost use Rattle.loop_script.specs.TreeDepth.{fits_in};
 
+    /// Makes a task's tree that ends at once with a value.
     pub(crate) fn value(n: i64) -> TaskTree
         ensures { result ≡ value n }
     {
@@ -98,12 +99,14 @@ impl TaskTree {
         }
     }
 
+    /// Makes a task's tree that ends at once without a value.
     pub(crate) fn fail() -> TaskTree
         ensures { result ≡ fail }
     {
         TaskTree { node: Node::Fail }
     }
 
+    /// Makes a task's tree that ends after so many microseconds, with 0.
     pub(crate) fn sleep(us: u64) -> TaskTree
         requires { us ≤ longest_time }
         ensures { result ≡ sleep us }
@@ -113,12 +116,14 @@ impl TaskTree {
         }
     }
 
+    /// Makes a task's tree that ends at once: as cancelled where the task's cancellable is seen so, else with 0.
     pub(crate) fn check() -> TaskTree
         ensures { result ≡ check }
     {
         TaskTree { node: Node::Check }
     }
 
+    /// Makes a task's tree that does the second of two when the first has ended with a value.
     pub(crate) fn seq(
         alloc: Global,
         first: TaskTree,
@@ -133,6 +138,7 @@ impl TaskTree {
         })
     }
 
+    /// Makes a task's tree that does two at once, and ends when both have.
     pub(crate) fn both(
         alloc: Global,
         one: TaskTree,
@@ -147,6 +153,7 @@ impl TaskTree {
         })
     }
 
+    /// Makes a task's tree that does two at once, and ends as the one that ends sooner.
     pub(crate) fn first(
         alloc: Global,
         one: TaskTree,
@@ -161,6 +168,7 @@ impl TaskTree {
         })
     }
 
+    /// Makes a task's tree that does another, and is timed out where that takes longer than so many microseconds.
     pub(crate) fn within(alloc: Global, us: u64, body: TaskTree) -> Result<TaskTree, AllocError>
         requires { us ≤ longest_time }
         ensures { IfOk result (λ t. t ≡ within us body) }

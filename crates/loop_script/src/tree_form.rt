@@ -47,6 +47,7 @@ pub(crate) fn read_tree(
     }
 }
 
+/// Reads the tree `["value", V]` of a task from its JSON value.
 #[tactic(auto, unfolding(crate::specs::TreeForm::value_form))]
 fn read_value(value: &Value, faults: &mut Faults) -> TaskTree
     ensures value { result ≡ (value_form (Some (view value.now))).value }
@@ -56,6 +57,7 @@ fn read_value(value: &Value, faults: &mut Faults) -> TaskTree
     TaskTree::value(signed_number(part_of(Some(value), 1), i64::MIN, i64::MAX, faults))
 }
 
+/// Reads the tree `["fail"]` of a task from its JSON value.
 #[tactic(auto, unfolding(crate::specs::TreeForm::fail_form))]
 fn read_fail(value: &Value, faults: &mut Faults) -> TaskTree
     ensures value { result ≡ (fail_form (Some (view value.now))).value }
@@ -65,6 +67,7 @@ fn read_fail(value: &Value, faults: &mut Faults) -> TaskTree
     TaskTree::fail()
 }
 
+/// Reads the tree `["sleep", US]` of a task from its JSON value.
 #[tactic(auto, unfolding(crate::specs::TreeForm::sleep_form))]
 fn read_sleep(value: &Value, faults: &mut Faults) -> TaskTree
     ensures value { result ≡ (sleep_form (Some (view value.now))).value }
@@ -74,6 +77,7 @@ fn read_sleep(value: &Value, faults: &mut Faults) -> TaskTree
     TaskTree::sleep(whole_number(part_of(Some(value), 1), 0, LONGEST_TIME, faults))
 }
 
+/// Reads the tree `["check"]` of a task from its JSON value.
 #[tactic(auto, unfolding(crate::specs::TreeForm::check_form))]
 fn read_check(value: &Value, faults: &mut Faults) -> TaskTree
     ensures value { result ≡ (check_form (Some (view value.now))).value }
@@ -83,6 +87,7 @@ fn read_check(value: &Value, faults: &mut Faults) -> TaskTree
     TaskTree::check()
 }
 
+/// Reads the tree `["seq", A, B]` of a task from its JSON value, with the two trees in it.
 #[cycle(read_tree)]
 #[tactic(auto, unfolding(crate::specs::TreeForm::seq_form))]
 fn read_seq(alloc: Global, value: &Value, faults: &mut Faults) -> Result<TaskTree, AllocError>
@@ -95,6 +100,7 @@ fn read_seq(alloc: Global, value: &Value, faults: &mut Faults) -> Result<TaskTre
     TaskTree::seq(alloc, first, next)
 }
 
+/// Reads the tree `["both", A, B]` of a task from its JSON value, with the two trees in it.
 #[cycle(read_tree)]
 #[tactic(auto, unfolding(crate::specs::TreeForm::both_form))]
 fn read_both(alloc: Global, value: &Value, faults: &mut Faults) -> Result<TaskTree, AllocError>
@@ -107,6 +113,7 @@ fn read_both(alloc: Global, value: &Value, faults: &mut Faults) -> Result<TaskTr
     TaskTree::both(alloc, one, other)
 }
 
+/// Reads the tree `["first", A, B]` of a task from its JSON value, with the two trees in it.
 #[cycle(read_tree)]
 #[tactic(auto, unfolding(crate::specs::TreeForm::first_form))]
 fn read_first(alloc: Global, value: &Value, faults: &mut Faults) -> Result<TaskTree, AllocError>
@@ -119,6 +126,7 @@ fn read_first(alloc: Global, value: &Value, faults: &mut Faults) -> Result<TaskT
     TaskTree::first(alloc, one, other)
 }
 
+/// Reads the tree `["within", US, A]` of a task from its JSON value, with the tree in it.
 #[cycle(read_tree)]
 #[tactic(auto, unfolding(crate::specs::TreeForm::within_form))]
 fn read_within(alloc: Global, value: &Value, faults: &mut Faults) -> Result<TaskTree, AllocError>

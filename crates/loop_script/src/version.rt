@@ -1,5 +1,4 @@
-//! Whether a script gives contexts where its version allows it: the word that version 2 alone has. It is looked for in what was
-//! read of the script, and in the script itself where that has faults.
+//! Whether a script gives contexts (`give`) only where its version allows it: looked for in what was read of it, or in its JSON where that has faults.
 ghost use Rattle.std.specs.Prelude.{◌≡◌, map, Some};
 ghost use Rattle.loop_script.specs.Gives.{is_give, gives};
 ghost use Rattle.loop_script.specs.Plan.{plan};
@@ -37,18 +36,21 @@ fn gives(plan: &Plan) -> bool
     some_lane_gives(plan.lanes.as_slice()) || some_proc_gives(plan.procs.as_slice())
 }
 
+/// Whether the start list of some lane that was read has a `give`.
 fn some_lane_gives(lanes: &[LaneSpec]) -> bool
     ensures { result ≡ list_any (λ l. list_any is_give l.start) lanes.now }
 {
     lanes.iter().any(|lane| some_give(lane.start.as_slice()))
 }
 
+/// Whether the list of some procedure that was read has a `give`.
 fn some_proc_gives(procs: &[Proc]) -> bool
     ensures { result ≡ list_any (λ q. list_any is_give q.actions) procs.now }
 {
     procs.iter().any(|proc| some_give(proc.actions.as_slice()))
 }
 
+/// Whether some action of a list that was read is a `give`.
 fn some_give(actions: &[Action]) -> bool
     ensures { result ≡ list_any is_give actions.now }
 {
@@ -80,13 +82,14 @@ pub fn is_version_2(script: &Value) -> bool
     }
 }
 
-/// Whether some action begins so of the lists under a key of some lanes or procedures.
+/// Whether some action under a key of the lanes or procedures of a JSON value begins with the word `give`.
 fn some_gives(owners: Option<&Value>, key: &str) -> bool
     ensures { result ≡ some_gives key.now (seen owners.entry) }
 {
     any_list_gives(items_of(owners), key)
 }
 
+/// Whether some action under a key of these lanes or procedures, in JSON not read yet, begins with the word `give`.
 fn any_list_gives(owners: &[Value], key: &str) -> bool
     ensures { result ≡ list_any (λ owner. list_gives (get key.now (view owner))) owners.now }
 {
@@ -95,13 +98,14 @@ fn any_list_gives(owners: &[Value], key: &str) -> bool
         .any(|owner| list_gives(field_of(Some(owner), key)))
 }
 
-/// Whether some action of a list begins so.
+/// Whether a JSON value is a list of which some action begins with the word `give`.
 fn list_gives(actions: Option<&Value>) -> bool
     ensures { result ≡ list_gives (seen actions.entry) }
 {
     any_begins_give(items_of(actions))
 }
 
+/// Whether some action of a list, in JSON not read yet, begins with the word `give`.
 fn any_begins_give(actions: &[Value]) -> bool
     ensures { result ≡ list_any (λ action. begins_give (view action)) actions.now }
 {

@@ -57,6 +57,7 @@ impl LastDispatch {
         LastDispatch::of(0, 0, 0, 0, 0)
     }
 
+    /// The line of a dispatch, written out.
     fn of(tick: u32, context: u32, source: u64, priority: i32, depth: u64) -> Self
         ensures holds { HoldsLine result }
         ensures line { drop result.start result.bytes ≡ line_text (record { tick = tick; event = Dispatch context source priority depth }) }

@@ -16,6 +16,7 @@ pub(crate) fn bits(text: &str) -> Option<u64>
     bits_in(MOST, text)
 }
 
+/// The bits of at most so many words with bars between them; none where one of them is no condition of a descriptor.
 #[tactic(auto, using(crate::proofs::BitWords::bits_none, crate::proofs::BitWords::bits_step))]
 fn bits_in(most: u32, text: &str) -> Option<u64>
     ensures { result ≡ bits_in most text.now }
@@ -36,12 +37,14 @@ fn at_bar(text: &str) -> Option<(&str, &str)>
     text.split_once('|')
 }
 
+/// The bits of the first word and of those behind it together, where both are conditions.
 fn both(first: Option<u64>, second: Option<u64>) -> Option<u64>
     ensures { result ≡ both first second }
 {
     Some(first? | second?)
 }
 
+/// The bit of one condition, as 1 of `IN`.
 fn bit(word: &str) -> Option<u64>
     ensures { result ≡ bit word.now }
 {

@@ -58,6 +58,7 @@ fn check<'a>(
     check_each(alloc, names, pieces.as_slice(), levels - 1, place, faults)
 }
 
+/// Gathers the faults of the values with names that these pieces hold, each at its place.
 #[cycle(check)]
 fn check_each<'a>(
     alloc: Global,
@@ -76,6 +77,7 @@ fn check_each<'a>(
     Ok(())
 }
 
+/// Gathers the faults of the value with names that a piece holds; a token has none.
 #[cycle(check)]
 fn check_piece<'a>(
     alloc: Global,
@@ -97,6 +99,7 @@ fn check_piece<'a>(
     Ok(())
 }
 
+/// Adds the faults that a value with names itself has, the values in it apart, at its place.
 fn push_own<'a>(
     alloc: Global,
     names: &Names<'_>,

@@ -7,6 +7,7 @@ ghost use Rattle.named.specs.Views.{seen};
 use crate::word::Word;
 use json::Value;
 
+/// How many names are declared as the keys of an object, as threads and loops are.
 pub(crate) fn keys_count(value: Option<&Value<'_>>) -> usize
     ensures { result ≡ length (keys_of (members_in (seen value.entry))) }
 {
@@ -16,6 +17,7 @@ pub(crate) fn keys_count(value: Option<&Value<'_>>) -> usize
     }
 }
 
+/// How many keys these members have.
 #[tactic(auto, using(crate::proofs::Adding::keys_length))]
 fn count_members(members: &[(&str, Value<'_>)]) -> usize
     ensures { result ≡ length (keys_of (members_view members.now)) }
@@ -23,6 +25,7 @@ fn count_members(members: &[(&str, Value<'_>)]) -> usize
     members.len()
 }
 
+/// How many names are declared as the texts of a list, as cancellables are.
 pub(crate) fn texts_count(value: Option<&Value<'_>>) -> usize
     ensures { result ≡ length (texts_of (items_in (seen value.entry))) }
 {
@@ -32,6 +35,7 @@ pub(crate) fn texts_count(value: Option<&Value<'_>>) -> usize
     }
 }
 
+/// How many of some items are texts.
 fn count_texts(items: &[Value<'_>]) -> usize
     ensures { result ≡ length (texts_of (items_view items.now)) }
 {
@@ -64,6 +68,7 @@ pub(crate) fn have_contexts(value: Option<&Value<'_>>, count: usize) -> bool
     }
 }
 
+/// Whether these threads, each with its name, have so many contexts together.
 fn have_contexts_together(threads: &[(&str, Value<'_>)], count: usize) -> bool
     ensures { result ≡ (length (contexts_of (members_view threads.now)) == count) }
 {

@@ -1,5 +1,4 @@
-//! The keys of each object in a script of numbers, the parts of a pair, what a script with names has in their place, and
-//! which keys may stand in each.
+//! The keys of each object in a script of numbers and the parts of a pair, what a script with names has in their place, and which keys it may have there.
 ghost use Rattle.std.specs.Prelude.{◌≡◌};
 ghost use Rattle.named.specs.Tables.{fields, keys, each, pair};
 

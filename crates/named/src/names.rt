@@ -97,6 +97,7 @@ impl<'a> Names<'a> {
     }
 }
 
+/// The number of a name: its place among those of its kind.
 fn number_among(names: &[&str], name: &str) -> Option<usize>
     ensures { result ≡ number_of name.now (texts names.now) }
 {
@@ -120,6 +121,7 @@ pub fn most(kind: Kind) -> usize
     }
 }
 
+/// Whether a name is one of some names.
 fn has_name(names: &[&str], name: &str) -> bool
     ensures { result ≡ list_any (λ x. bytes_eq x.now name.now) names.now }
 {
@@ -151,6 +153,7 @@ fn add_given<'a>(
     }
 }
 
+/// The names that are declared as the keys of an object, each once.
 fn keys<'a>(
     alloc: Global,
     kind: Kind,
@@ -165,6 +168,7 @@ fn keys<'a>(
     Ok(names)
 }
 
+/// Adds the key of each member to the names.
 fn add_keys<'a>(
     names: &mut Vec<&'a str>,
     limit: usize,
@@ -178,6 +182,7 @@ fn add_keys<'a>(
     Ok(())
 }
 
+/// The names that are declared in a list, each once: those of the cancellables.
 fn listed<'a>(alloc: Global, value: Option<&Value<'a>>) -> Result<Vec<&'a str>, AllocError>
     ensures { IfOk result (λ names. texts names.items ≡ all_added (most Kind.Cancellable) [] (texts_of (items_in (seen value.entry)))) }
 {
@@ -186,6 +191,7 @@ fn listed<'a>(alloc: Global, value: Option<&Value<'a>>) -> Result<Vec<&'a str>, 
     Ok(names)
 }
 
+/// Adds the texts of a list to the names, where the value is a list.
 fn add_texts_in<'a>(
     names: &mut Vec<&'a str>,
     limit: usize,
@@ -199,6 +205,7 @@ fn add_texts_in<'a>(
     Ok(())
 }
 
+/// Adds each of some items that is a text to the names.
 fn add_texts<'a>(
     names: &mut Vec<&'a str>,
     limit: usize,
@@ -212,6 +219,7 @@ fn add_texts<'a>(
     Ok(())
 }
 
+/// The names of the contexts of all threads, each once.
 fn contexts<'a>(alloc: Global, threads: Option<&Value<'a>>) -> Result<Vec<&'a str>, AllocError>
     ensures { IfOk result (λ names. texts names.items ≡ all_added (most Kind.Context) [] (contexts_of (members_in (seen threads.entry)))) }
 {
@@ -222,6 +230,7 @@ fn contexts<'a>(alloc: Global, threads: Option<&Value<'a>>) -> Result<Vec<&'a st
     Ok(names)
 }
 
+/// Adds the names of the contexts of each thread.
 fn add_contexts<'a>(
     names: &mut Vec<&'a str>,
     threads: &[(&'a str, Value<'a>)],
@@ -249,6 +258,8 @@ fn add_own<'a>(
     }
 }
 
+/// The names of a kind that actions say without a declaration, as those of slots and texts: first what start calls say, then
+/// procedures.
 #[tactic(auto, using(crate::proofs::Adding::added_behind))]
 fn all_said<'a>(
     alloc: Global,
@@ -266,6 +277,7 @@ fn all_said<'a>(
     Ok(names)
 }
 
+/// Adds the names that are said by the actions under a key of each member, where the value is an object.
 fn add_said_by<'a>(
     names: &mut Vec<&'a str>,
     limit: usize,
@@ -281,6 +293,7 @@ fn add_said_by<'a>(
     Ok(())
 }
 
+/// Adds the names that are said by the actions under a key of each of these members.
 fn add_said_by_each<'a>(
     names: &mut Vec<&'a str>,
     limit: usize,
@@ -296,6 +309,7 @@ fn add_said_by_each<'a>(
     Ok(())
 }
 
+/// Adds the names that are said by the actions of a list, where the value is one.
 fn add_said_at<'a>(
     names: &mut Vec<&'a str>,
     limit: usize,
@@ -310,6 +324,7 @@ fn add_said_at<'a>(
     Ok(())
 }
 
+/// Adds the names that each of these actions says.
 fn add_said_in<'a>(
     names: &mut Vec<&'a str>,
     limit: usize,
@@ -324,6 +339,7 @@ fn add_said_in<'a>(
     Ok(())
 }
 
+/// Adds the names that an action says under some words, as that of its slot.
 fn add_said<'a>(
     names: &mut Vec<&'a str>,
     limit: usize,

@@ -50,6 +50,7 @@ fn write(
     write_each(alloc, names, pieces.as_slice(), levels - 1, writer)
 }
 
+/// Writes each piece of a value as a script of numbers has it.
 #[cycle(write)]
 fn write_each(
     alloc: Global,
@@ -67,6 +68,7 @@ fn write_each(
     Ok(())
 }
 
+/// Writes a piece: a token as it is, and a value with names as one of numbers.
 #[cycle(write)]
 fn write_piece(
     alloc: Global,
@@ -90,6 +92,7 @@ fn write_piece(
     }
 }
 
+/// Writes a value without parts.
 fn write_scalar(scalar: &Scalar<'_>, writer: &mut Writer) -> Result<(), AllocError>
     ensures tokens { OnOk result (writer.new.tokens ≡ writer.old.tokens ++ tokens_of scalar.now) }
     ensures before { OnOk result (writer.new.before ≡ writer.old.before) }

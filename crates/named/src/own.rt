@@ -64,18 +64,22 @@ fn push_cause_where(so: bool, cause: Cause, causes: &mut Vec<Cause>) -> Result<(
     Ok(())
 }
 
+/// Whether a value with names is a list.
 fn is_list(value: &Value<'_>) -> bool
     ensures { not result ≡ is_none (as_array (value_view value.now)) }
 {
     matches!(value, Value::Array(_))
 }
 
+/// Whether a value with names is an object.
 fn is_object(value: &Value<'_>) -> bool
     ensures { not result ≡ is_none (as_object (value_view value.now)) }
 {
     matches!(value, Value::Object(_))
 }
 
+/// Adds what is wrong with a value of which one word has to stand, an action, a source or a tree: no word, parts that it lacks,
+/// other keys.
 fn push_of_word(
     alloc: Global,
     choice: Choice,
@@ -115,6 +119,7 @@ fn push_of_size(size: usize, value: &Value<'_>, causes: &mut Vec<Cause>) -> Resu
     }
 }
 
+/// Whether a list has so many items.
 #[tactic(auto, using(crate::proofs::Causes::counts))]
 fn has_size(items: &[Value<'_>], size: usize) -> bool
     ensures { result ≡ (count (items_view items.now) == size) }
@@ -132,6 +137,7 @@ fn push_lack(at: At, is_absent: bool, causes: &mut Vec<Cause>) -> Result<(), All
     }
 }
 
+/// Adds a cause for each part behind the word that is missing, as the slot of an `attach`.
 fn push_lacks(parts: &[Part], value: &Value<'_>, causes: &mut Vec<Cause>) -> Result<(), AllocError>
     ensures { OnOk result (causes.new.items ≡ causes.old.items ++ lacks parts.now (value_view value.now)) }
 {
@@ -141,12 +147,14 @@ fn push_lacks(parts: &[Part], value: &Value<'_>, causes: &mut Vec<Cause>) -> Res
     Ok(())
 }
 
+/// Whether a value with names that lacks a field is at fault.
 fn must_be_there(absent: Absent) -> bool
     ensures { result ≡ must_be_there absent }
 {
     matches!(absent, Absent::Fault)
 }
 
+/// Adds a cause where an object lacks a field that must be there.
 fn push_field_lack(
     field: &Field,
     value: &Value<'_>,
@@ -160,6 +168,7 @@ fn push_field_lack(
     Ok(())
 }
 
+/// Adds a cause for each field that must be there and that an object lacks.
 fn push_field_lacks(
     fields: &[Field],
     value: &Value<'_>,
@@ -173,6 +182,7 @@ fn push_field_lacks(
     Ok(())
 }
 
+/// Adds what is wrong with an object itself: its type, fields that it lacks, other keys.
 fn push_of_object(
     object: Object,
     value: &Value<'_>,
@@ -195,6 +205,7 @@ const DECLARING: [Kind; 6] = [
     Kind::Descriptor,
 ];
 
+/// Adds a cause for each kind of declared names of which one stands twice in a script.
 fn push_twice(
     names: &Names<'_>,
     script: &Value<'_>,
@@ -205,6 +216,7 @@ fn push_twice(
     push_twice_of(&DECLARING, names, script, causes)
 }
 
+/// Adds a cause for each of some kinds of which a declared name stands twice.
 fn push_twice_of(
     kinds: &[Kind],
     names: &Names<'_>,
@@ -219,7 +231,7 @@ fn push_twice_of(
     Ok(())
 }
 
-/// The keys that may stand in an action, and those of its kind of source where it makes one.
+/// The keys that may stand in an action of a script with names, and those of its kind of source where it makes one.
 fn allowed(alloc: Global, word: Word, value: &Value<'_>) -> Result<Vec<Word>, AllocError>
     ensures { IfOk result (λ found. found.items ≡ allowed word (value_view value.now)) }
 {
@@ -232,6 +244,7 @@ fn allowed(alloc: Global, word: Word, value: &Value<'_>) -> Result<Vec<Word>, Al
     Ok(found)
 }
 
+/// Adds the keys that may stand beside the kind of a source; where it has no kind, the words of all kinds.
 fn push_of_kind(kind: Option<Word>, found: &mut Vec<Word>) -> Result<(), AllocError>
     ensures { OnOk result (found.new.items ≡ found.old.items ++ of_kind kind) }
 {
@@ -260,6 +273,7 @@ fn push_unknown(
     }
 }
 
+/// Adds a cause for each of these members whose key is none of the allowed ones.
 fn push_other_keys(
     allowed: &[Word],
     members: &[(&str, Value<'_>)],
@@ -277,6 +291,7 @@ fn push_other_keys(
     Ok(())
 }
 
+/// Whether a key is one of the allowed words.
 fn is_allowed_key(allowed: &[Word], key: &str) -> bool
     ensures { result ≡ list_any (λ w. bytes_eq (text_of w) key.now) allowed.now }
 {

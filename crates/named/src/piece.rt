@@ -49,6 +49,7 @@ pub(crate) enum Piece<'v, 'a> {
 }
 
 impl At {
+    /// The step into a value to what stands there.
     pub(crate) fn step<'a>(self) -> Step<'a>
         ensures { step_view result ≡ step_of self }
     {
@@ -97,12 +98,14 @@ fn only(words: &[Word], value: &Value<'_>) -> Option<Word>
     None
 }
 
+/// Whether a word stands as a key of a value.
 fn stands(value: &Value<'_>, word: Word) -> bool
     ensures { result ≡ stands (value_view value.now) word }
 {
     value.get(word.text()).is_some()
 }
 
+/// Whether one of some words stands as a key of a value.
 fn stands_any(value: &Value<'_>, words: &[Word]) -> bool
     ensures { result ≡ list_any (stands (value_view value.now)) words.now }
 {
@@ -135,6 +138,7 @@ pub(crate) fn pieces_of<'v, 'a>(
     Ok(found)
 }
 
+/// Adds the pieces of a value with names, by its sort.
 fn push_pieces<'v, 'a>(
     names: &Names<'_>,
     sort: Sort,
@@ -151,6 +155,7 @@ fn push_pieces<'v, 'a>(
     }
 }
 
+/// Adds a piece behind the others.
 fn push_piece<'v, 'a>(
     piece: Piece<'v, 'a>,
     found: &mut Vec<Piece<'v, 'a>>,
@@ -161,6 +166,7 @@ fn push_piece<'v, 'a>(
     Ok(())
 }
 
+/// The piece of a value without parts; null where it is not what it should be.
 fn scalar_piece<'v, 'a>(names: &Names<'_>, asked: Leaf, value: &Value<'a>) -> Piece<'v, 'a>
     ensures { piece_view result ≡ or_null (leaf asked (names_of names.now) (value_view value.now)) }
 {
@@ -170,6 +176,8 @@ fn scalar_piece<'v, 'a>(names: &Names<'_>, asked: Leaf, value: &Value<'a>) -> Pi
     }
 }
 
+/// Adds the list that a script of numbers has for an action, a source or a tree: its word and its parts; null where no word was
+/// chosen.
 fn push_word<'v, 'a>(
     choice: Choice,
     value: &'v Value<'a>,
@@ -186,6 +194,7 @@ fn push_word<'v, 'a>(
     push_piece(Piece::EndArray, found)
 }
 
+/// Adds the piece of each part behind a word.
 fn push_parts<'v, 'a>(
     parts: &[Part],
     value: &'v Value<'a>,
@@ -199,6 +208,7 @@ fn push_parts<'v, 'a>(
     Ok(())
 }
 
+/// The piece of a part: the value with names in its place, or null where it is missing.
 fn part_piece<'v, 'a>(part: &Part, value: Option<&'v Value<'a>>) -> Piece<'v, 'a>
     ensures { piece_view result ≡ part_piece part.now (seen value.entry) }
 {
@@ -212,6 +222,7 @@ fn part_piece<'v, 'a>(part: &Part, value: Option<&'v Value<'a>>) -> Piece<'v, 'a
     }
 }
 
+/// Adds an object with its fields, between its brackets.
 fn push_object<'v, 'a>(
     object: Object,
     value: &'v Value<'a>,
@@ -224,6 +235,7 @@ fn push_object<'v, 'a>(
     push_piece(Piece::EndObject, found)
 }
 
+/// Adds each field of an object, with its key.
 fn push_fields<'v, 'a>(
     fields: &[Field],
     value: &'v Value<'a>,
@@ -237,6 +249,7 @@ fn push_fields<'v, 'a>(
     Ok(())
 }
 
+/// Adds the key of a field and its value, or the number that stands for one that is absent, where there is such a number.
 fn push_field<'v, 'a>(
     field: &Field,
     value: Option<&'v Value<'a>>,
@@ -256,6 +269,7 @@ fn push_field<'v, 'a>(
     found.extend_from_slice(&[Piece::Key(field.key), piece])
 }
 
+/// Adds a list with what stands in it, between its brackets.
 fn push_list<'v, 'a>(
     sort: Sort,
     value: &'v Value<'a>,
@@ -283,6 +297,7 @@ fn push_listed<'v, 'a>(
     }
 }
 
+/// Adds the items of a list, where the value is one.
 fn push_items<'v, 'a>(
     sort: Sort,
     value: &'v Value<'a>,
@@ -296,6 +311,7 @@ fn push_items<'v, 'a>(
     }
 }
 
+/// Adds each of these items as a value of one sort, with the step to it.
 fn push_each_item<'v, 'a>(
     sort: Sort,
     items: &'v [Value<'a>],
@@ -310,6 +326,7 @@ fn push_each_item<'v, 'a>(
     Ok(())
 }
 
+/// Adds the values of the members of an object, where the value is one: its keys are names, whose order gives the numbers.
 fn push_members<'v, 'a>(
     sort: Sort,
     value: &'v Value<'a>,
@@ -323,6 +340,7 @@ fn push_members<'v, 'a>(
     }
 }
 
+/// Adds the value of each of these members as one of a sort, with the step to it.
 fn push_each_member<'v, 'a>(
     sort: Sort,
     members: &'v [(&'a str, Value<'a>)],

@@ -75,6 +75,7 @@ fn enter_part<'v, 'a>(
     enter_at(value, part.at, part.sort)
 }
 
+/// To what stands at a part or a field of a value with names.
 fn enter_at<'v, 'a>(value: &'v Value<'a>, at: At, sort: Sort) -> Option<(Step<'a>, Here<'v, 'a>)> {
     let value = at.find(value)?;
     Some((at.step(), Here { sort, value }))

@@ -52,18 +52,21 @@ pub(crate) fn scalar_of<'a>(names: &Names<'_>, asked: Leaf, value: &Value<'a>) -
     }
 }
 
+/// A whole number, where there is one.
 fn whole<'a>(number: Option<u64>) -> Option<Scalar<'a>>
     ensures { option_map tokens_of result ≡ option_map whole number }
 {
     Some(Scalar::Whole(number?))
 }
 
+/// A truth, as that of a key that a script of numbers has as well.
 fn truth<'a>(value: &Value<'_>) -> Option<Scalar<'a>>
     ensures { option_map tokens_of result ≡ option_map (λ b. boolean b ∷ []) (as_bool (value_view value.now)) }
 {
     Some(Scalar::Bool(value.as_bool()?))
 }
 
+/// The number of a name that was declared or said.
 fn name<'a>(names: &Names<'_>, kind: Kind, value: &Value<'_>) -> Option<Scalar<'a>>
     ensures { option_map tokens_of result ≡ name kind (names_of names.now) (value_view value.now) }
 {
@@ -71,6 +74,7 @@ fn name<'a>(names: &Names<'_>, kind: Kind, value: &Value<'_>) -> Option<Scalar<'
     Some(Scalar::Whole(number as u64))
 }
 
+/// How many names a list has, which a script of numbers has in its place.
 fn count<'a>(value: &Value<'_>) -> Option<Scalar<'a>>
     ensures { option_map tokens_of result ≡ count (value_view value.now) }
 {
@@ -92,12 +96,14 @@ fn names_among(items: &[Value<'_>]) -> Option<u64>
     Some(items.len() as u64)
 }
 
+/// A number as it is written.
 fn number_of<'a>(value: &Value<'a>) -> Option<Scalar<'a>>
     ensures { option_map tokens_of result ≡ number_in (value_view value.now) }
 {
     Some(Scalar::Digits(value.as_number()?))
 }
 
+/// A priority: by the name that GLib has for it, or as a number.
 fn priority_of<'a>(value: &Value<'a>) -> Option<Scalar<'a>>
     ensures { option_map tokens_of result ≡ (if is_some (as_str (value_view value.now)) then option_map as_it_is (option_and_then priority (as_str (value_view value.now))) else number_in (value_view value.now)) }
 {
@@ -121,12 +127,14 @@ fn priority(word: &str) -> Option<&'static str>
     }
 }
 
+/// A time with its unit, in microseconds.
 fn time_of(value: &Value<'_>) -> Option<u64>
     ensures { result ≡ time_in (value_view value.now) }
 {
     time(value.as_str()?)
 }
 
+/// A ready time: a time with its unit, or -1 for `never`.
 fn ready_time_of<'a>(value: &Value<'_>) -> Option<Scalar<'a>>
     ensures { option_map tokens_of result ≡ (if is_never (as_str (value_view value.now)) then Some (as_it_is (codes "-1")) else option_map whole (time_in (value_view value.now))) }
 {
@@ -136,6 +144,7 @@ fn ready_time_of<'a>(value: &Value<'_>) -> Option<Scalar<'a>>
     }
 }
 
+/// How often a source is kept: null for `CONTINUE`, 0 for `REMOVE`, or a number.
 fn keep_of<'a>(value: &Value<'a>) -> Option<Scalar<'a>>
     ensures { option_map tokens_of result ≡ (if is_null (value_view value.now) then Some (null ∷ []) else if is_some (as_str (value_view value.now)) then option_and_then keep (as_str (value_view value.now)) else number_in (value_view value.now)) }
 {
@@ -150,6 +159,7 @@ fn keep_of<'a>(value: &Value<'a>) -> Option<Scalar<'a>>
     }
 }
 
+/// Nothing, of a key whose value is true and says no more than that the key stands.
 fn true_alone<'a>(value: &Value<'_>) -> Option<Scalar<'a>>
     ensures { option_map tokens_of result ≡ true_alone (as_bool (value_view value.now)) }
 {

@@ -1,5 +1,4 @@
-//! The words of each choice, with what a script of numbers has behind them: their parts, the keys beside them, and the word
-//! that stands for each there.
+//! The words of actions, sources and trees, with what a script of numbers has behind them: parts, the keys beside them, the word that stands for each.
 ghost use Rattle.std.specs.Prelude.{◌≡◌};
 ghost use Rattle.named.specs.Tables.{words, parts, parts_of_action, parts_of_source, parts_of_tree, beside, numbered_word, makes_source};
 
@@ -89,6 +88,7 @@ pub(crate) fn parts(choice: Choice, word: Word) -> &'static [Part]
     }
 }
 
+/// The parts that an action has behind its word in a script of numbers, in their order, and where each stands in one with names.
 fn parts_of_action(word: Word) -> &'static [Part]
     ensures { result.now ≡ parts_of_action word }
 {
@@ -241,6 +241,7 @@ fn parts_of_action(word: Word) -> &'static [Part]
     }
 }
 
+/// The parts that a kind of source has behind its word in a script of numbers, in their order.
 fn parts_of_source(word: Word) -> &'static [Part]
     ensures { result.now ≡ parts_of_source word }
 {
@@ -275,6 +276,7 @@ fn parts_of_source(word: Word) -> &'static [Part]
     }
 }
 
+/// The parts that a form of a task's tree has behind its word, which stand in the same order in both.
 fn parts_of_tree(word: Word) -> &'static [Part]
     ensures { result.now ≡ parts_of_tree word }
 {

@@ -30,12 +30,14 @@ pub(crate) fn in_milliseconds(us: u64) -> Option<u64>
     }
 }
 
+/// Whether a byte of a time is a digit.
 fn is_digit(byte: u8) -> bool
     ensures { result ≡ is_digit byte }
 {
     b'0' <= byte && byte <= b'9'
 }
 
+/// Whether a time begins with a digit, as each has to.
 fn begins_with_digit(bytes: &[u8]) -> bool
     ensures { result ≡ begins_with_digit bytes.now }
 {

@@ -22,6 +22,7 @@ fn is_bare(name: &str) -> bool
     !name.is_empty() && are_plain(name.as_bytes())
 }
 
+/// Whether a text needs no quotes: each of its bytes is plain.
 fn are_plain(bytes: &[u8]) -> bool
     ensures { result ≡ list_all texts.is_plain bytes.now }
 {

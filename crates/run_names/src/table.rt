@@ -37,6 +37,7 @@ impl Model for Table {
 impl Table {
     /// The names of a script with names.
 
+    /// The names of a script by kind, copied, so that the script may go.
     pub(crate) fn of(alloc: Global, script: &Value<'_>) -> Result<Table, AllocError>
         ensures { IfOk result (λ table. table ≡ names_in (value_view script.now)) }
     {

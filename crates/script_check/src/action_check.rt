@@ -34,7 +34,7 @@ pub(crate) fn push_at(
     Ok(())
 }
 
-/// A number at a step from a place.
+/// Adds a fault where a number at a step from a place names nothing of its sort in the script.
 pub(crate) fn check_number(
     alloc: Global,
     counts: &Counts,
@@ -61,6 +61,7 @@ pub(crate) fn check_number(
     )
 }
 
+/// Adds a fault at a step from a place, where a number that may be absent names nothing of its sort in the script.
 fn check_option(
     alloc: Global,
     counts: &Counts,
@@ -79,6 +80,7 @@ fn check_option(
     }
 }
 
+/// Adds a fault where the script lacks the descriptor or the cancellable that a source's kind, at this place, names.
 fn check_kind(
     alloc: Global,
     counts: &Counts,
@@ -114,6 +116,7 @@ fn check_kind(
     }
 }
 
+/// Adds the faults of a source at a step from a place: the script lacks the procedure that it calls, or what its kind names.
 fn check_source(
     alloc: Global,
     counts: &Counts,
@@ -142,6 +145,7 @@ fn check_source(
     Ok(())
 }
 
+/// Adds the faults of a task at a step from a place: the script lacks the procedure of its reply, or its cancellable.
 fn check_task(
     alloc: Global,
     counts: &Counts,
@@ -176,7 +180,7 @@ fn check_task(
     Ok(())
 }
 
-/// What an action names that the script has not.
+/// Adds a fault for each thing that an action names and the script has not.
 pub(crate) fn check_references(
     alloc: Global,
     counts: &Counts,

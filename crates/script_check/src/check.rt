@@ -79,6 +79,7 @@ fn check(
     Ok(())
 }
 
+/// Adds a fault at a place for each cause that a value itself has, its parts apart, where it should be what is wanted.
 fn push_own(
     alloc: Global,
     wanted: Wanted,

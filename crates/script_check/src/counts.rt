@@ -30,6 +30,7 @@ pub(crate) struct Counts {
 }
 
 impl Counts {
+    /// Counts what a script has of each sort that goes by a number, to find the numbers that name nothing.
     pub(crate) fn of(plan: &Plan) -> Counts
         requires { length plan.now.lanes ≤ 64 }
         ensures { result ≡ counts_of plan.now }
@@ -44,6 +45,7 @@ impl Counts {
         }
     }
 
+    /// How many of one sort, as lanes or procedures, the script has, below which each number of that sort has to be.
     pub(crate) fn count(&self, sort: Sort) -> u64
         ensures { result ≡ count self.now sort }
     {
@@ -74,6 +76,7 @@ impl Sort {
     }
 }
 
+/// How many contexts the lanes of a script have together, for its counts by sort.
 fn contexts_in_all(lanes: &[LaneSpec]) -> u64
     requires { length lanes.now ≤ 64 }
     ensures { result ≡ sum_by (λ l. l.contexts) lanes.now }

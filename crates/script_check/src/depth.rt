@@ -17,6 +17,7 @@ pub(crate) fn is_deeper(value: &Value, levels: u32) -> bool
     }
 }
 
+/// Whether lists and objects nest deeper than so many levels in some item of a JSON list.
 #[cycle(is_deeper)]
 fn some_item_is_deeper(items: &[Value], levels: u32) -> bool
     ensures { result ≡ nat_lt levels (items_depth (items_view items.now)) }
@@ -29,6 +30,7 @@ fn some_item_is_deeper(items: &[Value], levels: u32) -> bool
     false
 }
 
+/// Whether lists and objects nest deeper than so many levels in the value of some key of a JSON object.
 #[cycle(is_deeper)]
 fn some_member_is_deeper(members: &Map<String, Value>, levels: u32) -> bool
     ensures { result ≡ nat_lt levels (members_depth (members_view members.now.entries)) }

@@ -31,12 +31,14 @@ fn has_class(faults: &[Fault], class: Class) -> bool
     is_among(faults, class)
 }
 
+/// Goes over the faults of a script, and tells whether the cause of some is of a class.
 fn is_among(faults: &[Fault], class: Class) -> bool
     ensures { result ≡ list_any (λ fault. is_of class fault.cause) faults.now }
 {
     faults.iter().any(|fault| is_of(fault.cause, class))
 }
 
+/// Whether the cause of a fault is of a class.
 fn is_of(cause: Cause, class: Class) -> bool
     ensures { result ≡ is_of class cause }
 {

@@ -61,12 +61,14 @@ fn push_where(so: bool, cause: Cause, causes: &mut Vec<Cause>) -> Result<(), All
     Ok(())
 }
 
+/// The cause of a fault, where a test holds, and else none.
 fn cause_where(so: bool, cause: Cause) -> Option<Cause>
     ensures { option_to_list result ≡ where_so so cause }
 {
     if so { Some(cause) } else { None }
 }
 
+/// What is wrong with a JSON value that should be a whole number in a range: its type, or the range; none where it is right.
 fn of_whole(value: &Value, low: u64, high: u64) -> Option<Cause>
     ensures { option_to_list result ≡ of_whole low high (as_number (view value.now)) }
 {
@@ -83,6 +85,7 @@ fn of_whole(value: &Value, low: u64, high: u64) -> Option<Cause>
     }
 }
 
+/// What is wrong with a JSON value that should be null or a whole number in a range; none where it is right.
 fn of_whole_or_null(value: &Value, low: u64, high: u64) -> Option<Cause>
     ensures { option_to_list result ≡ (if is_some (as_null (view value.now)) then [] else of_whole low high (as_number (view value.now))) }
 {
@@ -93,6 +96,7 @@ fn of_whole_or_null(value: &Value, low: u64, high: u64) -> Option<Cause>
     }
 }
 
+/// What is wrong with a JSON value that should be a signed whole number in a range; none where it is right.
 fn of_signed(value: &Value, low: i64, high: i64) -> Option<Cause>
     requires { high ≤ℤ pos 9223372036854775807 }
     ensures { option_to_list result ≡ of_signed low high (as_number (view value.now)) }
@@ -110,12 +114,14 @@ fn of_signed(value: &Value, low: i64, high: i64) -> Option<Cause>
     }
 }
 
+/// What is wrong with a JSON value that should be true or false: its type; none where it is right.
 fn of_truth(value: &Value) -> Option<Cause>
     ensures { option_to_list result ≡ where_so (is_none (as_bool (view value.now))) Cause.OtherType }
 {
     cause_where(value.as_bool().is_none(), Cause::OtherType)
 }
 
+/// What is wrong with a JSON value that should be a list of so many items at least and at most: that it is none, or their count.
 #[tactic(auto, using(crate::proofs::Sizes::counts))]
 fn of_list(value: &Value, low: usize, high: usize) -> Option<Cause>
     ensures { option_to_list result ≡ of_list low high (as_array (view value.now)) }
@@ -126,6 +132,7 @@ fn of_list(value: &Value, low: usize, high: usize) -> Option<Cause>
     }
 }
 
+/// What is wrong with a JSON value that should be a list of just so many parts, as a pair: that it is none, or of another length.
 #[tactic(auto, using(crate::proofs::Sizes::counts))]
 fn of_size(value: &Value, parts: usize) -> Option<Cause>
     ensures { option_to_list result ≡ where_so (not (has_size parts (size (view value.now)))) Cause.OtherLength }
@@ -136,6 +143,7 @@ fn of_size(value: &Value, parts: usize) -> Option<Cause>
     }
 }
 
+/// What is wrong with the JSON value of `lanes`: its type, how many lanes there are, too many contexts in all of them.
 fn of_lanes(
     alloc: Global,
     value: &Value,
@@ -162,6 +170,7 @@ fn has_more_contexts(value: &Value, most: u64) -> bool
     }
 }
 
+/// Goes over the JSON values of lanes, and tells whether they have more contexts together than so many.
 fn are_more_contexts(lanes: &[Value], most: u64) -> bool
     ensures { result ≡ nat_lt most (contexts_in (items_view lanes.now)) }
 {
@@ -184,6 +193,7 @@ fn contexts_of(lane: &Value) -> u64
     lane.get("contexts").and_then(Value::as_u64).unwrap_or(0)
 }
 
+/// What is wrong with a JSON value that should be an object, as a lane: its type, or the keys that are unknown or missing.
 fn of_object(alloc: Global, value: &Value, object: Object) -> Result<Vec<Cause>, AllocError>
     ensures { IfOk result (λ causes. causes.items ≡ of_object (keys (object_of object)) (view value.now) (as_object (view value.now))) }
 {
@@ -198,6 +208,7 @@ fn of_object(alloc: Global, value: &Value, object: Object) -> Result<Vec<Cause>,
     }
 }
 
+/// Adds a cause for each key of a JSON object that is not in the table of its keys.
 fn push_other_keys(
     keys: &[Key],
     members: &Map<String, Value>,
@@ -213,18 +224,21 @@ fn push_other_keys(
     Ok(())
 }
 
+/// Whether the name of a member of a JSON object is a key of the object's table.
 fn is_key(keys: &[Key], name: &str) -> bool
     ensures { result ≡ list_any (λ key. bytes_eq name.now key.name) (map key_of keys.now) }
 {
     is_among(keys, name)
 }
 
+/// Goes over the keys of an object's table, and tells whether the text of one is this name.
 fn is_among(keys: &[Key], name: &str) -> bool
     ensures { result ≡ list_any (λ key. bytes_eq name.now (name_of key.name)) keys.now }
 {
     keys.iter().any(|key| name == key.name.text())
 }
 
+/// Adds a cause for each key of an object's table that must be there and that the JSON value lacks.
 fn push_no_keys(keys: &[Key], value: &Value, causes: &mut Vec<Cause>) -> Result<(), AllocError>
     ensures { OnOk result (causes.new.items ≡ causes.old.items ++ no_keys 0 (map key_of keys.now) (view value.now)) }
 {
@@ -241,6 +255,7 @@ fn lacks(key: &Key, value: &Value) -> bool
     key.needed && value.get(key.name.text()).is_none()
 }
 
+/// What is wrong with a JSON value that should be a kind, an action or a tree: its word or its length, and of a tree its depth.
 fn of_choice(alloc: Global, value: &Value, choice: Choice) -> Result<Vec<Cause>, AllocError>
     ensures { IfOk result (λ causes. causes.items ≡ own (one_of (choice_of choice)) (view value.now)) }
 {
@@ -254,6 +269,7 @@ fn of_choice(alloc: Global, value: &Value, choice: Choice) -> Result<Vec<Cause>,
 /// How deep a tree may go.
 const DEEPEST_TREE: u32 = 16;
 
+/// What is wrong at the front of a kind, an action or a tree of JSON: an unknown word, or too few or too many parts behind it.
 #[tactic(auto, using(crate::proofs::Sizes::length_by_map))]
 fn of_word(value: &Value, choice: Choice) -> Option<Cause>
     ensures { option_to_list result ≡ of_word (asked (choice_of choice) (view value.now)) (view value.now) }

@@ -45,6 +45,7 @@ pub(crate) fn parts_in<'v>(
     }
 }
 
+/// The parts of a JSON value that should be a list: its items, in each of which the same should stand; none of what is no list.
 fn items_of<'v>(
     alloc: Global,
     each: Wanted,
@@ -58,6 +59,7 @@ fn items_of<'v>(
     }
 }
 
+/// Makes a part of each item of a JSON list, with the step to it, and what should stand there.
 fn items_as_parts<'v>(
     alloc: Global,
     each: Wanted,
@@ -117,6 +119,7 @@ fn parts_from<'v>(
     Ok(found)
 }
 
+/// The parts of a JSON value that should be an object: what it has under the keys of a table, in the order of the table.
 fn members_of<'v>(
     alloc: Global,
     keys: &[Key],

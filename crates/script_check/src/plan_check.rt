@@ -30,6 +30,7 @@ pub fn plan_faults(alloc: Global, plan: &Plan) -> Result<Vec<Fault>, AllocError>
     Ok(faults)
 }
 
+/// Adds the faults of references and of rules of each action of a list, which stands at a place.
 fn check_actions(
     alloc: Global,
     counts: &Counts,
@@ -47,7 +48,7 @@ fn check_actions(
     Ok(())
 }
 
-/// The n-th action of a list.
+/// Adds the faults of references and of rules of the n-th action of a list.
 fn check_action(
     alloc: Global,
     counts: &Counts,
@@ -67,6 +68,7 @@ fn check_action(
     Ok(())
 }
 
+/// Adds the faults of references and of rules of the actions in the start list of each lane.
 fn check_lanes(
     alloc: Global,
     counts: &Counts,
@@ -97,6 +99,7 @@ fn check_lanes(
     Ok(())
 }
 
+/// Adds the faults of references and of rules of the actions of some procedures, `procs` being all of them.
 fn check_procs(
     alloc: Global,
     counts: &Counts,
@@ -123,6 +126,7 @@ fn check_procs(
     Ok(())
 }
 
+/// Adds a fault of reference for each loop whose context the script has not.
 fn check_loops(
     alloc: Global,
     counts: &Counts,
@@ -146,6 +150,7 @@ fn check_loops(
     Ok(())
 }
 
+/// Adds a fault of rule for each pair of a descriptor whose tick is not above that of the pair before.
 fn check_fds(alloc: Global, fds: &[Items<Level>], faults: &mut Vec<Fault>) -> Result<(), AllocError>
     ensures { OnOk result (map found_of faults.new.items ≡ map found_of faults.old.items ++ in_fds 0 fds.now) }
 {
@@ -156,7 +161,7 @@ fn check_fds(alloc: Global, fds: &[Items<Level>], faults: &mut Vec<Fault>) -> Re
     Ok(())
 }
 
-/// The pairs of a descriptor.
+/// Adds the faults of the pairs of a descriptor.
 fn check_levels(
     alloc: Global,
     levels: &[Level],
@@ -171,7 +176,7 @@ fn check_levels(
     }
 }
 
-/// The pairs that stand behind one of this tick.
+/// Adds the faults of the pairs of a descriptor that stand behind one of this tick.
 fn check_rest(
     alloc: Global,
     first: u32,

@@ -12,7 +12,7 @@ use crate::wanted::{Object, Wanted};
 use loop_script::{Action, Proc};
 use std::alloc::{AllocError, Global};
 
-/// Which rule an action breaks.
+/// Adds a fault for the rule that an action breaks, where it breaks one.
 pub(crate) fn check_rules(
     alloc: Global,
     procs: &[Proc],
@@ -63,6 +63,7 @@ pub(crate) fn check_rules(
     }
 }
 
+/// The actions of a procedure that an action connects, by its number; none for the number of no procedure.
 fn actions_of(procs: &[Proc], proc: u32) -> &[Action]
     ensures { result.now ≡ actions_of_proc (slice_get procs.now proc) }
 {
@@ -97,7 +98,7 @@ fn first_not_plain(actions: &[Action]) -> Option<usize>
     None
 }
 
-/// Whether a handler may do this.
+/// Whether a handler may do this action; of one that may not a fault is told.
 fn is_plain(action: &Action) -> bool
     ensures { result ≡ is_plain action.now }
 {

@@ -8,7 +8,7 @@ pub enum Shape {
     Whole(u64, u64),
     /// The same, or null.
     WholeOrNull(u64, u64),
-    /// The same, where it may be below 0.
+    /// A whole number from one to another, of which it may be below 0.
     Signed(i64, i64),
     Truth,
     /// A list with so many items at least and at most, each as the third.

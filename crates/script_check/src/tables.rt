@@ -239,6 +239,7 @@ pub fn parts_of(choice: Choice, word: &str) -> Option<&'static [Wanted]>
     }
 }
 
+/// What should stand behind the word of a source's kind, as `timeout`; none where no kind begins with it.
 fn parts_of_kind(word: &str) -> Option<&'static [Wanted]>
     ensures { option_map (λ parts. map form_of parts.now) result ≡ spec_parts (words (choice_of Choice.Kind)) word.now }
 {
@@ -252,6 +253,7 @@ fn parts_of_kind(word: &str) -> Option<&'static [Wanted]>
     }
 }
 
+/// What should stand behind the word of an action, as `attach`; none where no action begins with it.
 fn parts_of_action(word: &str) -> Option<&'static [Wanted]>
     ensures { option_map (λ parts. map form_of parts.now) result ≡ spec_parts (words (choice_of Choice.Action)) word.now }
 {
@@ -281,6 +283,7 @@ fn parts_of_action(word: &str) -> Option<&'static [Wanted]>
     }
 }
 
+/// What should stand behind the word of a task's tree, as `within`; none where no tree begins with it.
 fn parts_of_tree(word: &str) -> Option<&'static [Wanted]>
     ensures { option_map (λ parts. map form_of parts.now) result ≡ spec_parts (words (choice_of Choice.Tree)) word.now }
 {

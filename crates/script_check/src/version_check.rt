@@ -31,7 +31,7 @@ pub(crate) fn push_version_faults(
     Ok(())
 }
 
-/// The same of the lists under a key of lanes or procedures.
+/// Adds a fault for each action of the lists under a key of lanes or procedures that begins with `give`.
 fn push_gives_of(
     alloc: Global,
     name: Name,
@@ -53,6 +53,7 @@ fn push_gives_of(
     Ok(())
 }
 
+/// Adds a fault for each action of a list, in JSON not read yet, that begins with `give`, which only version 2 has.
 fn push_gives(
     alloc: Global,
     actions: &[Value],

@@ -31,6 +31,7 @@ impl From<InputFault> for CheckFailure {
 }
 
 impl CheckFailure {
+    /// The exit status of `mainctx_check` where it gives no answer.
     fn status(self) -> u8 {
         match self {
             CheckFailure::Input(fault) => fault.status(),
@@ -38,6 +39,7 @@ impl CheckFailure {
         }
     }
 
+    /// What stands on standard error then.
     fn line(self) -> &'static str {
         match self {
             CheckFailure::Input(fault) => fault.line(),
@@ -57,6 +59,7 @@ pub(crate) fn run_check(rt: &HostRuntime) -> u8 {
     }
 }
 
+/// Does what the words of the command line ask, and answers the exit status, or why there is no answer.
 fn try_check(rt: &HostRuntime) -> Result<u8, CheckFailure> {
     let words = read_words(rt)?;
     match read_check_words(rt.alloc(), words.as_slice())? {
@@ -84,6 +87,7 @@ fn try_check(rt: &HostRuntime) -> Result<u8, CheckFailure> {
     }
 }
 
+/// Writes the answer to standard output.
 fn write_answer(rt: &HostRuntime, text: &str) -> Result<(), CheckFailure> {
     match rt.stdout().write_all(text.as_bytes()) {
         Ok(()) => Ok(()),

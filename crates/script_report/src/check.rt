@@ -50,6 +50,7 @@ pub fn check_script(
     Ok(false)
 }
 
+/// Adds the summary of a script in which nothing is wrong, where the answer is text; it is read once more for that.
 pub(crate) fn push_summary(
     alloc: Global,
     form: &Form<'_>,

@@ -11,6 +11,7 @@ pub(crate) struct Cursor {
 }
 
 impl Cursor {
+    /// The place of the first byte: line 1, column 1.
     pub(crate) fn start() -> Cursor {
         Cursor {
             byte: 0,

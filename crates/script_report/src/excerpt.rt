@@ -77,6 +77,7 @@ fn is_cut(bytes: &[u8], to: usize) -> bool {
     }
 }
 
+/// The bytes of a line from one to another as text, where they are UTF-8.
 fn text_between(bytes: &[u8], from: usize, to: usize) -> Option<&str> {
     match bytes.get(from..to) {
         Some(part) => from_utf8(part).ok(),
@@ -92,6 +93,7 @@ fn push_excerpt_part(out: &mut String, text: &str) -> Result<(), AllocError> {
     Ok(())
 }
 
+/// Adds a text so many times, as the spaces before the mark of a fault.
 fn push_repeated(out: &mut String, text: &str, count: usize) -> Result<(), AllocError> {
     for _ in 0..count {
         out.push_str(text)?;

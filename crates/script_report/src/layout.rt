@@ -19,6 +19,7 @@ pub(crate) enum Layout {
 }
 
 impl Layout {
+    /// From which byte to which a value of the document lies.
     pub(crate) fn span(&self) -> Span {
         match self {
             Layout::Scalar(span) => *span,
@@ -32,6 +33,7 @@ impl Layout {
         matches!(self, Layout::Scalar(_))
     }
 
+    /// Where the n-th item of a list lies.
     pub(crate) fn item(&self, n: usize) -> Option<&Layout> {
         match self {
             Layout::List(_, items) => items.as_slice().get(n),
@@ -39,6 +41,7 @@ impl Layout {
         }
     }
 
+    /// Where what an object has under a key lies; of a key that stands twice the last.
     pub(crate) fn member(&self, key: &str) -> Option<&Layout> {
         match self {
             Layout::Object(_, members) => members.get(key),
@@ -57,6 +60,7 @@ pub(crate) fn layout_of(alloc: Global, text: &str) -> Result<Option<Layout>, All
     read_value(alloc, text.as_bytes(), &mut reader, LEVELS)
 }
 
+/// Where a value lies that comes next in the document, with those in it; none where it has too many levels or is no JSON.
 #[cycle(read_value)]
 fn read_value(
     alloc: Global,
@@ -85,6 +89,7 @@ fn read_value(
     }
 }
 
+/// Where a list lies, of which the bracket has been read, with its items.
 #[cycle(read_value)]
 fn read_list(
     alloc: Global,
@@ -107,6 +112,7 @@ fn read_list(
     Ok(None)
 }
 
+/// Where an object lies, of which the bracket has been read, with its members.
 #[cycle(read_value)]
 fn read_object(
     alloc: Global,
@@ -158,6 +164,7 @@ fn end_of_word(bytes: &[u8], start: usize) -> usize {
     bytes.len()
 }
 
+/// Whether a byte of the document goes on with a number, `true`, `false` or `null`.
 fn is_of_word(byte: u8) -> bool {
     matches!(byte, b'0'..=b'9' | b'a'..=b'z' | b'A'..=b'Z' | b'+' | b'-' | b'.')
 }

@@ -111,6 +111,7 @@ fn is_misspelled(alloc: Global, fault: &Fault<'_>, value: &Value<'_>) -> Result<
     }
 }
 
+/// The entry of a fault of a script with names: its place, its class, what was wanted there and what stands there.
 fn named_entry<'a>(
     alloc: Global,
     document: &Value<'a>,
@@ -161,6 +162,7 @@ fn twice_entry<'a>(
     })
 }
 
+/// What stands where a name is declared for the second time: that name, quoted.
 fn twice_found(alloc: Global, name: &str) -> Result<String, AllocError> {
     let mut text = String::new(alloc);
     push_quoted(&mut text, name)?;
@@ -208,6 +210,7 @@ fn numbered_entry<'a>(
     })
 }
 
+/// The steps to the value of a script of numbers that a script with names stands for.
 fn numbered_steps(alloc: Global, steps: &[NumberedStep]) -> Result<Vec<Numbered>, AllocError> {
     let mut numbered = Vec::new(alloc);
     for step in steps {

@@ -44,6 +44,7 @@ pub(crate) fn known_keys(
     Ok(known)
 }
 
+/// Adds the keys that an object of a script with names may have.
 fn push_keys(sort: Sort, known: &mut Vec<Word>) -> Result<(), AllocError> {
     match sort {
         Sort::An(object) => known.extend_from_slice(keys(object)),
@@ -101,6 +102,7 @@ pub(crate) fn meant_key(
     }
 }
 
+/// Whether a value with names is an object of so few members that a misspelled key is looked for among them.
 fn has_few_members(value: &Value<'_>) -> bool {
     match value {
         Value::Object(members) => members.len() <= MOST_MEMBERS,
@@ -159,6 +161,7 @@ pub(crate) fn slip_for<'a>(
     }
 }
 
+/// Whether a key is one of the words of a script with names that are known there.
 fn is_among(words: &[Word], key: &str) -> bool {
     words.iter().any(|word| word.text() == key)
 }

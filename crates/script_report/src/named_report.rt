@@ -81,6 +81,7 @@ fn push_first(
     Ok(())
 }
 
+/// Adds the line with the number of faults of a script with names, and how many of them are not told.
 fn push_count(out: &mut String, count: usize) -> Result<(), AllocError> {
     if count == 1 {
         return out.push_str("1 fault\n");
@@ -93,6 +94,7 @@ fn push_count(out: &mut String, count: usize) -> Result<(), AllocError> {
     out.push_str("\n")
 }
 
+/// Where an entry's value begins and ends in the bytes, by the steps to it; where a step leads nowhere, the value before it.
 fn lying_of(layout: &Layout, steps: &[Step<'_>], entry: usize) -> Lying {
     let mut here = layout;
     for step in steps {
@@ -117,6 +119,7 @@ fn lying_of(layout: &Layout, steps: &[Step<'_>], entry: usize) -> Lying {
     }
 }
 
+/// Adds an entry of a script with names, as text or JSON, with the line and column of its value.
 fn push_entry(
     alloc: Global,
     form: &Form<'_>,

@@ -41,6 +41,7 @@ pub(crate) fn named_wanted(
     }
 }
 
+/// What is wanted where a value with names is of another type.
 fn sort_wanted(alloc: Global, sort: Sort) -> Result<String, AllocError> {
     match sort {
         Sort::Leaf(leaf) => leaf_wanted(alloc, leaf),
@@ -52,6 +53,7 @@ fn sort_wanted(alloc: Global, sort: Sort) -> Result<String, AllocError> {
     }
 }
 
+/// That a name of a kind is wanted, or a text.
 fn name_wanted(alloc: Global, kind: Kind) -> Result<String, AllocError> {
     let thing = kind_text(kind);
     match kind {
@@ -60,17 +62,20 @@ fn name_wanted(alloc: Global, kind: Kind) -> Result<String, AllocError> {
     }
 }
 
+/// That an object with names needs a key.
 fn key_wanted(alloc: Global, word: Word) -> Result<String, AllocError> {
     let key = word.text();
     format!(in alloc; "the key \"{key}\" must stand here")
 }
 
+/// How many names of a kind there may be, each once.
 fn names_wanted(alloc: Global, kind: Kind) -> Result<String, AllocError> {
     let kinds = kinds_text(kind);
     let limit = most(kind);
     format!(in alloc; "{kinds} are {limit} at most, each with a name of its own")
 }
 
+/// What is wanted of a value without parts, as a time with its unit.
 fn leaf_wanted(alloc: Global, leaf: Leaf) -> Result<String, AllocError> {
     let text = match leaf {
         Leaf::Name(kind) | Leaf::NameOrNull(kind) => {
@@ -106,6 +111,7 @@ fn kind_text(kind: Kind) -> &'static str {
     }
 }
 
+/// What the things of a kind are called, in the plural.
 fn kinds_text(kind: Kind) -> &'static str {
     match kind {
         Kind::Thread => "threads",
@@ -119,6 +125,7 @@ fn kinds_text(kind: Kind) -> &'static str {
     }
 }
 
+/// Of which words an action, a source or a tree with names has one.
 fn words_wanted(alloc: Global, choice: Choice) -> Result<String, AllocError> {
     let mut text = String::from_str(
         alloc,
@@ -132,6 +139,7 @@ fn words_wanted(alloc: Global, choice: Choice) -> Result<String, AllocError> {
     Ok(text)
 }
 
+/// Adds words of a script with names, quoted, with commas between them.
 fn push_words(text: &mut String, words: &[Word]) -> Result<(), AllocError> {
     for (n, word) in words.iter().enumerate() {
         text.push_str(if n == 0 { " " } else { ", " })?;
@@ -140,6 +148,7 @@ fn push_words(text: &mut String, words: &[Word]) -> Result<(), AllocError> {
     Ok(())
 }
 
+/// Which keys may stand where another one stands.
 fn keys_wanted(alloc: Global, sort: Sort, value: &Value<'_>) -> Result<String, AllocError> {
     let mut text = String::from_str(alloc, "the keys here are")?;
     push_words(&mut text, known_keys(alloc, sort, value)?.as_slice())?;
@@ -163,6 +172,7 @@ pub(crate) fn named_found(
     }
 }
 
+/// What stands where a value without parts is wanted: a name that nothing has, or the value.
 fn unfit_found(
     alloc: Global,
     names: &Names<'_>,
@@ -230,6 +240,7 @@ fn key_found(alloc: Global, sort: Sort, value: &Value<'_>, n: usize) -> Result<S
     key_text(alloc, key, meant_key(alloc, sort, value, key)?)
 }
 
+/// The key that stands there and may not, and the one that may be meant.
 fn key_text(alloc: Global, key: &str, meant: Option<&str>) -> Result<String, AllocError> {
     let mut text = String::from_str(alloc, "this is ")?;
     push_quoted(&mut text, key)?;
@@ -259,6 +270,7 @@ fn word_found(alloc: Global, sort: Sort, value: &Value<'_>) -> Result<String, Al
     }
 }
 
+/// What stands in place of the one word of an action or a source: more than one of them, or none, and the one that may be meant.
 fn object_word_found(
     alloc: Global,
     choice: Choice,
@@ -280,6 +292,7 @@ fn object_word_found(
     Ok(text)
 }
 
+/// A value of a script with names in a few words: a text is quoted, a list counted.
 fn value_found(alloc: Global, value: &Value<'_>) -> Result<String, AllocError> {
     let mut text = String::from_str(alloc, "this is ")?;
     match value {

@@ -143,6 +143,7 @@ pub(crate) struct Said<'a> {
     pub found: &'a str,
 }
 
+/// Adds a fault of a script of numbers, as text or JSON: what was wanted, what stands there, and where.
 fn push_fault(
     alloc: Global,
     out: &mut String,

@@ -52,6 +52,7 @@ fn declared<'a>(
     Ok(found)
 }
 
+/// Adds each name that an object of the script declares by its keys, with where it stands.
 fn push_keys<'a>(
     alloc: Global,
     script: &Value<'a>,
@@ -69,6 +70,7 @@ fn push_keys<'a>(
     Ok(())
 }
 
+/// Adds each name of a cancellable, with where it stands.
 fn push_cancellables<'a>(
     alloc: Global,
     script: &Value<'a>,
@@ -79,6 +81,7 @@ fn push_cancellables<'a>(
     push_texts(alloc, script.get("cancellables"), &place, found)
 }
 
+/// Adds each text of a list of names, with where it stands.
 fn push_texts<'a>(
     alloc: Global,
     list: Option<&Value<'a>>,

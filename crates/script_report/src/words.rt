@@ -52,6 +52,7 @@ fn shape_text(alloc: Global, wanted: Wanted) -> Result<String, AllocError> {
     }
 }
 
+/// Which keys an object of a script of numbers has.
 fn keys_text(alloc: Global, wanted: Wanted) -> Result<String, AllocError> {
     let name = name_of(wanted);
     let mut text = format!(in alloc; "{name} has the keys")?;
@@ -64,6 +65,7 @@ fn keys_text(alloc: Global, wanted: Wanted) -> Result<String, AllocError> {
     Ok(text)
 }
 
+/// That an object of a script of numbers lacks its n-th key.
 fn no_key_text(alloc: Global, wanted: Wanted, n: usize) -> Result<String, AllocError> {
     let name = name_of(wanted);
     let key = match wanted {
@@ -76,6 +78,7 @@ fn no_key_text(alloc: Global, wanted: Wanted, n: usize) -> Result<String, AllocE
     format!(in alloc; "{name} needs the key {key}")
 }
 
+/// With which of its words an action, a kind or a tree of numbers begins.
 fn words_text(alloc: Global, wanted: Wanted) -> Result<String, AllocError> {
     let name = name_of(wanted);
     let mut text = format!(in alloc; "{name} is a list that begins with one of")?;
@@ -88,6 +91,7 @@ fn words_text(alloc: Global, wanted: Wanted) -> Result<String, AllocError> {
     Ok(text)
 }
 
+/// How many parts stand behind a word of a script of numbers.
 fn length_text(alloc: Global, wanted: Wanted, value: &Value) -> Result<String, AllocError> {
     let Wanted::OneOf(choice) = wanted else {
         return shape_text(alloc, wanted);
@@ -107,6 +111,7 @@ fn length_text(alloc: Global, wanted: Wanted, value: &Value) -> Result<String, A
     }
 }
 
+/// How many things of a sort the script has, where a number names one that is not there.
 fn missing_text(alloc: Global, wanted: Wanted, count: u64) -> Result<String, AllocError> {
     let many = match wanted {
         Wanted::Context => "contexts",
@@ -166,6 +171,7 @@ pub(crate) fn found_text(
     }
 }
 
+/// Which key of an object of numbers stands there and may not, and the one that may be meant.
 fn other_key_text(
     alloc: Global,
     wanted: Wanted,
@@ -197,6 +203,7 @@ pub(crate) fn other_key(value: &Value, n: usize) -> Option<&str> {
     }
 }
 
+/// Adds the key of an object of numbers that may be meant by a misspelled one, where one is near.
 fn push_nearest_key(
     alloc: Global,
     text: &mut String,
@@ -210,6 +217,7 @@ fn push_nearest_key(
     push_nearest(alloc, text, names.as_slice(), name)
 }
 
+/// Which word stands at the front of an action, a kind or a tree of numbers, and the one that may be meant.
 fn other_word_text(alloc: Global, wanted: Wanted, value: &Value) -> Result<String, AllocError> {
     let word = match value.as_str() {
         Some(word) => Some(word),
@@ -246,6 +254,7 @@ fn push_as_list(out: &mut String, word: &str, goes_on: bool) -> Result<(), Alloc
 /// How many characters of a text are shown.
 const SHOWN: usize = 40;
 
+/// Adds a text in quotes, shortened where it is long, and with a space for each control character.
 pub(crate) fn push_quoted(out: &mut String, text: &str) -> Result<(), AllocError> {
     out.push('"')?;
     for (n, character) in text.chars().enumerate() {
@@ -258,6 +267,7 @@ pub(crate) fn push_quoted(out: &mut String, text: &str) -> Result<(), AllocError
     out.push('"')
 }
 
+/// A value of a script of numbers in a few words: a text is quoted, a list counted.
 fn value_text(alloc: Global, value: &Value) -> Result<String, AllocError> {
     let mut text = String::from_str(alloc, "this is ")?;
     match value {

@@ -1,5 +1,4 @@
-//! What is kept of a source, and what is asked of that alone: its key in the order, its lineage and path, its times,
-//! whether it is awake; a root or a child as it is made.
+//! What is kept of a source, and what is asked of that alone: its key in the order, lineage, path and times, whether it is awake; how one is made.
 ghost use Rattle.std.specs.Prelude.{◌≡◌, ◌<◌, ◌≤◌, ◌==◌, length};
 ghost use Rattle.loop_script.specs.Bounds.{latest};
 ghost use Rattle.source_rows.specs.Rows.{key_of, stands_before};
@@ -180,6 +179,7 @@ pub(crate) fn make_root(spec: SourceSpec, now: u64, id: u64, order: u64) -> Row
     }
 }
 
+/// The lineage of a child: the ids of those above it, and its own from its level on.
 fn lineage_below(level: u8, lineage: [u64; 4], id: u64) -> [u64; 4]
     ensures { result ≡ lineage_under level lineage id }
 {
@@ -190,6 +190,7 @@ fn lineage_below(level: u8, lineage: [u64; 4], id: u64) -> [u64; 4]
     }
 }
 
+/// The path of a child: the order numbers of those above it, and its own; none is behind it.
 fn path_below(level: u8, path: [u64; 4], order: u64) -> [u64; 4]
     ensures { result ≡ path_under level path order }
 {

@@ -1,5 +1,4 @@
-//! The rows of a context, by their public calls: those that edit them, and those that ask for one row, for all in order,
-//! for what may be ready, and for the next ready time.
+//! The rows of a context, by their public calls: edits, and what asks for one row, all in order, those that may be ready, and the next ready time.
 ghost use Rattle.std.specs.Prelude.{[], map, ◌≡◌, ◌≤◌, ◌<◌, ◌+◌, ◌⊎◌, IfOk, OnOk, IfErr, OnErr, IfSome, Some, None, is_some, option_map, false};
 ghost use Rattle.loop_script.specs.Bounds.{count_end, latest};
 ghost use Rattle.std.specs.List.{AllByRecursion};

@@ -82,8 +82,8 @@ pub(crate) struct Moment {
     pub cancelled: Option<u32>,
 }
 
-/// A time in ticks, rounded up.
-fn ticks_of(us: u64, tick_us: u64) -> u64
+/// How many ticks a sleep or a limit of a task takes: its time, rounded up.
+fn wait_ticks(us: u64, tick_us: u64) -> u64
     requires us { us ≤ longest_time }
     requires some { 0 < tick_us }
     requires short { tick_us ≤ longest_tick }
@@ -133,7 +133,7 @@ fn slept(begun: u32, us: u64, at: &Moment) -> Progress
     ensures now { IsProgress at.now.tick_us (sleep us) begun at.now.cancelled at.now.tick result }
     ensures ahead { IsKnown at.now.tick_us (sleep us) begun at.now.cancelled at.now.known at.now.tick result }
 {
-    let end = u64::from(begun) + ticks_of(us, at.tick_us);
+    let end = u64::from(begun) + wait_ticks(us, at.tick_us);
     if end <= u64::from(at.tick) {
         Progress::Ended {
             tick: end as u32,
@@ -259,7 +259,7 @@ pub(crate) fn progress_of(tree: &TaskTree, begun: u32, at: &Moment) -> Progress
             earlier(progress, progress_of(other, begun, at))
         }
         Node::Within(us, body) => {
-            let limit = u64::from(begun) + ticks_of(*us, at.tick_us);
+            let limit = u64::from(begun) + wait_ticks(*us, at.tick_us);
             limited(limit, at.tick, progress_of(body, begun, at))
         }
     }

@@ -1,5 +1,4 @@
-//! Tasks in start order, in a tree whose nodes have a mark of all tasks from there on, so that a poll looks at those alone
-//! that wake or are cancelled.
+//! Tasks in start order, in a tree whose nodes have a mark of all tasks below, so that a poll looks at those alone that wake or are cancelled.
 ghost use Rattle.std.specs.Prelude.{◌≡◌, ◌+◌, ◌<◌, ◌++◌, [], IsOk, IfOk, OnOk, IfSome, IfNone, false, true, IsTrue, ◌↔◌, map};
 ghost use Rattle.std.specs.List.{list_any};
 ghost use Rattle.task_steps.specs.BookInside.{entries_of, mark_of, joined_mark, shown, IsMarked, IsQuiet};
@@ -12,8 +11,8 @@ use cancel_view::View;
 use std::alloc::{AllocError, Global};
 use std::mem;
 
-/// The lesser of two ticks, where there are such.
-fn sooner(a: Option<u64>, b: Option<u64>) -> Option<u64>
+/// The lesser of two wakes of tasks, where there are such.
+fn sooner_wake(a: Option<u64>, b: Option<u64>) -> Option<u64>
     ensures { result ≡ sooner a b }
 {
     match (a, b) {
@@ -48,7 +47,7 @@ impl Mark {
         ensures { result ≡ joined_mark self.now other }
     {
         Mark {
-            wake: sooner(self.wake, other.wake),
+            wake: sooner_wake(self.wake, other.wake),
             heeds: self.heeds || other.heeds,
         }
     }

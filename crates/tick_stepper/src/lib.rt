@@ -1,5 +1,4 @@
-//! The lanes of a script through its ticks, with turns that several workers take side by side, and the law that the order
-//! of their steps changes nothing.
+//! The lanes of a script through its ticks, with turns that several workers take, and the law that the order of their steps changes nothing.
 #![tactic(auto)]
 
 mod calls;

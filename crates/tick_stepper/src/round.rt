@@ -1,5 +1,4 @@
-//! One tick of all lanes, from its begin to its end: those that are due take their turns, by workers as in `deal` or
-//! `queue`, or alone, and what they sent is delivered.
+//! One tick of all lanes: those that are due take their turns, by workers as in `deal` or `queue`, or alone, and what they sent is delivered.
 ghost use Rattle.std.specs.Prelude.{◌≡◌, ℕ, true, ◌+◌, ◌<◌, ◌≤◌, ◌++◌, [], None, map, length, IfOk, IsPermutation, vec_len, slice_index_or};
 ghost use Rattle.std.specs.List.{All, AllByRecursion, flat_map};
 ghost use Rattle.loop_script.specs.Bounds.{most_lanes, most_ticks};

@@ -18,6 +18,7 @@ fn nests_within(value: &Value, levels: u32) -> bool
     }
 }
 
+/// Whether the items of an array nest no deeper than so many levels.
 #[cycle(nesting)]
 fn items_nest_within(items: &Array, levels: u32) -> bool
     ensures { IsTrue result ↔ (items_depth (array_view items.now) ≤ levels) }

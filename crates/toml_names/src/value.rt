@@ -40,6 +40,7 @@ fn write_value(
     }
 }
 
+/// Writes the items of an array of TOML as a list of JSON.
 #[cycle(value)]
 fn write_items(
     alloc: Global,
