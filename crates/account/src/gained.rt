@@ -20,7 +20,7 @@ fn named_by(lane: &LaneState, slot: u8) -> Option<Place>
     }
 }
 
-/// The greatest id of some rows, or 0 where there is none.
+/// The id that was given last of those that a context has now, or 0 where it has none.
 fn newest(rows: &Rows) -> u64
     ensures { result ≡ newest 0 (map (λ r. r.id) (in_order rows.now.rows)) }
 {

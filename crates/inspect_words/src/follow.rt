@@ -40,7 +40,7 @@ pub fn follow_names(
     Ok(())
 }
 
-/// Where a source comes from that an action or a letter attached.
+/// What a source is named after that an action or a letter attached: a slot, a reply or a procedure.
 fn origin_of(lane: &LaneState, action: Option<&Action>, place: Place) -> Option<Origin> {
     match action {
         Some(Action::Attach { slot, .. }) => Some(Origin::Slot(u32::from(*slot))),

@@ -115,7 +115,7 @@ impl Lane {
         }
     }
 
-    /// Begins an iteration of a context that does not block.
+    /// Begins an iteration of a context, which does not block (GMainContext: `g_main_context_iteration` without `may_block`).
     fn act_iterate(
         &mut self,
         alloc: Global,

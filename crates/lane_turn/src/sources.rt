@@ -15,7 +15,7 @@ use loop_script::{Kind, SourceSpec};
 use source_rows::{Row, RowsFault};
 use std::alloc::AllocError;
 
-/// The time in microseconds that comes so many milliseconds after another.
+/// The ready time in microseconds that a lane gives a timeout: so many milliseconds after now.
 fn due_after(ms: u32, now: u64) -> i64
     requires { now ≤ latest }
     ensures { result ≡ due_after ms now }

@@ -244,7 +244,7 @@ fn allowed(alloc: Global, word: Word, value: &Value<'_>) -> Result<Vec<Word>, Al
     Ok(found)
 }
 
-/// Adds the keys that may stand beside the kind of a source; where it has no kind, the words of all kinds.
+/// Adds the word of a source's kind and the keys that may stand beside it; where it has no kind, the words of all kinds.
 fn push_of_kind(kind: Option<Word>, found: &mut Vec<Word>) -> Result<(), AllocError>
     ensures { OnOk result (found.new.items ≡ found.old.items ++ of_kind kind) }
 {

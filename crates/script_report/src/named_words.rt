@@ -62,7 +62,7 @@ fn name_wanted(alloc: Global, kind: Kind) -> Result<String, AllocError> {
     }
 }
 
-/// That an object with names needs a key.
+/// What is wanted where a key is missing that an object of a script with names must have.
 fn key_wanted(alloc: Global, word: Word) -> Result<String, AllocError> {
     let key = word.text();
     format!(in alloc; "the key \"{key}\" must stand here")
@@ -240,7 +240,7 @@ fn key_found(alloc: Global, sort: Sort, value: &Value<'_>, n: usize) -> Result<S
     key_text(alloc, key, meant_key(alloc, sort, value, key)?)
 }
 
-/// The key that stands there and may not, and the one that may be meant.
+/// What is found where a key stands that may not: the key, and the one that may be meant.
 fn key_text(alloc: Global, key: &str, meant: Option<&str>) -> Result<String, AllocError> {
     let mut text = String::from_str(alloc, "this is ")?;
     push_quoted(&mut text, key)?;

@@ -190,7 +190,7 @@ fn lineage_below(level: u8, lineage: [u64; 4], id: u64) -> [u64; 4]
     }
 }
 
-/// The path of a child: the order numbers of those above it, and its own; none is behind it.
+/// The path of a child: the order numbers of those above it and its own, filled up with the greatest number.
 fn path_below(level: u8, path: [u64; 4], order: u64) -> [u64; 4]
     ensures { result ≡ path_under level path order }
 {

@@ -6,7 +6,7 @@ use Rattle.cancel_view.specs.Seen.{Seen, has}
 use Rattle.task_steps.specs.declared.entry.Entry.{Entry}
 use Rattle.task_steps.specs.Book.{sees, replies_next}
 use Rattle.task_steps.specs.declared.stage.Stage.{Stage}
-use Rattle.task_steps.specs.BookInside.{IsListed, AreListed, IsListedOnce, AreListedOnce, heeds, heeding, is_fresh, is_heeded}
+use Rattle.task_steps.specs.BookInside.{IsListed, AreListed, IsListedOnce, AreListedOnce, heeds, is_fresh, is_heeded}
 use Rattle.task_steps.specs.Polls.{all_shown, comes, comes_once, owes_reply}
 use Rattle.task_steps.proofs.Quiet.{or-left, or-right}
 

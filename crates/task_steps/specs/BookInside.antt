@@ -139,8 +139,8 @@ AreListedOnce cs (e ∷ es) = IsListedOnce cs e.run.stage e.cancel e.run.cancell
 -- its entries, in start order
 abbrev pub entries_of : Tasks → List Entry
 entries_of Gone = []
-entries_of (One e) = e.value ∷ []
-entries_of (Two' mark p a q b) = entries_of a ++ entries_of b
+entries_of (One e) = e ∷ []
+entries_of (Two' first p a rest q b) = entries_of a ++ entries_of b
 
 -- what is known of some entries
 abbrev pub mark_of : List Entry → Mark
@@ -150,11 +150,11 @@ mark_of es = record { wake = wake_of_all es; heeds = list_any heeds es }
 abbrev pub joined_mark : Mark → Mark → Mark
 joined_mark a b = record { wake = sooner a.wake b.wake; heeds = a.heeds || b.heeds }
 
--- each node's mark is that of the entries below it
+-- each node's marks are those of the entries on its sides
 abbrev pub IsMarked : Tasks → Type 0
 IsMarked Gone = Unit {0}
 IsMarked (One e) = Unit {0}
-IsMarked (Two' mark p a q b) = (mark ≡ mark_of (entries_of a ++ entries_of b)) × IsMarked a × IsMarked b
+IsMarked (Two' first p a rest q b) = (first ≡ mark_of (entries_of a)) × (rest ≡ mark_of (entries_of b)) × IsMarked a × IsMarked b
 
 -- no entry of a mark wakes in a round, or heeds what may have come
 abbrev pub IsQuiet : Round → Mark → Type 0

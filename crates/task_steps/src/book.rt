@@ -139,10 +139,9 @@ impl TaskBook {
         ensures err { OnErr result (exhausted self.new ≡ exhausted self.old) }
     {
         let entry = new_entry(spec, ctx, tick, self.next, self.tick_us)?;
-        let one = Tasks::One(Box::new(self.alloc, entry)?);
         heed(&mut self.heeded, spec.cancel)?;
         let mut tasks = mem::replace(&mut self.tasks, Tasks::Gone);
-        tasks.append(self.alloc, self.next.trailing_ones(), one)?;
+        tasks.append(self.alloc, self.next.trailing_ones(), Tasks::One(entry))?;
         self.tasks = tasks;
         self.next += 1;
         self.last = Some(tick);
@@ -192,7 +191,8 @@ impl TaskBook {
             came: some_came(first_of(&self.heeded, self.of_polled), view),
         };
         let mut tasks = mem::replace(&mut self.tasks, Tasks::Gone);
-        let Ok(()) = tasks.poll(Place::Before, round, view, &mut replies, &mut late) else {
+        let mark = tasks.mark();
+        let Ok(_) = tasks.poll(mark, Place::Before, round, view, &mut replies, &mut late) else {
             self.exhaust();
             return Err(BookFault::OutOfMemory);
         };
@@ -258,7 +258,7 @@ impl TaskBook {
         ensures { result ≡ list_any (replies_next view.now) self.now.tasks }
     {
         if some_came(&self.heeded, view) {
-            return self.tasks.reply_next(view);
+            return self.tasks.reply_next(self.tasks.mark(), view);
         }
         false
     }

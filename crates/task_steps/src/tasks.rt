@@ -1,5 +1,5 @@
-//! Tasks in start order, in a tree whose nodes have a mark of all tasks below, so that a poll looks at those alone that wake or are cancelled.
-ghost use Rattle.std.specs.Prelude.{◌≡◌, ◌+◌, ◌<◌, ◌++◌, [], IsOk, IfOk, OnOk, IfSome, IfNone, false, true, IsTrue, ◌↔◌, map};
+//! Tasks in start order, in a tree whose nodes have a mark of the tasks on each side, so that a poll goes to those alone that wake or are cancelled.
+ghost use Rattle.std.specs.Prelude.{◌≡◌, ◌+◌, ◌<◌, ◌++◌, ◌∷◌, [], IsOk, IfOk, OnOk, IfSome, IfNone, false, true, IsTrue, ◌↔◌, map};
 ghost use Rattle.std.specs.List.{list_any};
 ghost use Rattle.task_steps.specs.BookInside.{entries_of, mark_of, joined_mark, shown, IsMarked, IsQuiet};
 ghost use Rattle.task_steps.specs.Wake.{sooner};
@@ -42,6 +42,27 @@ pub(crate) struct Round {
 }
 
 impl Mark {
+    /// The mark of no task.
+    fn of_none() -> Mark
+        ensures { result ≡ mark_of [] }
+    {
+        Mark {
+            wake: None,
+            heeds: false,
+        }
+    }
+
+    /// The mark of one task.
+    #[tactic(auto, using(crate::proofs::Marks::mark_one))]
+    fn of_one(entry: &Entry) -> Mark
+        ensures { result ≡ mark_of (entry.now ∷ []) }
+    {
+        Mark {
+            wake: entry.wake(),
+            heeds: entry.heeds(),
+        }
+    }
+
     /// The mark of two lists of tasks together.
     pub(crate) fn join(&self, other: Mark) -> Mark
         ensures { result ≡ joined_mark self.now other }
@@ -69,10 +90,13 @@ impl Mark {
 pub(crate) enum Tasks {
     /// No task, or none any more.
     Gone,
-    One(Box<Entry>),
+    One(Entry),
     Two {
-        mark: Mark,
+        /// The mark of the left tasks, so that nobody goes there for it.
+        first: Mark,
         left: Box<Tasks>,
+        /// The mark of the right ones.
+        rest: Mark,
         right: Box<Tasks>,
     },
 }
@@ -94,10 +118,16 @@ fn two(alloc: Global, left: Tasks, right: Tasks) -> Result<Tasks, AllocError>
     ensures entries { IfOk result (λ t. entries_of t ≡ entries_of left ++ entries_of right) }
     ensures marked { IfOk result (λ t. IsMarked t) }
 {
-    let mark = left.mark().join(right.mark());
+    let first = left.mark();
+    let rest = right.mark();
     let left = Box::new(alloc, left)?;
     let right = Box::new(alloc, right)?;
-    Ok(Tasks::Two { mark, left, right })
+    Ok(Tasks::Two {
+        first,
+        left,
+        rest,
+        right,
+    })
 }
 
 /// The same in the boxes that are given, with no node where the first has no task. It takes no memory.
@@ -111,8 +141,14 @@ fn pair(left: Box<Tasks>, right: Box<Tasks>) -> Tasks
     if left.is_gone() {
         return Box::into_inner(right);
     }
-    let mark = left.mark().join(right.mark());
-    Tasks::Two { mark, left, right }
+    let first = left.mark();
+    let rest = right.mark();
+    Tasks::Two {
+        first,
+        left,
+        rest,
+        right,
+    }
 }
 
 /// What stands for two lists of which one has no task; none, and both are left, where a node has to stand. The last trees hang one
@@ -142,21 +178,15 @@ impl Tasks {
     }
 
     /// The mark of all tasks.
-    #[tactic(auto, using(crate::proofs::Marks::mark_one, crate::proofs::Marks::mark_joined))]
+    #[tactic(auto, using(crate::proofs::Marks::mark_joined))]
     pub(crate) fn mark(&self) -> Mark
         requires { IsMarked self.now }
         ensures { result ≡ mark_of (entries_of self.now) }
     {
         match self {
-            Tasks::Gone => Mark {
-                wake: None,
-                heeds: false,
-            },
-            Tasks::One(entry) => Mark {
-                wake: entry.wake(),
-                heeds: entry.heeds(),
-            },
-            Tasks::Two { mark, .. } => *mark,
+            Tasks::Gone => Mark::of_none(),
+            Tasks::One(entry) => Mark::of_one(entry),
+            Tasks::Two { first, rest, .. } => first.join(*rest),
         }
     }
 
@@ -189,55 +219,73 @@ impl Tasks {
         Ok(())
     }
 
-    /// Polls the tasks that wake or may be seen as cancelled, and adds their replies and late numbers. Those that end go.
+    /// Polls the tasks that wake or may be seen as cancelled, and adds their replies and late numbers. Those that end go. With the
+    /// mark that is known of them no look is taken at tasks that are quiet. The answer is their new mark.
     pub(crate) fn poll(
         &mut self,
+        mark: Mark,
         place: Place,
         round: Round,
         view: &View,
         replies: &mut Vec<Reply>,
         late: &mut Vec<u64>,
-    ) -> Result<(), AllocError>
+    ) -> Result<Mark, AllocError>
+        requires known { mark ≡ mark_of (entries_of self.old) }
         requires marked { IsMarked self.old }
         requires can { CanPollAll round.tick round.polled view.now (entries_of self.old) }
         requires came { NoneComes round.came view.now (entries_of self.old) }
         ensures polled { OnOk result (HasPolledAll round.tick round.polled view.now (entries_of self.old) (entries_of self.new) replies.old.items replies.new.items late.old.items late.new.items) }
+        ensures mark { IfOk result (λ m. m ≡ mark_of (entries_of self.new)) }
         ensures marked { OnOk result (IsMarked self.new) }
         ensures none { entries_of self.old ≡ [] → IsOk result }
     {
-        if self.mark().is_quiet(round) {
-            return Ok(());
+        if mark.is_quiet(round) {
+            return Ok(mark);
         }
         match self {
-            Tasks::Gone => {}
+            Tasks::Gone => Ok(mark),
             Tasks::One(entry) => {
-                if !poll_entry(entry, round, view, replies, late)? {
-                    *self = Tasks::Gone;
+                if poll_entry(entry, round, view, replies, late)? {
+                    return Ok(Mark::of_one(entry));
                 }
+                *self = Tasks::Gone;
+                Ok(Mark::of_none())
             }
-            Tasks::Two { mark, left, right } => {
-                left.poll(place, round, view, replies, late)?;
-                right.poll(Place::Within, round, view, replies, late)?;
-                *mark = left.mark().join(right.mark());
+            Tasks::Two {
+                first,
+                left,
+                rest,
+                right,
+            } => {
+                *first = left.poll(*first, place, round, view, replies, late)?;
+                *rest = right.poll(*rest, Place::Within, round, view, replies, late)?;
+                let mark = first.join(*rest);
                 if let Some(tasks) = left_over(place, left, right) {
                     *self = tasks;
                 }
+                Ok(mark)
             }
         }
-        Ok(())
     }
 
-    /// Whether the next poll replies that a task is cancelled.
-    pub(crate) fn reply_next(&self, view: &View) -> bool
+    /// Whether the next poll replies that a task is cancelled, with the mark that is known of the tasks.
+    pub(crate) fn reply_next(&self, mark: Mark, view: &View) -> bool
+        requires known { mark ≡ mark_of (entries_of self.now) }
         requires marked { IsMarked self.now }
         ensures { result ≡ list_any (owes_reply view.now) (entries_of self.now) }
     {
+        if !mark.heeds {
+            return false;
+        }
         match self {
             Tasks::Gone => false,
             Tasks::One(entry) => owes_reply(entry, view),
-            Tasks::Two { mark, left, right } => {
-                mark.heeds && (left.reply_next(view) || right.reply_next(view))
-            }
+            Tasks::Two {
+                first,
+                left,
+                rest,
+                right,
+            } => left.reply_next(*first, view) || right.reply_next(*rest, view),
         }
     }
 }

@@ -103,7 +103,7 @@ fn one_each(alloc: Global, lanes: Vec<LaneState>) -> Result<Vec<Share>, AllocErr
     Ok(shares)
 }
 
-/// Lanes in shares, with empty trays: those of each worker, or each lane by itself where workers take them from a queue.
+/// Deals lanes out in shares, with empty trays: those of each worker, or each lane by itself where workers take them from a queue.
 pub(crate) fn share_out(
     alloc: Global,
     crew: &Crew,

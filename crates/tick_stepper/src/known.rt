@@ -49,7 +49,7 @@ fn tells_otherwise(letter: &Letter) -> bool
     }
 }
 
-/// Whether the lane of a number sent one of these letters.
+/// Whether a lane sent one of the letters of a tick: such a lane is not known to rest.
 fn has_sent(letters: &[Letter], number: u32) -> bool
     ensures { result ≡ has_sent letters.now number }
 {

@@ -1,4 +1,4 @@
-use Rattle.std.proofs.Common.{◌≡◌, ◌∙◌, ◌+◌, Some, Option, ℕ, false, subst, sym, ap, ◌++◌, ◌∷◌, [], rules, List, take}
+use Rattle.std.proofs.Common.{◌≡◌, ◌∙◌, ◌+◌, Some, Option, ℕ, false, subst, sym, ap, ◌++◌, ◌∷◌, [], List, take}
 use Rattle.task_steps.specs.declared.entry.Entry.{Entry}
 use Rattle.task_steps.specs.declared.tasks.Tasks.{Tasks}
 use Rattle.task_steps.specs.Wake.{sooner}
@@ -12,10 +12,9 @@ use Rattle.task_steps.proofs.book.TaskBook.add.Goals as goal
 
 added : (c : goal.After-self-3-1) → entries_of c.append.new.self ≡ entries_of c.self.inside.tasks ++ c.in_ok-entry.entry ∷ []
 added c =
-    let all : entries_of c.append.new.self ≡ entries_of c.replace-tasks.result ++ c.in_ok-new.field-0.value ∷ [] = c.in_ok-append.ensures.entries in
+    let all : entries_of c.append.new.self ≡ entries_of c.replace-tasks.result ++ c.in_ok-entry.entry ∷ [] = c.in_ok-append.ensures.entries in
     let before : c.replace-tasks.result ≡ c.self.inside.tasks = c.replace-tasks.ensures.value in
-    let one : c.in_ok-new.field-0.value ≡ c.in_ok-entry.entry = search rules in
-    all ∙ (ap (λ (x : Tasks). entries_of x ++ c.in_ok-new.field-0.value ∷ []) before ∙ ap (λ (x : Entry). entries_of c.self.inside.tasks ++ x ∷ []) one)
+    all ∙ ap (λ (x : Tasks). entries_of x ++ c.in_ok-entry.entry ∷ []) before
 
 pub invariant_of-self-2 : goal.invariant_of-self-2
 invariant_of-self-2 c =

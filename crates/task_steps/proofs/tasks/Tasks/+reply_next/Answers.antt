@@ -1,16 +1,16 @@
-use Rattle.std.proofs.Common.{◌≡◌, ◌∙◌, ◌++◌, false, ap, sym, subst}
+use Rattle.std.proofs.Common.{◌≡◌, ◌∙◌, Bool, true, false, not, refl, ap, sym}
 use Rattle.std.specs.List.{list_any}
 use Rattle.task_steps.specs.declared.tasks.Mark.{Mark}
-use Rattle.task_steps.specs.declared.tasks.Tasks.{Tasks}
-use Rattle.task_steps.specs.BookInside.{IsMarked, heeds, entries_of}
-use Rattle.task_steps.specs.Polls.{owes_reply}
+use Rattle.task_steps.specs.BookInside.{heeds, entries_of}
 use Rattle.task_steps.proofs.Heeding.{none_heeds, owes_none}
 use Rattle.task_steps.proofs.tasks.Tasks.+reply_next.Goals as goal
 
-pub returns-else-mark : goal.returns-else-mark
-returns-else-mark t c =
-    let es = entries_of c.in-Two.left.value ++ entries_of c.in-Two.right.value in
-    let marked = subst (λ (x : Tasks). IsMarked x) c.in-Two.is c.requires.marked in
-    let none : list_any heeds es ≡ false = sym (ap (λ (m : Mark). m.heeds) marked.0) ∙ c.if-mark.false in
-    let owes : list_any (owes_reply c.args.view.now) (entries_of c.args.self.now) ≡ false = ap (λ (x : Tasks). list_any (owes_reply c.args.view.now) (entries_of x)) c.in-Two.is ∙ owes_none c.args.view.now es (none_heeds c.args.view.now es none) in
-    c.if-mark.false ∙ sym owes
+none : (b : Bool) → not b ≡ true → b ≡ false
+none true h = sym h
+none false h = refl
+
+pub returns-then-not-mark : goal.returns-then-not-mark
+returns-then-not-mark t c =
+    let es = entries_of c.args.self.now in
+    let quiet : list_any heeds es ≡ false = sym (ap (λ (m : Mark). m.heeds) c.requires.known) ∙ none c.args.mark.heeds c.if-not-mark.true in
+    sym (owes_none c.args.view.now es (none_heeds c.args.view.now es quiet))
