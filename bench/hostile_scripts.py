@@ -390,7 +390,6 @@ BY_RULE = {
 # What grows worse though no rule asks for it, and what is looked at each time.
 KNOWN = {
     "ticks beside sources of a cancellable with the mark of a cancelled one": "each tick with a turn, the sources of cancellables 62 from one that was cancelled",
-    "checks of a tree that are begun one by one": "each tick in which a check of a task may see a cancellation, all parts of the task",
 }
 
 

@@ -93,7 +93,7 @@ impl Lane {
         }
     }
 
-    /// The reply that a source of a context holds, and whose it is, as a lane that is not looked at from outside knows it.
+    /// The reply that a source of a context holds until it is dispatched, and whose it is. `LaneState::awaited` hands it out.
     pub(crate) fn awaited(&self, context: u32, id: u64) -> Option<Awaited>
         ensures { result ≡ reply_held context id self.now.replies.items }
     {

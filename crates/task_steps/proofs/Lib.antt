@@ -3,7 +3,9 @@ pub mod Ends
 pub mod Sleeping
 pub mod Parts
 pub mod Known
+pub mod Timelines
 pub mod Runs
+pub mod Foreseen
 pub mod Wakes
 pub mod Replies
 pub mod Nodes

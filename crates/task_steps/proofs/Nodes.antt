@@ -6,4 +6,4 @@ use Rattle.task_steps.specs.declared.tasks.Tasks.{Tasks, Gone, One, Two'}
 abbrev pub nodes : Tasks → ℕ
 nodes Gone = 0
 nodes (One e) = 0
-nodes (Two' first p a rest q b) = nodes a + nodes b + 1
+nodes (Two' p m a n b) = nodes a + nodes b + 1

@@ -139,8 +139,8 @@ AreListedOnce cs (e ∷ es) = IsListedOnce cs e.run.stage e.cancel e.run.cancell
 -- its entries, in start order
 abbrev pub entries_of : Tasks → List Entry
 entries_of Gone = []
-entries_of (One e) = e ∷ []
-entries_of (Two' first p a rest q b) = entries_of a ++ entries_of b
+entries_of (One e) = e.value ∷ []
+entries_of (Two' p m a n b) = entries_of a ++ entries_of b
 
 -- what is known of some entries
 abbrev pub mark_of : List Entry → Mark
@@ -154,7 +154,7 @@ joined_mark a b = record { wake = sooner a.wake b.wake; heeds = a.heeds || b.hee
 abbrev pub IsMarked : Tasks → Type 0
 IsMarked Gone = Unit {0}
 IsMarked (One e) = Unit {0}
-IsMarked (Two' first p a rest q b) = (first ≡ mark_of (entries_of a)) × (rest ≡ mark_of (entries_of b)) × IsMarked a × IsMarked b
+IsMarked (Two' p m a n b) = (m ≡ mark_of (entries_of a)) × (n ≡ mark_of (entries_of b)) × IsMarked a × IsMarked b
 
 -- no entry of a mark wakes in a round, or heeds what may have come
 abbrev pub IsQuiet : Round → Mark → Type 0

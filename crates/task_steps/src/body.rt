@@ -1,26 +1,16 @@
 //! The run of a task's body, which looks at its tree as seldom as it may.
-ghost use Rattle.std.specs.Prelude.{◌≡◌, ◌<◌, ◌≤◌, None, Some, is_some, IfOk, IsTrue, ◌↔◌};
+ghost use Rattle.std.specs.Prelude.{◌≡◌, ◌<◌, ◌≤◌, None, Some, is_some, IfOk, OnOk, IsTrue, ◌↔◌};
 ghost use Rattle.task_steps.specs.Progress.{IsPending, tick_of};
-ghost use Rattle.task_steps.specs.RunInside.{SeesTo};
-ghost use Rattle.task_steps.specs.declared.body.Look.TheVariants.{Now};
 
 use crate::progress::{Moment, Progress, progress_of};
 use crate::stage::{Stage, clear_to, seen_from, set_to};
+use crate::timeline::Timeline;
 use loop_script::{Outcome, TaskTree};
-use std::alloc::AllocError;
+use std::alloc::{AllocError, Global};
 use std::marker::Model;
 
-/// How far a poll looks where it looks at the tree.
-#[derive(Clone, Copy)]
-pub(crate) enum Look {
-    /// To its tick. A body that goes on wakes at the least tick at which a sleep or limit in progress ends.
-    Now,
-    /// As far as it is known what polls will see. A body that goes on wakes at its end, or where a check of it is begun
-    /// before that may still be seen as cancelled, at the first of these.
-    Ahead,
-}
-
-/// A body in progress. It shares its tree with the script, and keeps nothing else that grows with it.
+/// A body in progress. It shares its tree with the script; nothing else that it keeps grows with it, but for the ticks of its checks
+/// where it is polled by looks ahead.
 #[derive(Drop)]
 pub(crate) struct Body {
     tree: TaskTree,
@@ -28,8 +18,10 @@ pub(crate) struct Body {
     stage: Stage,
     clear: Option<u32>,
     cancelled: Option<u32>,
-    /// What the last look at the tree found, of a body that went on.
+    /// What the last poll found, of a body that went on.
     noted: Option<Progress>,
+    /// What it comes to while it is not seen as cancelled, where a look ahead found more than its end.
+    timeline: Option<Box<Timeline>>,
 }
 
 impl Model for Body {
@@ -47,28 +39,7 @@ impl Model for Body {
 
     ghost view = { λ b. record { tree = b.tree; tick_us = b.tick_us; stage = b.stage; clear = b.clear; cancelled = b.cancelled; wake = wake_noted b.noted } };
 
-    ghost invariant = { λ b. IsHeld b.tick_us b.tree b.clear b.cancelled b.stage b.noted };
-}
-
-/// What a poll in a tick asks of a tree that is begun.
-fn moment(look: Look, tick: u32, tick_us: u64, cancelled: Option<u32>) -> Moment
-    ensures told { tick ≤ result.tick }
-    ensures known { result.known ≤ result.tick }
-    ensures sees { SeesTo tick cancelled result }
-    ensures now { look ≡ Now → (result.tick ≡ tick) × (result.known ≡ tick) }
-    ensures rest { (result.tick_us ≡ tick_us) × (result.cancelled ≡ cancelled) }
-{
-    let to = match look {
-        Look::Now => tick,
-        Look::Ahead => u32::MAX,
-    };
-    let known = if cancelled.is_some() { to } else { tick };
-    Moment {
-        tick: to,
-        known,
-        tick_us,
-        cancelled,
-    }
+    ghost invariant = { λ b. IsHeld b.tick_us b.tree b.clear b.cancelled b.stage b.noted b.timeline };
 }
 
 impl Body {
@@ -91,6 +62,7 @@ impl Body {
             clear: None,
             cancelled: None,
             noted: None,
+            timeline: None,
         })
     }
 
@@ -139,49 +111,123 @@ impl Body {
         matches!(self.stage, Stage::Done)
     }
 
-    /// How far it is in the tick that is set: what was noted, where that holds on, or what a look at the tree finds.
-    fn progress(&self, begun: u32, tick: u32, look: Look) -> Progress
+    /// How far it is in the tick that is set: what was noted, where that holds on, or what a look at the tree finds, which asks it no
+    /// further than that tick.
+    fn progress(&self, begun: u32, tick: u32) -> Progress
         requires { self.now.stage ≡ Set begun tick }
         ensures holds { Holds self.now.tick_us self.now.tree begun self.now.clear self.now.cancelled result }
         ensures pending { IsPending tick result }
-        ensures least { look ≡ Now → KeepsLeast self.now → IsLeastAfter self.now.tick_us self.now.tree begun self.now.cancelled tick (Some (tick_of result)) }
+        ensures least { KeepsLeast self.now → IsLeastAfter self.now.tick_us self.now.tree begun self.now.cancelled tick (Some (tick_of result)) }
     {
         match self.noted {
             Some(noted) if noted.holds_on(tick) => noted,
-            _ => {
-                let at = moment(look, tick, self.tick_us, self.cancelled);
-                progress_of(&self.tree, begun, &at)
+            _ => progress_of(&self.tree, begun, &self.moment(tick)),
+        }
+    }
+
+    /// What is asked of its tree by a tick up to which it is known what polls see.
+    fn moment(&self, tick: u32) -> Moment
+        ensures { result ≡ record { tick = tick; tick_us = self.now.tick_us; cancelled = self.now.cancelled } }
+    {
+        Moment {
+            tick,
+            tick_us: self.tick_us,
+            cancelled: self.cancelled,
+        }
+    }
+
+    /// The same, as far ahead as it is known what polls will see: to its end, or to a check of it that is begun before that and may
+    /// still be seen as cancelled. Its tree is asked once, and once more where it is seen as cancelled. After an error it is as before.
+    fn progress_ahead(
+        &mut self,
+        alloc: Global,
+        begun: u32,
+        tick: u32,
+    ) -> Result<Progress, AllocError>
+        requires { self.old.stage ≡ Set begun tick }
+        ensures holds { IfOk result (λ p. Holds self.old.tick_us self.old.tree begun self.old.clear self.old.cancelled p) }
+        ensures pending { IfOk result (λ p. IsPending tick p) }
+        ensures same { self.new ≡ self.old }
+    {
+        if let Some(noted) = self.noted
+            && noted.holds_on(tick)
+        {
+            return Ok(noted);
+        }
+        if self.cancelled.is_some() {
+            self.timeline = None;
+            return Ok(progress_of(&self.tree, begun, &self.moment(u32::MAX)));
+        }
+        if let Some(timeline) = &self.timeline {
+            return Ok(timeline.progress(tick));
+        }
+        let timeline = Timeline::new(alloc, &self.tree, begun, self.tick_us)?;
+        let progress = timeline.progress(tick);
+        if matches!(progress, Progress::Waits(_)) {
+            self.timeline = Some(Box::new(alloc, timeline)?);
+        }
+        Ok(progress)
+    }
+
+    /// Ends the poll of the tick that is set with what it found: the outcome, where the body ends in it, and else that is noted.
+    fn go_on(&mut self, begun: u32, tick: u32, progress: Progress) -> Option<Outcome>
+        requires set { self.old.stage ≡ Set begun tick }
+        requires holds { Holds self.old.tick_us self.old.tree begun self.old.clear self.old.cancelled progress }
+        requires pending { IsPending tick progress }
+        ensures answer { Answered self.old result }
+        ensures stays { self.new ≡ record self.old { stage = stage_after self.old.stage result; wake = self.new.wake } }
+        ensures wakes { WakesLater self.new }
+        ensures end { NoneBefore self.new self.new.wake }
+        ensures least { IsLeastAfter self.old.tick_us self.old.tree begun self.old.cancelled tick (Some (tick_of progress)) → KeepsLeast self.new }
+    {
+        match progress.come_by(tick) {
+            Some(outcome) => {
+                self.stage = Stage::Done;
+                self.noted = None;
+                Some(outcome)
+            }
+            None => {
+                self.stage = Stage::Polled { begun, tick };
+                self.noted = Some(progress);
+                None
             }
         }
     }
 
-    /// The outcome, where the body ends in the tick that was set; none where it is pending. Before its wake, and at an end
-    /// that was known before, that costs the same however large the tree is.
-    pub(crate) fn poll(&mut self, look: Look) -> Option<Outcome>
+    /// The outcome, where the body ends in the tick that was set. Before its wake that costs the same however large the tree is; it
+    /// wakes at the least tick at which a sleep or limit in progress ends.
+    pub(crate) fn poll(&mut self) -> Option<Outcome>
         requires { IsSet self.old.stage }
         ensures answer { Answered self.old result }
         ensures stays { self.new ≡ record self.old { stage = stage_after self.old.stage result; wake = self.new.wake } }
         ensures wakes { WakesLater self.new }
         ensures end { NoneBefore self.new self.new.wake }
-        ensures least { look ≡ Now → KeepsLeast self.old → KeepsLeast self.new }
+        ensures least { KeepsLeast self.old → KeepsLeast self.new }
     {
         match self.stage {
             Stage::Set { begun, tick } => {
-                let progress = self.progress(begun, tick, look);
-                match progress.come_by(tick) {
-                    Some(outcome) => {
-                        self.stage = Stage::Done;
-                        self.noted = None;
-                        Some(outcome)
-                    }
-                    None => {
-                        self.stage = Stage::Polled { begun, tick };
-                        self.noted = Some(progress);
-                        None
-                    }
-                }
+                let progress = self.progress(begun, tick);
+                self.go_on(begun, tick, progress)
             }
             _ => None,
+        }
+    }
+
+    /// The same by a look ahead: it wakes at its end, or where a check of it is begun before that may still be seen as cancelled, at the
+    /// first of these. After an error nothing is known of it.
+    pub(crate) fn poll_ahead(&mut self, alloc: Global) -> Result<Option<Outcome>, AllocError>
+        requires { IsSet self.old.stage }
+        ensures answer { IfOk result (λ r. Answered self.old r) }
+        ensures stays { IfOk result (λ r. self.new ≡ record self.old { stage = stage_after self.old.stage r; wake = self.new.wake }) }
+        ensures wakes { OnOk result (WakesLater self.new) }
+        ensures end { OnOk result (NoneBefore self.new self.new.wake) }
+    {
+        match self.stage {
+            Stage::Set { begun, tick } => {
+                let progress = self.progress_ahead(alloc, begun, tick)?;
+                Ok(self.go_on(begun, tick, progress))
+            }
+            _ => Ok(None),
         }
     }
 

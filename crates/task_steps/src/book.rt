@@ -138,7 +138,7 @@ impl TaskBook {
         ensures ok { OnOk result (self.new ≡ with_task spec.now ctx tick self.old) }
         ensures err { OnErr result (exhausted self.new ≡ exhausted self.old) }
     {
-        let entry = new_entry(spec, ctx, tick, self.next, self.tick_us)?;
+        let entry = new_entry(self.alloc, spec, ctx, tick, self.next, self.tick_us)?;
         heed(&mut self.heeded, spec.cancel)?;
         let mut tasks = mem::replace(&mut self.tasks, Tasks::Gone);
         tasks.append(self.alloc, self.next.trailing_ones(), Tasks::One(entry))?;
@@ -186,6 +186,7 @@ impl TaskBook {
         let mut replies = Vec::new(alloc);
         let mut late = Vec::new(alloc);
         let round = Round {
+            alloc: self.alloc,
             tick,
             polled: self.polled,
             came: some_came(first_of(&self.heeded, self.of_polled), view),

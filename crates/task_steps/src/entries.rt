@@ -8,24 +8,24 @@ ghost use Rattle.task_steps.specs.declared.stage.Stage.TheVariants.{Fresh};
 use crate::body::Body;
 use crate::entry::Entry;
 use loop_script::TaskSpec;
-use std::alloc::AllocError;
+use std::alloc::{AllocError, Global};
 
 /// A task that is first polled in the tick after the given one.
 pub(crate) fn new_entry(
+    alloc: Global,
     spec: &TaskSpec,
     ctx: u32,
     tick: u32,
     number: u64,
     tick_us: u64,
-) -> Result<Entry, AllocError>
+) -> Result<Box<Entry>, AllocError>
     requires some { 0 < tick_us }
     requires short { tick_us ≤ longest_tick }
     requires tick { tick < tick_end }
-    ensures task { IfOk result (λ e. task_of e ≡ started tick_us number spec.now ctx tick) }
-    ensures stage { IfOk result (λ e. e.run.stage ≡ Fresh) }
+    ensures task { IfOk result (λ e. task_of e.value ≡ started tick_us number spec.now ctx tick) }
+    ensures stage { IfOk result (λ e. e.value.run.stage ≡ Fresh) }
 {
-    let run = Body::new(&spec.tree, tick_us)?;
-    Ok(Entry {
+    let entry = Entry {
         number,
         ctx,
         first: tick + 1,
@@ -34,6 +34,7 @@ pub(crate) fn new_entry(
         cancel: spec.cancel,
         check: spec.check,
         return_on_cancel: spec.return_on_cancel,
-        run,
-    })
+        run: Body::new(&spec.tree, tick_us)?,
+    };
+    Ok(Box::new(alloc, entry)?)
 }

@@ -13,6 +13,7 @@ mod progress;
 mod run;
 mod stage;
 mod tasks;
+mod timeline;
 
 pub use book::{BookFault, Polled, TaskBook};
 pub use entry::Reply;

@@ -21,7 +21,7 @@ pub struct TaskShown {
     /// Whether it has replied already: it returns on cancel, and a poll saw it as cancelled.
     pub replied: bool,
     /// The tick of its first poll, where that has not come, and else one before which its body does not end, whatever may
-    /// come: its end, or where a check of it is begun before that may still be seen as cancelled, the first of these.
+    /// come: its end, or a tick before that in which a check of its tree may be begun and seen as cancelled.
     pub wake: Option<u64>,
 }
 
@@ -49,9 +49,9 @@ impl Tasks {
         match self {
             Tasks::Gone => {}
             Tasks::One(entry) => list.push(entry.show())?,
-            Tasks::Two { left, right, .. } => {
-                left.show(list)?;
-                right.show(list)?;
+            Tasks::Two(sides) => {
+                sides.left.show(list)?;
+                sides.right.show(list)?;
             }
         }
         Ok(())

@@ -4,7 +4,7 @@ ghost use Rattle.loop_script.specs.Bounds.{longest_tick, longest_time};
 ghost use Rattle.loop_script.specs.Tree.{Tree, sleep, check, both, first, within};
 ghost use Rattle.loop_script.specs.Units.{Tick, Microseconds};
 ghost use Rattle.task_steps.specs.End.{both_of, checked, seen, ticks_of};
-ghost use Rattle.task_steps.specs.Progress.{EndsIn, IsKnown, IsPending, IsProgress, come_by, ok_at, tick_of};
+ghost use Rattle.task_steps.specs.Progress.{EndsIn, IsKnown, IsPending, IsProgress, both_progress, come_by, first_progress, ok_at, tick_of, within_progress};
 
 use loop_script::{Node, Outcome, TaskTree};
 
@@ -19,7 +19,7 @@ pub(crate) enum Progress {
 
 impl Progress {
     /// The tick in which it ended, if with ok.
-    fn ok_at(self) -> Option<u32>
+    pub(crate) fn ok_at(self) -> Option<u32>
         ensures { result ≡ ok_at self }
     {
         match self {
@@ -72,18 +72,16 @@ impl Progress {
 /// What is asked of a tree, and what is known of its cancellable.
 #[derive(Clone, Copy)]
 pub(crate) struct Moment {
-    /// The tick by which it is asked how far the tree is, now or ahead.
+    /// The tick by which it is asked how far the tree is, now or ahead. It is known what polls up to it see.
     pub tick: u32,
-    /// Up to which tick it is known what polls see, no later one. A check that is begun later is waited for.
-    pub known: u32,
     /// How many microseconds a tick has.
     pub tick_us: u64,
-    /// From which tick on its cancellable was seen as cancelled.
+    /// From which tick on they see its cancellable as cancelled.
     pub cancelled: Option<u32>,
 }
 
 /// How many ticks a sleep or a limit of a task takes: its time, rounded up.
-fn wait_ticks(us: u64, tick_us: u64) -> u64
+pub(crate) fn wait_ticks(us: u64, tick_us: u64) -> u64
     requires us { us ≤ longest_time }
     requires some { 0 < tick_us }
     requires short { tick_us ≤ longest_tick }
@@ -125,13 +123,12 @@ fn both_of(a: Outcome, b: Outcome) -> Outcome
 }
 
 /// How far a sleep is.
-fn slept(begun: u32, us: u64, at: &Moment) -> Progress
+pub(crate) fn slept(begun: u32, us: u64, at: &Moment) -> Progress
     requires us { us ≤ longest_time }
     requires some { 0 < at.now.tick_us }
     requires short { at.now.tick_us ≤ longest_tick }
-    requires known { at.now.known ≤ at.now.tick }
     ensures now { IsProgress at.now.tick_us (sleep us) begun at.now.cancelled at.now.tick result }
-    ensures ahead { IsKnown at.now.tick_us (sleep us) begun at.now.cancelled at.now.known at.now.tick result }
+    ensures ahead { IsKnown at.now.tick_us (sleep us) begun at.now.cancelled at.now.tick at.now.tick result }
 {
     let end = u64::from(begun) + wait_ticks(us, at.tick_us);
     if end <= u64::from(at.tick) {
@@ -145,23 +142,20 @@ fn slept(begun: u32, us: u64, at: &Moment) -> Progress
 }
 
 /// How far a check is.
-fn asked(begun: u32, at: &Moment) -> Progress
+pub(crate) fn asked(begun: u32, at: &Moment) -> Progress
     requires begun { begun ≤ at.now.tick }
-    ensures now { at.now.tick ≤ at.now.known → IsProgress at.now.tick_us check begun at.now.cancelled at.now.tick result }
-    ensures ahead { IsKnown at.now.tick_us check begun at.now.cancelled at.now.known at.now.tick result }
+    ensures now { IsProgress at.now.tick_us check begun at.now.cancelled at.now.tick result }
+    ensures ahead { IsKnown at.now.tick_us check begun at.now.cancelled at.now.tick at.now.tick result }
 {
-    if begun <= at.known {
-        Progress::Ended {
-            tick: begun,
-            outcome: checked(is_seen(at.cancelled, begun)),
-        }
-    } else {
-        Progress::Waits(u64::from(begun))
+    Progress::Ended {
+        tick: begun,
+        outcome: checked(is_seen(at.cancelled, begun)),
     }
 }
 
 /// How far two parts are that are both waited for.
-fn joined(one: Progress, other: Progress) -> Progress
+pub(crate) fn joined(one: Progress, other: Progress) -> Progress
+    ensures is { result ≡ both_progress one other }
     ensures now { (tick_us : Microseconds) (a b : Tree) (f tick : Tick) (c : Option Tick) → IsProgress tick_us a f c tick one → IsProgress tick_us b f c tick other → IsProgress tick_us (both a b) f c tick result }
     ensures ahead { (tick_us : Microseconds) (a b : Tree) (f known tick : Tick) (c : Option Tick) → IsKnown tick_us a f c known tick one → IsKnown tick_us b f c known tick other → IsKnown tick_us (both a b) f c known tick result }
 {
@@ -185,7 +179,8 @@ fn joined(one: Progress, other: Progress) -> Progress
 }
 
 /// How far two parts are of which the earlier end counts, the first where both end in a tick.
-fn earlier(one: Progress, other: Progress) -> Progress
+pub(crate) fn earlier(one: Progress, other: Progress) -> Progress
+    ensures is { result ≡ first_progress one other }
     ensures now { (tick_us : Microseconds) (a b : Tree) (f tick : Tick) (c : Option Tick) → IsProgress tick_us a f c tick one → IsProgress tick_us b f c tick other → IsProgress tick_us (first a b) f c tick result }
     ensures ahead { (tick_us : Microseconds) (a b : Tree) (f known tick : Tick) (c : Option Tick) → IsKnown tick_us a f c known tick one → IsKnown tick_us b f c known tick other → IsKnown tick_us (first a b) f c known tick result }
 {
@@ -204,7 +199,8 @@ fn earlier(one: Progress, other: Progress) -> Progress
 }
 
 /// How far a part is that has a limit.
-fn limited(limit: u64, tick: u32, body: Progress) -> Progress
+pub(crate) fn limited(limit: u64, tick: u32, body: Progress) -> Progress
+    ensures is { result ≡ within_progress limit tick body }
     ensures now { (tick_us us : Microseconds) (a : Tree) (f : Tick) (c : Option Tick) → limit ≡ f + ticks_of tick_us us → IsProgress tick_us a f c tick body → IsProgress tick_us (within us a) f c tick result }
     ensures ahead { (tick_us us : Microseconds) (a : Tree) (f known : Tick) (c : Option Tick) → limit ≡ f + ticks_of tick_us us → known ≤ tick → IsKnown tick_us a f c known tick body → IsKnown tick_us (within us a) f c known tick result }
 {
@@ -226,9 +222,8 @@ pub(crate) fn progress_of(tree: &TaskTree, begun: u32, at: &Moment) -> Progress
     requires some { 0 < at.now.tick_us }
     requires short { at.now.tick_us ≤ longest_tick }
     requires begun { begun ≤ at.now.tick }
-    requires known { at.now.known ≤ at.now.tick }
-    ensures now { at.now.tick ≤ at.now.known → IsProgress at.now.tick_us tree.now begun at.now.cancelled at.now.tick result }
-    ensures ahead { IsKnown at.now.tick_us tree.now begun at.now.cancelled at.now.known at.now.tick result }
+    ensures now { IsProgress at.now.tick_us tree.now begun at.now.cancelled at.now.tick result }
+    ensures ahead { IsKnown at.now.tick_us tree.now begun at.now.cancelled at.now.tick at.now.tick result }
 {
     match &tree.node {
         Node::Value(value) => Progress::Ended {

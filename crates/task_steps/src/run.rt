@@ -1,7 +1,7 @@
 //! The run of one task alone, by public calls, without a book.
 ghost use Rattle.std.specs.Prelude.{◌≡◌, ℕ, ◌+◌, ◌<◌, ◌≤◌, None, IfOk, IsTrue, ◌↔◌};
 
-use crate::body::{Body, Look};
+use crate::body::Body;
 use loop_script::{Outcome, TaskTree};
 use std::alloc::{AllocError, Global};
 use std::marker::Model;
@@ -75,7 +75,7 @@ impl TaskRun {
         ensures wakes { WakesLater self.new }
         ensures end { NoneBefore self.new self.new.wake }
     {
-        self.body.poll(Look::Now)
+        self.body.poll()
     }
 
     /// The least tick at which a sleep or limit in progress ends; none for a done one. The task ends in none before it.

@@ -34,6 +34,7 @@ pub(crate) struct Mark {
 /// A poll of all tasks.
 #[derive(Clone, Copy)]
 pub(crate) struct Round {
+    pub alloc: Global,
     pub tick: u32,
     /// The tick of the last poll of all.
     pub polled: Option<u32>,
@@ -86,19 +87,23 @@ impl Mark {
 }
 
 /// Tasks in start order. A node is as high as the logarithm of the number of the tasks that were added below it.
+#[cycle(tasks)]
 #[derive(Drop)]
 pub(crate) enum Tasks {
     /// No task, or none any more.
     Gone,
-    One(Entry),
-    Two {
-        /// The mark of the left tasks, so that nobody goes there for it.
-        first: Mark,
-        left: Box<Tasks>,
-        /// The mark of the right ones.
-        rest: Mark,
-        right: Box<Tasks>,
-    },
+    One(Box<Entry>),
+    Two(Box<Sides>),
+}
+
+/// The tasks on the two sides of a node, each with its mark, so that nobody goes to a side for it.
+#[cycle(tasks)]
+#[derive(Drop)]
+pub(crate) struct Sides {
+    left_mark: Mark,
+    pub left: Tasks,
+    right_mark: Mark,
+    pub right: Tasks,
 }
 
 /// Where a tree of tasks stands.
@@ -111,61 +116,55 @@ pub(crate) enum Place {
 }
 
 /// Two lists of tasks as one.
-#[tactic(auto, using(crate::proofs::Marks::mark_joined))]
 fn two(alloc: Global, left: Tasks, right: Tasks) -> Result<Tasks, AllocError>
     requires left { IsMarked left }
     requires right { IsMarked right }
     ensures entries { IfOk result (λ t. entries_of t ≡ entries_of left ++ entries_of right) }
     ensures marked { IfOk result (λ t. IsMarked t) }
 {
-    let first = left.mark();
-    let rest = right.mark();
-    let left = Box::new(alloc, left)?;
-    let right = Box::new(alloc, right)?;
-    Ok(Tasks::Two {
-        first,
+    let sides = Sides {
+        left_mark: left.mark(),
         left,
-        rest,
+        right_mark: right.mark(),
         right,
-    })
+    };
+    Ok(Tasks::Two(Box::new(alloc, sides)?))
 }
 
-/// The same in the boxes that are given, with no node where the first has no task. It takes no memory.
-#[tactic(auto, using(crate::proofs::Marks::mark_joined))]
-fn pair(left: Box<Tasks>, right: Box<Tasks>) -> Tasks
-    requires left { IsMarked left.value }
-    requires right { IsMarked right.value }
-    ensures entries { entries_of result ≡ entries_of left.value ++ entries_of right.value }
+/// The tasks on the right side of a node, with others behind them, in that node; those others alone, where it has none there. It takes
+/// no memory.
+fn moved_up(mut sides: Box<Sides>, tasks: Tasks) -> Tasks
+    requires right { IsMarked sides.value.right }
+    requires mark { sides.value.right_mark ≡ mark_of (entries_of sides.value.right) }
+    requires tasks { IsMarked tasks }
+    ensures entries { entries_of result ≡ entries_of sides.value.right ++ entries_of tasks }
     ensures marked { IsMarked result }
 {
-    if left.is_gone() {
-        return Box::into_inner(right);
+    if sides.right.is_gone() {
+        return tasks;
     }
-    let first = left.mark();
-    let rest = right.mark();
-    Tasks::Two {
-        first,
-        left,
-        rest,
-        right,
-    }
+    sides.left_mark = sides.right_mark;
+    sides.right_mark = tasks.mark();
+    sides.left = mem::replace(&mut sides.right, tasks);
+    Tasks::Two(sides)
 }
 
-/// What stands for two lists of which one has no task; none, and both are left, where a node has to stand. The last trees hang one
-/// below the other on nodes that `append` counts: such a node goes only with both of its sides.
-fn left_over(place: Place, left: &mut Tasks, right: &mut Tasks) -> Option<Tasks>
-    requires left { IsMarked left.old }
-    requires right { IsMarked right.old }
-    ensures entries { IfSome result (λ t. entries_of t ≡ entries_of left.old ++ entries_of right.old) }
-    ensures marked { IfSome result (λ t. IsMarked t) }
-    ensures same_left { IfNone result (left.new ≡ left.old) }
-    ensures same_right { IfNone result (right.new ≡ right.old) }
-{
-    match (place, left.is_gone(), right.is_gone()) {
-        (_, true, true) => Some(Tasks::Gone),
-        (Place::Within, true, false) => Some(mem::replace(right, Tasks::Gone)),
-        (Place::Within, false, true) => Some(mem::replace(left, Tasks::Gone)),
-        _ => None,
+impl Sides {
+    /// What stands for a node of which a side has no task; none, and the node stays, where it has to stand. The last trees hang one
+    /// below the other on nodes that `append` counts: such a node goes only with both of its sides.
+    fn left_over(&mut self, place: Place) -> Option<Tasks>
+        requires left { IsMarked self.old.left }
+        requires right { IsMarked self.old.right }
+        ensures entries { IfSome result (λ t. entries_of t ≡ entries_of self.old.left ++ entries_of self.old.right) }
+        ensures marked { IfSome result (λ t. IsMarked t) }
+        ensures same { IfNone result (self.new ≡ self.old) }
+    {
+        match (place, self.left.is_gone(), self.right.is_gone()) {
+            (_, true, true) => Some(Tasks::Gone),
+            (Place::Within, true, false) => Some(mem::replace(&mut self.right, Tasks::Gone)),
+            (Place::Within, false, true) => Some(mem::replace(&mut self.left, Tasks::Gone)),
+            _ => None,
+        }
     }
 }
 
@@ -186,7 +185,7 @@ impl Tasks {
         match self {
             Tasks::Gone => Mark::of_none(),
             Tasks::One(entry) => Mark::of_one(entry),
-            Tasks::Two { first, rest, .. } => first.join(*rest),
+            Tasks::Two(sides) => sides.left_mark.join(sides.right_mark),
         }
     }
 
@@ -205,13 +204,9 @@ impl Tasks {
         ensures marked { OnOk result (IsMarked self.new) }
     {
         match mem::replace(self, Tasks::Gone) {
-            Tasks::Two {
-                mut left,
-                right,
-                ..
-            } if trees > 0 => {
-                let mut before = mem::replace(&mut *left, tasks);
-                before.append(alloc, trees - 1, pair(right, left))?;
+            Tasks::Two(mut sides) if trees > 0 => {
+                let mut before = mem::replace(&mut sides.left, Tasks::Gone);
+                before.append(alloc, trees - 1, moved_up(sides, tasks))?;
                 *self = before;
             }
             before => *self = two(alloc, before, tasks)?,
@@ -251,16 +246,18 @@ impl Tasks {
                 *self = Tasks::Gone;
                 Ok(Mark::of_none())
             }
-            Tasks::Two {
-                first,
-                left,
-                rest,
-                right,
-            } => {
-                *first = left.poll(*first, place, round, view, replies, late)?;
-                *rest = right.poll(*rest, Place::Within, round, view, replies, late)?;
-                let mark = first.join(*rest);
-                if let Some(tasks) = left_over(place, left, right) {
+            Tasks::Two(sides) => {
+                let node = &mut **sides;
+                let Sides {
+                    left_mark,
+                    left,
+                    right_mark,
+                    right,
+                } = node;
+                *left_mark = left.poll(*left_mark, place, round, view, replies, late)?;
+                *right_mark = right.poll(*right_mark, Place::Within, round, view, replies, late)?;
+                let mark = left_mark.join(*right_mark);
+                if let Some(tasks) = node.left_over(place) {
                     *self = tasks;
                 }
                 Ok(mark)
@@ -280,12 +277,10 @@ impl Tasks {
         match self {
             Tasks::Gone => false,
             Tasks::One(entry) => owes_reply(entry, view),
-            Tasks::Two {
-                first,
-                left,
-                rest,
-                right,
-            } => left.reply_next(*first, view) || right.reply_next(*rest, view),
+            Tasks::Two(sides) => {
+                sides.left.reply_next(sides.left_mark, view)
+                    || sides.right.reply_next(sides.right_mark, view)
+            }
         }
     }
 }

@@ -13,6 +13,8 @@ use Rattle.loop_script.specs.contracts.tree.TaskTree as Tree
 use Rattle.loop_script.specs.contracts.action.Action as Action
 use Rattle.loop_script.specs.contracts.script.Script as Script
 use Rattle.task_steps.proofs.tasks.Tasks.TheLaws.TheKnot.{crosses as tasks}
+use Rattle.task_steps.specs.contracts.body.Body as Body
+use Rattle.task_steps.specs.contracts.timeline.Timeline as Timeline
 use Rattle.task_steps.specs.contracts.book.TaskBook as Book
 use Rattle.cancel_view.specs.contracts.handlers.Handlers as Handlers
 use Rattle.cancel_view.specs.contracts.view.View as View
@@ -66,8 +68,14 @@ tree_send = search (trees, sendable, crosses) depth 40
 pub tree_sync : IsSync Tree.the_row
 tree_sync = search (trees, sendable, crosses) depth 40
 
+timeline_send : IsSend Timeline.the_row
+timeline_send = search (sendable, crosses) depth 40
+
+body_send : IsSend Body.the_row
+body_send = search (timeline_send, trees, sendable, crosses) depth 60 fits 10000
+
 book_send : IsSend Book.the_row
-book_send = search (tasks, trees, sendable, crosses) depth 100 fits 20000
+book_send = search (tasks, body_send, trees, sendable, crosses) depth 100 fits 20000
 
 handlers_send : IsSend Handlers.the_row
 handlers_send = search (BTreeMap-send, sendable, crosses) depth 60 fits 10000

@@ -1,9 +1,11 @@
-use Rattle.std.proofs.Common.{◌≡◌, ◌∙◌, ◌++◌, ◌+◌, ℕ, Option, List, ap, sym, subst, arith, rules}
+use Rattle.std.proofs.Common.{Box, Global, ◌≡◌, ◌∙◌, ◌++◌, ◌+◌, ℕ, Option, List, ap, sym, subst, arith, rules}
 use Rattle.cancel_view.specs.Seen.{Seen}
 use Rattle.task_steps.specs.declared.entry.Reply.{Reply}
 use Rattle.task_steps.specs.declared.entry.Entry.{Entry}
 use Rattle.task_steps.specs.declared.tasks.Mark.{Mark}
-use Rattle.task_steps.specs.declared.tasks.Tasks.{Tasks}
+use Rattle.task_steps.specs.declared.tasks.Round.{Round}
+use Rattle.task_steps.specs.declared.tasks.Sides.{Sides}
+use Rattle.task_steps.specs.declared.tasks.Tasks.{Tasks, Two}
 use Rattle.task_steps.specs.BookInside.{entries_of, mark_of, joined_mark, IsMarked}
 use Rattle.task_steps.specs.Polls.{CanPollAll, HasPolledAll, NoneComes}
 use Rattle.task_steps.proofs.Nodes.{nodes}
@@ -16,98 +18,75 @@ pub returns-then-is_quiet-clause-polled : goal.returns-then-is_quiet-clause-poll
 returns-then-is_quiet-clause-polled t c =
     passed_quiet c.args.round c.args.view.now c.args.mark (entries_of c.args.self.now) c.args.replies.now.items c.args.late.now.items c.requires.known (c.is_quiet.ensures.0 c.if-is_quiet.true) c.requires.can c.requires.came
 
+-- what is known of a node's sides, where it is known of the node
+pub record AskedOfSides (round : Round) (view : Seen) (node : Tasks) (s : Sides) : Type 0 where
+  pub entries : entries_of node ≡ entries_of s.left ++ entries_of s.right
+  pub all : nodes node ≡ nodes s.left + nodes s.right + 1
+  pub left_mark : s.left_mark ≡ mark_of (entries_of s.left)
+  pub right_mark : s.right_mark ≡ mark_of (entries_of s.right)
+  pub left : IsMarked s.left
+  pub right : IsMarked s.right
+  pub can_left : CanPollAll round.tick round.polled view (entries_of s.left)
+  pub can_right : CanPollAll round.tick round.polled view (entries_of s.right)
+  pub came_left : NoneComes round.came view (entries_of s.left)
+  pub came_right : NoneComes round.came view (entries_of s.right)
+
+asked_of_sides : (round : Round) (view : Seen) (node : Tasks) (b : Box Sides Global) (s : Sides) → node ≡ Two b → s ≡ b.value → IsMarked node → CanPollAll round.tick round.polled view (entries_of node) → NoneComes round.came view (entries_of node) → AskedOfSides round view node s
+asked_of_sides round view node b s is same marked can came =
+    let entries : entries_of node ≡ entries_of s.left ++ entries_of s.right = rw same (ap entries_of is) in
+    let of_sides : IsMarked (Two b) = subst (λ (x : Tasks). IsMarked x) is marked in
+    let both = can_split round.tick round.polled view (entries_of s.left) (entries_of s.right) (subst (λ (l : List Entry). CanPollAll round.tick round.polled view l) entries can) in
+    let came_both = subst (λ (l : List Entry). NoneComes round.came view l) entries came in
+    record {
+      entries = entries;
+      all = rw same (ap nodes is);
+      left_mark = rw same of_sides.0;
+      right_mark = rw same of_sides.1;
+      left = rw same of_sides.2;
+      right = rw same of_sides.3;
+      can_left = both.0;
+      can_right = both.1;
+      came_left = comes_left round.came view (entries_of s.left) (entries_of s.right) came_both;
+      came_right = comes_right round.came view (entries_of s.left) (entries_of s.right) came_both;
+    }
+
 pub poll-requires : goal.poll-requires
 poll-requires t c =
-    let is : entries_of c.args.self.now ≡ entries_of c.in-Two.left.value ++ entries_of c.in-Two.right.value = ap entries_of c.in-Two.is in
-    let same : c.deref_mut.result.now ≡ c.in-Two.left.value = search rules in
-    let all : nodes c.args.self.now ≡ nodes c.in-Two.left.value + nodes c.in-Two.right.value + 1 = ap nodes c.in-Two.is in
-    let marked = subst (λ (x : Tasks). IsMarked x) c.in-Two.is c.requires.marked in
-    let can = subst (λ (l : List Entry). CanPollAll c.args.round.tick c.args.round.polled c.args.view.now l) is c.requires.can in
-    let came = subst (λ (l : List Entry). NoneComes c.args.round.came c.args.view.now l) is c.requires.came in (
-      omega (arith, all, c.decreases, ap nodes same),
-      (
-        rw same marked.0,
-        (
-          subst (λ (x : Tasks). IsMarked x) (sym same) marked.2,
-          (
-            subst (λ (x : Tasks). CanPollAll c.args.round.tick c.args.round.polled c.args.view.now (entries_of x)) (sym same) (can_split c.args.round.tick c.args.round.polled c.args.view.now (entries_of c.in-Two.left.value) (entries_of c.in-Two.right.value) can).0,
-            subst (λ (x : Tasks). NoneComes c.args.round.came c.args.view.now (entries_of x)) (sym same) (comes_left c.args.round.came c.args.view.now (entries_of c.in-Two.left.value) (entries_of c.in-Two.right.value) came),
-          ),
-        ),
-      ),
-    )
+    let a = asked_of_sides c.args.round c.args.view.now c.args.self.now c.in-Two.sides c.deref_mut-node.result.now c.in-Two.is (search rules) c.requires.marked c.requires.can c.requires.came in
+    (omega (arith, a.all, c.decreases), (a.left_mark, (a.left, (a.can_left, a.came_left))))
 
 pub poll-requires-in-Two : goal.poll-requires-in-Two
 poll-requires-in-Two t c =
-    let is : entries_of c.args.self.now ≡ entries_of c.in-Two.left.value ++ entries_of c.in-Two.right.value = ap entries_of c.in-Two.is in
-    let same : c.deref_mut-in-Two.result.now ≡ c.in-Two.right.value = search rules in
-    let all : nodes c.args.self.now ≡ nodes c.in-Two.left.value + nodes c.in-Two.right.value + 1 = ap nodes c.in-Two.is in
-    let marked = subst (λ (x : Tasks). IsMarked x) c.in-Two.is c.requires.marked in
-    let can = subst (λ (l : List Entry). CanPollAll c.args.round.tick c.args.round.polled c.args.view.now l) is c.requires.can in
-    let came = subst (λ (l : List Entry). NoneComes c.args.round.came c.args.view.now l) is c.requires.came in (
-      omega (arith, all, c.decreases, ap nodes same),
-      (
-        rw same marked.1,
-        (
-          subst (λ (x : Tasks). IsMarked x) (sym same) marked.3,
-          (
-            subst (λ (x : Tasks). CanPollAll c.args.round.tick c.args.round.polled c.args.view.now (entries_of x)) (sym same) (can_split c.args.round.tick c.args.round.polled c.args.view.now (entries_of c.in-Two.left.value) (entries_of c.in-Two.right.value) can).1,
-            subst (λ (x : Tasks). NoneComes c.args.round.came c.args.view.now (entries_of x)) (sym same) (comes_right c.args.round.came c.args.view.now (entries_of c.in-Two.left.value) (entries_of c.in-Two.right.value) came),
-          ),
-        ),
-      ),
-    )
+    let a = asked_of_sides c.args.round c.args.view.now c.args.self.now c.in-Two.sides c.deref_mut-node.result.now c.in-Two.is (search rules) c.requires.marked c.requires.can c.requires.came in
+    (omega (arith, a.all, c.decreases), (a.right_mark, (a.right, (a.can_right, a.came_right))))
 
--- what is polled of both sides is polled of a node
-polled_sides : (tick : ℕ) (polled : Option ℕ) (view : Seen) (node left right one other : Tasks) (rs ss us : List Reply) (ls ms ns : List ℕ) → entries_of node ≡ entries_of left ++ entries_of right
-    → HasPolledAll tick polled view (entries_of left) (entries_of one) rs ss ls ms → HasPolledAll tick polled view (entries_of right) (entries_of other) ss us ms ns
-    → HasPolledAll tick polled view (entries_of node) (entries_of one ++ entries_of other) rs us ls ns
-polled_sides tick polled view node left right one other rs ss us ls ms ns is a b =
-    subst (λ (l : List Entry). HasPolledAll tick polled view l (entries_of one ++ entries_of other) rs us ls ns) (sym is) (polled_joined a b)
+-- what is polled of both sides is polled of their node
+polled_node : (tick : ℕ) (polled : Option ℕ) (view : Seen) (node : Tasks) (b : Box Sides Global) (s : Sides) (one other both : List Entry) (rs ss us : List Reply) (ls ms ns : List ℕ) → node ≡ Two b → s ≡ b.value
+    → HasPolledAll tick polled view (entries_of s.left) one rs ss ls ms → HasPolledAll tick polled view (entries_of s.right) other ss us ms ns → both ≡ one ++ other → HasPolledAll tick polled view (entries_of node) both rs us ls ns
+polled_node tick polled view node b s one other both rs ss us ls ms ns is same h k e =
+    let entries : entries_of node ≡ entries_of s.left ++ entries_of s.right = rw same (ap entries_of is) in
+    rw (entries, e) (polled_joined h k)
 
 pub returns-in-Some-clause-polled : goal.returns-in-Some-clause-polled
 returns-in-Some-clause-polled t c =
-    let same : c.deref_mut.result.now ≡ c.in-Two.left.value = search rules in
-    let same_right : c.deref_mut-in-Two.result.now ≡ c.in-Two.right.value = search rules in
-    let is : entries_of c.args.self.now ≡ entries_of c.deref_mut.result.now ++ entries_of c.deref_mut-in-Two.result.now = rw (same, same_right) (ap entries_of c.in-Two.is) in
-    let both = polled_sides c.args.round.tick c.args.round.polled c.args.view.now c.args.self.now c.deref_mut.result.now c.deref_mut-in-Two.result.now c.poll.new.self c.poll-in-Two.new.self
-    c.args.replies.now.items c.poll.new.replies.items c.poll-in-Two.new.replies.items c.args.late.now.items c.poll.new.late.items c.poll-in-Two.new.late.items is c.in_ok-first-in-Two.ensures.polled c.in_ok-rest-in-Two.ensures.polled in
-    let d : c.deref_mut-in-Two-2.result.now ≡ c.poll.new.self = search rules in
-    let e : c.deref_mut-in-Two-3.result.now ≡ c.poll-in-Two.new.self = search rules in
-    let left : entries_of c.in-Some.tasks ≡ entries_of c.deref_mut-in-Two-2.result.now ++ entries_of c.deref_mut-in-Two-3.result.now = c.in-Some.ensures.entries in
-    let over : entries_of c.in-Some.tasks ≡ entries_of c.poll.new.self ++ entries_of c.poll-in-Two.new.self = rw (d, e) at left in
-    subst (λ (l : List Entry). HasPolledAll c.args.round.tick c.args.round.polled c.args.view.now (entries_of c.args.self.now) l c.args.replies.now.items c.poll-in-Two.new.replies.items c.args.late.now.items c.poll-in-Two.new.late.items) (sym over) both
+    polled_node c.args.round.tick c.args.round.polled c.args.view.now c.args.self.now c.in-Two.sides c.deref_mut-node.result.now (entries_of c.poll.new.self) (entries_of c.poll-in-Two.new.self) (entries_of c.in-Some.tasks) _ _ _ _ _ _ c.in-Two.is (search rules)
+    c.in_ok-left_mark-in-Two.ensures.polled c.in_ok-right_mark-in-Two.ensures.polled c.in-Some.ensures.entries
 
 pub returns-in_default-clause-polled : goal.returns-in_default-clause-polled
 returns-in_default-clause-polled t c =
-    let same : c.deref_mut.result.now ≡ c.in-Two.left.value = search rules in
-    let same_right : c.deref_mut-in-Two.result.now ≡ c.in-Two.right.value = search rules in
-    let is : entries_of c.args.self.now ≡ entries_of c.deref_mut.result.now ++ entries_of c.deref_mut-in-Two.result.now = rw (same, same_right) (ap entries_of c.in-Two.is) in
-    let both = polled_sides c.args.round.tick c.args.round.polled c.args.view.now c.args.self.now c.deref_mut.result.now c.deref_mut-in-Two.result.now c.poll.new.self c.poll-in-Two.new.self
-    c.args.replies.now.items c.poll.new.replies.items c.poll-in-Two.new.replies.items c.args.late.now.items c.poll.new.late.items c.poll-in-Two.new.late.items is c.in_ok-first-in-Two.ensures.polled c.in_ok-rest-in-Two.ensures.polled in
-    let d : c.deref_mut-in-Two-2.result.now ≡ c.poll.new.self = search rules in
-    let e : c.deref_mut-in-Two-3.result.now ≡ c.poll-in-Two.new.self = search rules in
-    let left : c.left_over.new.left ≡ c.deref_mut-in-Two-2.result.now = c.in_default.ensures.same_left in
-    let right : c.left_over.new.right ≡ c.deref_mut-in-Two-3.result.now = c.in_default.ensures.same_right in
-    rw (left, d, right, e) both
+    let same = ap (λ (s : Sides). entries_of s.left ++ entries_of s.right) c.in_default.ensures.same in
+    polled_node c.args.round.tick c.args.round.polled c.args.view.now c.args.self.now c.in-Two.sides c.deref_mut-node.result.now (entries_of c.poll.new.self) (entries_of c.poll-in-Two.new.self) (entries_of c.left_over.new.self.left ++ entries_of c.left_over.new.self.right) _ _ _ _ _ _ c.in-Two.is (search rules)
+    c.in_ok-left_mark-in-Two.ensures.polled c.in_ok-right_mark-in-Two.ensures.polled same
 
--- the marks of two sides together are that of both
-both_sides : (first rest both : Mark) (es fs : List Entry) → both ≡ joined_mark first rest → first ≡ mark_of es → rest ≡ mark_of fs → both ≡ mark_of (es ++ fs)
-both_sides first rest both es fs j a b = j ∙ rw (a, b) (sym (mark_joined es fs))
+-- the marks of both sides together are the mark of both
+both_sides : (left right both : Mark) (es fs gs : List Entry) → both ≡ joined_mark left right → left ≡ mark_of es → right ≡ mark_of fs → gs ≡ es ++ fs → both ≡ mark_of gs
+both_sides left right both es fs gs j a b e = j ∙ rw (a, b, e) (sym (mark_joined es fs))
 
 pub returns-in-Some-clause-mark : goal.returns-in-Some-clause-mark
 returns-in-Some-clause-mark t c =
-    let d : c.deref_mut-in-Two-2.result.now ≡ c.poll.new.self = search rules in
-    let e : c.deref_mut-in-Two-3.result.now ≡ c.poll-in-Two.new.self = search rules in
-    let left : entries_of c.in-Some.tasks ≡ entries_of c.deref_mut-in-Two-2.result.now ++ entries_of c.deref_mut-in-Two-3.result.now = c.in-Some.ensures.entries in
-    let over : entries_of c.in-Some.tasks ≡ entries_of c.poll.new.self ++ entries_of c.poll-in-Two.new.self = rw (d, e) at left in
-    let both = both_sides c.in_ok-first-in-Two.field-0 c.in_ok-rest-in-Two.field-0 c.join-mark.result (entries_of c.poll.new.self) (entries_of c.poll-in-Two.new.self) c.join-mark.ensures c.in_ok-first-in-Two.ensures.mark c.in_ok-rest-in-Two.ensures.mark in
-    both ∙ ap mark_of (sym over)
+    both_sides c.in_ok-left_mark-in-Two.field-0 c.in_ok-right_mark-in-Two.field-0 c.join-mark.result (entries_of c.poll.new.self) (entries_of c.poll-in-Two.new.self) (entries_of c.in-Some.tasks) c.join-mark.ensures c.in_ok-left_mark-in-Two.ensures.mark c.in_ok-right_mark-in-Two.ensures.mark c.in-Some.ensures.entries
 
 pub returns-in_default-clause-mark : goal.returns-in_default-clause-mark
 returns-in_default-clause-mark t c =
-    let d : c.deref_mut-in-Two-2.result.now ≡ c.poll.new.self = search rules in
-    let e : c.deref_mut-in-Two-3.result.now ≡ c.poll-in-Two.new.self = search rules in
-    let left : c.left_over.new.left ≡ c.deref_mut-in-Two-2.result.now = c.in_default.ensures.same_left in
-    let right : c.left_over.new.right ≡ c.deref_mut-in-Two-3.result.now = c.in_default.ensures.same_right in
-    rw (left, d, right, e) (both_sides c.in_ok-first-in-Two.field-0 c.in_ok-rest-in-Two.field-0 c.join-mark.result (entries_of c.poll.new.self) (entries_of c.poll-in-Two.new.self) c.join-mark.ensures c.in_ok-first-in-Two.ensures.mark c.in_ok-rest-in-Two.ensures.mark)
+    let same = ap (λ (s : Sides). entries_of s.left ++ entries_of s.right) c.in_default.ensures.same in
+    both_sides c.in_ok-left_mark-in-Two.field-0 c.in_ok-right_mark-in-Two.field-0 c.join-mark.result (entries_of c.poll.new.self) (entries_of c.poll-in-Two.new.self) (entries_of c.left_over.new.self.left ++ entries_of c.left_over.new.self.right) c.join-mark.ensures c.in_ok-left_mark-in-Two.ensures.mark c.in_ok-right_mark-in-Two.ensures.mark same
