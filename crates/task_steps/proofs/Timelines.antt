@@ -8,12 +8,12 @@ use Rattle.loop_script.specs.declared.outcome.Outcome.TheVariants.{TimedOut}
 use Rattle.task_steps.specs.declared.progress.Progress.{Progress}
 use Rattle.task_steps.specs.declared.progress.Progress.TheVariants.{Ended, Waits}
 use Rattle.task_steps.specs.End.{End, end_of, ending, is_ok, joined, earlier, limited, ticks_of}
-use Rattle.task_steps.specs.Progress.{AgreeTo, IsKnown, both_progress, first_progress, within_progress, ok_at, tick_of}
+use Rattle.task_steps.specs.Progress.{EndsIn, AgreeTo, IsKnown, both_progress, first_progress, within_progress, ok_at, tick_of}
 use Rattle.task_steps.specs.Timeline.{IsTimeline, NoneBetween, up_to}
 use Rattle.task_steps.proofs.Begins.{not_sooner}
-use Rattle.task_steps.proofs.Ends.{by_le, by_lt, le_by, lt_by, same-tick, earlier_tick, limited_tick}
+use Rattle.task_steps.proofs.Ends.{by_le, by_lt, le_by, lt_by, same-tick, from_on, earlier_tick, limited_tick}
 use Rattle.task_steps.proofs.Known.{stays_known, goes_known}
-use Rattle.task_steps.proofs.Parts.{same-at}
+use Rattle.task_steps.proofs.Parts.{same-at, first_known}
 
 -- an end is by a tick, and a wait goes beyond it
 abbrev pub IsOver : ℕ → Progress → Type 0
@@ -186,6 +186,31 @@ first_timeline us a b f n ts all p q r h g kept is = record {
       subst (λ (x : Progress). IsKnown us (first a b) f None k n x) same known;
   over = subst (λ (x : Progress). IsKnown us (first a b) f None n n x) (sym is) (known-first us a b f n n p q h.over g.over);
 }
+
+-- the first of them, where it ends where both are begun
+ends-tick : (f : ℕ) (p : Progress) → EndsIn f p → tick_of p ≡ f
+ends-tick f (Ended at o) e = e
+ends-tick f (Waits w) e = absurd e
+
+pub first_alone_timeline : (us : ℕ) (a b : Tree) (f n : ℕ) (ts : List ℕ) (p : Progress) → EndsIn f p → IsTimeline us a f n ts p → IsTimeline us (first a b) f n ts p
+first_alone_timeline us a b f n ts p e h = record {
+  sleeps = λ k w le lt none. split k w lt (nat_le w (tick_of p)) refl (h.sleeps k w le lt none);
+  over = first_known us a b f n n None p e h.over;
+}
+  where
+    at : tick_of p ≡ f
+    at = ends-tick f p e
+
+    split : (k w : ℕ) → k < w → (c : Bool) → nat_le w (tick_of p) ≡ c → IsKnown us a f None k n (cond c (Waits w) p) → IsKnown us (first a b) f None k n (cond c (Waits w) p)
+    split k w lt true hc known =
+        let by : w ≤ tick_of p = le_by w (tick_of p) hc in (
+          lt,
+          record {
+            ends = λ d g. let late : f ≤ (end_of us (first a b) f d).tick = not_sooner us (first a b) f d in omega (arith, at);
+            same = λ c d g i from. from_on us (first a b) f c d (λ t on. from t (omega (arith, at)));
+          },
+        )
+    split k w lt false hc known = first_known us a b f k n None p e known
 
 -- ---- a part that has a limit
 limited-over : (limit : ℕ) (x : End) → limit < x.tick → limited limit x ≡ ending limit TimedOut

@@ -125,19 +125,8 @@ impl Body {
         }
     }
 
-    /// What is asked of its tree by a tick up to which it is known what polls see.
-    fn moment(&self, tick: u32) -> Moment
-        ensures { result ≡ record { tick = tick; tick_us = self.now.tick_us; cancelled = self.now.cancelled } }
-    {
-        Moment {
-            tick,
-            tick_us: self.tick_us,
-            cancelled: self.cancelled,
-        }
-    }
-
-    /// The same, as far ahead as it is known what polls will see: to its end, or to a check of it that is begun before that and may
-    /// still be seen as cancelled. Its tree is asked once, and once more where it is seen as cancelled. After an error it is as before.
+    /// How far it is by a look as far ahead as it is known what polls will see: to its end, or to a check of it that may be begun before
+    /// that and seen as cancelled. Its tree is asked once, and once more where it is seen as cancelled. After an error it is as before.
     fn progress_ahead(
         &mut self,
         alloc: Global,
@@ -167,6 +156,17 @@ impl Body {
             self.timeline = Some(Box::new(alloc, timeline)?);
         }
         Ok(progress)
+    }
+
+    /// What is asked of its tree by a tick up to which it is known what polls see.
+    fn moment(&self, tick: u32) -> Moment
+        ensures { result ≡ record { tick = tick; tick_us = self.now.tick_us; cancelled = self.now.cancelled } }
+    {
+        Moment {
+            tick,
+            tick_us: self.tick_us,
+            cancelled: self.cancelled,
+        }
     }
 
     /// Ends the poll of the tick that is set with what it found: the outcome, where the body ends in it, and else that is noted.
@@ -213,8 +213,8 @@ impl Body {
         }
     }
 
-    /// The same by a look ahead: it wakes at its end, or where a check of it is begun before that may still be seen as cancelled, at the
-    /// first of these. After an error nothing is known of it.
+    /// The same by a look ahead: it wakes at its end, or at a tick before that in which a check of its tree may be begun and seen as
+    /// cancelled. After an error nothing is known of it.
     pub(crate) fn poll_ahead(&mut self, alloc: Global) -> Result<Option<Outcome>, AllocError>
         requires { IsSet self.old.stage }
         ensures answer { IfOk result (λ r. Answered self.old r) }

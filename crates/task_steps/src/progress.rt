@@ -42,7 +42,7 @@ impl Progress {
     }
 
     /// Whether it ends in a tick.
-    fn ends_in(self, tick: u32) -> bool
+    pub(crate) fn ends_in(self, tick: u32) -> bool
         ensures { result ≡ true → EndsIn tick self }
     {
         matches!(self, Progress::Ended { tick: end, .. } if end == tick)

@@ -101,6 +101,9 @@ fn foresee(
         }
         Node::First { one, other } => {
             let last = foresee(one, begun, at, checks)?;
+            if last.ends_in(begun) {
+                return Ok(last);
+            }
             earlier(last, foresee(other, begun, at, checks)?)
         }
         Node::Within(us, body) => {

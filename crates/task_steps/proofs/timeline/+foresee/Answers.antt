@@ -3,7 +3,7 @@ use Rattle.loop_script.specs.Tree.{Tree, seq, both, first, within}
 use Rattle.loop_script.specs.TreeView.{tree_of}
 use Rattle.task_steps.specs.declared.progress.Progress.{Progress}
 use Rattle.task_steps.specs.Timeline.{IsTimeline}
-use Rattle.task_steps.proofs.Timelines.{both_timeline, first_timeline, within_timeline, seq_stays_timeline, seq_goes_timeline}
+use Rattle.task_steps.proofs.Timelines.{both_timeline, first_timeline, first_alone_timeline, within_timeline, seq_stays_timeline, seq_goes_timeline}
 use Rattle.task_steps.proofs.timeline.+foresee.Goals as goal
 
 pub returns-in_ok-last-in-Some-clause-timeline : goal.returns-in_ok-last-in-Some-clause-timeline
@@ -42,6 +42,15 @@ returns-in_ok-foresee-in-Both-clause-timeline t c =
 
 pub returns-in_ok-foresee-in-Both-clause-kept : goal.returns-in_ok-foresee-in-Both-clause-kept
 returns-in_ok-foresee-in-Both-clause-kept t c = λ known wake none. c.in_ok-last-in-Both.ensures.kept known wake (c.in_ok-foresee-in-Both.ensures.kept known wake none)
+
+pub returns-then-ends_in-clause-timeline : goal.returns-then-ends_in-clause-timeline
+returns-then-ends_in-clause-timeline t c =
+    let m = c.args.at.now in
+    let is : first c.in-First.one.value c.in-First.other.value ≡ c.args.tree.now = sym (ap tree_of c.in-First.is) ∙ c.tree.view_is in
+    let of = λ (x : Tree). IsTimeline m.tick_us x c.args.begun m.tick c.foresee-in-First.new.checks.items c.in_ok-last-in-First.last in
+    subst of is
+    (first_alone_timeline m.tick_us c.in-First.one.value c.in-First.other.value c.args.begun m.tick c.foresee-in-First.new.checks.items c.in_ok-last-in-First.last (c.ends_in.ensures c.if-ends_in.true)
+    (subst of c.deref-in-First.ensures c.in_ok-last-in-First.ensures.timeline))
 
 pub returns-in_ok-foresee-in-First-clause-timeline : goal.returns-in_ok-foresee-in-First-clause-timeline
 returns-in_ok-foresee-in-First-clause-timeline t c =
