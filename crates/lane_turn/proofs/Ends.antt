@@ -3,7 +3,7 @@ use Rattle.std.proofs.Common.{◌≡◌, ◌⊎◌, inl, inr, ℕ, ◌+◌, ◌�
 use Rattle.std.specs.Prelude.{nat_le}
 use Rattle.loop_script.specs.Tree.{Tree, value, fail, sleep, check, seq, both, first, within}
 use Rattle.loop_script.specs.declared.outcome.Outcome.TheVariants.{TimedOut}
-use Rattle.task_steps.specs.End.{End, end_of, ending, checked, is_ok, ticks_of, followed, joined, earlier, limited}
+use Rattle.loop_script.specs.End.{End, end_of, ending, checked, is_ok, ticks_of, followed, joined, earlier, limited}
 use Rattle.task_steps.proofs.Begins.{followed_late, either_late, not_sooner}
 
 -- ---- alike up to a tick

@@ -5,7 +5,7 @@ use Rattle.std.proofs.lemmas.Bool.Decides.{eqb_tells}
 use Rattle.loop_script.specs.declared.task.TaskSpec.{TaskSpec}
 use Rattle.loop_script.specs.declared.outcome.Outcome.{Outcome}
 use Rattle.loop_script.specs.declared.outcome.Outcome.TheVariants as outcomes
-use Rattle.task_steps.specs.End.{End, end_of}
+use Rattle.loop_script.specs.End.{End, end_of}
 use Rattle.task_steps.specs.Task.{is_early, is_at}
 use Rattle.task_steps.specs.Once.{reply_tick}
 use Rattle.post_office.specs.declared.letter.Letter.{Letter}

@@ -4,7 +4,7 @@ use Rattle.std.specs.Prelude.{option_map, option_to_list, if◌then◌else◌}
 use Rattle.std.specs.List.{AllByRecursion, filter_map, cons_option}
 use Rattle.cancel_view.specs.Seen.{Seen}
 use Rattle.task_steps.specs.declared.entry.Reply.{Reply}
-use Rattle.task_steps.specs.End.{end_of}
+use Rattle.loop_script.specs.End.{end_of}
 use Rattle.task_steps.specs.Reply.{reply_of_task}
 use Rattle.task_steps.specs.Task.{Task, MayComeTo, reply_in, is_late_in, body_end}
 use Rattle.task_steps.specs.Book.{MayComeToAll, noticed_in, all_noticed, replies_in, late_in, goes_on}

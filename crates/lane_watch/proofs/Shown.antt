@@ -5,7 +5,7 @@ use Rattle.std.specs.List.{AllByRecursion}
 use Rattle.std.proofs.lemmas.Bool.Decides.{nat_tests}
 use Rattle.cancel_view.specs.Seen.{Seen}
 use Rattle.task_steps.specs.declared.look.TaskShown.{TaskShown}
-use Rattle.task_steps.specs.End.{end_of}
+use Rattle.loop_script.specs.End.{end_of}
 use Rattle.task_steps.specs.Run.{IsUpTo}
 use Rattle.task_steps.specs.Task.{Task, IsBefore}
 use Rattle.task_steps.specs.Book.{Book, IsNext}

@@ -3,7 +3,7 @@ use Rattle.std.specs.Prelude.{ℕ, ◌+◌, ◌==◌, Bool, not, max, Option, So
 use Rattle.loop_script.specs.declared.task.TaskSpec.{TaskSpec}
 use Rattle.loop_script.specs.declared.outcome.Outcome.{Outcome}
 use Rattle.task_steps.specs.declared.entry.Reply.{Reply}
-use Rattle.task_steps.specs.End.{End, end_of}
+use Rattle.loop_script.specs.End.{End, end_of}
 use Rattle.task_steps.specs.Task.{reply_in, is_late_in}
 use Rattle.loop_script.specs.Units.{Tick, Microseconds, ContextNumber, CancellableNumber}
 

@@ -36,3 +36,7 @@ tick_end = 2 ^ 31
 -- a number below this can be counted on
 abbrev pub count_end : ℕ
 count_end = 2 ^ 63
+
+-- no end of a task is foreseen that is later
+abbrev pub farthest : ℕ
+farthest = 2 ^ 120

@@ -8,6 +8,8 @@ pub mod Array
 pub mod Rows
 pub mod Words
 pub mod Tree
+pub mod End
+pub mod Course
 pub mod TreeView
 pub mod TreeFalls
 pub mod Source

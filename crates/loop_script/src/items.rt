@@ -31,4 +31,11 @@ impl<T> Items<T> {
     {
         self.items.as_slice()
     }
+
+    /// The items as a vector.
+    pub(crate) fn into_vec(self) -> Vec<T>
+        ensures { result.items ≡ self }
+    {
+        self.items
+    }
 }

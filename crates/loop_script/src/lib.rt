@@ -7,8 +7,10 @@ mod action;
 mod action_form;
 mod body;
 mod bounds;
+mod course;
 mod fault;
 mod faults;
+mod foresee;
 mod form;
 mod items;
 pub mod laws;
@@ -30,6 +32,7 @@ mod version;
 
 pub use action::Action;
 pub use body::Body;
+pub use course::{Course, wait_ticks};
 pub use fault::ScriptFault;
 pub use items::Items;
 pub use level::Level;

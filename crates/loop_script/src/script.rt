@@ -57,7 +57,9 @@ impl Script {
         if gives_too_early(&value, &plan, faults) {
             return Err(ScriptFault::Shape);
         }
-        judged(plan, faults)
+        let mut script = judged(plan, faults)?;
+        script.plan.foresee(alloc)?;
+        Ok(script)
     }
 
     /// The version of the rules: in version 2 a child may have children and a context may be given to another lane, in version 1 neither.

@@ -1,6 +1,10 @@
 //! The tree of a task: its type, whose parts are shared by all that run it, the calls that make each kind, and whether it fits into so many levels.
-ghost use Rattle.std.specs.Prelude.{◌≡◌, IfOk};
+ghost use Rattle.std.specs.Prelude.{◌≡◌, ◌<◌, ◌≤◌, IfOk, IfSome, OnOk};
+ghost use Rattle.loop_script.specs.Bounds.{longest_tick};
+ghost use Rattle.loop_script.specs.Course.{IsCourse};
+ghost use Rattle.loop_script.specs.TreeView.{tree_of, HasShortTimes};
 
+use crate::course::Course;
 use std::alloc::{AllocError, Global};
 use std::marker::Model;
 use std::sync::Arc;
@@ -10,6 +14,8 @@ use std::sync::Arc;
 #[derive(Drop)]
 pub struct TaskTree {
     pub node: Node,
+    /// What it comes to that nobody cancels, where that was looked for: of a task of a script that was read, and not of its parts.
+    course: Option<Arc<Course, Global>>,
 }
 
 /// What a task's tree is at its top; times are in microseconds.
@@ -46,7 +52,9 @@ impl Model for TaskTree {
 
     ghost view = { λ a. tree_of a.node };
 
-    ghost invariant = { λ a. HasShortTimes a.node };
+    ghost use Rattle.loop_script.specs.Course.{IsItsCourse};
+
+    ghost invariant = { λ a. HasShortTimes a.node × IsItsCourse (tree_of a.node) a.course };
 
     ghost size = { tree_size };
 
@@ -80,7 +88,41 @@ impl TaskTree {
             },
             Node::Within(us, body) => Node::Within(*us, Arc::try_clone(body)?),
         };
-        Ok(TaskTree { node })
+        let course = match &self.course {
+            None => None,
+            Some(course) => Some(Arc::try_clone(course)?),
+        };
+        Ok(TaskTree { node, course })
+    }
+
+    /// What it comes to that nobody cancels, where `foresee` has looked.
+    pub fn course(&self) -> Option<&Course>
+        ensures { IfSome result (λ c. IsCourse self.now c.now) }
+    {
+        match &self.course {
+            None => None,
+            Some(course) => Some(course),
+        }
+    }
+
+    /// Looks what it comes to that nobody cancels, where a tick is so many microseconds long, and keeps that. It is the same tree.
+    pub(crate) fn foresee(&mut self, alloc: Global, tick_us: u64) -> Result<(), AllocError>
+        requires some { 0 < tick_us }
+        requires short { tick_us ≤ longest_tick }
+        ensures { OnOk result (self.new ≡ self.old) }
+    {
+        if let Some(course) = Course::of(alloc, self, tick_us)? {
+            self.course = Some(Arc::new(alloc, course)?);
+        }
+        Ok(())
+    }
+
+    /// A tree with a node at its top.
+    fn new(node: Node) -> TaskTree
+        requires { HasShortTimes node }
+        ensures { result ≡ tree_of node }
+    {
+        TaskTree { node, course: None }
     }
 }
 
@@ -94,16 +136,14 @@ impl TaskTree {
     pub(crate) fn value(n: i64) -> TaskTree
         ensures { result ≡ value n }
     {
-        TaskTree {
-            node: Node::Value(n),
-        }
+        TaskTree::new(Node::Value(n))
     }
 
     /// Makes a task's tree that ends at once without a value.
     pub(crate) fn fail() -> TaskTree
         ensures { result ≡ fail }
     {
-        TaskTree { node: Node::Fail }
+        TaskTree::new(Node::Fail)
     }
 
     /// Makes a task's tree that ends after so many microseconds, with 0.
@@ -111,16 +151,14 @@ impl TaskTree {
         requires { us ≤ longest_time }
         ensures { result ≡ sleep us }
     {
-        TaskTree {
-            node: Node::Sleep(us),
-        }
+        TaskTree::new(Node::Sleep(us))
     }
 
     /// Makes a task's tree that ends at once: as cancelled where the task's cancellable is seen so, else with 0.
     pub(crate) fn check() -> TaskTree
         ensures { result ≡ check }
     {
-        TaskTree { node: Node::Check }
+        TaskTree::new(Node::Check)
     }
 
     /// Makes a task's tree that does the second of two when the first has ended with a value.
@@ -133,9 +171,7 @@ impl TaskTree {
     {
         let first = Arc::new(alloc, first)?;
         let next = Arc::new(alloc, next)?;
-        Ok(TaskTree {
-            node: Node::Seq { first, next },
-        })
+        Ok(TaskTree::new(Node::Seq { first, next }))
     }
 
     /// Makes a task's tree that does two at once, and ends when both have.
@@ -148,9 +184,7 @@ impl TaskTree {
     {
         let one = Arc::new(alloc, one)?;
         let other = Arc::new(alloc, other)?;
-        Ok(TaskTree {
-            node: Node::Both { one, other },
-        })
+        Ok(TaskTree::new(Node::Both { one, other }))
     }
 
     /// Makes a task's tree that does two at once, and ends as the one that ends sooner.
@@ -163,9 +197,7 @@ impl TaskTree {
     {
         let one = Arc::new(alloc, one)?;
         let other = Arc::new(alloc, other)?;
-        Ok(TaskTree {
-            node: Node::First { one, other },
-        })
+        Ok(TaskTree::new(Node::First { one, other }))
     }
 
     /// Makes a task's tree that does another, and is timed out where that takes longer than so many microseconds.
@@ -174,9 +206,7 @@ impl TaskTree {
         ensures { IfOk result (λ t. t ≡ within us body) }
     {
         let body = Arc::new(alloc, body)?;
-        Ok(TaskTree {
-            node: Node::Within(us, body),
-        })
+        Ok(TaskTree::new(Node::Within(us, body)))
     }
 
     /// Whether the tree goes so deep at most.

@@ -3,7 +3,7 @@ use Rattle.std.proofs.Common.{ℕ, ◌+◌, ◌≤◌, Bool, true, false, cond, 
 use Rattle.std.specs.Prelude.{nat_le}
 use Rattle.loop_script.specs.Tree.{Tree, value, fail, sleep, check, seq, both, first, within}
 use Rattle.loop_script.specs.declared.outcome.Outcome.TheVariants.{TimedOut}
-use Rattle.task_steps.specs.End.{End, end_of, ending, is_ok, ticks_of}
+use Rattle.loop_script.specs.End.{End, end_of, ending, is_ok, ticks_of}
 
 pub followed_late : (b : ℕ) (ok : Bool) (a x : End) → b ≤ a.tick → b ≤ x.tick → b ≤ (cond ok x a).tick
 followed_late b true a x h k = k

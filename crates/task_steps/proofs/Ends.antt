@@ -3,7 +3,7 @@ use Rattle.std.proofs.Common.{◌≡◌, ℕ, ◌+◌, ◌≤◌, ◌<◌, Bool,
 use Rattle.std.proofs.lemmas.Bool.Decides.{nat_tests}
 use Rattle.loop_script.specs.Tree.{Tree, value, fail, sleep, check, seq, both, first, within}
 use Rattle.loop_script.specs.declared.outcome.Outcome.TheVariants.{TimedOut}
-use Rattle.task_steps.specs.End.{End, ending, checked, is_ok, followed, joined, earlier, limited, end_of, ticks_of}
+use Rattle.loop_script.specs.End.{End, ending, checked, is_ok, followed, joined, earlier, limited, end_of, ticks_of}
 use Rattle.task_steps.specs.Progress.{AgreeTo, AgreeFrom}
 use Rattle.task_steps.proofs.Begins.{not_sooner}
 

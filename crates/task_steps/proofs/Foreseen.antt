@@ -3,15 +3,12 @@ use Rattle.std.proofs.Common.{◌≡◌, ℕ, ◌≤◌, true, false, Option, So
 use Rattle.loop_script.specs.Tree.{Tree}
 use Rattle.task_steps.specs.declared.progress.Progress.{Progress}
 use Rattle.task_steps.specs.declared.progress.Progress.TheVariants.{Ended, Waits}
-use Rattle.task_steps.specs.End.{end_of, seen}
-use Rattle.task_steps.specs.Progress.{AgreeFrom, IsKnown, IsPending, SleepsTo}
+use Rattle.loop_script.specs.End.{end_of, seen}
+use Rattle.task_steps.specs.Progress.{AgreeFrom, IsKnown, SleepsTo}
 use Rattle.task_steps.specs.Run.{MayCome}
-use Rattle.task_steps.specs.RunInside.{IsClearBefore, IsKnownAt, Holds}
-use Rattle.task_steps.proofs.Ends.{by_le, by_lt}
-
-pub known_pending : (us : ℕ) (t : Tree) (f tick n : ℕ) (c : Option ℕ) (p : Progress) → IsKnown us t f c tick n p → IsPending tick p
-known_pending us t f tick n c (Ended at o) h = tt
-known_pending us t f tick n c (Waits w) h = h.0
+use Rattle.task_steps.specs.RunInside.{IsKnownAt, Holds}
+use Rattle.task_steps.proofs.Ends.{by_le}
+use Rattle.task_steps.proofs.Runs.{unseen_before}
 
 -- ---- of one that no poll saw as cancelled
 unseen : (tick : ℕ) (clear c : Option ℕ) → clear ≡ Some tick → MayCome clear None c → (t : ℕ) → t ≤ tick → seen None t ≡ seen c t
@@ -29,16 +26,12 @@ holds_clear us t f tick n clear None (Waits w) none k h = record {
 from-tick : (from tick : ℕ) (clear c : Option ℕ) → from ≤ tick → MayCome clear (Some from) c → AgreeFrom tick c (Some from)
 from-tick from tick clear c le m = λ t on. m.1 t (omega arith) ∙ sym (by_le from t (omega arith))
 
-may-be-so : (from : ℕ) (clear : Option ℕ) → IsClearBefore from clear → MayCome clear (Some from) (Some from)
-may-be-so from None h = (tt, λ t le. by_le from t le)
-may-be-so from (Some last) h = (λ t le. by_lt from t (omega arith), λ t le. by_le from t le)
-
 pub holds_seen : (us : ℕ) (t : Tree) (f tick known n : ℕ) (clear cancelled : Option ℕ) (p : Progress) → is_some cancelled ≡ true → IsKnownAt tick clear cancelled → SleepsTo us t f (MayCome clear cancelled) tick → IsKnown us t f cancelled known n p → Holds us t f clear cancelled p
 holds_seen us t f tick known n clear None p some k s h = absurd (cc)
 holds_seen us t f tick known n clear (Some from) (Ended at o) some k s h = λ c m.
-    s.same c (Some from) m (may-be-so from clear k.1) (from-tick from tick clear c k.0 m) ∙ h.0 (Some from) (λ x le. refl)
+    s.same c (Some from) m (unseen_before from clear k.1) (from-tick from tick clear c k.0 m) ∙ h.0 (Some from) (λ x le. refl)
 holds_seen us t f tick known n clear (Some from) (Waits w) some k s h =
-    let one = λ (c : Option ℕ) (m : MayCome clear (Some from) c). s.same c (Some from) m (may-be-so from clear k.1) (from-tick from tick clear c k.0 m) in
+    let one = λ (c : Option ℕ) (m : MayCome clear (Some from) c). s.same c (Some from) m (unseen_before from clear k.1) (from-tick from tick clear c k.0 m) in
     record {
       ends = λ c m. let late : w ≤ (end_of us t f (Some from)).tick = h.1.ends (Some from) (λ x le. refl) in rw (one c m) late;
       same = λ c d m i on. one c m ∙ sym (one d i);

@@ -4,7 +4,7 @@ use Rattle.loop_script.specs.Tree.{Tree, seq}
 use Rattle.loop_script.specs.declared.outcome.Outcome.{Outcome}
 use Rattle.task_steps.specs.declared.progress.Progress.{Progress}
 use Rattle.task_steps.specs.declared.progress.Progress.TheVariants.{Ended, Waits}
-use Rattle.task_steps.specs.End.{ending, is_ok, followed, end_of}
+use Rattle.loop_script.specs.End.{ending, is_ok, followed, end_of}
 use Rattle.task_steps.specs.Progress.{IsKnown, ok_at}
 use Rattle.task_steps.proofs.Begins.{not_sooner}
 use Rattle.task_steps.proofs.Ends.{cond-tick, followed-same, from_on, same-tick}

@@ -3,7 +3,7 @@ pub mod Ends
 pub mod Sleeping
 pub mod Parts
 pub mod Known
-pub mod Timelines
+pub mod Courses
 pub mod Runs
 pub mod Foreseen
 pub mod Wakes

@@ -5,7 +5,7 @@ use Rattle.std.proofs.lemmas.List.Sums.{sum_by-cons, sum_by-append}
 use Rattle.std.proofs.lemmas.Bool.Decides.{nat_tests}
 use Rattle.loop_script.specs.declared.outcome.Outcome.{Outcome}
 use Rattle.loop_script.specs.declared.outcome.Outcome.TheVariants.{Cancelled}
-use Rattle.task_steps.specs.End.{ending}
+use Rattle.loop_script.specs.End.{ending}
 use Rattle.task_steps.specs.Reply.{reply_of_task}
 use Rattle.task_steps.specs.Task.{Task, body_end, is_early, reply_in}
 use Rattle.task_steps.specs.Book.{noticed_in, replies_in, goes_on}

@@ -4,7 +4,7 @@ use Rattle.loop_script.specs.Tree.{Tree, seq, first}
 use Rattle.loop_script.specs.declared.outcome.Outcome.{Outcome}
 use Rattle.task_steps.specs.declared.progress.Progress.{Progress}
 use Rattle.task_steps.specs.declared.progress.Progress.TheVariants.{Ended, Waits}
-use Rattle.task_steps.specs.End.{End, ending, is_ok, followed, earlier, end_of}
+use Rattle.loop_script.specs.End.{End, ending, is_ok, followed, earlier, end_of}
 use Rattle.task_steps.specs.Wake.{wait_of}
 use Rattle.task_steps.specs.Progress.{EndsIn, IsKnown, IsProgress, ok_at}
 use Rattle.task_steps.proofs.Begins.{not_sooner}

@@ -7,7 +7,7 @@ use Rattle.loop_script.specs.declared.outcome.Outcome.{Outcome}
 use Rattle.task_steps.specs.declared.entry.Entry.{Entry}
 use Rattle.task_steps.specs.declared.stage.Stage.{Stage}
 use Rattle.task_steps.specs.declared.stage.Stage.TheVariants.{Fresh, Set, Polled, Done}
-use Rattle.task_steps.specs.End.{ending, end_of, seen}
+use Rattle.loop_script.specs.End.{ending, end_of, seen}
 use Rattle.task_steps.specs.Wake.{sooner}
 use Rattle.task_steps.specs.Run.{Run, NoneBefore, MayCome, IsAfter, IsLater, seen_from, clear_to}
 use Rattle.task_steps.specs.RunInside.{IsBy}

@@ -6,7 +6,7 @@ use Rattle.loop_script.specs.declared.outcome.Outcome.TheVariants.{Cancelled}
 use Rattle.task_steps.specs.declared.stage.Stage.{Stage}
 use Rattle.task_steps.specs.declared.stage.Stage.TheVariants.{Fresh, Set, Polled, Done}
 use Rattle.task_steps.specs.declared.entry.Entry.{Entry}
-use Rattle.task_steps.specs.End.{End, end_of, ending, seen}
+use Rattle.loop_script.specs.End.{End, end_of, ending, seen}
 use Rattle.task_steps.specs.Run.{Run, MayCome, StaysSet, IsAnswered, due, set_to, seen_from, clear_to, stage_after}
 use Rattle.task_steps.specs.Task.{reply_in, is_late_in, answer_as, IsSeenExactly, IsBefore, IsBegunBy, CanPoll, IsAnswer, is_done_stage}
 

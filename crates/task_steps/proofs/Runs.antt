@@ -1,16 +1,15 @@
 -- A body whose tick is set.
-use Rattle.std.proofs.Common.{Box, Global, ◌≡◌, ℕ, ◌≤◌, ◌<◌, Bool, true, false, Option, Some, None, arith, refl, sym, subst, ◌∙◌}
+use Rattle.std.proofs.Common.{◌≡◌, ℕ, ◌≤◌, ◌<◌, Bool, true, false, Option, Some, None, arith, refl, sym, subst, ◌∙◌}
 use Rattle.loop_script.specs.Tree.{Tree}
 use Rattle.task_steps.specs.declared.stage.Stage.{Stage}
 use Rattle.task_steps.specs.declared.stage.Stage.TheVariants.{Fresh, Set, Polled, Done}
 use Rattle.task_steps.specs.declared.progress.Progress.TheVariants.{Ended, Waits}
-use Rattle.task_steps.specs.End.{ending, end_of}
+use Rattle.loop_script.specs.End.{ending, end_of}
 use Rattle.task_steps.specs.Wake.{wait_of}
 use Rattle.task_steps.specs.declared.progress.Progress.{Progress}
-use Rattle.task_steps.specs.declared.timeline.Timeline.{Timeline}
 use Rattle.task_steps.specs.Progress.{AgreeTo, SleepsTo, tick_of}
 use Rattle.task_steps.specs.Run.{Run, MayCome, IsUpTo, IsLater, MaySet, StaysSet, set_to, seen_from, clear_to}
-use Rattle.task_steps.specs.RunInside.{IsBy, IsForeseen, IsClearBefore, IsKnownAt, Holds, HoldsAny, wake_noted, IsLeastAfter, KeepsLeast, IsStanding, IsHeld}
+use Rattle.task_steps.specs.RunInside.{IsBy, IsClearBefore, IsKnownAt, Holds, HoldsAny, wake_noted, IsLeastAfter, KeepsLeast, IsStanding, IsHeld}
 use Rattle.task_steps.proofs.Begins.{not_sooner}
 use Rattle.task_steps.proofs.Ends.{by_le, by_lt, same-tick, from_on, pending_too}
 use Rattle.task_steps.proofs.Sleeping.{same_wait, wait_on}
@@ -78,9 +77,9 @@ sleeps-up-to us t b clear cancelled None at tick l u h = absurd l
 sleeps-up-to us t b clear cancelled (Some noted) at tick l u h = sooner-sleep us t b clear cancelled (tick_of noted) tick u (holds-sleeps us t b clear cancelled noted h)
 
 -- ---- the least wait stays the least
-unseen-before : (from : ℕ) (clear : Option ℕ) → IsClearBefore from clear → MayCome clear (Some from) (Some from)
-unseen-before from None h = (tt, λ t le. by_le from t le)
-unseen-before from (Some last) h = (λ t le. by_lt from t (omega arith), λ t le. by_le from t le)
+pub unseen_before : (from : ℕ) (clear : Option ℕ) → IsClearBefore from clear → MayCome clear (Some from) (Some from)
+unseen_before from None h = (tt, λ t le. by_le from t le)
+unseen_before from (Some last) h = (λ t le. by_lt from t (omega arith), λ t le. by_le from t le)
 
 none-unseen : (clear : Option ℕ) → MayCome clear None None
 none-unseen None = (tt, tt)
@@ -89,7 +88,7 @@ none-unseen (Some last) = (λ t le. refl, tt)
 -- what was seen so far may be all that comes
 may-stay : (tick : ℕ) (clear cancelled : Option ℕ) → IsKnownAt tick clear cancelled → MayCome clear cancelled cancelled
 may-stay tick clear None k = none-unseen clear
-may-stay tick clear (Some from) k = unseen-before from clear k.1
+may-stay tick clear (Some from) k = unseen_before from clear k.1
 
 agree-on : (at tick : ℕ) (flag : Bool) (cancelled : Option ℕ) → at < tick → AgreeTo at cancelled (seen_from tick flag cancelled)
 agree-on at tick true None lt = λ t le. sym (by_lt tick t (omega arith))
@@ -114,14 +113,14 @@ least-noted us t begun at tick flag clear cancelled (Some noted) b lt k l h e = 
 abbrev body_run : ℕ → Tree → Option ℕ → Option ℕ → Stage → Option Progress → Run
 body_run us t clear cancelled stage noted = record { tree = t; tick_us = us; stage = stage; clear = clear; cancelled = cancelled; wake = wake_noted noted }
 
-pub least_on : (tick us : ℕ) (flag : Bool) (t : Tree) (clear cancelled : Option ℕ) (stage : Stage) (noted : Option Progress) (timeline : Option (Box Timeline Global)) → IsHeld us t clear cancelled stage noted timeline → MaySet tick stage (wake_noted noted) → KeepsLeast (body_run us t clear cancelled stage noted)
+pub least_on : (tick us : ℕ) (flag : Bool) (t : Tree) (clear cancelled : Option ℕ) (stage : Stage) (noted : Option Progress) → IsHeld us t clear cancelled stage noted → MaySet tick stage (wake_noted noted) → KeepsLeast (body_run us t clear cancelled stage noted)
     → KeepsLeast (body_run us t (clear_to tick flag clear) (seen_from tick flag cancelled) (set_to tick stage) noted)
-least_on tick us flag t clear cancelled Fresh noted timeline h k l = subst (λ (n : Option Progress). IsLeastAfter us t tick (seen_from tick flag cancelled) tick (wake_noted n)) (sym h.standing.2) tt
-least_on tick us flag t clear cancelled (Set begun at) noted timeline h k l = absurd k
-least_on tick us flag t clear cancelled (Polled begun at) noted timeline h k l =
+least_on tick us flag t clear cancelled Fresh noted h k l = subst (λ (n : Option Progress). IsLeastAfter us t tick (seen_from tick flag cancelled) tick (wake_noted n)) (sym h.standing.2) tt
+least_on tick us flag t clear cancelled (Set begun at) noted h k l = absurd k
+least_on tick us flag t clear cancelled (Polled begun at) noted h k l =
     let s = h.standing in
     least-noted us t begun at tick flag clear cancelled noted s.1 k.0 s.0 s.2 s.3 l
-least_on tick us flag t clear cancelled Done noted timeline h k l = absurd k
+least_on tick us flag t clear cancelled Done noted h k l = absurd k
 
 -- ---- a tick that is set
 standing-on : (tick us : ℕ) (flag : Bool) (t : Tree) (clear cancelled : Option ℕ) (stage : Stage) (noted : Option Progress) → IsStanding us t clear cancelled stage noted → MaySet tick stage (wake_noted noted) → StaysSet cancelled flag
@@ -142,18 +141,10 @@ standing-on tick us flag t clear cancelled (Polled begun at) noted h k stays =
     )
 standing-on tick us flag t clear cancelled Done noted h k stays = absurd k
 
--- its timeline is that of the tick in which it is begun
-foreseen-on : (tick us : ℕ) (t : Tree) (stage : Stage) (timeline : Option (Box Timeline Global)) → IsForeseen us t stage timeline → IsForeseen us t (set_to tick stage) timeline
-foreseen-on tick us t Fresh timeline h = rw h tt
-foreseen-on tick us t (Set begun at) timeline h = h
-foreseen-on tick us t (Polled begun at) timeline h = h
-foreseen-on tick us t Done timeline h = h
-
-pub held_on : (tick us : ℕ) (flag : Bool) (t : Tree) (clear cancelled : Option ℕ) (stage : Stage) (noted : Option Progress) (timeline : Option (Box Timeline Global)) → IsHeld us t clear cancelled stage noted timeline → MaySet tick stage (wake_noted noted) → StaysSet cancelled flag
-    → IsHeld us t (clear_to tick flag clear) (seen_from tick flag cancelled) (set_to tick stage) noted timeline
-held_on tick us flag t clear cancelled stage noted timeline h k stays = record {
+pub held_on : (tick us : ℕ) (flag : Bool) (t : Tree) (clear cancelled : Option ℕ) (stage : Stage) (noted : Option Progress) → IsHeld us t clear cancelled stage noted → MaySet tick stage (wake_noted noted) → StaysSet cancelled flag
+    → IsHeld us t (clear_to tick flag clear) (seen_from tick flag cancelled) (set_to tick stage) noted
+held_on tick us flag t clear cancelled stage noted h k stays = record {
   some = h.some;
   short = h.short;
   standing = standing-on tick us flag t clear cancelled stage noted h.standing k stays;
-  foreseen = foreseen-on tick us t stage timeline h.foreseen;
 }

@@ -6,7 +6,7 @@ use Rattle.cancel_view.specs.Seen.{Seen}
 use Rattle.task_steps.specs.declared.stage.Stage.{Stage}
 use Rattle.task_steps.specs.declared.stage.Stage.TheVariants.{Fresh, Set, Polled, Done}
 use Rattle.task_steps.specs.declared.tasks.Tasks.{Tasks}
-use Rattle.task_steps.specs.End.{end_of}
+use Rattle.loop_script.specs.End.{end_of}
 use Rattle.task_steps.specs.Wake.{sooner}
 use Rattle.task_steps.specs.Run.{Run, NoneBefore, MayCome, IsLater}
 use Rattle.task_steps.specs.Task.{IsBefore}

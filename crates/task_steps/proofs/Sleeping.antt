@@ -1,7 +1,7 @@
 -- A tree that goes on sleeps to the least tick at which a wait of it ends.
 use Rattle.std.proofs.Common.{◌≡◌, ℕ, ◌+◌, ◌≤◌, ◌<◌, Bool, true, false, cond, max, min, Option, nat_le, arith, refl, ap, sym, ◌∙◌}
 use Rattle.loop_script.specs.Tree.{Tree, value, fail, sleep, check, seq, both, first, within}
-use Rattle.task_steps.specs.End.{End, is_ok, end_of, ticks_of}
+use Rattle.loop_script.specs.End.{End, is_ok, end_of, ticks_of}
 use Rattle.task_steps.specs.Wake.{wait_of}
 use Rattle.task_steps.specs.Progress.{AgreeTo}
 use Rattle.task_steps.proofs.Begins.{not_sooner}

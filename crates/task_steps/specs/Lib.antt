@@ -1,7 +1,5 @@
-pub mod End
 pub mod Wake
 pub mod Progress
-pub mod Timeline
 pub mod Run
 pub mod RunInside
 pub mod Task

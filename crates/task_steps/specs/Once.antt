@@ -4,7 +4,7 @@ use Rattle.std.specs.List.{list_any}
 use Rattle.loop_script.specs.Units.{Tick, TaskNumber}
 use Rattle.cancel_view.specs.Seen.{Seen}
 use Rattle.task_steps.specs.declared.entry.Reply.{Reply}
-use Rattle.task_steps.specs.End.{End}
+use Rattle.loop_script.specs.End.{End}
 use Rattle.task_steps.specs.Task.{Task, body_end, is_early}
 use Rattle.task_steps.specs.Book.{all_noticed, replies_in, goes_on}
 

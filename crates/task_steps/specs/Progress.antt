@@ -1,12 +1,11 @@
 -- How far a tree is by a tick, and what is known of its end.
-use Rattle.std.specs.Prelude.{◌≡◌, ◌<◌, ◌≤◌, max, min, nat_le, Option, Some, None, if◌then◌else◌}
+use Rattle.std.specs.Prelude.{◌≡◌, ◌<◌, ◌≤◌, ◌-◌, ◌^◌, nat_le, Option, Some, None, if◌then◌else◌}
 use Rattle.loop_script.specs.Units.{Tick, Microseconds}
 use Rattle.loop_script.specs.Tree.{Tree}
 use Rattle.loop_script.specs.declared.outcome.Outcome.{Outcome}
-use Rattle.loop_script.specs.declared.outcome.Outcome.TheVariants.{TimedOut}
 use Rattle.task_steps.specs.declared.progress.Progress.{Progress}
 use Rattle.task_steps.specs.declared.progress.Progress.TheVariants.{Ended, Waits}
-use Rattle.task_steps.specs.End.{both_of, end_of, ending, is_ok, seen}
+use Rattle.loop_script.specs.End.{end_of, ending, is_ok, seen}
 use Rattle.task_steps.specs.Wake.{wait_of}
 
 -- a tree that is begun in the tick f has its end by a tick, or waits on
@@ -54,28 +53,19 @@ abbrev pub IsPending : Tick → Progress → Type 0
 IsPending tick (Ended at outcome) = Unit {0}
 IsPending tick (Waits wake) = tick < wake
 
+-- the last tick that a look asks for: later than any poll's
+abbrev pub last_tick : Tick
+last_tick = 2 ^ 32 - 1
+
+-- so many ticks from any tick are beyond the last
+abbrev pub beyond : Tick
+beyond = 2 ^ 32
+
+-- an end in a tick, or a wait beyond all ticks that there are
+abbrev pub told : Tick → Outcome → Progress
+told tick outcome = if nat_le tick last_tick then Ended tick outcome else Waits tick
+
 -- it ends in this tick
 abbrev pub EndsIn : Tick → Progress → Type 0
 EndsIn tick (Ended at outcome) = at ≡ tick
 EndsIn tick (Waits wake) = ⊥
-
--- ---- by how far the parts of a tree are
-
--- of two that are both waited for: the sooner wait, and the later end
-abbrev pub both_progress : Progress → Progress → Progress
-both_progress (Ended a outcome) (Ended b second) = Ended (max a b) (both_of outcome second)
-both_progress (Ended a outcome) (Waits w) = Waits w
-both_progress (Waits v) (Ended b second) = Waits v
-both_progress (Waits v) (Waits w) = Waits (min v w)
-
--- of two of which the earlier end counts, the first where they come together: an end that may still come sooner is waited for
-abbrev pub first_progress : Progress → Progress → Progress
-first_progress (Ended a outcome) (Ended b second) = if nat_le a b then Ended a outcome else Ended b second
-first_progress (Ended a outcome) (Waits w) = if nat_le a w then Ended a outcome else Waits w
-first_progress (Waits v) (Ended b second) = if nat_le v b then Waits v else Ended b second
-first_progress (Waits v) (Waits w) = Waits (min v w)
-
--- of one that has a limit, where it is asked up to a tick
-abbrev pub within_progress : Tick → Tick → Progress → Progress
-within_progress limit tick (Ended at outcome) = if nat_le at limit then Ended at outcome else Ended limit TimedOut
-within_progress limit tick (Waits w) = if nat_le w limit then Waits w else (if nat_le limit tick then Ended limit TimedOut else Waits limit)

@@ -5,7 +5,7 @@ use Rattle.loop_script.specs.Tree.{Tree}
 use Rattle.loop_script.specs.declared.outcome.Outcome.{Outcome}
 use Rattle.task_steps.specs.declared.stage.Stage.{Stage}
 use Rattle.task_steps.specs.declared.stage.Stage.TheVariants.{Fresh, Set, Polled, Done}
-use Rattle.task_steps.specs.End.{End, end_of, seen}
+use Rattle.loop_script.specs.End.{End, end_of, seen}
 use Rattle.task_steps.specs.Wake.{wait_of}
 
 -- a tree, how long a tick is, the stage of its run, the last tick that was set as not cancelled, the first that was set as

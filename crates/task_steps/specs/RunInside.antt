@@ -1,6 +1,5 @@
 -- How a body stands between two calls.
-use Rattle.std.specs.Prelude.{◌≡◌, ◌<◌, ◌≤◌, Option, Some, None, Box}
-use Rattle.std.specs.Global.{Global}
+use Rattle.std.specs.Prelude.{◌≡◌, ◌<◌, ◌≤◌, Option, Some, None}
 use Rattle.loop_script.specs.Bounds.{longest_tick}
 use Rattle.loop_script.specs.Units.{Tick, Microseconds}
 use Rattle.loop_script.specs.Tree.{Tree}
@@ -8,11 +7,9 @@ use Rattle.task_steps.specs.declared.stage.Stage.{Stage}
 use Rattle.task_steps.specs.declared.stage.Stage.TheVariants.{Fresh, Set, Polled, Done}
 use Rattle.task_steps.specs.declared.progress.Progress.{Progress}
 use Rattle.task_steps.specs.declared.progress.Progress.TheVariants.{Ended, Waits}
-use Rattle.task_steps.specs.declared.timeline.Timeline.{Timeline}
-use Rattle.task_steps.specs.End.{end_of, ending}
+use Rattle.loop_script.specs.End.{end_of, ending}
 use Rattle.task_steps.specs.Wake.{wait_of}
 use Rattle.task_steps.specs.Progress.{SleepsTo, tick_of}
-use Rattle.task_steps.specs.Timeline.{Foresees}
 use Rattle.task_steps.specs.Run.{Run, MayCome, IsLater}
 
 -- a tick that there may be is this one at the latest
@@ -54,24 +51,11 @@ IsStanding tick_us tree clear cancelled (Polled begun tick) noted =
     IsKnownAt tick clear cancelled × (begun ≤ tick) × IsLater tick (wake_noted noted) × HoldsAny tick_us tree begun clear cancelled noted
 IsStanding tick_us tree clear cancelled Done noted = Unit {0}
 
--- a timeline is that of a body that was begun in the tick f, where there is one
-abbrev pub IsItsOwn : Microseconds → Tree → Tick → Option (Box Timeline Global) → Type 0
-IsItsOwn tick_us tree f None = Unit {0}
-IsItsOwn tick_us tree f (Some timeline) = Foresees tick_us tree f timeline.value
-
--- the same in each stage: a body that is not begun has none
-abbrev pub IsForeseen : Microseconds → Tree → Stage → Option (Box Timeline Global) → Type 0
-IsForeseen tick_us tree Fresh timeline = timeline ≡ None
-IsForeseen tick_us tree (Set begun tick) timeline = IsItsOwn tick_us tree begun timeline
-IsForeseen tick_us tree (Polled begun tick) timeline = IsItsOwn tick_us tree begun timeline
-IsForeseen tick_us tree Done timeline = Unit {0}
-
--- a tick is some time, the body stands as its stage says, and its timeline is its own
-pub record IsHeld (tick_us : Microseconds) (tree : Tree) (clear cancelled : Option Tick) (stage : Stage) (noted : Option Progress) (timeline : Option (Box Timeline Global)) : Type 0 where
+-- a tick is some time, and the body stands as its stage says
+pub record IsHeld (tick_us : Microseconds) (tree : Tree) (clear cancelled : Option Tick) (stage : Stage) (noted : Option Progress) : Type 0 where
   pub some : 0 < tick_us
   pub short : tick_us ≤ longest_tick
   pub standing : IsStanding tick_us tree clear cancelled stage noted
-  pub foreseen : IsForeseen tick_us tree stage timeline
 
 -- the wake that is shown in a stage: that of a run that is pending after a poll
 abbrev pub wake_in : Stage → Option Tick → Option Tick

@@ -8,7 +8,7 @@ use Rattle.task_steps.specs.declared.stage.Stage.{Stage}
 use Rattle.task_steps.specs.declared.stage.Stage.TheVariants.{Fresh, Set, Polled, Done}
 use Rattle.task_steps.specs.declared.entry.Entry.{Entry}
 use Rattle.task_steps.specs.declared.entry.Answer.{Answer}
-use Rattle.task_steps.specs.End.{End, end_of, seen}
+use Rattle.loop_script.specs.End.{End, end_of, seen}
 use Rattle.task_steps.specs.Run.{MayCome, MaySet, StaysSet, seen_from, clear_to}
 
 -- a task with its first poll, the last poll that saw it as not cancelled, and the first that saw it as cancelled

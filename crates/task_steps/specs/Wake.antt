@@ -2,7 +2,7 @@
 use Rattle.std.specs.Prelude.{◌+◌, Option, None, Some, min, nat_le, if◌then◌else◌}
 use Rattle.loop_script.specs.Units.{Tick, Microseconds}
 use Rattle.loop_script.specs.Tree.{Tree, value, fail, sleep, check, seq, both, first, within}
-use Rattle.task_steps.specs.End.{End, end_of, ticks_of}
+use Rattle.loop_script.specs.End.{End, end_of, ticks_of}
 
 -- the lesser of two ticks, where there are such
 abbrev pub sooner : Option Tick → Option Tick → Option Tick

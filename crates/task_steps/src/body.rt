@@ -1,16 +1,15 @@
 //! The run of a task's body, which looks at its tree as seldom as it may.
-ghost use Rattle.std.specs.Prelude.{◌≡◌, ◌<◌, ◌≤◌, None, Some, is_some, IfOk, OnOk, IsTrue, ◌↔◌};
+ghost use Rattle.std.specs.Prelude.{◌≡◌, ◌<◌, ◌≤◌, None, Some, is_some, IfOk, IsTrue, ◌↔◌};
 ghost use Rattle.task_steps.specs.Progress.{IsPending, tick_of};
 
+use crate::ahead::progress_by;
 use crate::progress::{Moment, Progress, progress_of};
 use crate::stage::{Stage, clear_to, seen_from, set_to};
-use crate::timeline::Timeline;
 use loop_script::{Outcome, TaskTree};
-use std::alloc::{AllocError, Global};
+use std::alloc::AllocError;
 use std::marker::Model;
 
-/// A body in progress. It shares its tree with the script; nothing else that it keeps grows with it, but for the ticks of its checks
-/// where it is polled by looks ahead.
+/// A body in progress. It shares its tree with the script, and nothing else that it keeps grows with that.
 #[derive(Drop)]
 pub(crate) struct Body {
     tree: TaskTree,
@@ -20,8 +19,6 @@ pub(crate) struct Body {
     cancelled: Option<u32>,
     /// What the last poll found, of a body that went on.
     noted: Option<Progress>,
-    /// What it comes to while it is not seen as cancelled, where a look ahead found more than its end.
-    timeline: Option<Box<Timeline>>,
 }
 
 impl Model for Body {
@@ -39,7 +36,7 @@ impl Model for Body {
 
     ghost view = { λ b. record { tree = b.tree; tick_us = b.tick_us; stage = b.stage; clear = b.clear; cancelled = b.cancelled; wake = wake_noted b.noted } };
 
-    ghost invariant = { λ b. IsHeld b.tick_us b.tree b.clear b.cancelled b.stage b.noted b.timeline };
+    ghost invariant = { λ b. IsHeld b.tick_us b.tree b.clear b.cancelled b.stage b.noted };
 }
 
 impl Body {
@@ -62,7 +59,6 @@ impl Body {
             clear: None,
             cancelled: None,
             noted: None,
-            timeline: None,
         })
     }
 
@@ -125,37 +121,25 @@ impl Body {
         }
     }
 
-    /// How far it is by a look as far ahead as it is known what polls will see: to its end, or to a check of it that may be begun before
-    /// that and seen as cancelled. Its tree is asked once, and once more where it is seen as cancelled. After an error it is as before.
-    fn progress_ahead(
-        &mut self,
-        alloc: Global,
-        begun: u32,
-        tick: u32,
-    ) -> Result<Progress, AllocError>
-        requires { self.old.stage ≡ Set begun tick }
-        ensures holds { IfOk result (λ p. Holds self.old.tick_us self.old.tree begun self.old.clear self.old.cancelled p) }
-        ensures pending { IfOk result (λ p. IsPending tick p) }
-        ensures same { self.new ≡ self.old }
+    /// How far it is, as far ahead as it is known what polls will see: to its end, or to a check of it that may be begun before that and
+    /// seen as cancelled. Its tree is asked only where it is seen as cancelled; before that its course tells.
+    fn progress_ahead(&self, begun: u32, tick: u32) -> Progress
+        requires { self.now.stage ≡ Set begun tick }
+        ensures holds { Holds self.now.tick_us self.now.tree begun self.now.clear self.now.cancelled result }
+        ensures pending { IsPending tick result }
     {
         if let Some(noted) = self.noted
             && noted.holds_on(tick)
         {
-            return Ok(noted);
+            return noted;
         }
         if self.cancelled.is_some() {
-            self.timeline = None;
-            return Ok(progress_of(&self.tree, begun, &self.moment(u32::MAX)));
+            return progress_of(&self.tree, begun, &self.moment(u32::MAX));
         }
-        if let Some(timeline) = &self.timeline {
-            return Ok(timeline.progress(tick));
+        match self.tree.course() {
+            Some(course) if course.tick_us == self.tick_us => progress_by(course, begun, tick),
+            _ => progress_of(&self.tree, begun, &self.moment(tick)),
         }
-        let timeline = Timeline::new(alloc, &self.tree, begun, self.tick_us)?;
-        let progress = timeline.progress(tick);
-        if matches!(progress, Progress::Waits(_)) {
-            self.timeline = Some(Box::new(alloc, timeline)?);
-        }
-        Ok(progress)
     }
 
     /// What is asked of its tree by a tick up to which it is known what polls see.
@@ -214,20 +198,20 @@ impl Body {
     }
 
     /// The same by a look ahead: it wakes at its end, or at a tick before that in which a check of its tree may be begun and seen as
-    /// cancelled. After an error nothing is known of it.
-    pub(crate) fn poll_ahead(&mut self, alloc: Global) -> Result<Option<Outcome>, AllocError>
+    /// cancelled.
+    pub(crate) fn poll_ahead(&mut self) -> Option<Outcome>
         requires { IsSet self.old.stage }
-        ensures answer { IfOk result (λ r. Answered self.old r) }
-        ensures stays { IfOk result (λ r. self.new ≡ record self.old { stage = stage_after self.old.stage r; wake = self.new.wake }) }
-        ensures wakes { OnOk result (WakesLater self.new) }
-        ensures end { OnOk result (NoneBefore self.new self.new.wake) }
+        ensures answer { Answered self.old result }
+        ensures stays { self.new ≡ record self.old { stage = stage_after self.old.stage result; wake = self.new.wake } }
+        ensures wakes { WakesLater self.new }
+        ensures end { NoneBefore self.new self.new.wake }
     {
         match self.stage {
             Stage::Set { begun, tick } => {
-                let progress = self.progress_ahead(alloc, begun, tick)?;
-                Ok(self.go_on(begun, tick, progress))
+                let progress = self.progress_ahead(begun, tick);
+                self.go_on(begun, tick, progress)
             }
-            _ => Ok(None),
+            _ => None,
         }
     }
 

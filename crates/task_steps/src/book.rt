@@ -186,7 +186,6 @@ impl TaskBook {
         let mut replies = Vec::new(alloc);
         let mut late = Vec::new(alloc);
         let round = Round {
-            alloc: self.alloc,
             tick,
             polled: self.polled,
             came: some_came(first_of(&self.heeded, self.of_polled), view),

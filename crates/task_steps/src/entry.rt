@@ -1,10 +1,9 @@
 //! A task of the book: its poll, and its reply, which comes with its end, or where its cancellable is first seen as cancelled.
-ghost use Rattle.std.specs.Prelude.{◌≡◌, ◌&&◌, not, is_some, true, false, IfOk, OnOk};
+ghost use Rattle.std.specs.Prelude.{◌≡◌, ◌&&◌, not, is_some, true, false};
 ghost use Rattle.task_steps.specs.Task.{answer_as};
 
 use crate::body::Body;
 use loop_script::Outcome;
-use std::alloc::{AllocError, Global};
 
 /// The reply of a task, which is posted once.
 #[derive(Clone, Copy, Debug, PartialEq, Eq)]
@@ -108,24 +107,19 @@ impl Entry {
         sleeps && (!cancelled || self.run.was_cancelled())
     }
 
-    /// Polls the task in a tick in which its cancellable is seen as cancelled or not. After an error nothing is known of it.
-    pub(crate) fn poll(
-        &mut self,
-        alloc: Global,
-        tick: u32,
-        cancelled: bool,
-    ) -> Result<Answer, AllocError>
+    /// Polls the task in a tick in which its cancellable is seen as cancelled or not.
+    pub(crate) fn poll(&mut self, tick: u32, cancelled: bool) -> Answer
         requires { CanPoll tick cancelled self.old }
-        ensures task { OnOk result (task_of self.new ≡ noticed tick cancelled (task_of self.old)) }
-        ensures answer { IfOk result (λ a. IsAnswer tick self.new a) }
-        ensures stage { OnOk result (IsPolledAt tick self.new) }
-        ensures wakes { OnOk result (WakesLater self.new.run) }
-        ensures end { OnOk result (NoneBefore self.new.run self.new.run.wake) }
+        ensures task { task_of self.new ≡ noticed tick cancelled (task_of self.old) }
+        ensures answer { IsAnswer tick self.new result }
+        ensures stage { IsPolledAt tick self.new }
+        ensures wakes { WakesLater self.new.run }
+        ensures end { NoneBefore self.new.run self.new.run.wake }
     {
         let before = self.run.was_cancelled();
         self.run.set_tick(tick, cancelled);
-        let end = self.run.poll_ahead(alloc)?;
-        Ok(given(self.return_on_cancel, cancelled, before, end))
+        let end = self.run.poll_ahead();
+        given(self.return_on_cancel, cancelled, before, end)
     }
 
     /// The reply with an outcome.

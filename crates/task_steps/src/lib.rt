@@ -1,6 +1,7 @@
 //! Tasks as trees that are asked tick by tick how far they are: the run of one task, and the book of a lane's tasks.
 #![tactic(auto)]
 
+mod ahead;
 mod body;
 mod book;
 mod entries;
@@ -13,7 +14,6 @@ mod progress;
 mod run;
 mod stage;
 mod tasks;
-mod timeline;
 
 pub use book::{BookFault, Polled, TaskBook};
 pub use entry::Reply;

@@ -54,7 +54,7 @@ pub(crate) fn poll_entry(
         return Ok(true);
     }
     entry.catch_up(round.polled);
-    let answer = entry.poll(round.alloc, round.tick, cancelled)?;
+    let answer = entry.poll(round.tick, cancelled);
     let reply = entry.reply(answer.reply);
     add_reply(replies, reply)?;
     add_late(late, answer.late, entry.number)?;

@@ -3,10 +3,10 @@ ghost use Rattle.std.specs.Prelude.{◌≡◌, ◌+◌, ◌<◌, ◌≤◌, true
 ghost use Rattle.loop_script.specs.Bounds.{longest_tick, longest_time};
 ghost use Rattle.loop_script.specs.Tree.{Tree, sleep, check, both, first, within};
 ghost use Rattle.loop_script.specs.Units.{Tick, Microseconds};
-ghost use Rattle.task_steps.specs.End.{both_of, checked, seen, ticks_of};
-ghost use Rattle.task_steps.specs.Progress.{EndsIn, IsKnown, IsPending, IsProgress, both_progress, come_by, first_progress, ok_at, tick_of, within_progress};
+ghost use Rattle.loop_script.specs.End.{checked, seen, ticks_of};
+ghost use Rattle.task_steps.specs.Progress.{EndsIn, IsKnown, IsPending, IsProgress, come_by, ok_at, tick_of};
 
-use loop_script::{Node, Outcome, TaskTree};
+use loop_script::{Node, Outcome, TaskTree, wait_ticks};
 
 /// How far a tree is by a tick.
 #[derive(Clone, Copy)]
@@ -80,17 +80,6 @@ pub(crate) struct Moment {
     pub cancelled: Option<u32>,
 }
 
-/// How many ticks a sleep or a limit of a task takes: its time, rounded up.
-pub(crate) fn wait_ticks(us: u64, tick_us: u64) -> u64
-    requires us { us ≤ longest_time }
-    requires some { 0 < tick_us }
-    requires short { tick_us ≤ longest_tick }
-    ensures ticks { result ≡ ticks_of tick_us us }
-    ensures bound { result ≤ longest_time + longest_tick }
-{
-    (us + (tick_us - 1)) / tick_us
-}
-
 /// Whether the poll of a tick sees what was seen as cancelled from a tick on.
 fn is_seen(from: Option<u32>, tick: u32) -> bool
     ensures { result ≡ seen from tick }
@@ -109,16 +98,6 @@ fn checked(cancelled: bool) -> Outcome
         Outcome::Cancelled
     } else {
         Outcome::Ok(0)
-    }
-}
-
-/// The outcome of two parts that are both waited for: the first fault, else that of the second.
-fn both_of(a: Outcome, b: Outcome) -> Outcome
-    ensures { result ≡ both_of a b }
-{
-    match a {
-        Outcome::Ok(_) => b,
-        _ => a,
     }
 }
 
@@ -155,7 +134,6 @@ pub(crate) fn asked(begun: u32, at: &Moment) -> Progress
 
 /// How far two parts are that are both waited for.
 pub(crate) fn joined(one: Progress, other: Progress) -> Progress
-    ensures is { result ≡ both_progress one other }
     ensures now { (tick_us : Microseconds) (a b : Tree) (f tick : Tick) (c : Option Tick) → IsProgress tick_us a f c tick one → IsProgress tick_us b f c tick other → IsProgress tick_us (both a b) f c tick result }
     ensures ahead { (tick_us : Microseconds) (a b : Tree) (f known tick : Tick) (c : Option Tick) → IsKnown tick_us a f c known tick one → IsKnown tick_us b f c known tick other → IsKnown tick_us (both a b) f c known tick result }
 {
@@ -169,7 +147,7 @@ pub(crate) fn joined(one: Progress, other: Progress) -> Progress
         ) => {
             Progress::Ended {
                 tick: a.max(b),
-                outcome: both_of(outcome, second),
+                outcome: outcome.and(second),
             }
         }
         (Progress::Ended { .. }, Progress::Waits(_)) => other,
@@ -180,7 +158,6 @@ pub(crate) fn joined(one: Progress, other: Progress) -> Progress
 
 /// How far two parts are of which the earlier end counts, the first where both end in a tick.
 pub(crate) fn earlier(one: Progress, other: Progress) -> Progress
-    ensures is { result ≡ first_progress one other }
     ensures now { (tick_us : Microseconds) (a b : Tree) (f tick : Tick) (c : Option Tick) → IsProgress tick_us a f c tick one → IsProgress tick_us b f c tick other → IsProgress tick_us (first a b) f c tick result }
     ensures ahead { (tick_us : Microseconds) (a b : Tree) (f known tick : Tick) (c : Option Tick) → IsKnown tick_us a f c known tick one → IsKnown tick_us b f c known tick other → IsKnown tick_us (first a b) f c known tick result }
 {
@@ -200,7 +177,6 @@ pub(crate) fn earlier(one: Progress, other: Progress) -> Progress
 
 /// How far a part is that has a limit.
 pub(crate) fn limited(limit: u64, tick: u32, body: Progress) -> Progress
-    ensures is { result ≡ within_progress limit tick body }
     ensures now { (tick_us us : Microseconds) (a : Tree) (f : Tick) (c : Option Tick) → limit ≡ f + ticks_of tick_us us → IsProgress tick_us a f c tick body → IsProgress tick_us (within us a) f c tick result }
     ensures ahead { (tick_us us : Microseconds) (a : Tree) (f known : Tick) (c : Option Tick) → limit ≡ f + ticks_of tick_us us → known ≤ tick → IsKnown tick_us a f c known tick body → IsKnown tick_us (within us a) f c known tick result }
 {

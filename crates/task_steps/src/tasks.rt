@@ -34,7 +34,6 @@ pub(crate) struct Mark {
 /// A poll of all tasks.
 #[derive(Clone, Copy)]
 pub(crate) struct Round {
-    pub alloc: Global,
     pub tick: u32,
     /// The tick of the last poll of all.
     pub polled: Option<u32>,

@@ -1,6 +1,6 @@
 //! Runs beside the rule: single calls, and thousands of trees polled to their end.
 ghost use Rattle.std.specs.Prelude.{◌≡◌, ◌<◌, None, true};
-ghost use Rattle.task_steps.specs.End.{seen};
+ghost use Rattle.loop_script.specs.End.{seen};
 ghost use Rattle.task_steps.specs.Run.{MaySet, IsAfter};
 
 use crate::expected::expect_same;

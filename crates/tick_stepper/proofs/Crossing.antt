@@ -9,12 +9,12 @@ use denote.Param.Send.{IsSend, IsSync, struct_sync, recorded_sync, sendable}
 use Rattle.std.proofs.Crossing.{crosses}
 use Rattle.std.proofs.MapsCrossing.{BTreeMap-send}
 use Rattle.loop_script.proofs.tree.TaskTree.TheLaws.TheKnot.{crosses as trees}
+use Rattle.loop_script.specs.contracts.course.Course as Course
 use Rattle.loop_script.specs.contracts.tree.TaskTree as Tree
 use Rattle.loop_script.specs.contracts.action.Action as Action
 use Rattle.loop_script.specs.contracts.script.Script as Script
 use Rattle.task_steps.proofs.tasks.Tasks.TheLaws.TheKnot.{crosses as tasks}
 use Rattle.task_steps.specs.contracts.body.Body as Body
-use Rattle.task_steps.specs.contracts.timeline.Timeline as Timeline
 use Rattle.task_steps.specs.contracts.book.TaskBook as Book
 use Rattle.cancel_view.specs.contracts.handlers.Handlers as Handlers
 use Rattle.cancel_view.specs.contracts.view.View as View
@@ -62,17 +62,20 @@ use Rattle.tick_stepper.specs.contracts.work.Haul as Haul
 
 -- ---- tasks
 
+course_send : IsSend Course.the_row
+course_send = search (sendable, crosses) depth 40
+
+course_sync : IsSync Course.the_row
+course_sync = search (sendable, crosses) depth 40
+
 pub tree_send : IsSend Tree.the_row
-tree_send = search (trees, sendable, crosses) depth 40
+tree_send = search (trees, course_send, course_sync, sendable, crosses) depth 40
 
 pub tree_sync : IsSync Tree.the_row
-tree_sync = search (trees, sendable, crosses) depth 40
-
-timeline_send : IsSend Timeline.the_row
-timeline_send = search (sendable, crosses) depth 40
+tree_sync = search (trees, course_send, course_sync, sendable, crosses) depth 40
 
 body_send : IsSend Body.the_row
-body_send = search (timeline_send, trees, sendable, crosses) depth 60 fits 10000
+body_send = search (tree_send, tree_sync, sendable, crosses) depth 60 fits 10000
 
 book_send : IsSend Book.the_row
 book_send = search (tasks, body_send, trees, sendable, crosses) depth 100 fits 20000

@@ -1,5 +1,5 @@
 use Rattle.std.proofs.Common.{◌≡◌, ℕ, ◌<◌, true, Option, Some, None}
-use Rattle.task_steps.specs.End.{seen}
+use Rattle.loop_script.specs.End.{seen}
 use Rattle.task_steps.specs.Run.{MaySet}
 use Rattle.test_data.proofs.run_tests.polled_to_end.Given as goal
 
