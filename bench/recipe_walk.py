@@ -1,0 +1,126 @@
+"""The recipes of bench/recipes_of, as `bench/recipes` reads them, and the walk through their questions.
+
+A recipe is a file of TOML: `title`, `like`, `room` (where to begin) and `examples` (the words of those that exist), `types` (whose variants those are), and
+groups. A group has files, each with a note behind a colon, which begins with `if` where the file is touched only in a case that nothing asks for. One with a
+`key` asks (`ask`): its files are touched where the answer is yes. In place of them it may have a `choice` of several answers. `like` names those that exist and
+answer yes. Within a group stand others that are asked for only after its yes. `also` leads to another recipe, `part` to what stands below some keys of one; the
+keys behind the colon are answered yes there, and those with a dash no, where only a part is led to. The groups of shared.toml are for each recipe that they
+name (`of`)."""
+import functools, tomllib
+from pathlib import Path
+
+TOP = Path(__file__).resolve().parent.parent
+RECIPES = TOP / "bench" / "recipes_of"
+SHARED = "shared"
+
+
+@functools.cache
+def read(name):
+    told = tomllib.loads((RECIPES / f"{name}.toml").read_text())
+    for group in told["group"] if name == SHARED else []:
+        for one, _ in each_group(inside(group)):
+            one["of"] = group["of"]
+    return told
+
+
+def names():
+    return sorted(path.stem for path in RECIPES.glob("*.toml") if path.stem != SHARED)
+
+
+def groups_of(name):
+    """The groups of a recipe, with those that several have in common, which say of which they are."""
+    return read(name)["group"] + [group for group in read(SHARED)["group"] if name in group["of"]]
+
+
+def inside(group):
+    return group.get("choice", []) + group.get("group", [])
+
+
+def each_group(groups, above=()):
+    """Each group, also within others, with those above it that have a key."""
+    for group in groups:
+        yield group, above
+        yield from each_group(inside(group), above + ((group,) if "key" in group else ()))
+
+
+def files_of(group):
+    """The paths of a group, without endings, each with its note. A crate stands by its name, `top` is the repository's root."""
+    for room, parts in group.get("files", {}).items():
+        base = "" if room == "top" else f"crates/{room}/" if (TOP / "crates" / room).is_dir() else f"{room}/"
+        for part, entries in parts.items() if isinstance(parts, dict) else [("", parts)]:
+            for entry in entries:
+                path, _, note = entry.partition(": ")
+                yield f"{base}{part + '/' if part else ''}{path}".rstrip("/"), note
+
+
+def always_of(name):
+    return {path for group in groups_of(name) if "key" not in group for path, _ in files_of(group)}
+
+
+def leads_of(group):
+    """To which recipes a group leads, with the keys that it answers yes there, and whether to the whole of it (`also`), or only to what is below these (`part`)."""
+    for way in ("also", "part"):
+        for lead in group.get(way, []):
+            name, _, keys = lead.partition(":")
+            yield name, [key for key in keys.replace(" ", "").split(",") if key], way == "also"
+
+
+def key_of(first, name, group):
+    """The key of a group where the recipe `first` is asked for: one of another recipe has that one's name before it."""
+    return group["key"] if name == first or "of" in group else f"{name}.{group['key']}"
+
+
+def all_keys(first):
+    """Each key that may be answered, with those above it."""
+    return {key_of(first, name, group): [key_of(first, name, one) for one in above] for name in names() for group, above in each_group(groups_of(name)) if "key" in group}
+
+
+class Walk:
+    """What is for something new, of its recipe and of all to which that leads: `found` has pairs of a key, which is None where nothing was asked, and a group.
+    `answer` says yes or no to a key with its group."""
+
+    def __init__(self, first, answer):
+        self.first, self.answer = first, answer
+        self.whole, self.led, self.known, self.denied, self.said = {first}, [first], set(), set(), {}
+        self.until_settled(lambda name: read(name)["group"])
+        self.until_settled(groups_of)
+
+    def until_settled(self, groups_of_one):
+        """Goes over all groups anew until none leads to something that was not met before. Each question comes once."""
+        before = None
+        while before != (len(self.led), len(self.whole), len(self.known)):
+            before = len(self.led), len(self.whole), len(self.known)
+            self.found = []
+            for name in [*self.led]:
+                groups = groups_of_one(name)
+                if name not in self.whole:
+                    groups = [group for group in groups if "key" in group and key_of(self.first, name, group) in self.known]
+                self.take(name, groups, None if name == self.first else name)
+
+    def take(self, name, groups, above):
+        """Takes groups; `above` is the key of the question above, or the name of a recipe that was led to."""
+        for group in groups:
+            key = key_of(self.first, name, group) if "key" in group else None
+            if key and not self.is_yes(name, key, group):
+                continue
+            self.found.append((key or (None if "of" in group else above), group))
+            for other, keys, is_whole in leads_of(group):
+                self.led += [] if other in self.led else [other]
+                self.whole |= {other} if is_whole else set()
+                for led, over in each_group(groups_of(other)):
+                    if led.get("key") in keys:
+                        self.known |= {key_of(self.first, other, one) for one in (led, *over)}
+                    elif f"-{led.get('key')}" in keys:
+                        self.denied.add(key_of(self.first, other, led))
+            self.take(name, inside(group), key or above)
+
+    def is_yes(self, name, key, group):
+        """Whether a question is answered yes. Where one answer of a choice is known, the others are no."""
+        if key in self.denied and name not in self.whole:
+            return False
+        choices = {key_of(self.first, name, choice) for choice in group.get("choice", [])}
+        if choices & self.known:
+            self.said |= {choice: False for choice in choices if choice not in self.said}
+        if key not in self.said and key not in self.known:
+            self.said[key] = self.answer(key, group)
+        return key in self.known or self.said[key]
