@@ -5,7 +5,7 @@ ghost use Rattle.task_steps.specs.Run.{MaySet, IsAfter};
 
 use crate::expected::expect_same;
 use crate::oracle::{self, Begun};
-use crate::trees::{Seed, task_at, tree_of};
+use crate::trees::{Seed, script_of, task_at};
 use loop_script::{Action, Body, Outcome, Script, TaskTree};
 use std::alloc::{AllocError, Global};
 use std::process::Abort;
@@ -247,10 +247,22 @@ fn expect_rule(
     seed: &mut Seed,
     number: u64,
 ) -> Result<(), AllocError> {
-    let tree = tree_of(alloc, seed, number / 16 % 4, 1 + number % 16)?;
+    let text = script_of(alloc, seed, number / 16 % 4, 1 + number % 16)?;
     let begun = 10 + seed.below(3) as u32;
     let cancel = some_cancel(seed);
-    expect_end(rt, alloc, &tree, begun, cancel, number)
+    match Script::read(alloc, text.as_bytes()) {
+        Ok(script) => match task_at(script.actions(Body::Start(0)), 0) {
+            Some(spec) => expect_end(rt, alloc, &spec.tree, begun, cancel, number),
+            None => expect_read(rt, number),
+        },
+        Err(_) => expect_read(rt, number),
+    }
+}
+
+/// A script that was not read, or has no task.
+fn expect_read(rt: &impl Abort, number: u64) -> Result<(), AllocError> {
+    expect_same(rt, Some(number), None);
+    Ok(())
 }
 
 fn some_cancel(seed: &mut Seed) -> Option<u32> {

@@ -1,10 +1,9 @@
-//! For tests: trees made by hand, and trees from a seed.
-ghost use Rattle.std.specs.Prelude.{◌<◌, ◌≤◌};
-ghost use Rattle.loop_script.specs.Bounds.{longest_time};
+//! For tests: the task that an action starts, and scripts of one task whose tree is from a seed.
+ghost use Rattle.std.specs.Prelude.{◌<◌};
 
-use loop_script::{Action, Node, TaskSpec, TaskTree};
+use loop_script::{Action, TaskSpec};
 use std::alloc::{AllocError, Global};
-use std::sync::Arc;
+use std::fmt::Write;
 
 /// The task that an action starts; none where there is no such action, or it does something else.
 pub(crate) fn task_at(actions: &[Action], place: usize) -> Option<&TaskSpec> {
@@ -12,57 +11,6 @@ pub(crate) fn task_at(actions: &[Action], place: usize) -> Option<&TaskSpec> {
         Some(Action::Task(spec)) => Some(spec),
         _ => None,
     }
-}
-
-fn value(value: i64) -> TaskTree {
-    TaskTree {
-        node: Node::Value(value),
-    }
-}
-
-fn fail() -> TaskTree {
-    TaskTree { node: Node::Fail }
-}
-
-fn check() -> TaskTree {
-    TaskTree { node: Node::Check }
-}
-
-fn sleep(us: u64) -> TaskTree
-    requires { us ≤ longest_time }
-{
-    TaskTree {
-        node: Node::Sleep(us),
-    }
-}
-
-/// Two trees as one, in order, at once, or as the first of both to end.
-fn joined(
-    alloc: Global,
-    form: u64,
-    one: TaskTree,
-    other: TaskTree,
-) -> Result<TaskTree, AllocError> {
-    let one = Arc::new(alloc, one)?;
-    let other = Arc::new(alloc, other)?;
-    let node = match form {
-        0 => Node::Seq {
-            first: one,
-            next: other,
-        },
-        1 => Node::Both { one, other },
-        _ => Node::First { one, other },
-    };
-    Ok(TaskTree { node })
-}
-
-fn within(alloc: Global, us: u64, body: TaskTree) -> Result<TaskTree, AllocError>
-    requires { us ≤ longest_time }
-{
-    let body = Arc::new(alloc, body)?;
-    Ok(TaskTree {
-        node: Node::Within(us, body),
-    })
 }
 
 /// Numbers from a seed.
@@ -84,40 +32,65 @@ impl Seed {
     }
 }
 
-fn leaf(seed: &mut Seed, form: u64) -> TaskTree {
-    match form {
-        0 => value(seed.below(100) as i64),
-        1 => fail(),
-        2 => check(),
-        _ => sleep(seed.below(4000)),
-    }
-}
-
-/// A tree of a depth, whose top has one of the four forms of that depth. One part has the whole depth below it, the
-/// other at most 3.
-pub(crate) fn tree_of(
+/// A script whose one lane starts a task, with a tree of a depth, whose top has one of the four forms of that depth.
+pub(crate) fn script_of(
     alloc: Global,
     seed: &mut Seed,
     form: u64,
     depth: u64,
-) -> Result<TaskTree, AllocError> {
+) -> Result<String, AllocError> {
+    let mut text = String::new(alloc);
+    text.push_str(
+        r#"{"version":1,"ticks":1,"tick_us":1000,"cancellables":1,"procs":[{"do":[]}],"lanes":[{"contexts":1,"start":[["task",{"tree":"#,
+    )?;
+    add_tree(&mut text, seed, form, depth)?;
+    text.push_str(r#","call":0}]]}]}"#)?;
+    Ok(text)
+}
+
+/// Adds a tree that has no parts.
+fn add_leaf(text: &mut String, seed: &mut Seed, form: u64) -> Result<(), AllocError> {
+    match form {
+        0 => write!(text, r#"["value",{}]"#, seed.below(100))?,
+        1 => text.push_str(r#"["fail"]"#)?,
+        2 => text.push_str(r#"["check"]"#)?,
+        _ => write!(text, r#"["sleep",{}]"#, seed.below(4000))?,
+    }
+    Ok(())
+}
+
+/// Adds a tree. One part of it has the whole depth below it, the other at most 3.
+fn add_tree(text: &mut String, seed: &mut Seed, form: u64, depth: u64) -> Result<(), AllocError> {
     if depth <= 1 {
-        return Ok(leaf(seed, form));
+        return add_leaf(text, seed, form);
     }
-    let deep_form = any_form(seed, depth - 1);
-    let deep = tree_of(alloc, seed, deep_form, depth - 1)?;
+    let deep = depth - 1;
     if form == 3 {
-        return within(alloc, seed.below(9000), deep);
-    }
-    let small_depth = (1 + seed.below(3)).min(depth - 1);
-    let small_form = any_form(seed, small_depth);
-    let small = tree_of(alloc, seed, small_form, small_depth)?;
-    let (a, b) = if seed.below(2) == 0 {
-        (deep, small)
+        write!(text, r#"["within",{},"#, seed.below(9000))?;
+        let part = any_form(seed, deep);
+        add_tree(text, seed, part, deep)?;
     } else {
-        (small, deep)
-    };
-    joined(alloc, form, a, b)
+        text.push_str(word_of(form))?;
+        let small = 1 + seed.below(3);
+        let begins_deep = seed.below(2) == 0;
+        let one = (if begins_deep { deep } else { small }).min(deep);
+        let part = any_form(seed, one);
+        add_tree(text, seed, part, one)?;
+        text.push_str(",")?;
+        let other = (if begins_deep { small } else { deep }).min(deep);
+        let part = any_form(seed, other);
+        add_tree(text, seed, part, other)?;
+    }
+    text.push_str("]")
+}
+
+/// How a tree of two parts begins.
+fn word_of(form: u64) -> &'static str {
+    match form {
+        0 => r#"["seq","#,
+        1 => r#"["both","#,
+        _ => r#"["first","#,
+    }
 }
 
 /// The form of a part: sleeps often, faults seldom.

@@ -4,38 +4,36 @@ ghost use Rattle.std.specs.Prelude.{◌≡◌, ◌≤◌, ◌<◌, ◌+◌, leng
 use crate::expected::{expect, expect_same};
 use cancel_view::{Connected, Fired, OutOfMemory};
 use lane_watch::Watch;
-use loop_script::{Node, Outcome, TaskSpec, TaskTree};
+use loop_script::{Action, Body, Outcome, Script};
 use std::alloc::{AllocError, Global};
 use std::process::Abort;
 use task_steps::{Polled, TaskShown};
 
-/// A task that sleeps so long, with cancellable 0, and returns where that is cancelled.
-fn sleeper(us: u64) -> TaskSpec
-    requires { us ≤ 1000000000000000 }
-    ensures { result.cancel ≡ Some 0 }
-{
-    TaskSpec {
-        tree: TaskTree {
-            node: Node::Sleep(us),
-        },
-        call: 0,
-        cancel: Some(0),
-        check: true,
-        return_on_cancel: true,
-        priority: 0,
-    }
+/// A script whose one task sleeps three ticks, with cancellable 0, and returns where that is cancelled.
+fn sleeper() -> &'static str {
+    r#"{"version":1,"ticks":1,"tick_us":1000,"cancellables":1,"procs":[{"do":[]}],"lanes":[{"contexts":1,"start":[["task",{"tree":["sleep",3000],"call":0,"cancel":0,"check":true,"return_on_cancel":true}]]}]}"#
 }
 
-/// Starts such a task in tick 0, after its polls.
-fn start(watch: &mut Watch, us: u64) -> Result<(), OutOfMemory>
-    requires short { us ≤ 1000000000000000 }
+/// The same of a task that ends in its first poll.
+fn ended_at_once() -> &'static str {
+    r#"{"version":1,"ticks":1,"tick_us":1000,"cancellables":1,"procs":[{"do":[]}],"lanes":[{"contexts":1,"start":[["task",{"tree":["sleep",0],"call":0,"cancel":0,"check":true,"return_on_cancel":true}]]}]}"#
+}
+
+/// Starts the task of a script in tick 0, after its polls. A script that has none counts as refused.
+fn start(watch: &mut Watch, alloc: Global, text: &str) -> Result<(), OutOfMemory>
     requires tick { watch.old.tasks.tick ≡ 1 }
     requires room { watch.old.tasks.next < 1000 }
     requires known { 0 < length watch.old.view.members }
     ensures tick { watch.new.tasks.tick ≡ 1 }
     ensures view { watch.new.view ≡ watch.old.view }
 {
-    watch.start(&sleeper(us), 0, 0)
+    let Ok(script) = Script::read(alloc, text.as_bytes()) else {
+        return Err(OutOfMemory);
+    };
+    match script.actions(Body::Start(0)) {
+        [Action::Task(spec)] if spec.cancel == Some(0) => watch.start(spec, 0, 0),
+        _ => Err(OutOfMemory),
+    }
 }
 
 /// A watch whose first polls are over.
@@ -114,7 +112,7 @@ fn start_and_cancel(rt: &impl Abort, alloc: Global, watch: &mut Watch) -> Result
     requires known { 0 < length watch.old.view.members }
     ensures { OnOk result (watch.new.tasks.tick ≡ 2) }
 {
-    start(watch, 3000)?;
+    start(watch, alloc, sleeper())?;
     expect_shown(rt, watch, alloc, false, 1)?;
     poll(rt, alloc, watch, 1, None, &[])?;
     expect(rt, cancel(watch, alloc, 1)?);
@@ -178,7 +176,7 @@ fn run_handlers(rt: &impl Abort, alloc: Global, watch: &mut Watch) -> Result<(),
     requires known { 0 < length watch.old.view.members }
     requires id { watch.old.view.next_id ≡ 1 }
 {
-    start(watch, 3000)?;
+    start(watch, alloc, sleeper())?;
     connect(rt, watch, 5, 1)?;
     connect(rt, watch, 6, 2)?;
     expect(rt, watch.disconnect(1));
@@ -191,7 +189,7 @@ fn start_or_forget(rt: &impl Abort, alloc: Global, watch: &mut Watch)
     requires room { watch.old.tasks.next < 1000 }
     requires known { 0 < length watch.old.view.members }
 {
-    let reply = match start(watch, 0) {
+    let reply = match start(watch, alloc, ended_at_once()) {
         Err(OutOfMemory) => None,
         Ok(()) => Some(Outcome::Ok(0)),
     };
@@ -228,7 +226,7 @@ fn call_again(rt: &impl Abort, alloc: Global, watch: &mut Watch)
     requires known { 0 < length watch.old.view.members }
     requires id { watch.old.view.next_id ≡ 1 }
 {
-    if start(watch, 3000).is_ok() {
+    if start(watch, alloc, sleeper()).is_ok() {
         connect_again(rt, watch);
         cancel_again(rt, alloc, watch);
     }
