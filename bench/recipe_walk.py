@@ -4,8 +4,8 @@ A recipe is a file of TOML: `title`, `like`, `room` (where to begin) and `exampl
 groups. A group has files, each with a note behind a colon, which begins with `if` where the file is touched only in a case that nothing asks for. One with a
 `key` asks (`ask`): its files are touched where the answer is yes. In place of them it may have a `choice` of several answers. `like` names those that exist and
 answer yes. Within a group stand others that are asked for only after its yes. `also` leads to another recipe, `part` to what stands below some keys of one; the
-keys behind the colon are answered yes there, and those with a dash no, where only a part is led to. The groups of shared.toml are for each recipe that they
-name (`of`)."""
+keys behind the colon are answered yes there, and those with a dash no, where only a part is led to. `within` says of what the key above leads to, behind a colon,
+of which crate alone files are touched there, where nothing else leads to it. The groups of shared.toml are for each recipe that they name (`of`)."""
 import functools, tomllib
 from pathlib import Path
 
@@ -65,6 +65,13 @@ def leads_of(group):
             yield name, [key for key in keys.replace(" ", "").split(",") if key], way == "also"
 
 
+def bounds_of(group):
+    """Of which recipes a group leaves the files of one crate alone, with the path of that."""
+    for bound in group.get("within", []):
+        name, _, crate = bound.partition(":")
+        yield name, f"crates/{crate}/"
+
+
 def key_of(first, name, group):
     """The key of a group where the recipe `first` is asked for: one of another recipe has that one's name before it."""
     return group["key"] if name == first or "of" in group else f"{name}.{group['key']}"
@@ -76,8 +83,8 @@ def all_keys(first):
 
 
 class Walk:
-    """What is for something new, of its recipe and of all to which that leads: `found` has pairs of a key, which is None where nothing was asked, and a group.
-    `answer` says yes or no to a key with its group."""
+    """What is for something new, of its recipe and of all to which that leads: `found` has a key, which is None where nothing was asked, with a group and the
+    name of its recipe. `answer` says yes or no to a key with its group."""
 
     def __init__(self, first, answer):
         self.first, self.answer = first, answer
@@ -90,7 +97,7 @@ class Walk:
         before = None
         while before != (len(self.led), len(self.whole), len(self.known)):
             before = len(self.led), len(self.whole), len(self.known)
-            self.found = []
+            self.found, self.leading, self.bounds = [], {}, {}
             for name in [*self.led]:
                 groups = groups_of_one(name)
                 if name not in self.whole:
@@ -103,8 +110,12 @@ class Walk:
             key = key_of(self.first, name, group) if "key" in group else None
             if key and not self.is_yes(name, key, group):
                 continue
-            self.found.append((key or (None if "of" in group else above), group))
+            self.found.append((key or (None if "of" in group else above), group, name))
+            for other, crate in bounds_of(group):
+                self.bounds.setdefault(other, {})[above] = crate
             for other, keys, is_whole in leads_of(group):
+                if other != name:
+                    self.leading.setdefault(other, set()).add(key or above)
                 self.led += [] if other in self.led else [other]
                 self.whole |= {other} if is_whole else set()
                 for led, over in each_group(groups_of(other)):
@@ -113,6 +124,14 @@ class Walk:
                     elif f"-{led.get('key')}" in keys:
                         self.denied.add(key_of(self.first, other, led))
             self.take(name, inside(group), key or above)
+
+    def files(self):
+        """The files of what was found: the key, the path without its ending, and the note. Of a recipe to which nothing leads but keys that keep to one crate
+        there, only files of that."""
+        for key, group, name in self.found:
+            bounds = self.bounds.get(name, {})
+            crates = tuple(bounds.values()) if bounds and self.leading.get(name, set()) <= set(bounds) and name != self.first else ("",)
+            yield from ((key, stem, note) for stem, note in files_of(group) if stem.startswith(crates))
 
     def is_yes(self, name, key, group):
         """Whether a question is answered yes. Where one answer of a choice is known, the others are no."""
