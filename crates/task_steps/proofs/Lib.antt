@@ -15,6 +15,7 @@ pub mod Passed
 pub mod Lists
 pub mod Heeding
 pub mod PollAll
+pub mod Seated
 pub mod Waiting
 pub mod Once
 pub mod Shown

@@ -2,6 +2,7 @@
 use Rattle.std.proofs.Common.{◌≡◌, ℕ, ◌||◌, Bool, true, false, Option, Some, None, List, [], ◌∷◌, ◌++◌, min, arith, refl, ap, sym, ◌∙◌}
 use Rattle.std.specs.List.{list_any}
 use Rattle.task_steps.specs.declared.entry.Entry.{Entry}
+use Rattle.task_steps.specs.declared.mark.Mark.{Mark}
 use Rattle.task_steps.specs.Wake.{sooner}
 use Rattle.task_steps.specs.BookInside.{wake_of_entry, wake_of_all, heeds, mark_of, joined_mark}
 
@@ -42,3 +43,9 @@ mark_joined es fs = let w = wake_joined es fs in let h = any_joined heeds es fs 
 
 pub mark_one : (e : Entry) → mark_of (e ∷ []) ≡ record { wake = wake_of_entry e; heeds = heeds e }
 mark_one e = let w = sooner_none (wake_of_entry e) in let h = any_one heeds e in λ i. record { wake = w i; heeds = h i }
+
+pub joined_assoc : (a b c : Mark) → joined_mark (joined_mark a b) c ≡ joined_mark a (joined_mark b c)
+joined_assoc a b c = let w = sooner-assoc a.wake b.wake c.wake in let h = or-assoc a.heeds b.heeds c.heeds in λ i. record { wake = w i; heeds = h i }
+
+pub joined_none : (a : Mark) → joined_mark a (mark_of []) ≡ a
+joined_none a = let w = sooner_none a.wake in let h = or-false a.heeds in λ i. record { wake = w i; heeds = h i }

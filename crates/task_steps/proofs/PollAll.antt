@@ -16,8 +16,8 @@ use Rattle.task_steps.specs.Task.{Task, task_of, body_end, reply_in, is_late_in,
 use Rattle.task_steps.specs.Book.{sees, IsNext, HasGrown, noticed_in, all_noticed, MayComeToAll, replies_in, late_in, goes_on}
 use Rattle.task_steps.specs.BookInside.{is_fresh, IsWaitingAt, IsWaiting, AreWaiting, AreWaitingAfter, IsPassedBy, IsPolledBy, IsSeenBy, IsListed, AreListed, caught, caught_stage, caught_clear, heeds, mark_of, IsQuiet, shown, wake_of_stage, wake_of_entry, wake_of_all}
 use Rattle.task_steps.specs.Polls.{all_shown, Gives, HasPolledAll, CanPollAll, NoneComes, comes, comes_once}
-use Rattle.task_steps.specs.declared.tasks.Mark.{Mark}
-use Rattle.task_steps.specs.declared.tasks.Round.{Round}
+use Rattle.task_steps.specs.declared.mark.Mark.{Mark}
+use Rattle.task_steps.specs.declared.mark.Round.{Round}
 use Rattle.task_steps.proofs.Marks.{any_joined}
 use Rattle.task_steps.proofs.Heeding.{none_heeds}
 use Rattle.task_steps.proofs.Wakes.{after_wake, after_both, up-a, up-b}

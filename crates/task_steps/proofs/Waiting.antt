@@ -6,11 +6,11 @@ use Rattle.loop_script.specs.declared.task.TaskSpec.{TaskSpec}
 use Rattle.task_steps.specs.declared.entry.Entry.{Entry}
 use Rattle.task_steps.specs.declared.stage.Stage.TheVariants.{Fresh}
 use Rattle.task_steps.specs.declared.stage.Stage.{Stage}
-use Rattle.task_steps.specs.declared.tasks.Tasks.{Tasks, Gone}
+use Rattle.task_steps.specs.declared.tasks.Tasks.{Tasks}
 use Rattle.task_steps.specs.Run.{Run, NoneBefore, none_before}
 use Rattle.task_steps.specs.Task.{Task, task_of}
 use Rattle.task_steps.specs.Book.{Book, started, exhausted, IsStart}
-use Rattle.task_steps.specs.BookInside.{AreWaiting, AreWaitingAfter, IsPassedBy, IsPolledBy, IsSeenBy, IsKept, IsListed, AreListed, IsListedOnce, AreListedOnce, is_fresh, heeding, is_heeded, entries_of, shown, caught_clear, wake_of_stage, wake_of_entry, wake_of_all}
+use Rattle.task_steps.specs.BookInside.{AreMarked, AreWaiting, AreWaitingAfter, IsPassedBy, IsPolledBy, IsSeenBy, IsKept, IsListed, AreListed, IsListedOnce, AreListedOnce, is_fresh, heeding, is_heeded, entries_of, shown, caught_clear, wake_of_stage, wake_of_entry, wake_of_all}
 use Rattle.task_steps.specs.Polls.{all_shown}
 
 waiting-more : (next : ℕ) (polled : Option ℕ) (es : List Entry) (e : Entry) → AreWaiting next polled es → AreWaiting next polled (e ∷ []) → AreWaiting next polled (es ++ e ∷ [])
@@ -156,8 +156,17 @@ waiting-none : (last polled : Option ℕ) → AreWaitingAfter last polled []
 waiting-none None polled = refl
 waiting-none (Some last) polled = tt
 
-pub kept_none : (tick_us : ℕ) (last polled : Option ℕ) (heeded : List ℕ) (of_polled : ℕ) → 0 < tick_us → tick_us ≤ 1000000000 → IsPolledBy last polled → IsKept tick_us last polled false heeded of_polled Gone
-kept_none tick_us last polled heeded of_polled h k p = record { some = h; short = k; waiting = waiting-none last polled; past = p; marked = tt; listed = tt; first = tt; forgotten = λ s. absurd (cc) }
+pub kept_none : (tick_us : ℕ) (last polled : Option ℕ) (heeded : List ℕ) (of_polled : ℕ) (tasks : Tasks) → 0 < tick_us → tick_us ≤ 1000000000 → IsPolledBy last polled → entries_of tasks ≡ [] → AreMarked tasks → IsKept tick_us last polled false heeded of_polled tasks
+kept_none tick_us last polled heeded of_polled tasks h k p none m = record {
+  some = h;
+  short = k;
+  waiting = rw none (waiting-none last polled);
+  past = p;
+  marked = m;
+  listed = rw none tt;
+  first = rw none tt;
+  forgotten = λ s. absurd (cc);
+}
 
 abbrev book_of : ℕ → ℕ → Option ℕ → Option ℕ → Bool → List Entry → Book
 book_of us next last polled spent es = record { tick_us = us; tasks = all_shown polled es; next = next; last = last; wake = wake_of_all es; spent = spent }

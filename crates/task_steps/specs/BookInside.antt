@@ -1,14 +1,16 @@
 -- How a book's entries stand between two calls.
-use Rattle.std.specs.Prelude.{◌≡◌, ◌+◌, ◌<◌, ◌≤◌, ◌==◌, ◌&&◌, ◌||◌, ℕ, Bool, true, false, not, is_some, Option, Some, None, List, [], ◌∷◌, ◌++◌, if◌then◌else◌, take}
+use Rattle.std.specs.Prelude.{◌≡◌, ◌+◌, ◌<◌, ◌≤◌, ◌==◌, ◌&&◌, ◌||◌, ℕ, Bool, true, false, not, is_some, Option, Some, None, List, [], ◌∷◌, ◌++◌, map, if◌then◌else◌, take}
 use Rattle.std.specs.List.{list_any}
 use Rattle.loop_script.specs.Bounds.{longest_tick}
 use Rattle.loop_script.specs.Units.{Tick, Microseconds, CancellableNumber}
 use Rattle.task_steps.specs.declared.entry.Entry.{Entry}
 use Rattle.task_steps.specs.declared.stage.Stage.{Stage}
 use Rattle.task_steps.specs.declared.stage.Stage.TheVariants.{Fresh, Set, Polled, Done}
-use Rattle.task_steps.specs.declared.tasks.Mark.{Mark}
-use Rattle.task_steps.specs.declared.tasks.Round.{Round}
-use Rattle.task_steps.specs.declared.tasks.Tasks.{Tasks, Gone, One, Two'}
+use Rattle.task_steps.specs.declared.mark.Mark.{Mark}
+use Rattle.task_steps.specs.declared.mark.Round.{Round}
+use Rattle.task_steps.specs.declared.seats.Seat.{Seat}
+use Rattle.task_steps.specs.declared.tasks.Tasks.{Tasks}
+use Rattle.task_steps.specs.declared.tasks.Tree.{Tree, Gone, Leaf, Two'}
 use Rattle.task_steps.specs.Wake.{sooner}
 use Rattle.task_steps.specs.Run.{Run, IsAfter, IsLater, NoneBefore, stage_to, clear_passed}
 use Rattle.task_steps.specs.RunInside.{IsBy}
@@ -134,27 +136,54 @@ abbrev pub AreListedOnce : List CancellableNumber → List Entry → Type 0
 AreListedOnce cs [] = Unit {0}
 AreListedOnce cs (e ∷ es) = IsListedOnce cs e.run.stage e.cancel e.run.cancelled × AreListedOnce cs es
 
--- ---- a tree of entries
+-- ---- what is known of entries
 
--- its entries, in start order
-abbrev pub entries_of : Tasks → List Entry
-entries_of Gone = []
-entries_of (One e) = e.value ∷ []
-entries_of (Two' p m a n b) = entries_of a ++ entries_of b
-
--- what is known of some entries
+-- the mark of some entries
 abbrev pub mark_of : List Entry → Mark
 mark_of es = record { wake = wake_of_all es; heeds = list_any heeds es }
 
--- what is known of two lists together
+-- that of two lists together
 abbrev pub joined_mark : Mark → Mark → Mark
 joined_mark a b = record { wake = sooner a.wake b.wake; heeds = a.heeds || b.heeds }
 
--- each node's marks are those of the entries on its sides
-abbrev pub IsMarked : Tasks → Type 0
+-- ---- entries side by side
+
+-- those of seats, in their order
+abbrev pub entries_in : List Seat → List Entry
+entries_in seats = map (λ (s : Seat). s.entry.value) seats
+
+-- the mark of a seat is that of its entry
+abbrev pub IsKnown : Seat → Type 0
+IsKnown s = s.mark ≡ mark_of (s.entry.value ∷ [])
+
+-- the same of all seats
+abbrev pub AreKnown : List Seat → Type 0
+AreKnown [] = Unit {0}
+AreKnown (s ∷ seats) = IsKnown s × AreKnown seats
+
+-- ---- a tree of entries
+
+-- its entries, in start order
+abbrev pub entries_below : Tree → List Entry
+entries_below Gone = []
+entries_below (Leaf seats) = entries_in seats.items
+entries_below (Two' p m a n b) = entries_below a ++ entries_below b
+
+-- each node's marks are those of the entries on its sides, each seat's that of its entry
+abbrev pub IsMarked : Tree → Type 0
 IsMarked Gone = Unit {0}
-IsMarked (One e) = Unit {0}
-IsMarked (Two' p m a n b) = (m ≡ mark_of (entries_of a)) × (n ≡ mark_of (entries_of b)) × IsMarked a × IsMarked b
+IsMarked (Leaf seats) = AreKnown seats.items
+IsMarked (Two' p m a n b) = (m ≡ mark_of (entries_below a)) × (n ≡ mark_of (entries_below b)) × IsMarked a × IsMarked b
+
+-- ---- all entries of a book
+
+-- in start order: those of the tree, and the last ones
+abbrev pub entries_of : Tasks → List Entry
+entries_of tasks = entries_below tasks.tree ++ entries_in tasks.last.items
+
+-- all marks are right
+abbrev pub AreMarked : Tasks → Type 0
+AreMarked tasks = IsMarked tasks.tree × AreKnown tasks.last.items
 
 -- no entry of a mark wakes in a round, or heeds what may have come
 abbrev pub IsQuiet : Round → Mark → Type 0
@@ -174,7 +203,7 @@ pub record IsKept (tick_us : Microseconds) (last polled : Option Tick) (spent : 
   pub short : tick_us ≤ longest_tick
   pub waiting : AreWaitingAfter last polled (entries_of tasks)
   pub past : IsPolledBy last polled
-  pub marked : IsMarked tasks
+  pub marked : AreMarked tasks
   pub listed : AreListed heeded (entries_of tasks)
   pub first : AreListedOnce (take of_polled heeded) (entries_of tasks)
   pub forgotten : spent ≡ true → (last ≡ None) × (entries_of tasks ≡ [])

@@ -5,7 +5,8 @@ use crate::entries::new_entry;
 use crate::entry::Reply;
 use crate::heeded::{first_of, forget_seen, heed, some_came};
 use crate::look::TaskShown;
-use crate::tasks::{Place, Round, Tasks};
+use crate::mark::Round;
+use crate::tasks::Tasks;
 use cancel_view::View;
 use loop_script::{Items, TaskSpec};
 use std::alloc::{AllocError, Global};
@@ -96,7 +97,7 @@ impl TaskBook {
         TaskBook {
             alloc,
             tick_us,
-            tasks: Tasks::Gone,
+            tasks: Tasks::new(alloc),
             heeded: Vec::new(alloc),
             of_polled: 0,
             next: 0,
@@ -140,8 +141,8 @@ impl TaskBook {
     {
         let entry = new_entry(self.alloc, spec, ctx, tick, self.next, self.tick_us)?;
         heed(&mut self.heeded, spec.cancel)?;
-        let mut tasks = mem::replace(&mut self.tasks, Tasks::Gone);
-        tasks.append(self.alloc, self.next.trailing_ones(), Tasks::One(entry))?;
+        let mut tasks = mem::replace(&mut self.tasks, Tasks::new(self.alloc));
+        tasks.push(self.alloc, entry)?;
         self.tasks = tasks;
         self.next += 1;
         self.last = Some(tick);
@@ -152,7 +153,7 @@ impl TaskBook {
     fn exhaust(&mut self)
         ensures { self.new ≡ exhausted self.old }
     {
-        self.tasks = Tasks::Gone;
+        self.tasks = Tasks::new(self.alloc);
         self.last = None;
         self.polled = None;
         self.spent = true;
@@ -190,9 +191,8 @@ impl TaskBook {
             polled: self.polled,
             came: some_came(first_of(&self.heeded, self.of_polled), view),
         };
-        let mut tasks = mem::replace(&mut self.tasks, Tasks::Gone);
-        let mark = tasks.mark();
-        let Ok(_) = tasks.poll(mark, Place::Before, round, view, &mut replies, &mut late) else {
+        let mut tasks = mem::replace(&mut self.tasks, Tasks::new(self.alloc));
+        let Ok(()) = tasks.poll(round, view, &mut replies, &mut late) else {
             self.exhaust();
             return Err(BookFault::OutOfMemory);
         };
@@ -258,7 +258,7 @@ impl TaskBook {
         ensures { result ≡ list_any (replies_next view.now) self.now.tasks }
     {
         if some_came(&self.heeded, view) {
-            return self.tasks.reply_next(self.tasks.mark(), view);
+            return self.tasks.reply_next(view);
         }
         false
     }

@@ -9,9 +9,11 @@ mod entry;
 mod heeded;
 pub mod laws;
 mod look;
+mod mark;
 mod polls;
 mod progress;
 mod run;
+mod seats;
 mod stage;
 mod tasks;
 

@@ -1,10 +1,11 @@
 //! What is shown of the tasks of a book to whoever looks at a run. None of it changes them.
 ghost use Rattle.std.specs.Prelude.{◌≡◌, ◌++◌, OnOk, map};
-ghost use Rattle.task_steps.specs.BookInside.{entries_of};
+ghost use Rattle.task_steps.specs.BookInside.{entries_below};
 ghost use Rattle.task_steps.specs.Shown.{entry_shown};
 
 use crate::entry::Entry;
-use crate::tasks::Tasks;
+use crate::seats::show;
+use crate::tasks::Tree;
 use std::alloc::AllocError;
 
 /// A task that was started and whose body has not ended.
@@ -27,7 +28,7 @@ pub struct TaskShown {
 
 impl Entry {
     /// What is shown of it.
-    fn show(&self) -> TaskShown
+    pub(crate) fn show(&self) -> TaskShown
         ensures { result ≡ entry_shown self.now }
     {
         TaskShown {
@@ -41,15 +42,15 @@ impl Entry {
     }
 }
 
-impl Tasks {
+impl Tree {
     /// Adds what is shown of each task, in start order.
     pub(crate) fn show(&self, list: &mut Vec<TaskShown>) -> Result<(), AllocError>
-        ensures { OnOk result (list.new.items ≡ list.old.items ++ map entry_shown (entries_of self.now)) }
+        ensures { OnOk result (list.new.items ≡ list.old.items ++ map entry_shown (entries_below self.now)) }
     {
         match self {
-            Tasks::Gone => {}
-            Tasks::One(entry) => list.push(entry.show())?,
-            Tasks::Two(sides) => {
+            Tree::Gone => {}
+            Tree::Leaf(seats) => show(seats, list)?,
+            Tree::Two(sides) => {
                 sides.left.show(list)?;
                 sides.right.show(list)?;
             }

@@ -4,7 +4,7 @@ ghost use Rattle.task_steps.specs.Book.{sees};
 ghost use Rattle.task_steps.specs.Polls.{CanPollAll, HasPolledAll, owes_reply};
 
 use crate::entry::{Entry, Reply};
-use crate::tasks::Round;
+use crate::mark::Round;
 use cancel_view::View;
 use std::alloc::AllocError;
 

@@ -1,108 +1,49 @@
 //! Tasks in start order, in a tree whose nodes have a mark of the tasks on each side, so that a poll goes to those alone that wake or are cancelled.
-ghost use Rattle.std.specs.Prelude.{◌≡◌, ◌+◌, ◌<◌, ◌++◌, ◌∷◌, [], IsOk, IfOk, OnOk, IfSome, IfNone, false, true, IsTrue, ◌↔◌, map};
+ghost use Rattle.std.specs.Prelude.{◌≡◌, ◌++◌, ◌∷◌, [], IsOk, IfOk, OnOk, IfSome, IfNone, true, map};
 ghost use Rattle.std.specs.List.{list_any};
-ghost use Rattle.task_steps.specs.BookInside.{entries_of, mark_of, joined_mark, shown, IsMarked, IsQuiet};
-ghost use Rattle.task_steps.specs.Wake.{sooner};
+ghost use Rattle.task_steps.specs.BookInside.{entries_of, entries_below, mark_of, AreMarked, IsMarked};
 ghost use Rattle.task_steps.specs.Polls.{CanPollAll, HasPolledAll, NoneComes, owes_reply};
+ghost use Rattle.task_steps.specs.Shown.{entry_shown};
 
 use crate::entry::{Entry, Reply};
-use crate::polls::{owes_reply, poll_entry};
+use crate::look::TaskShown;
+use crate::mark::{Mark, Round};
+use crate::seats::{Seat, mark_of, poll_seats, reply_next, show};
 use cancel_view::View;
 use std::alloc::{AllocError, Global};
 use std::mem;
 
-/// The lesser of two wakes of tasks, where there are such.
-fn sooner_wake(a: Option<u64>, b: Option<u64>) -> Option<u64>
-    ensures { result ≡ sooner a b }
-{
-    match (a, b) {
-        (None, _) => b,
-        (Some(_), None) => a,
-        (Some(a), Some(b)) => Some(a.min(b)),
-    }
-}
+/// So many tasks fill a leaf.
+const LEAF: usize = 16;
 
-/// What is known of some tasks without a look at each.
-#[derive(Clone, Copy)]
-pub(crate) struct Mark {
-    /// The least tick in which one is begun, or to which its body sleeps.
-    pub wake: Option<u64>,
-    /// Whether one has a cancellable that no poll of it saw as cancelled.
-    pub heeds: bool,
-}
-
-/// A poll of all tasks.
-#[derive(Clone, Copy)]
-pub(crate) struct Round {
-    pub tick: u32,
-    /// The tick of the last poll of all.
-    pub polled: Option<u32>,
-    /// Whether a cancellable that a task heeds, which was polled before, may be in the view.
-    pub came: bool,
-}
-
-impl Mark {
-    /// The mark of no task.
-    fn of_none() -> Mark
-        ensures { result ≡ mark_of [] }
-    {
-        Mark {
-            wake: None,
-            heeds: false,
-        }
-    }
-
-    /// The mark of one task.
-    #[tactic(auto, using(crate::proofs::Marks::mark_one))]
-    fn of_one(entry: &Entry) -> Mark
-        ensures { result ≡ mark_of (entry.now ∷ []) }
-    {
-        Mark {
-            wake: entry.wake(),
-            heeds: entry.heeds(),
-        }
-    }
-
-    /// The mark of two lists of tasks together.
-    pub(crate) fn join(&self, other: Mark) -> Mark
-        ensures { result ≡ joined_mark self.now other }
-    {
-        Mark {
-            wake: sooner_wake(self.wake, other.wake),
-            heeds: self.heeds || other.heeds,
-        }
-    }
-
-    /// Whether a poll need look at none of the tasks.
-    fn is_quiet(&self, round: Round) -> bool
-        ensures { IsTrue result ↔ IsQuiet round self.now }
-    {
-        let sleeps = match self.wake {
-            None => true,
-            Some(wake) => u64::from(round.tick) < wake,
-        };
-        sleeps && !(round.came && self.heeds)
-    }
-}
-
-/// Tasks in start order. A node is as high as the logarithm of the number of the tasks that were added below it.
-#[cycle(tasks)]
+/// Tasks in start order, those apart that were started last.
 #[derive(Drop)]
-pub(crate) enum Tasks {
+pub(crate) struct Tasks {
+    tree: Tree,
+    /// The last ones. Once they fill a leaf, the tree takes them, so that all its leaves were full.
+    last: Vec<Seat>,
+    /// How many leaves the tree took.
+    leaves: u64,
+}
+
+/// Tasks in start order. A node is as high as the logarithm of the number of the leaves that were added below it.
+#[cycle(tree)]
+#[derive(Drop)]
+pub(crate) enum Tree {
     /// No task, or none any more.
     Gone,
-    One(Box<Entry>),
+    Leaf(Vec<Seat>),
     Two(Box<Sides>),
 }
 
 /// The tasks on the two sides of a node, each with its mark, so that nobody goes to a side for it.
-#[cycle(tasks)]
+#[cycle(tree)]
 #[derive(Drop)]
 pub(crate) struct Sides {
     left_mark: Mark,
-    pub left: Tasks,
+    pub left: Tree,
     right_mark: Mark,
-    pub right: Tasks,
+    pub right: Tree,
 }
 
 /// Where a tree of tasks stands.
@@ -115,10 +56,10 @@ pub(crate) enum Place {
 }
 
 /// Two lists of tasks as one.
-fn two(alloc: Global, left: Tasks, right: Tasks) -> Result<Tasks, AllocError>
+fn two(alloc: Global, left: Tree, right: Tree) -> Result<Tree, AllocError>
     requires left { IsMarked left }
     requires right { IsMarked right }
-    ensures entries { IfOk result (λ t. entries_of t ≡ entries_of left ++ entries_of right) }
+    ensures entries { IfOk result (λ t. entries_below t ≡ entries_below left ++ entries_below right) }
     ensures marked { IfOk result (λ t. IsMarked t) }
 {
     let sides = Sides {
@@ -127,16 +68,16 @@ fn two(alloc: Global, left: Tasks, right: Tasks) -> Result<Tasks, AllocError>
         right_mark: right.mark(),
         right,
     };
-    Ok(Tasks::Two(Box::new(alloc, sides)?))
+    Ok(Tree::Two(Box::new(alloc, sides)?))
 }
 
 /// The tasks on the right side of a node, with others behind them, in that node; those others alone, where it has none there. It takes
 /// no memory.
-fn moved_up(mut sides: Box<Sides>, tasks: Tasks) -> Tasks
+fn moved_up(mut sides: Box<Sides>, tasks: Tree) -> Tree
     requires right { IsMarked sides.value.right }
-    requires mark { sides.value.right_mark ≡ mark_of (entries_of sides.value.right) }
+    requires mark { sides.value.right_mark ≡ mark_of (entries_below sides.value.right) }
     requires tasks { IsMarked tasks }
-    ensures entries { entries_of result ≡ entries_of sides.value.right ++ entries_of tasks }
+    ensures entries { entries_below result ≡ entries_below sides.value.right ++ entries_below tasks }
     ensures marked { IsMarked result }
 {
     if sides.right.is_gone() {
@@ -145,66 +86,66 @@ fn moved_up(mut sides: Box<Sides>, tasks: Tasks) -> Tasks
     sides.left_mark = sides.right_mark;
     sides.right_mark = tasks.mark();
     sides.left = mem::replace(&mut sides.right, tasks);
-    Tasks::Two(sides)
+    Tree::Two(sides)
 }
 
 impl Sides {
     /// What stands for a node of which a side has no task; none, and the node stays, where it has to stand. The last trees hang one
     /// below the other on nodes that `append` counts: such a node goes only with both of its sides.
-    fn left_over(&mut self, place: Place) -> Option<Tasks>
+    fn left_over(&mut self, place: Place) -> Option<Tree>
         requires left { IsMarked self.old.left }
         requires right { IsMarked self.old.right }
-        ensures entries { IfSome result (λ t. entries_of t ≡ entries_of self.old.left ++ entries_of self.old.right) }
+        ensures entries { IfSome result (λ t. entries_below t ≡ entries_below self.old.left ++ entries_below self.old.right) }
         ensures marked { IfSome result (λ t. IsMarked t) }
         ensures same { IfNone result (self.new ≡ self.old) }
     {
         match (place, self.left.is_gone(), self.right.is_gone()) {
-            (_, true, true) => Some(Tasks::Gone),
-            (Place::Within, true, false) => Some(mem::replace(&mut self.right, Tasks::Gone)),
-            (Place::Within, false, true) => Some(mem::replace(&mut self.left, Tasks::Gone)),
+            (_, true, true) => Some(Tree::Gone),
+            (Place::Within, true, false) => Some(mem::replace(&mut self.right, Tree::Gone)),
+            (Place::Within, false, true) => Some(mem::replace(&mut self.left, Tree::Gone)),
             _ => None,
         }
     }
 }
 
-impl Tasks {
+impl Tree {
     /// Whether there is no task, as far as that is known without a look below.
     fn is_gone(&self) -> bool
-        ensures { result ≡ true → entries_of self.now ≡ [] }
+        ensures { result ≡ true → entries_below self.now ≡ [] }
     {
-        matches!(self, Tasks::Gone)
+        matches!(self, Tree::Gone)
     }
 
     /// The mark of all tasks.
     #[tactic(auto, using(crate::proofs::Marks::mark_joined))]
     pub(crate) fn mark(&self) -> Mark
         requires { IsMarked self.now }
-        ensures { result ≡ mark_of (entries_of self.now) }
+        ensures { result ≡ mark_of (entries_below self.now) }
     {
         match self {
-            Tasks::Gone => Mark::of_none(),
-            Tasks::One(entry) => Mark::of_one(entry),
-            Tasks::Two(sides) => sides.left_mark.join(sides.right_mark),
+            Tree::Gone => Mark::of_none(),
+            Tree::Leaf(seats) => mark_of(seats),
+            Tree::Two(sides) => sides.left_mark.join(sides.right_mark),
         }
     }
 
-    /// Adds tasks at the end, with so many of the last trees under one node. Where each call adds one task, and takes as many
+    /// Adds tasks at the end, with so many of the last trees under one node. Where each call adds one leaf, and takes as many
     /// trees as the number of those before it has ones at its end in binary, no tree is higher than that number's
     /// logarithm. After an error nothing is known of the tasks.
     pub(crate) fn append(
         &mut self,
         alloc: Global,
         trees: u32,
-        tasks: Tasks,
+        tasks: Tree,
     ) -> Result<(), AllocError>
         requires marked { IsMarked self.old }
         requires tasks { IsMarked tasks }
-        ensures entries { OnOk result (entries_of self.new ≡ entries_of self.old ++ entries_of tasks) }
+        ensures entries { OnOk result (entries_below self.new ≡ entries_below self.old ++ entries_below tasks) }
         ensures marked { OnOk result (IsMarked self.new) }
     {
-        match mem::replace(self, Tasks::Gone) {
-            Tasks::Two(mut sides) if trees > 0 => {
-                let mut before = mem::replace(&mut sides.left, Tasks::Gone);
+        match mem::replace(self, Tree::Gone) {
+            Tree::Two(mut sides) if trees > 0 => {
+                let mut before = mem::replace(&mut sides.left, Tree::Gone);
                 before.append(alloc, trees - 1, moved_up(sides, tasks))?;
                 *self = before;
             }
@@ -224,28 +165,28 @@ impl Tasks {
         replies: &mut Vec<Reply>,
         late: &mut Vec<u64>,
     ) -> Result<Mark, AllocError>
-        requires known { mark ≡ mark_of (entries_of self.old) }
+        requires known { mark ≡ mark_of (entries_below self.old) }
         requires marked { IsMarked self.old }
-        requires can { CanPollAll round.tick round.polled view.now (entries_of self.old) }
-        requires came { NoneComes round.came view.now (entries_of self.old) }
-        ensures polled { OnOk result (HasPolledAll round.tick round.polled view.now (entries_of self.old) (entries_of self.new) replies.old.items replies.new.items late.old.items late.new.items) }
-        ensures mark { IfOk result (λ m. m ≡ mark_of (entries_of self.new)) }
+        requires can { CanPollAll round.tick round.polled view.now (entries_below self.old) }
+        requires came { NoneComes round.came view.now (entries_below self.old) }
+        ensures polled { OnOk result (HasPolledAll round.tick round.polled view.now (entries_below self.old) (entries_below self.new) replies.old.items replies.new.items late.old.items late.new.items) }
+        ensures mark { IfOk result (λ m. m ≡ mark_of (entries_below self.new)) }
         ensures marked { OnOk result (IsMarked self.new) }
-        ensures none { entries_of self.old ≡ [] → IsOk result }
+        ensures none { entries_below self.old ≡ [] → IsOk result }
     {
         if mark.is_quiet(round) {
             return Ok(mark);
         }
         match self {
-            Tasks::Gone => Ok(mark),
-            Tasks::One(entry) => {
-                if poll_entry(entry, round, view, replies, late)? {
-                    return Ok(Mark::of_one(entry));
+            Tree::Gone => Ok(mark),
+            Tree::Leaf(seats) => {
+                let mark = poll_seats(seats, round, view, replies, late)?;
+                if seats.is_empty() {
+                    *self = Tree::Gone;
                 }
-                *self = Tasks::Gone;
-                Ok(Mark::of_none())
+                Ok(mark)
             }
-            Tasks::Two(sides) => {
+            Tree::Two(sides) => {
                 let node = &mut **sides;
                 let Sides {
                     left_mark,
@@ -266,20 +207,109 @@ impl Tasks {
 
     /// Whether the next poll replies that a task is cancelled, with the mark that is known of the tasks.
     pub(crate) fn reply_next(&self, mark: Mark, view: &View) -> bool
-        requires known { mark ≡ mark_of (entries_of self.now) }
+        requires known { mark ≡ mark_of (entries_below self.now) }
         requires marked { IsMarked self.now }
-        ensures { result ≡ list_any (owes_reply view.now) (entries_of self.now) }
+        ensures { result ≡ list_any (owes_reply view.now) (entries_below self.now) }
     {
         if !mark.heeds {
             return false;
         }
         match self {
-            Tasks::Gone => false,
-            Tasks::One(entry) => owes_reply(entry, view),
-            Tasks::Two(sides) => {
+            Tree::Gone => false,
+            Tree::Leaf(seats) => reply_next(seats, view),
+            Tree::Two(sides) => {
                 sides.left.reply_next(sides.left_mark, view)
                     || sides.right.reply_next(sides.right_mark, view)
             }
         }
+    }
+}
+
+impl Tasks {
+    /// No task.
+    pub(crate) fn new(alloc: Global) -> Tasks
+        ensures entries { entries_of result ≡ [] }
+        ensures marked { AreMarked result }
+    {
+        Tasks {
+            tree: Tree::Gone,
+            last: Vec::new(alloc),
+            leaves: 0,
+        }
+    }
+
+    /// The mark of all tasks.
+    #[tactic(auto, using(crate::proofs::Marks::mark_joined))]
+    pub(crate) fn mark(&self) -> Mark
+        requires { AreMarked self.now }
+        ensures { result ≡ mark_of (entries_of self.now) }
+    {
+        self.tree.mark().join(mark_of(&self.last))
+    }
+
+    /// Lets the tree take the last tasks as a leaf, where they fill one. After an error nothing is known of the tasks.
+    fn make_room(&mut self, alloc: Global) -> Result<(), AllocError>
+        requires { AreMarked self.old }
+        ensures entries { OnOk result (entries_of self.new ≡ entries_of self.old) }
+        ensures marked { OnOk result (AreMarked self.new) }
+    {
+        if self.last.len() < LEAF {
+            return Ok(());
+        }
+        let leaf = mem::replace(&mut self.last, Vec::new(alloc));
+        self.tree
+            .append(alloc, self.leaves.trailing_ones(), Tree::Leaf(leaf))?;
+        self.leaves = self.leaves.wrapping_add(1);
+        Ok(())
+    }
+
+    /// Adds a task at the end. After an error nothing is known of the tasks.
+    pub(crate) fn push(&mut self, alloc: Global, entry: Box<Entry>) -> Result<(), AllocError>
+        requires { AreMarked self.old }
+        ensures entries { OnOk result (entries_of self.new ≡ entries_of self.old ++ entry.value ∷ []) }
+        ensures marked { OnOk result (AreMarked self.new) }
+    {
+        self.make_room(alloc)?;
+        self.last.push(Seat::new(entry))?;
+        Ok(())
+    }
+
+    /// Polls the tasks that wake or may be seen as cancelled, and adds their replies and late numbers. Those that end go.
+    pub(crate) fn poll(
+        &mut self,
+        round: Round,
+        view: &View,
+        replies: &mut Vec<Reply>,
+        late: &mut Vec<u64>,
+    ) -> Result<(), AllocError>
+        requires marked { AreMarked self.old }
+        requires can { CanPollAll round.tick round.polled view.now (entries_of self.old) }
+        requires came { NoneComes round.came view.now (entries_of self.old) }
+        ensures polled { OnOk result (HasPolledAll round.tick round.polled view.now (entries_of self.old) (entries_of self.new) replies.old.items replies.new.items late.old.items late.new.items) }
+        ensures marked { OnOk result (AreMarked self.new) }
+        ensures none { entries_of self.old ≡ [] → IsOk result }
+    {
+        let mark = self.tree.mark();
+        let _ = self
+            .tree
+            .poll(mark, Place::Before, round, view, replies, late)?;
+        let _ = poll_seats(&mut self.last, round, view, replies, late)?;
+        Ok(())
+    }
+
+    /// Whether the next poll replies that a task is cancelled.
+    pub(crate) fn reply_next(&self, view: &View) -> bool
+        requires { AreMarked self.now }
+        ensures { result ≡ list_any (owes_reply view.now) (entries_of self.now) }
+    {
+        self.tree.reply_next(self.tree.mark(), view) || reply_next(&self.last, view)
+    }
+
+    /// Adds what is shown of each task, in start order.
+    pub(crate) fn show(&self, list: &mut Vec<TaskShown>) -> Result<(), AllocError>
+        ensures { OnOk result (list.new.items ≡ list.old.items ++ map entry_shown (entries_of self.now)) }
+    {
+        self.tree.show(list)?;
+        show(&self.last, list)
     }
 }

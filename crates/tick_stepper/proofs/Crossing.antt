@@ -13,8 +13,9 @@ use Rattle.loop_script.specs.contracts.course.Course as Course
 use Rattle.loop_script.specs.contracts.tree.TaskTree as Tree
 use Rattle.loop_script.specs.contracts.action.Action as Action
 use Rattle.loop_script.specs.contracts.script.Script as Script
-use Rattle.task_steps.proofs.tasks.Tasks.TheLaws.TheKnot.{crosses as tasks}
+use Rattle.task_steps.proofs.tasks.Tree.TheLaws.TheKnot.{crosses as tasks}
 use Rattle.task_steps.specs.contracts.body.Body as Body
+use Rattle.task_steps.specs.contracts.seats.Seat as Seat
 use Rattle.task_steps.specs.contracts.book.TaskBook as Book
 use Rattle.cancel_view.specs.contracts.handlers.Handlers as Handlers
 use Rattle.cancel_view.specs.contracts.view.View as View
@@ -75,10 +76,13 @@ pub tree_sync : IsSync Tree.the_row
 tree_sync = search (trees, course_send, course_sync, sendable, crosses) depth 40
 
 body_send : IsSend Body.the_row
-body_send = search (tree_send, tree_sync, sendable, crosses) depth 60 fits 10000
+body_send = search (tree_send, sendable, crosses) depth 60 fits 10000
+
+seat_send : IsSend Seat.the_row
+seat_send = search (body_send, sendable, crosses) depth 60 fits 10000
 
 book_send : IsSend Book.the_row
-book_send = search (tasks, body_send, trees, sendable, crosses) depth 100 fits 20000
+book_send = search (tasks, seat_send, trees, sendable, crosses) depth 100 fits 20000
 
 handlers_send : IsSend Handlers.the_row
 handlers_send = search (BTreeMap-send, sendable, crosses) depth 60 fits 10000

@@ -10,9 +10,9 @@ use Rattle.task_steps.proofs.Marks.{wake_joined, sooner_none}
 use Rattle.task_steps.proofs.Waiting.{waiting_added, shown_added, wake_fresh, listed_added, first_added, polled_start, going_on}
 use Rattle.task_steps.proofs.book.TaskBook.add.Goals as goal
 
-added : (c : goal.After-self-3-1) → entries_of c.append.new.self ≡ entries_of c.self.inside.tasks ++ c.in_ok-entry.entry.value ∷ []
+added : (c : goal.After-self-3-1) → entries_of c.push.new.self ≡ entries_of c.self.inside.tasks ++ c.in_ok-entry.entry.value ∷ []
 added c =
-    let all : entries_of c.append.new.self ≡ entries_of c.replace-tasks.result ++ c.in_ok-entry.entry.value ∷ [] = c.in_ok-append.ensures.entries in
+    let all : entries_of c.push.new.self ≡ entries_of c.replace-tasks.result ++ c.in_ok-entry.entry.value ∷ [] = c.in_ok-push.ensures.entries in
     let before : c.replace-tasks.result ≡ c.self.inside.tasks = c.replace-tasks.ensures.value in
     all ∙ ap (λ (x : Tasks). entries_of x ++ c.in_ok-entry.entry.value ∷ []) before
 
@@ -33,9 +33,9 @@ invariant_of-self-2 c =
       short = c.self.invariant.short;
       waiting = subst (λ (l : List Entry). AreWaiting (c.args.tick + 1) b.polled l) (sym (added c)) waiting;
       past = polled_start c.args.tick b.last b.polled c.self.invariant.past start;
-      marked = c.in_ok-append.ensures.marked;
-      listed = subst (λ (cs : List ℕ). AreListed cs (entries_of c.append.new.self)) (sym heeded) (subst (λ (l : List Entry). AreListed (heeding c.args.spec.now.cancel b.heeded.items) l) (sym (added c)) listed);
-      first = subst (λ (cs : List ℕ). AreListedOnce (take b.of_polled cs) (entries_of c.append.new.self)) (sym heeded) (subst (λ (l : List Entry). AreListedOnce (take b.of_polled (heeding c.args.spec.now.cancel b.heeded.items)) l) (sym (added c)) first);
+      marked = c.in_ok-push.ensures.marked;
+      listed = subst (λ (cs : List ℕ). AreListed cs (entries_of c.push.new.self)) (sym heeded) (subst (λ (l : List Entry). AreListed (heeding c.args.spec.now.cancel b.heeded.items) l) (sym (added c)) listed);
+      first = subst (λ (cs : List ℕ). AreListedOnce (take b.of_polled cs) (entries_of c.push.new.self)) (sym heeded) (subst (λ (l : List Entry). AreListedOnce (take b.of_polled (heeding c.args.spec.now.cancel b.heeded.items)) l) (sym (added c)) first);
       forgotten = going_on spent;
     }
 
@@ -45,9 +45,9 @@ returns-clause-ok c =
     let e = c.in_ok-entry.entry.value in
     let es = entries_of b.tasks in
     let t = started b.tick_us b.next c.args.spec.now c.args.ctx c.args.tick in
-    let tasks : all_shown b.polled (entries_of c.append.new.self) ≡ all_shown b.polled es ++ t ∷ [] =
+    let tasks : all_shown b.polled (entries_of c.push.new.self) ≡ all_shown b.polled es ++ t ∷ [] =
     ap (all_shown b.polled) (added c) ∙ shown_added b.polled es e t c.in_ok-entry.ensures.stage c.in_ok-entry.ensures.task in
-    let wake : wake_of_all (entries_of c.append.new.self) ≡ sooner (wake_of_all es) (Some (c.args.tick + 1)) =
+    let wake : wake_of_all (entries_of c.push.new.self) ≡ sooner (wake_of_all es) (Some (c.args.tick + 1)) =
     ap wake_of_all (added c) ∙ (wake_joined es (e ∷ []) ∙ ap (λ (w : Option ℕ). sooner (wake_of_all es) w) (sooner_none _ ∙ wake_fresh e t c.in_ok-entry.ensures.stage c.in_ok-entry.ensures.task)) in
     (λ i. record { tick_us = b.tick_us; tasks = tasks i; next = b.next + 1; last = Some c.args.tick; wake = wake i; spent = b.spent })
     ∙ ap (with_task c.args.spec.now c.args.ctx c.args.tick) c.self.view_is

@@ -1,6 +1,6 @@
 use Rattle.std.proofs.Common.{◌≡◌, ◌∙◌, ℕ, Option, false, ap, subst, sym}
 use Rattle.std.specs.List.{list_any}
-use Rattle.task_steps.specs.declared.tasks.Mark.{Mark}
+use Rattle.task_steps.specs.declared.mark.Mark.{Mark}
 use Rattle.task_steps.specs.Book.{Book, IsIdle, MayComeToAll, all_noticed, replies_next}
 use Rattle.task_steps.specs.BookInside.{entries_of, wake_of_all}
 use Rattle.task_steps.specs.Polls.{all_shown}

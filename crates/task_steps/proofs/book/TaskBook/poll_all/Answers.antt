@@ -3,7 +3,7 @@ use Rattle.std.specs.List.{list_any}
 use Rattle.cancel_view.specs.Seen.{has}
 use Rattle.task_steps.specs.declared.tasks.Tasks.{Tasks}
 use Rattle.task_steps.specs.Book.{Book, IsNext, HasGrown}
-use Rattle.task_steps.specs.BookInside.{AreListed, entries_of, wake_of_all, IsMarked}
+use Rattle.task_steps.specs.BookInside.{AreListed, entries_of, wake_of_all, AreMarked}
 use Rattle.task_steps.specs.Polls.{CanPollAll, NoneComes, all_shown}
 use Rattle.task_steps.specs.Run.{IsUpTo}
 use Rattle.std.proofs.lemmas.List.{take_all}
@@ -26,8 +26,7 @@ poll-requires c =
     let came : NoneComes c.some_came.result view es = λ k. none_came_once view (take b.of_polled b.heeded.items) es (sym some ∙ k) c.self.invariant.first in
     let same : c.replace-tasks.result ≡ b.tasks = c.replace-tasks.ensures.value in
     record {
-      marked = subst (λ (x : Tasks). IsMarked x) (sym same) c.self.invariant.marked;
-      known = c.mark-mark.ensures;
+      marked = subst (λ (x : Tasks). AreMarked x) (sym same) c.self.invariant.marked;
       can = subst (λ (x : Tasks). CanPollAll c.args.tick b.polled view (entries_of x)) (sym same) can;
       came = subst (λ (x : Tasks). NoneComes c.some_came.result view (entries_of x)) (sym same) came;
     }

@@ -1,5 +1,5 @@
 use Rattle.task_steps.proofs.Nodes.{nodes}
-use Rattle.task_steps.proofs.tasks.Tasks.+poll.Given as goal
+use Rattle.task_steps.proofs.tasks.Tree.+poll.Given as goal
 
 abbrev pub decreases-poll : goal.decreases-poll
 decreases-poll l = nodes l.self.now
