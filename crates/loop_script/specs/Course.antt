@@ -1,8 +1,6 @@
 -- What a tree comes to that nobody cancels.
 use Rattle.std.specs.Prelude.{◌≡◌, ◌<◌, ◌≤◌, ◌++◌, ◌∷◌, [], List, Option, Some, None, if◌then◌else◌}
 use Rattle.std.specs.List.Sorted.{IsNonDecreasing, IsPermutation}
-use Rattle.std.specs.declared.sync.Arc.{Arc}
-use Rattle.std.specs.Global.{Global}
 use Rattle.loop_script.specs.Bounds.{longest_tick}
 use Rattle.loop_script.specs.Units.{Tick, Microseconds}
 use Rattle.loop_script.specs.Tree.{Tree, value, fail, sleep, check, seq, both, first, within}
@@ -34,6 +32,6 @@ pub record IsCourse (tree : Tree) (c : Course) : Type 0 where
   pub end : end_of c.tick_us tree 0 None ≡ ending c.tick c.outcome
 
 -- the same, where there is a course
-abbrev pub IsItsCourse : Tree → Option (Arc Course Global) → Type 0
+abbrev pub IsItsCourse : Tree → Option Course → Type 0
 IsItsCourse tree None = Unit {0}
-IsItsCourse tree (Some c) = IsCourse tree c.value
+IsItsCourse tree (Some c) = IsCourse tree c

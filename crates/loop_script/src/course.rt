@@ -6,7 +6,7 @@ ghost use Rattle.loop_script.specs.End.{earlier, end_of, ending, is_ok, joined, 
 ghost use Rattle.loop_script.specs.declared.outcome.Outcome.TheVariants.{Ok};
 
 use crate::outcome::Outcome;
-use crate::tree::{Node, TaskTree};
+use crate::tree::{Branch, Node};
 use std::alloc::{AllocError, Global};
 
 /// What a tree comes to that nobody cancels, in ticks from the one in which it is begun.
@@ -107,7 +107,7 @@ impl Course {
     /// That of a tree, where a tick is so many microseconds long; none where it goes too far.
     pub(crate) fn of(
         alloc: Global,
-        tree: &TaskTree,
+        tree: &Branch,
         tick_us: u64,
     ) -> Result<Option<Course>, AllocError>
         requires some { 0 < tick_us }
@@ -158,7 +158,7 @@ fn passed_check(begun: u128, checks: &mut Vec<u128>) -> Result<End, AllocError>
 /// The end of a tree that is begun in a tick and that nobody cancels. The ticks in which its checks are begun are added, with those of
 /// parts that are cut short.
 fn foresee(
-    tree: &TaskTree,
+    tree: &Branch,
     begun: u128,
     tick_us: u64,
     checks: &mut Vec<u128>,

@@ -170,8 +170,8 @@ fn loops_refer_within(loops: &[u32], sizes: &Sizes) -> bool
     loops.iter().all(|context| sizes.has_context(*context))
 }
 
-/// How many contexts the lanes have together.
-pub(crate) fn context_count(lanes: &[LaneSpec]) -> u64
+/// How many contexts the lanes of a script have together; of 64 lanes at most.
+pub fn context_count(lanes: &[LaneSpec]) -> u64
     requires { length lanes.now ≤ most_lanes }
     ensures { result ≡ sum_by (λ l. l.contexts) lanes.now }
 {

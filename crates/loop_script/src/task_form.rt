@@ -9,7 +9,7 @@ use crate::number::{index_number, optional_flag, optional_index, priority_number
 use crate::object::only_keys;
 use crate::part::field_of;
 use crate::task::TaskSpec;
-use crate::tree::TaskTree;
+use crate::tree::{Branch, TaskTree};
 use crate::tree_form::read_tree;
 use serde_json::Value;
 use std::alloc::{AllocError, Global};
@@ -43,7 +43,7 @@ pub(crate) fn read_task(
     let return_on_cancel = optional_flag(field_of(value, "return_on_cancel"), false, faults);
     let priority = read_task_priority(field_of(value, "priority"), faults);
     Ok(TaskSpec {
-        tree,
+        tree: TaskTree::new(alloc, tree)?,
         call,
         cancel,
         check,
@@ -58,7 +58,7 @@ fn read_shallow_tree(
     alloc: Global,
     value: Option<&Value>,
     faults: &mut Faults,
-) -> Result<TaskTree, AllocError>
+) -> Result<Branch, AllocError>
     ensures value { IfOk result (λ t. t ≡ (shallow_tree (seen value.entry)).value) }
     ensures faults { OnOk result (faults.new ≡ after faults.old (shallow_tree (seen value.entry))) }
 {
@@ -67,7 +67,7 @@ fn read_shallow_tree(
         Ok(tree)
     } else {
         faults.limit = true;
-        Ok(TaskTree::fail())
+        Ok(Branch::fail())
     }
 }
 

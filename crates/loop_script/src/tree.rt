@@ -9,16 +9,28 @@ use std::alloc::{AllocError, Global};
 use std::marker::Model;
 use std::sync::Arc;
 
-/// What a task does.
-#[cycle(tree)]
+/// What a task does. All that run it share it.
 #[derive(Drop)]
 pub struct TaskTree {
-    pub node: Node,
-    /// What it comes to that nobody cancels, where that was looked for: of a task of a script that was read, and not of its parts.
-    course: Option<Arc<Course, Global>>,
+    top: Arc<Top, Global>,
 }
 
-/// What a task's tree is at its top; times are in microseconds.
+/// A tree, and what it comes to.
+#[derive(Drop)]
+struct Top {
+    root: Branch,
+    /// What the tree comes to that nobody cancels, where that was looked for: of a task of a script that was read.
+    course: Option<Course>,
+}
+
+/// A part of a task's tree, with all that stands below it; its root is the whole.
+#[cycle(tree)]
+#[derive(Drop)]
+pub struct Branch {
+    pub node: Node,
+}
+
+/// What a part is at its top; times are in microseconds.
 #[cycle(tree)]
 #[derive(Drop)]
 pub enum Node {
@@ -27,21 +39,21 @@ pub enum Node {
     Sleep(u64),
     Check,
     Seq {
-        first: Arc<TaskTree, Global>,
-        next: Arc<TaskTree, Global>,
+        first: Arc<Branch, Global>,
+        next: Arc<Branch, Global>,
     },
     Both {
-        one: Arc<TaskTree, Global>,
-        other: Arc<TaskTree, Global>,
+        one: Arc<Branch, Global>,
+        other: Arc<Branch, Global>,
     },
     First {
-        one: Arc<TaskTree, Global>,
-        other: Arc<TaskTree, Global>,
+        one: Arc<Branch, Global>,
+        other: Arc<Branch, Global>,
     },
-    Within(u64, Arc<TaskTree, Global>),
+    Within(u64, Arc<Branch, Global>),
 }
 
-impl Model for TaskTree {
+impl Model for Branch {
     ghost use Rattle.loop_script.specs.Tree.{Tree, tree_code, tree_size};
 
     ghost Value = { Tree };
@@ -52,9 +64,7 @@ impl Model for TaskTree {
 
     ghost view = { λ a. tree_of a.node };
 
-    ghost use Rattle.loop_script.specs.Course.{IsItsCourse};
-
-    ghost invariant = { λ a. HasShortTimes a.node × IsItsCourse (tree_of a.node) a.course };
+    ghost invariant = { λ a. HasShortTimes a.node };
 
     ghost size = { tree_size };
 
@@ -63,11 +73,81 @@ impl Model for TaskTree {
     ghost size_decreases = { λ a h. node_falls a.node };
 }
 
+impl Model for TaskTree {
+    ghost use Rattle.loop_script.specs.Tree.{Tree, tree_code};
+
+    ghost Value = { Tree };
+
+    ghost coded = { tree_code };
+
+    ghost view = { λ a. a.top.value.root };
+
+    ghost use Rattle.loop_script.specs.Course.{IsItsCourse};
+
+    ghost invariant = { λ a. IsItsCourse a.top.value.root a.top.value.course };
+}
+
 impl TaskTree {
-    /// The same tree: both share what stands below the top, and no memory is taken. It is refused only where a part has
-    /// more sharers than can be counted.
+    /// The tree of a root.
+    pub(crate) fn new(alloc: Global, root: Branch) -> Result<TaskTree, AllocError>
+        ensures { IfOk result (λ t. t ≡ root) }
+    {
+        let top = Top { root, course: None };
+        Ok(TaskTree {
+            top: Arc::new(alloc, top)?,
+        })
+    }
+
+    /// The same tree: both share it, and no memory is taken. It is refused only where it has more sharers than can be counted.
     pub fn share(&self) -> Result<TaskTree, AllocError>
         ensures { IfOk result (λ t. t ≡ self.now) }
+    {
+        Ok(TaskTree {
+            top: Arc::try_clone(&self.top)?,
+        })
+    }
+
+    /// Its root.
+    pub fn root(&self) -> &Branch
+        ensures { result.now ≡ self.now }
+    {
+        let top: &Top = &self.top;
+        &top.root
+    }
+
+    /// What it comes to that nobody cancels, where `foresee` has looked.
+    pub fn course(&self) -> Option<&Course>
+        ensures { IfSome result (λ c. IsCourse self.now c.now) }
+    {
+        let top: &Top = &self.top;
+        match &top.course {
+            None => None,
+            Some(course) => Some(course),
+        }
+    }
+
+    /// Looks what it comes to that nobody cancels, where a tick is so many microseconds long, and keeps that. It is the same tree.
+    pub(crate) fn foresee(&mut self, alloc: Global, tick_us: u64) -> Result<(), AllocError>
+        requires some { 0 < tick_us }
+        requires short { tick_us ≤ longest_tick }
+        ensures { OnOk result (self.new ≡ self.old) }
+    {
+        if let Some(course) = Course::of(alloc, self.root(), tick_us)? {
+            let top = Top {
+                root: self.root().share()?,
+                course: Some(course),
+            };
+            self.top = Arc::new(alloc, top)?;
+        }
+        Ok(())
+    }
+}
+
+impl Branch {
+    /// The same part: both share what stands below its top, and no memory is taken. It is refused only where a part has
+    /// more sharers than can be counted.
+    fn share(&self) -> Result<Branch, AllocError>
+        ensures { IfOk result (λ b. b ≡ self.now) }
     {
         let node = match &self.node {
             Node::Value(value) => Node::Value(*value),
@@ -88,128 +168,94 @@ impl TaskTree {
             },
             Node::Within(us, body) => Node::Within(*us, Arc::try_clone(body)?),
         };
-        let course = match &self.course {
-            None => None,
-            Some(course) => Some(Arc::try_clone(course)?),
-        };
-        Ok(TaskTree { node, course })
-    }
-
-    /// What it comes to that nobody cancels, where `foresee` has looked.
-    pub fn course(&self) -> Option<&Course>
-        ensures { IfSome result (λ c. IsCourse self.now c.now) }
-    {
-        match &self.course {
-            None => None,
-            Some(course) => Some(course),
-        }
-    }
-
-    /// Looks what it comes to that nobody cancels, where a tick is so many microseconds long, and keeps that. It is the same tree.
-    pub(crate) fn foresee(&mut self, alloc: Global, tick_us: u64) -> Result<(), AllocError>
-        requires some { 0 < tick_us }
-        requires short { tick_us ≤ longest_tick }
-        ensures { OnOk result (self.new ≡ self.old) }
-    {
-        if let Some(course) = Course::of(alloc, self, tick_us)? {
-            self.course = Some(Arc::new(alloc, course)?);
-        }
-        Ok(())
-    }
-
-    /// A tree with a node at its top.
-    fn new(node: Node) -> TaskTree
-        requires { HasShortTimes node }
-        ensures { result ≡ tree_of node }
-    {
-        TaskTree { node, course: None }
+        Ok(Branch { node })
     }
 }
 
-impl TaskTree {
+impl Branch {
     ghost use Rattle.std.specs.Prelude.{◌≤◌};
     ghost use Rattle.loop_script.specs.Bounds.{longest_time};
     ghost use Rattle.loop_script.specs.Tree.{value, fail, sleep, check, seq, both, first, within};
     ghost use Rattle.loop_script.specs.TreeDepth.{fits_in};
 
-    /// Makes a task's tree that ends at once with a value.
-    pub(crate) fn value(n: i64) -> TaskTree
+    /// Makes a part that ends at once with a value.
+    pub(crate) fn value(n: i64) -> Branch
         ensures { result ≡ value n }
     {
-        TaskTree::new(Node::Value(n))
+        Branch {
+            node: Node::Value(n),
+        }
     }
 
-    /// Makes a task's tree that ends at once without a value.
-    pub(crate) fn fail() -> TaskTree
+    /// Makes a part that ends at once without a value.
+    pub(crate) fn fail() -> Branch
         ensures { result ≡ fail }
     {
-        TaskTree::new(Node::Fail)
+        Branch { node: Node::Fail }
     }
 
-    /// Makes a task's tree that ends after so many microseconds, with 0.
-    pub(crate) fn sleep(us: u64) -> TaskTree
+    /// Makes a part that ends after so many microseconds, with 0.
+    pub(crate) fn sleep(us: u64) -> Branch
         requires { us ≤ longest_time }
         ensures { result ≡ sleep us }
     {
-        TaskTree::new(Node::Sleep(us))
+        Branch {
+            node: Node::Sleep(us),
+        }
     }
 
-    /// Makes a task's tree that ends at once: as cancelled where the task's cancellable is seen so, else with 0.
-    pub(crate) fn check() -> TaskTree
+    /// Makes a part that ends at once: as cancelled where the task's cancellable is seen so, else with 0.
+    pub(crate) fn check() -> Branch
         ensures { result ≡ check }
     {
-        TaskTree::new(Node::Check)
+        Branch { node: Node::Check }
     }
 
-    /// Makes a task's tree that does the second of two when the first has ended with a value.
-    pub(crate) fn seq(
-        alloc: Global,
-        first: TaskTree,
-        next: TaskTree,
-    ) -> Result<TaskTree, AllocError>
+    /// Makes a part that does the second of two when the first has ended with a value.
+    pub(crate) fn seq(alloc: Global, first: Branch, next: Branch) -> Result<Branch, AllocError>
         ensures { IfOk result (λ t. t ≡ seq first next) }
     {
         let first = Arc::new(alloc, first)?;
         let next = Arc::new(alloc, next)?;
-        Ok(TaskTree::new(Node::Seq { first, next }))
+        Ok(Branch {
+            node: Node::Seq { first, next },
+        })
     }
 
-    /// Makes a task's tree that does two at once, and ends when both have.
-    pub(crate) fn both(
-        alloc: Global,
-        one: TaskTree,
-        other: TaskTree,
-    ) -> Result<TaskTree, AllocError>
+    /// Makes a part that does two at once, and ends when both have.
+    pub(crate) fn both(alloc: Global, one: Branch, other: Branch) -> Result<Branch, AllocError>
         ensures { IfOk result (λ t. t ≡ both one other) }
     {
         let one = Arc::new(alloc, one)?;
         let other = Arc::new(alloc, other)?;
-        Ok(TaskTree::new(Node::Both { one, other }))
+        Ok(Branch {
+            node: Node::Both { one, other },
+        })
     }
 
-    /// Makes a task's tree that does two at once, and ends as the one that ends sooner.
-    pub(crate) fn first(
-        alloc: Global,
-        one: TaskTree,
-        other: TaskTree,
-    ) -> Result<TaskTree, AllocError>
+    /// Makes a part that does two at once, and ends as the one that ends sooner.
+    pub(crate) fn first(alloc: Global, one: Branch, other: Branch) -> Result<Branch, AllocError>
         ensures { IfOk result (λ t. t ≡ first one other) }
     {
         let one = Arc::new(alloc, one)?;
         let other = Arc::new(alloc, other)?;
-        Ok(TaskTree::new(Node::First { one, other }))
+        Ok(Branch {
+            node: Node::First { one, other },
+        })
     }
 
-    /// Makes a task's tree that does another, and is timed out where that takes longer than so many microseconds.
-    pub(crate) fn within(alloc: Global, us: u64, body: TaskTree) -> Result<TaskTree, AllocError>
+    /// Makes a part that does another, and is timed out where that takes longer than so many microseconds.
+    pub(crate) fn within(alloc: Global, us: u64, body: Branch) -> Result<Branch, AllocError>
         requires { us ≤ longest_time }
         ensures { IfOk result (λ t. t ≡ within us body) }
     {
         let body = Arc::new(alloc, body)?;
-        Ok(TaskTree::new(Node::Within(us, body)))
+        Ok(Branch {
+            node: Node::Within(us, body),
+        })
     }
 
-    /// Whether the tree goes so deep at most.
+    /// Whether it goes so deep at most.
     #[tactic(auto, using(crate::proofs::Depth::fits_none))]
     pub(crate) fn fits(&self, levels: u8) -> bool
         ensures { result ≡ fits_in levels self.now }

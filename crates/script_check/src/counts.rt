@@ -1,11 +1,11 @@
 //! How many contexts, loops, descriptors and so on a script has.
-ghost use Rattle.std.specs.Prelude.{◌≡◌, ◌≤◌, length, sum_by};
+ghost use Rattle.std.specs.Prelude.{◌≡◌, ◌≤◌, length};
 ghost use Rattle.loop_script.specs.Tables.{index};
 ghost use Rattle.script_check.specs.PlanFaults.{counts_of, count};
 ghost use Rattle.script_check.specs.Views.{form_of};
 
 use crate::wanted::Wanted;
-use loop_script::{LaneSpec, Plan};
+use loop_script::{Plan, context_count};
 
 /// What goes by its number in the script.
 #[derive(Clone, Copy)]
@@ -37,7 +37,7 @@ impl Counts {
     {
         Counts {
             lanes: plan.lanes.as_slice().len() as u64,
-            contexts: contexts_in_all(plan.lanes.as_slice()),
+            contexts: context_count(plan.lanes.as_slice()),
             loops: plan.loops.as_slice().len() as u64,
             cancellables: u64::from(plan.cancellables),
             procs: plan.procs.as_slice().len() as u64,
@@ -74,12 +74,4 @@ impl Sort {
             Sort::Descriptor => Wanted::Descriptor,
         }
     }
-}
-
-/// How many contexts the lanes of a script have together, for its counts by sort.
-fn contexts_in_all(lanes: &[LaneSpec]) -> u64
-    requires { length lanes.now ≤ 64 }
-    ensures { result ≡ sum_by (λ l. l.contexts) lanes.now }
-{
-    lanes.iter().map(|lane| u64::from(lane.contexts)).sum()
 }

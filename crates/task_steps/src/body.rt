@@ -117,7 +117,7 @@ impl Body {
     {
         match self.noted {
             Some(noted) if noted.holds_on(tick) => noted,
-            _ => progress_of(&self.tree, begun, &self.moment(tick)),
+            _ => progress_of(self.tree.root(), begun, &self.moment(tick)),
         }
     }
 
@@ -134,11 +134,11 @@ impl Body {
             return noted;
         }
         if self.cancelled.is_some() {
-            return progress_of(&self.tree, begun, &self.moment(u32::MAX));
+            return progress_of(self.tree.root(), begun, &self.moment(u32::MAX));
         }
         match self.tree.course() {
             Some(course) if course.tick_us == self.tick_us => progress_by(course, begun, tick),
-            _ => progress_of(&self.tree, begun, &self.moment(tick)),
+            _ => progress_of(self.tree.root(), begun, &self.moment(tick)),
         }
     }
 

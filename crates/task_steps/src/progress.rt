@@ -6,7 +6,7 @@ ghost use Rattle.loop_script.specs.Units.{Tick, Microseconds};
 ghost use Rattle.loop_script.specs.End.{checked, seen, ticks_of};
 ghost use Rattle.task_steps.specs.Progress.{EndsIn, IsKnown, IsPending, IsProgress, come_by, ok_at, tick_of};
 
-use loop_script::{Node, Outcome, TaskTree, wait_ticks};
+use loop_script::{Branch, Node, Outcome, wait_ticks};
 
 /// How far a tree is by a tick.
 #[derive(Clone, Copy)]
@@ -194,7 +194,7 @@ pub(crate) fn limited(limit: u64, tick: u32, body: Progress) -> Progress
 
 /// How far a tree is that is begun in a tick, by the moment that is given.
 #[tactic(auto, using(crate::proofs::Parts::seq_stays, crate::proofs::Parts::seq_goes, crate::proofs::Known::stays_known, crate::proofs::Known::goes_known, crate::proofs::Parts::first_now, crate::proofs::Parts::first_known))]
-pub(crate) fn progress_of(tree: &TaskTree, begun: u32, at: &Moment) -> Progress
+pub(crate) fn progress_of(tree: &Branch, begun: u32, at: &Moment) -> Progress
     requires some { 0 < at.now.tick_us }
     requires short { at.now.tick_us ≤ longest_tick }
     requires begun { begun ≤ at.now.tick }

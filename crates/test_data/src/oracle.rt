@@ -1,7 +1,7 @@
 //! For tests: the end of a tree and its wakes, by recursion on it, straight from the rule.
 ghost use Rattle.std.specs.Prelude.{◌<◌};
 
-use loop_script::{Node, Outcome, TaskTree};
+use loop_script::{Branch, Node, Outcome};
 
 /// How a tree is begun: the tick, the first tick that sees it as cancelled, and the length of a tick in microseconds.
 #[derive(Clone, Copy)]
@@ -27,7 +27,7 @@ impl Begun {
 }
 
 /// The tick and the outcome at which a tree ends.
-pub(crate) fn end(tree: &TaskTree, begun: &Begun) -> (u64, Outcome) {
+pub(crate) fn end(tree: &Branch, begun: &Begun) -> (u64, Outcome) {
     match &tree.node {
         Node::Value(value) => (begun.tick, Outcome::Ok(*value)),
         Node::Fail => (begun.tick, Outcome::Failed),
@@ -67,7 +67,7 @@ pub(crate) fn end(tree: &TaskTree, begun: &Begun) -> (u64, Outcome) {
 }
 
 /// The least tick at which a sleep or limit ends that is in progress after the polls of a tick.
-pub(crate) fn wake(tree: &TaskTree, begun: &Begun, now: u64) -> Option<u64> {
+pub(crate) fn wake(tree: &Branch, begun: &Begun, now: u64) -> Option<u64> {
     if end(tree, begun).0 <= now {
         return None;
     }

@@ -41,7 +41,7 @@ fn polled_to_end(
         expect_same(
             rt,
             (tick, run.next_wake()),
-            (tick, oracle::wake(tree, &rule, u64::from(tick))),
+            (tick, oracle::wake(tree.root(), &rule, u64::from(tick))),
         );
     }
     None
@@ -233,7 +233,7 @@ fn expect_end(
         cancel: cancel.map(|from| u64::from(from)),
         tick_us: 1000,
     };
-    let end = Some(oracle::end(tree, &rule));
+    let end = Some(oracle::end(tree.root(), &rule));
     let polled = ended(rt, alloc, tree, begun, cancel, false)?;
     let sparse = ended(rt, alloc, tree, begun, cancel, true)?;
     expect_same(rt, (number, polled, sparse), (number, end, end));

@@ -8,8 +8,9 @@ use denote.Struct.Tuple.{TupleAt, type_at}
 use denote.Param.Send.{IsSend, IsSync, struct_sync, recorded_sync, sendable}
 use Rattle.std.proofs.Crossing.{crosses}
 use Rattle.std.proofs.MapsCrossing.{BTreeMap-send}
-use Rattle.loop_script.proofs.tree.TaskTree.TheLaws.TheKnot.{crosses as trees}
+use Rattle.loop_script.proofs.tree.Branch.TheLaws.TheKnot.{crosses as branches}
 use Rattle.loop_script.specs.contracts.course.Course as Course
+use Rattle.loop_script.specs.contracts.tree.Branch as Branch
 use Rattle.loop_script.specs.contracts.tree.TaskTree as Tree
 use Rattle.loop_script.specs.contracts.action.Action as Action
 use Rattle.loop_script.specs.contracts.script.Script as Script
@@ -69,11 +70,17 @@ course_send = search (sendable, crosses) depth 40
 course_sync : IsSync Course.the_row
 course_sync = search (sendable, crosses) depth 40
 
+branch_send : IsSend Branch.the_row
+branch_send = search (branches, sendable, crosses) depth 40
+
+branch_sync : IsSync Branch.the_row
+branch_sync = search (branches, sendable, crosses) depth 40
+
 pub tree_send : IsSend Tree.the_row
-tree_send = search (trees, course_send, course_sync, sendable, crosses) depth 40
+tree_send = search (branch_send, branch_sync, course_send, course_sync, sendable, crosses) depth 40
 
 pub tree_sync : IsSync Tree.the_row
-tree_sync = search (trees, course_send, course_sync, sendable, crosses) depth 40
+tree_sync = search (branch_send, branch_sync, course_send, course_sync, sendable, crosses) depth 40
 
 body_send : IsSend Body.the_row
 body_send = search (tree_send, sendable, crosses) depth 60 fits 10000
@@ -82,7 +89,7 @@ seat_send : IsSend Seat.the_row
 seat_send = search (body_send, sendable, crosses) depth 60 fits 10000
 
 book_send : IsSend Book.the_row
-book_send = search (tasks, seat_send, trees, sendable, crosses) depth 100 fits 20000
+book_send = search (tasks, seat_send, sendable, crosses) depth 100 fits 20000
 
 handlers_send : IsSend Handlers.the_row
 handlers_send = search (BTreeMap-send, sendable, crosses) depth 60 fits 10000

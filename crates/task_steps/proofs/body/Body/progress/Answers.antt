@@ -1,4 +1,5 @@
 use Rattle.std.proofs.Common.{◌≡◌, ◌∙◌, ap, sym, subst}
+use Rattle.loop_script.specs.Tree.{Tree}
 use Rattle.task_steps.specs.declared.progress.Moment.{Moment}
 use Rattle.task_steps.specs.declared.stage.Stage.{Stage}
 use Rattle.task_steps.specs.declared.stage.Stage.TheVariants.{Set}
@@ -14,7 +15,9 @@ returns-in_default-clause-holds c =
     let stage : b.stage ≡ Set c.args.begun c.args.tick = ap (λ (r : Run). r.stage) c.self.view_is ∙ c.requires in
     let s = subst (λ (x : Stage). IsStanding b.tick_us b.tree b.clear b.cancelled x b.noted) stage c.self.invariant.standing in
     let p = c.progress_of.result in
-    let told = subst (λ (m : Moment). IsKnown m.tick_us b.tree c.args.begun m.cancelled m.tick m.tick p) c.moment.ensures c.progress_of.ensures.ahead in
+    let at = c.moment.result in
+    let of_root = subst (λ (x : Tree). IsKnown at.tick_us x c.args.begun at.cancelled at.tick at.tick p) c.root.ensures c.progress_of.ensures.ahead in
+    let told = subst (λ (m : Moment). IsKnown m.tick_us b.tree c.args.begun m.cancelled m.tick m.tick p) c.moment.ensures of_root in
     let known = subst (λ (r : Run). IsKnown r.tick_us b.tree c.args.begun r.cancelled c.args.tick c.args.tick p) (sym c.self.view_is) told in
     subst (λ (r : Run). Holds r.tick_us r.tree c.args.begun r.clear r.cancelled p) c.self.view_is
     (holds_now b.tick_us b.tree c.args.begun c.args.tick c.args.tick b.clear b.cancelled p s.0 s.2 known)
