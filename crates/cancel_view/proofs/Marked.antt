@@ -1,14 +1,14 @@
 -- Marks of two sets together.
-use Rattle.std.proofs.Common.{◌≡◌, ℕ, ◌<◌, ◌≤◌, ◌%◌, ◌^◌, ◌==◌, Bool, true, false, cond, not, List, [], ◌∷◌, refl, ap, sym, ◌∙◌, arith}
+use Rattle.std.proofs.Common.{◌≡◌, ℕ, nat_lt, ◌<◌, ◌%◌, ◌^◌, ◌==◌, Bool, true, false, cond, not, List, [], ◌∷◌, refl, ap, sym, ◌∙◌, arith}
 use Rattle.std.proofs.lemmas.Bool.Decides.{nat_tests}
 use Rattle.std.proofs.lemmas.Nat.{and_comm, and_le_l, and_or_self, and_assoc, or_comm, pow_pos}
 use Rattle.std.specs.Prelude.{zero, suc, bit_and, bit_or, replicate, slice_index_or, slice_set}
-use Rattle.cancel_view.specs.Marks.{Marks, mark_of, meets, AreMarked}
+use Rattle.cancel_view.specs.Marks.{Marks, no_mark, cancel_number, mark_of, meets, AreMarked}
 
 none_by : (n : ℕ) → n ≡ 0 → not (n == 0) ≡ false
 none_by n e = let is : (n == 0) ≡ true = grind (arith, nat_tests) in ap not is
 
-some_by : (n : ℕ) → 0 < n → not (n == 0) ≡ true
+pub some_by : (n : ℕ) → 0 < n → not (n == 0) ≡ true
 some_by n h = let is : (n == 0) ≡ false = grind (arith, nat_tests) in ap not is
 
 zero_of : (n : ℕ) → not (n == 0) ≡ false → n ≡ 0
@@ -63,9 +63,12 @@ same_or_old zero (suc d) (x ∷ members) e = refl
 same_or_old (suc c) zero (x ∷ members) e = refl
 same_or_old (suc c) (suc d) (x ∷ members) e = same_or_old c d members (grind (arith, nat_tests))
 
+cancel_opens : (c : ℕ) → mark_of c ≡ 2 ^ cancel_number c
+cancel_opens c = let here : nat_lt (cancel_number c) no_mark ≡ true = let l : c % 256 < 256 = omega arith in grind (arith, nat_tests, l) in ap (λ (b : Bool). cond b (2 ^ cancel_number c) 0) here
+
 pub marked_more : (c : ℕ) (members new_members : List Bool) (marks new_marks : Marks) → AreMarked members marks → new_members ≡ slice_set members c true → new_marks ≡ bit_or marks (mark_of c) → AreMarked new_members new_marks
 marked_more c members new_members marks new_marks k e f = rw (e, f) (λ d h. by d h (d == c) refl)
   where
     by : (d : ℕ) → slice_index_or (slice_set members c true) d false ≡ true → (b : Bool) → (d == c) ≡ b → meets (mark_of d) (bit_or marks (mark_of c)) ≡ true
-    by d h true g = let same : d ≡ c = grind (arith, nat_tests) in rw same (meets_own marks (c % 62))
+    by d h true g = let same : d ≡ c = grind (arith, nat_tests) in rw (same, cancel_opens c) (meets_own marks (cancel_number c))
     by d h false g = meets_more (mark_of d) marks (mark_of c) (k d (sym (same_or_old c d members g) ∙ h))

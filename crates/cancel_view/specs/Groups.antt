@@ -1,10 +1,9 @@
 -- How handlers are kept: each in the slot of its id, and for each cancellable the ids that were connected to it.
-use Rattle.std.specs.Prelude.{◌≡◌, ◌+◌, ◌≤◌, ℕ, zero, suc, Option, Some, None, List, [], ◌∷◌, map, filter, length, slice_get, slice_set, option_map, Vec}
+use Rattle.std.specs.Prelude.{◌≡◌, ◌+◌, ◌≤◌, zero, suc, Option, Some, None, List, [], ◌∷◌, map, filter, length, slice_get, slice_set, option_map, Vec}
 use Rattle.std.specs.Option.{option_flatten}
 use Rattle.std.specs.List.{filter_map, AllByRecursion}
 use Rattle.std.specs.Ordering.{nat_cmp}
 use Rattle.std.specs.BTreeMap.{BTreeMap, get}
-use Rattle.std.specs.declared.alloc.Global.{Global}
 use Rattle.cancel_view.specs.declared.handler.Handler.{Handler}
 use Rattle.cancel_view.specs.declared.handler.Fired.{Fired}
 use Rattle.cancel_view.specs.declared.handlers.Connection.{Connection}

@@ -1,15 +1,27 @@
--- Marks of cancellables, as the bits of a number: so one look tells whether any of many was seen.
-use Rattle.std.specs.Prelude.{◌≡◌, ◌%◌, ◌^◌, ◌==◌, ℕ, Bool, true, false, not, List, bit_and, slice_index_or}
+-- Marks of what opens sources, as the bits of a number: so one look tells whether any of many was seen.
+use Rattle.std.specs.Prelude.{◌≡◌, ◌%◌, ◌^◌, ◌==◌, nat_lt, ℕ, Bool, true, false, not, List, bit_and, slice_index_or, if◌then◌else◌}
 use Rattle.cancel_view.specs.Seen.{Seen}
-use Rattle.cancel_view.specs.Units.{CancellableNumber}
+use Rattle.cancel_view.specs.Units.{CancellableNumber, MarkNumber}
 
 -- marks, each of them a bit
 abbrev pub Marks : Type 0
 Marks = ℕ
 
--- the mark of a cancellable, which it shares with each 62nd
+-- marks have numbers below this
+abbrev pub no_mark : MarkNumber
+no_mark = 320
+
+-- the mark of a number, alone; none where no mark has it
+abbrev pub opening : MarkNumber → Marks
+opening n = if nat_lt n no_mark then 2 ^ n else 0
+
+-- the number of the mark of a cancellable: its own, for each that a script can name
+abbrev pub cancel_number : CancellableNumber → MarkNumber
+cancel_number c = c % 256
+
+-- the mark of a cancellable
 abbrev pub mark_of : CancellableNumber → Marks
-mark_of c = 2 ^ (c % 62)
+mark_of c = opening (cancel_number c)
 
 -- both have a mark
 abbrev pub meets : Marks → Marks → Bool

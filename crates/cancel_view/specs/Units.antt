@@ -12,3 +12,7 @@ HandlerId = ℕ
 -- a procedure by its number, from 0
 abbrev pub ProcNumber : Type 0
 ProcNumber = ℕ
+
+-- a mark by its number, from 0
+abbrev pub MarkNumber : Type 0
+MarkNumber = ℕ

@@ -9,6 +9,6 @@ mod memory;
 mod view;
 
 pub use handler::{Connected, Fired, Handler};
-pub use marks::mark_of;
+pub use marks::{Marks, NO_MARK, cancel_number};
 pub use memory::OutOfMemory;
 pub use view::View;

@@ -4,7 +4,7 @@ ghost use Rattle.cancel_view.specs.Bounds.{count_end};
 
 use crate::handler::{Connected, Fired};
 use crate::handlers::Handlers;
-use crate::marks::mark_of;
+use crate::marks::{Marks, cancel_number};
 use crate::memory::OutOfMemory;
 use std::alloc::Global;
 use std::marker::Model;
@@ -14,7 +14,7 @@ use std::marker::Model;
 pub struct View {
     members: Vec<bool>,
     /// The marks of these.
-    marks: u64,
+    marks: Marks,
     handlers: Handlers,
 }
 
@@ -61,7 +61,7 @@ impl View {
         let members = vec![in alloc; false; n as usize]?;
         Ok(View {
             members,
-            marks: 0,
+            marks: Marks::none(),
             handlers: Handlers::new(alloc),
         })
     }
@@ -73,9 +73,9 @@ impl View {
         has_member(&self.members, c)
     }
 
-    /// Marks of which each cancellable that the view has has its own (`mark_of`): where two sets have none in common, the view has
+    /// Marks of which each cancellable that the view has has its own (`cancel_number`): where two sets have none in common, the view has
     /// none of the other's.
-    pub fn marks(&self) -> u64
+    pub fn marks(&self) -> Marks
         ensures { IsMarked self.now result }
     {
         self.marks
@@ -96,7 +96,7 @@ impl View {
         }
         let fired = self.handlers.of(alloc, c)?;
         add_member(&mut self.members, c);
-        self.marks |= mark_of(c);
+        self.marks.add(cancel_number(c));
         Ok(Some(fired))
     }
 

@@ -14,7 +14,7 @@ use Rattle.cancel_view.specs.Seen.{Seen}
 use Rattle.cancel_view.specs.Marks.{mark_of, meets, IsMarked}
 use Rattle.cancel_view.proofs.Marked.{meets_own, meets_more, zero_and}
 use Rattle.source_rows.specs.declared.sight.Sight.{Sight}
-use Rattle.source_rows.specs.Candidates.{always, descriptor, due_at, opened_by, sleeps, is_awake, may_call, candidates}
+use Rattle.source_rows.specs.Candidates.{always, always_number, descriptor, descriptor_number, due_at, opened_by, sleeps, is_awake, may_call, candidates}
 use Rattle.source_rows.proofs.Compared.{and_both}
 use Rattle.source_rows.proofs.Lists.{all_of, all_true}
 use Rattle.source_rows.proofs.Order.{all_in_order}
@@ -100,8 +100,8 @@ pub record Sees (level : ℕ → ℕ) (cancelled : ℕ → Bool) (now : ℕ) (si
 pub sees_view : (level : ℕ → ℕ) (view : Seen) (now marks : ℕ) (sight : Sight) → IsMarked view marks → sight ≡ record { now = now; marks = bit_or (bit_or marks always) descriptor } → Sees level (in_view view) now sight
 sees_view level view now marks sight are is = rw is (record {
   time = refl;
-  idle = meets_more always (bit_or marks always) descriptor (meets_own marks 63);
-  shown = λ fd bits h. meets_own (bit_or marks always) 62;
+  idle = meets_more always (bit_or marks always) descriptor (meets_own marks always_number);
+  shown = λ fd bits h. meets_own (bit_or marks always) descriptor_number;
   marked = λ c h. meets_more (mark_of c) (bit_or marks always) descriptor (meets_more (mark_of c) marks always (are c h));
 })
 
@@ -111,7 +111,7 @@ nothing_told bits = ap (λ (n : ℕ). not (n == 0)) (zero_and (bit_or bits alway
 pub sees_quiet : (view : Seen) (now marks : ℕ) (sight : Sight) → IsMarked view marks → sight ≡ record { now = now; marks = bit_or marks always } → Sees nothing_shown (in_view view) now sight
 sees_quiet view now marks sight are is = rw is (record {
   time = refl;
-  idle = meets_own marks 63;
+  idle = meets_own marks always_number;
   shown = λ fd bits h. let no : false ≡ true = sym (nothing_told bits) ∙ h in cc;
   marked = λ c h. meets_more (mark_of c) marks always (are c h);
 })

@@ -18,6 +18,7 @@ use Rattle.source_rows.proofs.Order.{key_total}
 use Rattle.source_rows.proofs.Compared.{or_true}
 use Rattle.source_rows.proofs.Lists.{all_of}
 use Rattle.source_rows.proofs.AllMarks.{all_sleep}
+use Rattle.cancel_view.specs.Marks.{opening}
 use Rattle.source_rows.specs.Candidates.{sleeps}
 use Rattle.source_rows.specs.declared.sight.Sight.{Sight}
 use Rattle.source_rows.proofs.Inserted.{all_left, all_right, trans}
@@ -27,7 +28,7 @@ use Rattle.source_rows.proofs.Inserted.{all_left, all_right, trans}
 pub seat_total : IsTotalOrder seat_cmp
 seat_total =
     then_total (on_total (λ (t : Seat). t.key) key_total)
-    (then_total (on_total (λ (t : Seat). t.id) nat_cmp_total) (then_total (on_total (λ (t : Seat). t.marks) nat_cmp_total) (on_total (λ (t : Seat). t.due) nat_cmp_total)))
+    (then_total (on_total (λ (t : Seat). t.id) nat_cmp_total) (then_total (on_total (λ (t : Seat). t.mark) nat_cmp_total) (on_total (λ (t : Seat). t.due) nat_cmp_total)))
 
 pub sooner_order : IsStrictWeakOrder is_ahead
 sooner_order = ranks_by seat_total (λ (t : Seat). t)
@@ -66,15 +67,15 @@ same_key a b h =
 
 pub same_from_equal : (a b : Seat) → seat_cmp a b ≡ Equal → a ≡ b
 same_from_equal a b h =
-    let times = ordering_then (nat_cmp a.marks b.marks) (nat_cmp a.due b.due) in
+    let times = ordering_then (nat_cmp a.mark b.mark) (nat_cmp a.due b.due) in
     let t = then_equal (key_cmp a.key b.key) (ordering_then (nat_cmp a.id b.id) times) h in
     let u = then_equal (nat_cmp a.id b.id) times t.1 in
-    let v = then_equal (nat_cmp a.marks b.marks) (nat_cmp a.due b.due) u.1 in
-    let seat = λ (k : Key) (n w d : ℕ). let c : Seat = record { key = k; id = n; marks = w; due = d } in c in
-    ap (λ (k : Key). seat k a.id a.marks a.due) (same_key a.key b.key t.0)
-    ∙ (ap (λ (n : ℕ). seat b.key n a.marks a.due) (same_number a.id b.id u.0)
-    ∙ (ap (λ (w : ℕ). seat b.key b.id w a.due) (same_number a.marks b.marks v.0)
-    ∙ ap (λ (d : ℕ). seat b.key b.id b.marks d) (same_number a.due b.due v.1)))
+    let v = then_equal (nat_cmp a.mark b.mark) (nat_cmp a.due b.due) u.1 in
+    let seat = λ (k : Key) (n w d : ℕ). let c : Seat = record { key = k; id = n; mark = w; due = d } in c in
+    ap (λ (k : Key). seat k a.id a.mark a.due) (same_key a.key b.key t.0)
+    ∙ (ap (λ (n : ℕ). seat b.key n a.mark a.due) (same_number a.id b.id u.0)
+    ∙ (ap (λ (w : ℕ). seat b.key b.id w a.due) (same_number a.mark b.mark v.0)
+    ∙ ap (λ (d : ℕ). seat b.key b.id b.mark d) (same_number a.due b.due v.1)))
 
 pub equal_from_same : (a b : Seat) → a ≡ b → seat_cmp a b ≡ Equal
 equal_from_same a b e = ap (seat_cmp a) (sym e) ∙ tied_itself seat_total a
@@ -218,7 +219,7 @@ there_here t l k r e =
 
 -- ---- the first seat behind a key that does not sleep
 
-asleep_at : (after : Option Key) (sight : Sight) (s : Seat) (o : Option ℕ) → sleeps sight s.marks s.due ≡ true → o ≡ None → (b : Bool) → cond b o (cond (sleeps sight s.marks s.due) o (Some s.id)) ≡ None
+asleep_at : (after : Option Key) (sight : Sight) (s : Seat) (o : Option ℕ) → sleeps sight (opening s.mark) s.due ≡ true → o ≡ None → (b : Bool) → cond b o (cond (sleeps sight (opening s.mark) s.due) o (Some s.id)) ≡ None
 asleep_at after sight s o h e true = e
 asleep_at after sight s o h e false = ap (λ (b : Bool). cond b o (Some s.id)) h ∙ e
 
@@ -236,7 +237,7 @@ awake_some_by z s o p ih false false h = h
 
 pub awake_join_some : (after : Option Key) (sight : Sight) (z : ℕ) (l r : List Seat) → first_awake after sight l ≡ Some z → first_awake after sight (l ++ r) ≡ Some z
 awake_join_some after sight z [] r h = cc
-awake_join_some after sight z (s ∷ l) r h = awake_some_by z s (first_awake after sight l) (first_awake after sight (l ++ r)) (awake_join_some after sight z l r) (is_passed after s.key) (sleeps sight s.marks s.due) h
+awake_join_some after sight z (s ∷ l) r h = awake_some_by z s (first_awake after sight l) (first_awake after sight (l ++ r)) (awake_join_some after sight z l r) (is_passed after s.key) (sleeps sight (opening s.mark) s.due) h
 
 awake_none_by : (s : Seat) (o p q : Option ℕ) → (o ≡ None → p ≡ q) → (b v : Bool) → cond b o (cond v o (Some s.id)) ≡ None → cond b p (cond v p (Some s.id)) ≡ q
 awake_none_by s o p q ih true v h = ih h
@@ -245,7 +246,7 @@ awake_none_by s o p q ih false false h = cc
 
 pub awake_join_none : (after : Option Key) (sight : Sight) (l r : List Seat) → first_awake after sight l ≡ None → first_awake after sight (l ++ r) ≡ first_awake after sight r
 awake_join_none after sight [] r h = refl
-awake_join_none after sight (s ∷ l) r h = awake_none_by s (first_awake after sight l) (first_awake after sight (l ++ r)) (first_awake after sight r) (awake_join_none after sight l r) (is_passed after s.key) (sleeps sight s.marks s.due) h
+awake_join_none after sight (s ∷ l) r h = awake_none_by s (first_awake after sight l) (first_awake after sight (l ++ r)) (first_awake after sight r) (awake_join_none after sight l r) (is_passed after s.key) (sleeps sight (opening s.mark) s.due) h
 
 -- a key that does not stand behind one that is passed is passed
 pub key_by : (o p : Ordering) → is_lt (ordering_then o p) ≡ true → (o ≡ Less) ⊎ (o ≡ Equal)
@@ -275,17 +276,17 @@ passed_by (Some a) x k h p = behind_by a x.key k.key (not_true (is_lt (key_cmp a
 none_behind : (after : Option Key) (sight : Sight) (k : Seat) (xs : List Seat) → is_passed after k.key ≡ true → AllByRecursion (λ u. is_ahead u k ≡ true) xs → first_awake after sight xs ≡ None
 none_behind after sight k [] p h = refl
 none_behind after sight k (s ∷ xs) p h =
-    ap (λ (b : Bool). cond b (first_awake after sight xs) (cond (sleeps sight s.marks s.due) (first_awake after sight xs) (Some s.id))) (passed_by after s k h.0 p) ∙ none_behind after sight k xs p h.1
+    ap (λ (b : Bool). cond b (first_awake after sight xs) (cond (sleeps sight (opening s.mark) s.due) (first_awake after sight xs) (Some s.id))) (passed_by after s k h.0 p) ∙ none_behind after sight k xs p h.1
 
 pub awake_right : (after : Option Key) (sight : Sight) (l : List Seat) (k : Seat) (r : List Seat) → Rises is_ahead (l ++ k ∷ r) → is_passed after k.key ≡ true → first_awake after sight (l ++ k ∷ r) ≡ first_awake after sight r
 awake_right after sight l k r s p =
     awake_join_none after sight l (k ∷ r) (none_behind after sight k l p (all_left is_ahead l k r s))
-    ∙ ap (λ (b : Bool). cond b (first_awake after sight r) (cond (sleeps sight k.marks k.due) (first_awake after sight r) (Some k.id))) p
+    ∙ ap (λ (b : Bool). cond b (first_awake after sight r) (cond (sleeps sight (opening k.mark) k.due) (first_awake after sight r) (Some k.id))) p
 
-pub awake_here : (after : Option Key) (sight : Sight) (l : List Seat) (k : Seat) (r : List Seat) → is_passed after k.key ≡ false → sleeps sight k.marks k.due ≡ false → first_awake after sight l ≡ None → first_awake after sight (l ++ k ∷ r) ≡ Some k.id
+pub awake_here : (after : Option Key) (sight : Sight) (l : List Seat) (k : Seat) (r : List Seat) → is_passed after k.key ≡ false → sleeps sight (opening k.mark) k.due ≡ false → first_awake after sight l ≡ None → first_awake after sight (l ++ k ∷ r) ≡ Some k.id
 awake_here after sight l k r p n h = awake_join_none after sight l (k ∷ r) h ∙ rw (p, n) refl
 
-pub awake_over : (after : Option Key) (sight : Sight) (l : List Seat) (k : Seat) (r : List Seat) → is_passed after k.key ≡ false → sleeps sight k.marks k.due ≡ true → first_awake after sight l ≡ None → first_awake after sight (l ++ k ∷ r) ≡ first_awake after sight r
+pub awake_over : (after : Option Key) (sight : Sight) (l : List Seat) (k : Seat) (r : List Seat) → is_passed after k.key ≡ false → sleeps sight (opening k.mark) k.due ≡ true → first_awake after sight l ≡ None → first_awake after sight (l ++ k ∷ r) ≡ first_awake after sight r
 awake_over after sight l k r p n h = awake_join_none after sight l (k ∷ r) h ∙ rw (p, n) refl
 
 pub awake_left : (after : Option Key) (sight : Sight) (z : ℕ) (l : List Seat) (k : Seat) (r : List Seat) → first_awake after sight l ≡ Some z → first_awake after sight (l ++ k ∷ r) ≡ Some z
@@ -337,7 +338,7 @@ wake_free Equal Greater v w h = refl
 
 same_ahead : (x y u v : Seat) → x.key ≡ u.key → x.id ≡ u.id → y.key ≡ v.key → y.id ≡ v.id → u.id ≢ v.id → is_ahead x y ≡ is_ahead u v
 same_ahead x y u v a b c d n =
-    rw (a, b, c, d) (wake_free (key_cmp u.key v.key) (nat_cmp u.id v.id) (ordering_then (nat_cmp x.marks y.marks) (nat_cmp x.due y.due)) (ordering_then (nat_cmp u.marks v.marks) (nat_cmp u.due v.due)) (λ e. n (same_number u.id v.id e)))
+    rw (a, b, c, d) (wake_free (key_cmp u.key v.key) (nat_cmp u.id v.id) (ordering_then (nat_cmp x.mark y.mark) (nat_cmp x.due y.due)) (ordering_then (nat_cmp u.mark v.mark) (nat_cmp u.due v.due)) (λ e. n (same_number u.id v.id e)))
 
 pub swap_ahead : (a b u v : Seat) → b.key ≡ a.key → b.id ≡ a.id → u.id ≢ v.id → is_ahead (swap a b u) (swap a b v) ≡ is_ahead u v
 swap_ahead a b u v e f n =

@@ -2,6 +2,7 @@
 use Rattle.std.proofs.Common.{◌≡◌, nat_lt, ℕ, Bool, true, false, not, cond, inl, inr, List, [], ◌∷◌, refl, ap, ap₂, sym, subst, ◌∙◌, arith}
 use Rattle.std.proofs.lemmas.Bool.Decides.{nat_tests}
 use Rattle.std.specs.Ordering.{is_eq}
+use Rattle.cancel_view.specs.Marks.{opening}
 use Rattle.source_rows.specs.Candidates.{never}
 use Rattle.source_rows.specs.declared.seats.Least.{Least}
 use Rattle.source_rows.specs.declared.seats.Seat.{Seat}
@@ -41,7 +42,7 @@ least_stays f t xs (inr none) = sym (ap (λ (v : Bool). cond v never (least_by f
     ∙ (subst (λ (n : ℕ). lesser n (least_by f (without t xs)) ≡ lesser n (least_by f xs)) none (least_without f t xs) ∙ ap (λ (v : Bool). cond v never (least_by f xs)) (least_most f xs))
 
 -- without a seat that has no mark and is later, marks and least time stay
-pub leasts_stay : (t : Seat) (least : Least) (xs : List Seat) → least ≡ least_of xs → t.marks ≡ 0 → IsLater t.due least.due → least_of (without t xs) ≡ least_of xs
+pub leasts_stay : (t : Seat) (least : Least) (xs : List Seat) → least ≡ least_of xs → opening t.mark ≡ 0 → IsLater t.due least.due → least_of (without t xs) ≡ least_of xs
 leasts_stay t least xs is none due =
     let m = marks_stay same_time t xs none in
     let d = least_stays (λ s. s.due) t xs (subst (λ (l : Least). IsLater t.due l.due) is due) in

@@ -1,6 +1,7 @@
 -- A seat put into a side of a tree.
 use Rattle.std.proofs.Common.{◌≡◌, ℕ, ◌+◌, ◌<◌, ◌^◌, max, nat_lt, Bool, true, false, List, ◌∷◌, ◌++◌, length, refl, ap, ap₂, sym, ◌∙◌, arith}
 use Rattle.std.proofs.lemmas.Bool.Decides.{nat_tests}
+use Rattle.cancel_view.specs.Marks.{opening}
 use Rattle.source_rows.specs.Inserted.{inserted, Rises}
 use Rattle.source_rows.specs.declared.seats.Fork.{Fork}
 use Rattle.source_rows.specs.declared.seats.Least.{Least}
@@ -49,12 +50,12 @@ put_later old seat side higher even rises before is low lowered h = record {
 }
 
 -- marks and least time of a list with one more seat
-least_more : (seat : Seat) (xs : List Seat) → least_of (inserted is_ahead seat xs) ≡ record { marks = bit_or (least_of xs).marks seat.marks; due = lesser seat.due (least_of xs).due }
+least_more : (seat : Seat) (xs : List Seat) → least_of (inserted is_ahead seat xs) ≡ record { marks = bit_or (least_of xs).marks (opening seat.mark); due = lesser seat.due (least_of xs).due }
 least_more seat xs =
     ap₂ (λ (w d : ℕ). let l : Least = record { marks = w; due = d } in l) (marks_more seat xs) (least_put (λ s. s.due) seat xs)
 
 -- where no side is higher, the fork is even with its marks and least time and those of the seat
-pub put_even : (old new : Fork) (seat : Seat) → IsEvenFork old → PutIn old new seat false → IsEvenFork (record new { least = record { marks = bit_or new.least.marks seat.marks; due = lesser seat.due new.least.due } })
+pub put_even : (old new : Fork) (seat : Seat) → IsEvenFork old → PutIn old new seat false → IsEvenFork (record new { least = record { marks = bit_or new.least.marks (opening seat.mark); due = lesser seat.due new.least.due } })
 put_even old new seat even put =
     let same = put.still refl in
     let a = even.1 in (
@@ -62,7 +63,7 @@ put_even old new seat even put =
       (omega (arith, same.0, same.1, a.0, a.1), omega (arith, same.0, same.1, a.0, a.1)),
       put.sooner,
       put.later,
-      ap (λ (l : Least). let m : Least = record { marks = bit_or l.marks seat.marks; due = lesser seat.due l.due } in m) (put.least ∙ even.4) ∙ (sym (least_more seat (seats_of old)) ∙ ap least_of (sym put.seats)),
+      ap (λ (l : Least). let m : Least = record { marks = bit_or l.marks (opening seat.mark); due = lesser seat.due l.due } in m) (put.least ∙ even.4) ∙ (sym (least_more seat (seats_of old)) ∙ ap least_of (sym put.seats)),
     )
 
 -- the sides are near enough to be balanced

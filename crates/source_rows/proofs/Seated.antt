@@ -5,7 +5,7 @@ use Rattle.std.specs.Ordering.{is_eq}
 use Rattle.slab.specs.Slab.{Slab}
 use Rattle.loop_script.specs.Bounds.{count_end}
 use Rattle.source_rows.specs.declared.row.Row.{Row}
-use Rattle.source_rows.specs.Candidates.{opened_by, due_at}
+use Rattle.source_rows.specs.Candidates.{mark_number, due_at}
 use Rattle.source_rows.specs.Inserted.{inserted, Rises}
 use Rattle.source_rows.specs.Rows.{key_of, row_of, has_id, changed}
 use Rattle.source_rows.specs.Slots.{rows_at, IsTable}
@@ -94,7 +94,7 @@ pub kept_seated : (rows new : List Row) (row old : Row) (ss : List Seat × ℕ) 
 kept_seated rows new row old ss h rising f n e = record { are = h.are ∙ (sym (in_seats-same row old rows rising f e) ∙ ap in_seats (sym n)); few = h.few; low = h.low }
 
 abbrev due_from : Row → ℕ → Seat
-due_from r n = record { key = key_of r; id = r.id; marks = opened_by r.kind; due = n }
+due_from r n = record { key = key_of r; id = r.id; mark = mark_number r.kind; due = n }
 
 -- a row that is due when it was keeps its seat
 pub seat_kept : (r : Row) (t : ℤ) → due_at r.ready ≡ due_at t → seat_of r ≡ seat_of (record r { ready = t })

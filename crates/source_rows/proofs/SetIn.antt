@@ -1,16 +1,17 @@
 -- A seat put where another stands, in a side of a tree or at its root.
 use Rattle.std.proofs.Common.{◌≡◌, ℕ, ◌+◌, max, Bool, true, false, List, ◌∷◌, ◌++◌, refl, ap, ap₂, sym, ◌∙◌, arith}
+use Rattle.cancel_view.specs.Marks.{opening}
 use Rattle.source_rows.specs.Inserted.{Rises}
 use Rattle.source_rows.specs.declared.seats.Fork.{Fork}
 use Rattle.source_rows.specs.declared.seats.Least.{Least}
 use Rattle.source_rows.specs.declared.seats.Seat.{Seat}
-use Rattle.source_rows.specs.Seats.{is_ahead, least_of, lesser, swapped, IsLow}
+use Rattle.source_rows.specs.Seats.{is_ahead, least_by, least_of, lesser, marks_of, swapped, IsLow}
 use Rattle.source_rows.specs.SeatTree.{seats_of, IsEvenFork}
 use Rattle.source_rows.proofs.Ahead.{swapped_left, swapped_right, swapped_here}
 use Rattle.source_rows.proofs.Low.{side_swapped}
 use Rattle.std.specs.Prelude.{bit_or}
-use Rattle.source_rows.proofs.AllMarks.{marks_join}
-use Rattle.source_rows.proofs.Soonest.{least_join}
+use Rattle.source_rows.proofs.AllMarks.{between, marks_join}
+use Rattle.source_rows.proofs.Soonest.{behind_least, least_join}
 
 -- what a fork is once a seat was put where another stands in it, and the least times may be others
 pub record SetIn (a b : Seat) (old new : Fork) (may : Bool) : Type 0 where
@@ -23,8 +24,16 @@ pub record SetIn (a b : Seat) (old new : Fork) (may : Bool) : Type 0 where
   pub least : new.least ≡ old.least
   pub same : may ≡ false → least_of (seats_of new) ≡ least_of (seats_of old)
 
-least_parts : (l r : List Seat) → least_of (l ++ r) ≡ record { marks = bit_or (least_of l).marks (least_of r).marks; due = lesser (least_of l).due (least_of r).due }
+pub least_parts : (l r : List Seat) → least_of (l ++ r) ≡ record { marks = bit_or (least_of l).marks (least_of r).marks; due = lesser (least_of l).due (least_of r).due }
 least_parts l r = ap₂ (λ (w d : ℕ). let m : Least = record { marks = w; due = d } in m) (marks_join l r) (least_join (λ s. s.due) l r)
+
+-- one more seat between
+pub least_between : (l : List Seat) (s : Seat) (r : List Seat) → least_of (l ++ s ∷ r) ≡ record { marks = bit_or (least_of (l ++ r)).marks (opening s.mark); due = lesser s.due (least_of (l ++ r)).due }
+least_between l s r =
+    let due = λ (t : Seat). t.due in
+    ap₂ (λ (w d : ℕ). let m : Least = record { marks = w; due = d } in m)
+    (marks_join l (s ∷ r) ∙ (sym (between (marks_of l) (marks_of r) (opening s.mark)) ∙ ap (λ (n : ℕ). bit_or n (opening s.mark)) (sym (marks_join l r))))
+    (least_join due l (s ∷ r) ∙ (behind_least s.due (least_by due l) (least_by due r) ∙ ap (lesser s.due) (sym (least_join due l r))))
 
 least_left : (l m r : List Seat) → least_of l ≡ least_of m → least_of (l ++ r) ≡ least_of (m ++ r)
 least_left l m r e =
@@ -35,7 +44,7 @@ least_right l m r e =
     least_parts l m ∙ (ap (λ (x : Least). let y : Least = record { marks = bit_or (least_of l).marks x.marks; due = lesser (least_of l).due x.due } in y) e ∙ sym (least_parts l r))
 
 least_behind : (k : Seat) (l m : List Seat) → least_of l ≡ least_of m → least_of (k ∷ l) ≡ least_of (k ∷ m)
-least_behind k l m e = ap (λ (x : Least). let y : Least = record { marks = bit_or k.marks x.marks; due = lesser k.due x.due } in y) e
+least_behind k l m e = ap (λ (x : Least). let y : Least = record { marks = bit_or (opening k.mark) x.marks; due = lesser k.due x.due } in y) e
 
 pub set_sooner : (a b : Seat) (old : Fork) (side : List Seat × ℕ) (may : Bool) → IsEvenFork old → Rises is_ahead (seats_of old) → is_ahead a old.seat ≡ true → side.0 ≡ swapped a b old.sooner.0 → side.1 ≡ old.sooner.1
     → (may ≡ false → least_of side.0 ≡ least_of old.sooner.0) → SetIn a b old (record old { sooner = side }) may

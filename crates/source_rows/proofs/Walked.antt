@@ -8,6 +8,7 @@ use Rattle.source_rows.specs.InOrder.{AllFound, ids_of, rows_of}
 use Rattle.source_rows.specs.declared.seats.Seat.{Seat}
 use Rattle.source_rows.specs.Rows.{key_of, row_of, in_order}
 use Rattle.source_rows.specs.Tree.{parent_of}
+use Rattle.cancel_view.specs.Marks.{opening}
 use Rattle.source_rows.specs.Candidates.{is_awake, may_call, sleeps}
 use Rattle.source_rows.specs.Seats.{is_passed, seat_of}
 use Rattle.source_rows.specs.Walk.{rows_behind}
@@ -108,9 +109,9 @@ same_above (Some l) r = by_parent l.parent
     by_parent (Some id) = refl
 
 -- what a seat tells of its row
-pub told : (rows : List Row) (sight : Sight) (last : Option Row) (e : Seat) (r : Row) → IsOfRow rows e → row_of e.id rows ≡ Some r → (not (sleeps sight e.marks e.due) || is_above_id last e.id) ≡ (is_awake sight r || is_above_last last r)
+pub told : (rows : List Row) (sight : Sight) (last : Option Row) (e : Seat) (r : Row) → IsOfRow rows e → row_of e.id rows ≡ Some r → (not (sleeps sight (opening e.mark) e.due) || is_above_id last e.id) ≡ (is_awake sight r || is_above_last last r)
 told rows sight last e r own is =
-    ap (λ (s : Seat). not (sleeps sight s.marks s.due) || is_above_id last s.id) (own r is)
+    ap (λ (s : Seat). not (sleeps sight (opening s.mark) s.due) || is_above_id last s.id) (own r is)
     ∙ ap (λ (b : Bool). is_awake sight r || b) (same_above last r)
 
 none_found : (rows : List Row) (id : ℕ) → IsSome (row_of id rows) → row_of id rows ≡ None → ⊥
@@ -118,7 +119,7 @@ none_found rows id s e = let no : false ≡ true = subst IsSome e s in cc
 
 -- a seat that sleeps and is not that of the parent of the last row is passed over
 pub passed : (rows : List Row) (sight : Sight) (last : Option Row) → IsStep rows sight last → (e : Seat) (all es : List Seat) → HasLeft rows sight last all → all ≡ e ∷ es
-    → (not (sleeps sight e.marks e.due) || is_above_id last e.id) ≡ false → HasLeft rows sight last es × (ready_in sight rows all ≡ ready_in sight rows es)
+    → (not (sleeps sight (opening e.mark) e.due) || is_above_id last e.id) ≡ false → HasLeft rows sight last es × (ready_in sight rows all ≡ ready_in sight rows es)
 passed rows sight last h e all es left k a = by (row_of e.id rows) refl
   where
     mine : HasLeft rows sight last (e ∷ es)

@@ -1,7 +1,8 @@
 -- The rows that may be ready in a sight, as far as kinds, marks and ready times tell.
 use Rattle.std.specs.Prelude.{nat_lt, ◌&&◌, ◌^◌, Bool, not, ℤ, pos, negsuc, List, filter}
 use Rattle.std.specs.List.{list_any}
-use Rattle.cancel_view.specs.Marks.{Marks, mark_of, meets}
+use Rattle.cancel_view.specs.Marks.{Marks, cancel_number, meets, no_mark, opening}
+use Rattle.cancel_view.specs.Units.{MarkNumber}
 use Rattle.loop_script.specs.declared.Kind.{Kind}
 use Rattle.loop_script.specs.declared.Kind.TheVariants.{Idle, Timeout, ReadyTime, Fd, Cancel}
 use Rattle.source_rows.specs.declared.row.Row.{Row}
@@ -9,21 +10,33 @@ use Rattle.source_rows.specs.declared.sight.Sight.{Sight}
 use Rattle.source_rows.specs.Rows.{in_order, is_under}
 use Rattle.loop_script.specs.Units.{Microseconds}
 
--- the mark of what is always open
-abbrev pub always : Marks
-always = 2 ^ 63
+-- the number of the mark of what a descriptor may open
+abbrev pub descriptor_number : MarkNumber
+descriptor_number = 256
+
+-- the number of the mark of what is always open
+abbrev pub always_number : MarkNumber
+always_number = 257
 
 -- the mark of what a descriptor may open
 abbrev pub descriptor : Marks
-descriptor = 2 ^ 62
+descriptor = opening descriptor_number
 
--- the marks by which a source is open: it may then be ready whatever its ready time
+-- the mark of what is always open
+abbrev pub always : Marks
+always = opening always_number
+
+-- the number of the mark by which a source is open: it may then be ready whatever its ready time
+abbrev pub mark_number : Kind → MarkNumber
+mark_number Idle = always_number
+mark_number (Timeout ms) = no_mark
+mark_number (ReadyTime us) = no_mark
+mark_number (Fd fd bits) = descriptor_number
+mark_number (Cancel c) = cancel_number c
+
+-- the marks by which a source is open
 abbrev pub opened_by : Kind → Marks
-opened_by Idle = always
-opened_by (Timeout ms) = 0
-opened_by (ReadyTime us) = 0
-opened_by (Fd fd bits) = descriptor
-opened_by (Cancel c) = mark_of c
+opened_by k = opening (mark_number k)
 
 -- later than any ready time
 abbrev pub never : Microseconds

@@ -1,4 +1,4 @@
--- The seats of rows in their order: where a row stands, its id, the marks by which it is open, and when it is due.
+-- The seats of rows in their order: where a row stands, its id, the mark by which it is open, and when it is due.
 use Rattle.std.specs.Prelude.{ℕ, zero, suc, nat_lt, ◌+◌, length, ◌≡◌, ◌≤◌, ◌<◌, ◌⊎◌, Bool, false, not, Option, Some, None, List, [], ◌∷◌, map, filter, bit_or, if◌then◌else◌}
 use Rattle.std.specs.Ordering.{is_lt, is_eq, ordering_then, nat_cmp}
 use Rattle.std.specs.declared.cmp.Ordering.{Ordering}
@@ -8,14 +8,14 @@ use Rattle.source_rows.specs.declared.seats.Least.{Least}
 use Rattle.source_rows.specs.declared.seats.Seat.{Seat}
 use Rattle.source_rows.specs.Inserted.{inserted}
 use Rattle.source_rows.specs.Rows.{Key, key_cmp, key_of}
-use Rattle.source_rows.specs.Candidates.{never, due_at, opened_by, sleeps}
+use Rattle.source_rows.specs.Candidates.{never, due_at, mark_number, sleeps}
 use Rattle.source_rows.specs.declared.sight.Sight.{Sight}
-use Rattle.cancel_view.specs.Marks.{Marks}
+use Rattle.cancel_view.specs.Marks.{Marks, opening}
 use Rattle.loop_script.specs.Units.{Microseconds, SourceId}
 
--- by key, then by id, then by marks and time
+-- by key, then by id, then by mark and time
 abbrev pub seat_cmp : Seat → Seat → Ordering
-seat_cmp a b = ordering_then (key_cmp a.key b.key) (ordering_then (nat_cmp a.id b.id) (ordering_then (nat_cmp a.marks b.marks) (nat_cmp a.due b.due)))
+seat_cmp a b = ordering_then (key_cmp a.key b.key) (ordering_then (nat_cmp a.id b.id) (ordering_then (nat_cmp a.mark b.mark) (nat_cmp a.due b.due)))
 
 -- a seat stands before another
 abbrev pub is_ahead : Seat → Seat → Bool
@@ -61,7 +61,7 @@ least_by time (s ∷ seats) = lesser (time s) (least_by time seats)
 -- the marks of seats, all together
 abbrev pub marks_of : List Seat → Marks
 marks_of [] = 0
-marks_of (s ∷ seats) = bit_or s.marks (marks_of seats)
+marks_of (s ∷ seats) = bit_or (opening s.mark) (marks_of seats)
 
 -- all marks of seats, and the least of their times
 abbrev pub least_of : List Seat → Least
@@ -76,7 +76,7 @@ is_passed (Some a) k = not (is_lt (key_cmp a k))
 abbrev pub first_awake : Option Key → Sight → List Seat → Option SourceId
 first_awake after sight [] = None
 first_awake after sight (s ∷ seats) = if is_passed after s.key then first_awake after sight seats
-    else if sleeps sight s.marks s.due then first_awake after sight seats
+    else if sleeps sight (opening s.mark) s.due then first_awake after sight seats
     else Some s.id
 
 -- when a seat is due where that is after a time, else never
@@ -89,7 +89,7 @@ next_due now seats = least_by (due_after now) seats
 
 -- the seat of a row
 abbrev pub seat_of : Row → Seat
-seat_of r = record { key = key_of r; id = r.id; marks = opened_by r.kind; due = due_at r.ready }
+seat_of r = record { key = key_of r; id = r.id; mark = mark_number r.kind; due = due_at r.ready }
 
 -- the seats of rows
 abbrev pub in_seats : List Row → List Seat

@@ -12,6 +12,7 @@ ghost use Rattle.source_rows.specs.InOrder.{AllFound, ids_of};
 ghost use Rattle.source_rows.specs.Rows.{in_order, is_under, key_of};
 ghost use Rattle.source_rows.specs.Kept.{AllApart};
 ghost use Rattle.source_rows.specs.Tree.{IsForest, parent_of};
+ghost use Rattle.cancel_view.specs.Marks.{opening};
 ghost use Rattle.source_rows.specs.Candidates.{sleeps};
 ghost use Rattle.source_rows.specs.Steps.{IsStep, IsWalk, HasLeft, Looks, left_of, comes, wakes, nearer, parent_at, above_at, is_above_id, IsOfRow};
 
@@ -97,7 +98,7 @@ impl<'a> Iterator for Candidates<'a> {
 
     #[inline]
     fn next(&mut self) -> Option<&'a Row> {
-        let row = advance(&mut self.seats, self.table, self.last, self.sight)?;
+        let row = advance(&mut self.seats, self.table, self.last, &self.sight)?;
         self.last = Some(row);
         Some(row)
     }
@@ -134,17 +135,22 @@ fn is_above_last(last: Option<&Row>, above: u64) -> bool
 
 /// Whether the row of a seat comes next, as the seat tells: it does not sleep, or the last row is a child of it.
 #[inline]
-fn comes_by(seat: &Seat, last: Option<&Row>, sight: Sight) -> bool
-    ensures { result ≡ (not (sleeps sight seat.now.marks seat.now.due) || is_above_id (option_copied last.entry) seat.now.id) }
+fn comes_by(seat: &Seat, last: Option<&Row>, sight: &Sight) -> bool
+    ensures { result ≡ (not (sleeps sight.entry.now (opening seat.now.mark) seat.now.due) || is_above_id (option_copied last.entry) seat.now.id) }
 {
-    !sight.sleeps(seat.marks, seat.due) || is_above_last(last, seat.id)
+    !sight.one_sleeps(seat.mark, seat.due) || is_above_last(last, seat.id)
 }
 
 /// Looks at the next few rows of a part of the order.
-fn look<'a>(seats: &mut Walk<'a>, table: &'a Table, last: Option<&'a Row>, sight: Sight) -> Near<'a>
-    requires step { IsStep table.now sight (option_copied last) }
-    requires left { HasLeft table.now sight (option_copied last) seats.old }
-    ensures tells { Looks sight table.now seats.old seats.new result }
+fn look<'a>(
+    seats: &mut Walk<'a>,
+    table: &'a Table,
+    last: Option<&'a Row>,
+    sight: &Sight,
+) -> Near<'a>
+    requires step { IsStep table.now sight.now (option_copied last) }
+    requires left { HasLeft table.now sight.now (option_copied last) seats.old }
+    ensures tells { Looks sight.entry.now table.now seats.old seats.new result }
     ensures found { AllFound table.now (ids_of seats.new) }
     ensures are { AllByRecursion (IsOfRow table.now) seats.new }
 {
@@ -174,10 +180,10 @@ fn last_key(last: Option<&Row>) -> Option<Key>
 }
 
 /// The first row behind the last that may be ready by itself.
-fn awake_row<'a>(table: &'a Table, last: Option<&'a Row>, sight: Sight) -> Option<&'a Row>
+fn awake_row<'a>(table: &'a Table, last: Option<&'a Row>, sight: &Sight) -> Option<&'a Row>
     requires forest { IsForest table.now }
     requires apart { AllApart table.now }
-    ensures { option_copied result ≡ find (wakes sight (option_copied last.entry)) (in_order table.now) }
+    ensures { option_copied result ≡ find (wakes sight.entry.now (option_copied last.entry)) (in_order table.now) }
 {
     match table.first_awake(last_key(last), sight) {
         None => None,
@@ -212,9 +218,9 @@ fn nearer<'a>(a: Option<&'a Row>, b: Option<&'a Row>) -> Option<&'a Row>
 }
 
 /// The next row that may be ready, it or one under it.
-fn next_row<'a>(table: &'a Table, last: Option<&'a Row>, sight: Sight) -> Option<&'a Row>
-    requires { IsStep table.now sight (option_copied last) }
-    ensures { option_copied result ≡ find (comes sight table.now (option_copied last.entry)) (in_order table.now) }
+fn next_row<'a>(table: &'a Table, last: Option<&'a Row>, sight: &Sight) -> Option<&'a Row>
+    requires { IsStep table.now sight.now (option_copied last) }
+    ensures { option_copied result ≡ find (comes sight.entry.now table.now (option_copied last.entry)) (in_order table.now) }
 {
     nearer(awake_row(table, last, sight), parent_row(table, last))
 }
@@ -224,13 +230,13 @@ fn advance<'a>(
     seats: &mut Walk<'a>,
     table: &'a Table,
     last: Option<&'a Row>,
-    sight: Sight,
+    sight: &Sight,
 ) -> Option<&'a Row>
-    requires { IsWalk table.now sight (option_copied last) seats.old }
-    ensures some { IfSome result (λ row. left_of sight table.now (option_copied last.entry) ≡ row.now ∷ left_of sight table.now (Some row.now)) }
-    ensures walks { IfSome result (λ row. IsWalk table.now sight (Some row.now) seats.new) }
-    ensures none { IfNone result (left_of sight table.now (option_copied last.entry) ≡ []) }
-    ensures stays { IfNone result (IsWalk table.now sight (option_copied last.entry) seats.new) }
+    requires { IsWalk table.now sight.now (option_copied last) seats.old }
+    ensures some { IfSome result (λ row. left_of sight.entry.now table.now (option_copied last.entry) ≡ row.now ∷ left_of sight.entry.now table.now (Some row.now)) }
+    ensures walks { IfSome result (λ row. IsWalk table.now sight.entry.now (Some row.now) seats.new) }
+    ensures none { IfNone result (left_of sight.entry.now table.now (option_copied last.entry) ≡ []) }
+    ensures stays { IfNone result (IsWalk table.now sight.entry.now (option_copied last.entry) seats.new) }
 {
     match look(seats, table, last, sight) {
         Near::Came(row) => Some(row),

@@ -3,6 +3,7 @@ ghost use Rattle.std.specs.Prelude.{◌≡◌, ◌∷◌, [], Some};
 ghost use Rattle.source_rows.specs.SeatTree.{seen_of, IsEven};
 
 use crate::seats::{Fork, NEVER, Seat};
+use cancel_view::NO_MARK;
 use std::alloc::{AllocError, Global};
 
 /// Room for one seat.
@@ -16,7 +17,7 @@ impl Room {
         let nobody = Seat {
             key: (0, [0; 4]),
             id: 0,
-            marks: 0,
+            mark: NO_MARK,
             due: NEVER,
         };
         let fork = Box::new(alloc, Fork::alone(nobody))?;

@@ -6,12 +6,12 @@ ghost use Rattle.source_rows.specs.Band.{first_key, last_key};
 ghost use Rattle.source_rows.specs.Moves.{moved_row};
 ghost use Rattle.source_rows.specs.Slots.{asks};
 ghost use Rattle.source_rows.specs.Seats.{seat_of};
-ghost use Rattle.source_rows.specs.Candidates.{is_awake, due_at, opened_by};
+ghost use Rattle.source_rows.specs.Candidates.{is_awake, due_at, mark_number};
 ghost use Rattle.source_rows.specs.Row.{ready_at, root_row, child_row, lineage_under, path_under};
 
 use crate::seats::{NEVER, Seat};
 use crate::sight::{ALWAYS, DESCRIPTOR, Sight};
-use cancel_view::mark_of;
+use cancel_view::{NO_MARK, cancel_number};
 use loop_script::{Kind, SourceSpec};
 use std::cmp::Ordering;
 
@@ -76,14 +76,14 @@ impl Row {
         }
     }
 
-    /// Where the row stands, its id, the marks by which it is open, and when it is due.
+    /// Where the row stands, its id, the mark by which it is open, and when it is due.
     pub(crate) fn seat(&self) -> Seat
         ensures { result ≡ seat_of self.now }
     {
         Seat {
             key: self.key(),
             id: self.id,
-            marks: opened_by(self.kind),
+            mark: mark_number(self.kind),
             due: due_at(self.ready),
         }
     }
@@ -96,10 +96,10 @@ impl Row {
     }
 
     /// Whether the source may be ready, as far as its kind and its ready time tell.
-    pub(crate) fn is_awake(&self, sight: Sight) -> bool
-        ensures { result ≡ is_awake sight self.now }
+    pub(crate) fn is_awake(&self, sight: &Sight) -> bool
+        ensures { result ≡ is_awake sight.entry.now self.now }
     {
-        !sight.sleeps(opened_by(self.kind), due_at(self.ready))
+        !sight.one_sleeps(mark_number(self.kind), due_at(self.ready))
     }
 
     /// The least and the greatest key of a row in the tree of a root.
@@ -134,15 +134,15 @@ fn due_at(ready: i64) -> u64
     if ready < 0 { NEVER } else { ready as u64 }
 }
 
-/// The marks by which a source is open: it may then be ready whatever its ready time.
-fn opened_by(kind: Kind) -> u64
-    ensures { result ≡ opened_by kind }
+/// The number of the mark by which a source is open: it may then be ready whatever its ready time.
+fn mark_number(kind: Kind) -> u16
+    ensures { result ≡ mark_number kind }
 {
     match kind {
         Kind::Idle => ALWAYS,
-        Kind::Timeout(_) | Kind::ReadyTime(_) => 0,
+        Kind::Timeout(_) | Kind::ReadyTime(_) => NO_MARK,
         Kind::Fd(_, _) => DESCRIPTOR,
-        Kind::Cancel(c) => mark_of(c),
+        Kind::Cancel(c) => cancel_number(c),
     }
 }
 

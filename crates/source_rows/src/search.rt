@@ -16,15 +16,15 @@ use std::cmp::Ordering;
 
 impl Seats {
     /// The id of the first seat behind a key that does not sleep.
-    pub fn first_awake(&self, after: Option<Key>, sight: Sight) -> Option<u64>
+    pub fn first_awake(&self, after: Option<Key>, sight: &Sight) -> Option<u64>
         requires { Rises is_ahead self.now.0 }
-        ensures { result ≡ first_awake after sight self.now.0 }
+        ensures { result ≡ first_awake after sight.entry.now self.now.0 }
     {
         match &self.root {
             None => None,
             Some(fork) => {
                 let fork = &**fork;
-                if sight.sleeps(fork.least.marks, fork.least.due) {
+                if sight.sleeps(&fork.least.marks, fork.least.due) {
                     return None;
                 }
                 if is_passed(after, fork.seat.key) {
@@ -32,7 +32,7 @@ impl Seats {
                 }
                 match fork.sooner.first_awake(after, sight) {
                     None => {
-                        if sight.sleeps(fork.seat.marks, fork.seat.due) {
+                        if sight.one_sleeps(fork.seat.mark, fork.seat.due) {
                             fork.later.first_awake(after, sight)
                         } else {
                             Some(fork.seat.id)

@@ -182,9 +182,9 @@ impl SeatOrder {
     }
 
     /// The id of the first seat behind a key that does not sleep.
-    pub fn first_awake(&self, after: Option<Key>, sight: Sight) -> Option<u64>
+    pub fn first_awake(&self, after: Option<Key>, sight: &Sight) -> Option<u64>
         requires { Rises is_ahead self.now.0 }
-        ensures { result ≡ first_awake after sight self.now.0 }
+        ensures { result ≡ first_awake after sight.entry.now self.now.0 }
     {
         match self.front.first_awake(after, sight) {
             None => self.back.first_awake(after, sight),

@@ -8,12 +8,14 @@ ghost use Rattle.std.specs.List.{list_any};
 ghost use Rattle.std.specs.Ordering.{is_eq};
 ghost use Rattle.source_rows.specs.Inserted.{inserted, Rises};
 ghost use Rattle.source_rows.specs.Seats.{seat_cmp, is_ahead, without, next_due, due_after, least_of, lesser, is_passed, IsLater, swapped, IsLow};
+ghost use Rattle.cancel_view.specs.Marks.{opening};
 ghost use Rattle.source_rows.specs.Candidates.{never};
 ghost use Rattle.source_rows.specs.SeatTree.{seats_of, IsEvenFork, IsLowered};
 
 use crate::balance::{balance, remove_root};
 use crate::room::Room;
 use crate::row::Key;
+use cancel_view::{Marks, NO_MARK};
 use std::cmp::Ordering;
 use std::marker::Model;
 use std::mem;
@@ -23,8 +25,8 @@ use std::mem;
 pub(crate) struct Seat {
     pub(crate) key: Key,
     pub(crate) id: u64,
-    /// The marks by which the row is open.
-    pub(crate) marks: u64,
+    /// The number of the mark by which the row is open: `NO_MARK` where there is none.
+    pub(crate) mark: u16,
     /// When the row is due, in microseconds: `NEVER` where it has no ready time.
     pub(crate) due: u64,
 }
@@ -55,7 +57,7 @@ pub(crate) struct Fork {
 /// All marks of some seats, and the least of their times: `NEVER` where there are none.
 #[derive(Clone, Copy)]
 pub(crate) struct Least {
-    pub(crate) marks: u64,
+    pub(crate) marks: Marks,
     pub(crate) due: u64,
 }
 
@@ -99,10 +101,7 @@ impl Fork {
             sooner: Seats::new(),
             seat,
             height: 1,
-            least: Least {
-                marks: seat.marks,
-                due: lesser(seat.due, NEVER),
-            },
+            least: Least::of(&seat),
             later: Seats::new(),
         }
     }
@@ -122,7 +121,7 @@ impl Fork {
     fn leave_out(&mut self, seat: &Seat)
         ensures { (all : List Seat) → self.old.least ≡ least_of all → seats_of self.old ≡ without seat.now all → self.new ≡ record self.old { least = least_of (seats_of self.old) } }
     {
-        if seat.marks == 0 && is_later(seat.due, self.least.due) {
+        if seat.mark == NO_MARK && is_later(seat.due, self.least.due) {
             return;
         }
         let _ = self.note_least();
@@ -140,11 +139,38 @@ impl Fork {
 }
 
 impl Least {
+    /// What is noted where there is no seat.
+    fn none() -> Least
+        ensures { result ≡ least_of [] }
+    {
+        Least {
+            marks: Marks::none(),
+            due: NEVER,
+        }
+    }
+
+    /// What is noted of one seat.
+    fn of(seat: &Seat) -> Least
+        ensures { result ≡ least_of (seat.now ∷ []) }
+    {
+        let mut least = Least::none();
+        least.note(seat);
+        least
+    }
+
+    /// Notes what was noted of other seats.
+    fn join(&mut self, other: &Least)
+        ensures { self.new ≡ record { marks = bit_or self.old.marks other.now.marks; due = lesser self.old.due other.now.due } }
+    {
+        self.marks = self.marks.union(&other.marks);
+        self.due = lesser(self.due, other.due);
+    }
+
     /// Notes one more seat.
     fn note(&mut self, seat: &Seat)
-        ensures { self.new ≡ record { marks = bit_or self.old.marks seat.now.marks; due = lesser seat.now.due self.old.due } }
+        ensures { self.new ≡ record { marks = bit_or self.old.marks (opening seat.now.mark); due = lesser seat.now.due self.old.due } }
     {
-        self.marks |= seat.marks;
+        self.marks.add(seat.mark);
         if seat.due < self.due {
             self.due = seat.due;
         }
@@ -311,11 +337,18 @@ impl Seats {
         ensures { result ≡ least_of self.now.0 }
     {
         match &self.root {
-            None => Least {
-                marks: 0,
-                due: NEVER,
-            },
+            None => Least::none(),
             Some(fork) => fork.least,
+        }
+    }
+
+    /// Adds their marks, and their least time, to those of seats before them.
+    #[tactic(auto, using(crate::proofs::SetIn::least_parts))]
+    fn add_least(&self, least: &mut Least)
+        ensures { (all : List Seat) → least.old ≡ least_of all → least.new ≡ least_of (all ++ self.now.0) }
+    {
+        if let Some(fork) = &self.root {
+            least.join(&fork.least);
         }
     }
 }
@@ -348,9 +381,8 @@ fn is_later(time: u64, least: u64) -> bool
 pub(crate) fn least_over(sooner: &Seats, seat: &Seat, later: &Seats) -> Least
     ensures { result ≡ least_of (sooner.now.0 ++ seat.now ∷ later.now.0) }
 {
-    let (before, behind) = (sooner.least(), later.least());
-    Least {
-        marks: before.marks | seat.marks | behind.marks,
-        due: lesser(before.due, lesser(seat.due, behind.due)),
-    }
+    let mut least = sooner.least();
+    later.add_least(&mut least);
+    least.note(seat);
+    least
 }

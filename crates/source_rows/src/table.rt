@@ -145,8 +145,8 @@ impl Table {
     }
 
     /// The id of the first row behind a key that may be ready.
-    pub fn first_awake(&self, after: Option<Key>, sight: Sight) -> Option<u64>
-        ensures { result ≡ first_awake after sight (in_seats self.now) }
+    pub fn first_awake(&self, after: Option<Key>, sight: &Sight) -> Option<u64>
+        ensures { result ≡ first_awake after sight.entry.now (in_seats self.now) }
     {
         self.seats.first_awake(after, sight)
     }

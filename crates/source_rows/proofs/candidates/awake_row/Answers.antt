@@ -7,10 +7,10 @@ use Rattle.source_rows.proofs.candidates.awake_row.Goals as goal
 
 pub returns-in-None : goal.returns-in-None
 returns-in-None c =
-    let e : c.first_awake.result ≡ first_awake (option_map key_of (option_copied c.args.last)) c.args.sight (in_seats c.args.table.now) = search rules in
-    sym (awake_none c.args.table.now (option_copied c.args.last) c.args.sight c.requires.apart (sym c.in-None.is ∙ e))
+    let e : c.first_awake.result ≡ first_awake (option_map key_of (option_copied c.args.last)) c.args.sight.now (in_seats c.args.table.now) = search rules in
+    sym (awake_none c.args.table.now (option_copied c.args.last) c.args.sight.now c.requires.apart (sym c.in-None.is ∙ e))
 
 pub returns-in-Some : goal.returns-in-Some
 returns-in-Some c =
-    let e : c.first_awake.result ≡ first_awake (option_map key_of (option_copied c.args.last)) c.args.sight (in_seats c.args.table.now) = search rules in
-    c.found.ensures ∙ awake_row c.args.table.now (option_copied c.args.last) c.args.sight c.requires.forest c.requires.apart c.in-Some.id (sym c.in-Some.is ∙ e)
+    let e : c.first_awake.result ≡ first_awake (option_map key_of (option_copied c.args.last)) c.args.sight.now (in_seats c.args.table.now) = search rules in
+    c.found.ensures ∙ awake_row c.args.table.now (option_copied c.args.last) c.args.sight.now c.requires.forest c.requires.apart c.in-Some.id (sym c.in-Some.is ∙ e)

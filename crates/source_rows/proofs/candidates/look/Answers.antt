@@ -1,6 +1,7 @@
 use Rattle.std.proofs.Common.{◌≡◌, ◌∷◌, ◌||◌, not, Some, true, ap, sym, ◌∙◌, subst, rules}
 use Rattle.std.specs.Option.{option_copied}
 use Rattle.source_rows.specs.Rows.{row_of}
+use Rattle.cancel_view.specs.Marks.{opening}
 use Rattle.source_rows.specs.Candidates.{sleeps}
 use Rattle.source_rows.specs.Steps.{HasLeft, is_above_id, ready_in}
 use Rattle.source_rows.proofs.Walked.{own_row, may, ready_more, told, passed}
@@ -14,12 +15,12 @@ returns-in-Some-found-clause-tells c =
     let seat = c.in-Some.seat.now in
     let is : row_of seat.id rows ≡ Some row = search rules in
     let e : c.near.seats ≡ seat ∷ c.next.new.self = search rules in
-    let left : HasLeft rows c.args.sight last (seat ∷ c.next.new.self) = subst (HasLeft rows c.args.sight last) e c.near.invariant.2 in
-    let by_seat : (not (sleeps c.args.sight seat.marks seat.due) || is_above_id last seat.id) ≡ true = search rules in
-    c.near.invariant.3 ∙ (ap (ready_in c.args.sight rows) e
-    ∙ ready_more rows c.args.sight row seat c.next.new.self is (may rows c.args.sight last c.requires.step row (own_row rows seat.id row is) (sym (told rows c.args.sight last seat row left.are.0 is) ∙ by_seat)))
+    let left : HasLeft rows c.args.sight.now last (seat ∷ c.next.new.self) = subst (HasLeft rows c.args.sight.now last) e c.near.invariant.2 in
+    let by_seat : (not (sleeps c.args.sight.now (opening seat.mark) seat.due) || is_above_id last seat.id) ≡ true = search rules in
+    c.near.invariant.3 ∙ (ap (ready_in c.args.sight.now rows) e
+    ∙ ready_more rows c.args.sight.now row seat c.next.new.self is (may rows c.args.sight.now last c.requires.step row (own_row rows seat.id row is) (sym (told rows c.args.sight.now last seat row left.are.0 is) ∙ by_seat)))
 
 pub near-preserved : goal.near-preserved
 near-preserved c =
-    let d = passed c.args.table.now c.args.sight (option_copied c.args.last) c.requires.step c.in-Some.seat.now c.near.seats c.next.new.self c.near.invariant.2 c.in-Some.ensures.steps (sym c.comes_by.ensures ∙ c.if-comes_by.false) in
+    let d = passed c.args.table.now c.args.sight.now (option_copied c.args.last) c.requires.step c.in-Some.seat.now c.near.seats c.next.new.self c.near.invariant.2 c.in-Some.ensures.steps (sym c.comes_by.ensures ∙ c.if-comes_by.false) in
     (tt, tt, d.0, c.near.invariant.3 ∙ d.1)

@@ -1,4 +1,4 @@
-use Rattle.std.proofs.Common.{◌≡◌, false, ap, sym, ◌∙◌}
+use Rattle.std.proofs.Common.{◌≡◌, false}
 use Rattle.std.specs.Prelude.{slice_index_or}
 use Rattle.cancel_view.proofs.Kept.{connected_more}
 use Rattle.cancel_view.proofs.view.View.connect.Goals as goal

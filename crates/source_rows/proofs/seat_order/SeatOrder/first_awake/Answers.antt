@@ -21,8 +21,8 @@ first_awake-requires-in-None c =
 pub returns-in-None : goal.returns-in-None
 returns-in-None c =
     let are : c.self.inside.front.0 ++ c.self.inside.back.0 ≡ c.args.self.now.0 = ap (λ (v : List Seat × ℕ). v.0) c.self.view_is in
-    let none : first_awake c.args.after c.args.sight c.self.inside.front.0 ≡ None = sym c.first_awake.ensures ∙ c.in-None.is in
-    c.first_awake-in-None.ensures ∙ (sym (awake_join_none c.args.after c.args.sight c.self.inside.front.0 c.self.inside.back.0 none) ∙ ap (first_awake c.args.after c.args.sight) are)
+    let none : first_awake c.args.after c.args.sight.now c.self.inside.front.0 ≡ None = sym c.first_awake.ensures ∙ c.in-None.is in
+    c.first_awake-in-None.ensures ∙ (sym (awake_join_none c.args.after c.args.sight.now c.self.inside.front.0 c.self.inside.back.0 none) ∙ ap (first_awake c.args.after c.args.sight.now) are)
 
 in_front : (after : Option Key) (sight : Sight) (l r : List Seat) (o : Option ℕ) → is_some o ≡ true → o ≡ first_awake after sight l → o ≡ first_awake after sight (l ++ r)
 in_front after sight l r None h e = cc
@@ -32,4 +32,4 @@ pub returns-in_default : goal.returns-in_default
 returns-in_default c =
     let are : c.self.inside.front.0 ++ c.self.inside.back.0 ≡ c.args.self.now.0 = ap (λ (v : List Seat × ℕ). v.0) c.self.view_is in
     let some : is_some c.first_awake.result ≡ true = search rules in
-    in_front c.args.after c.args.sight c.self.inside.front.0 c.self.inside.back.0 c.first_awake.result some c.first_awake.ensures ∙ ap (first_awake c.args.after c.args.sight) are
+    in_front c.args.after c.args.sight.now c.self.inside.front.0 c.self.inside.back.0 c.first_awake.result some c.first_awake.ensures ∙ ap (first_awake c.args.after c.args.sight.now) are

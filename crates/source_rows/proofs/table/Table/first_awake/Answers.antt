@@ -9,5 +9,5 @@ first_awake-requires c = rises_seats c.self.inside.slots c.self.inside.keys c.se
 
 pub returns : goal.returns
 returns c =
-    let e : c.first_awake.result ≡ first_awake c.args.after c.args.sight c.self.inside.seats.0 = search rules in
-    e ∙ (ap (first_awake c.args.after c.args.sight) c.self.invariant.seated.are ∙ ap (λ (l : List Row). first_awake c.args.after c.args.sight (in_seats l)) c.self.view_is)
+    let e : c.first_awake.result ≡ first_awake c.args.after c.args.sight.now c.self.inside.seats.0 = search rules in
+    e ∙ (ap (first_awake c.args.after c.args.sight.now) c.self.invariant.seated.are ∙ ap (λ (l : List Row). first_awake c.args.after c.args.sight.now (in_seats l)) c.self.view_is)
