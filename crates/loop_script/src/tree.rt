@@ -1,4 +1,4 @@
-//! The tree of a task: its type, whose parts are shared by all that run it, the calls that make each kind, and whether it fits into so many levels.
+//! The tree of a task: its type, which all that run it share, the calls that make each kind of part, and whether it fits into so many levels.
 ghost use Rattle.std.specs.Prelude.{◌≡◌, ◌<◌, ◌≤◌, IfOk, IfSome, OnOk};
 ghost use Rattle.loop_script.specs.Bounds.{longest_tick};
 ghost use Rattle.loop_script.specs.Course.{IsCourse};

@@ -1,13 +1,16 @@
 -- The least times of seats once one of them is taken out.
-use Rattle.std.proofs.Common.{◌≡◌, nat_lt, ℕ, Bool, true, false, not, cond, inl, inr, List, [], ◌∷◌, refl, ap, ap₂, sym, subst, ◌∙◌, arith}
+use Rattle.std.proofs.Common.{◌≡◌, nat_lt, ℕ, Bool, true, false, not, cond, inl, inr, List, [], ◌∷◌, ◌++◌, refl, ap, ap₂, sym, subst, ◌∙◌, arith}
 use Rattle.std.proofs.lemmas.Bool.Decides.{nat_tests}
 use Rattle.std.specs.Ordering.{is_eq}
-use Rattle.cancel_view.specs.Marks.{opening}
+use Rattle.std.specs.Prelude.{bit_or}
+use Rattle.std.specs.Int.Bits.{or_self}
+use Rattle.std.proofs.lemmas.Nat.{or_comm}
+use Rattle.cancel_view.specs.Marks.{no_mark, opening}
 use Rattle.source_rows.specs.Candidates.{never}
-use Rattle.source_rows.specs.declared.seats.Least.{Least}
+use Rattle.source_rows.specs.declared.least.Least.{Least}
 use Rattle.source_rows.specs.declared.seats.Seat.{Seat}
-use Rattle.source_rows.specs.Seats.{seat_cmp, lesser, least_by, least_of, without, IsLater}
-use Rattle.source_rows.proofs.AllMarks.{marks_stay}
+use Rattle.source_rows.specs.Seats.{seat_cmp, lesser, least_by, least_of, marks_of, without, AddsNone, IsLater}
+use Rattle.source_rows.proofs.AllMarks.{between, marks_join, marks_kept, or_three, or_zero}
 use Rattle.source_rows.proofs.Ahead.{same_time}
 use Rattle.source_rows.proofs.Soonest.{least_most, behind_least}
 
@@ -41,9 +44,32 @@ least_stays f t xs (inl later) = by (nat_lt (f t) (least_by f (without t xs))) r
 least_stays f t xs (inr none) = sym (ap (λ (v : Bool). cond v never (least_by f (without t xs))) (least_most f (without t xs)))
     ∙ (subst (λ (n : ℕ). lesser n (least_by f (without t xs)) ≡ lesser n (least_by f xs)) none (least_without f t xs) ∙ ap (λ (v : Bool). cond v never (least_by f xs)) (least_most f xs))
 
--- without a seat that has no mark and is later, marks and least time stay
-pub leasts_stay : (t : Seat) (least : Least) (xs : List Seat) → least ≡ least_of xs → opening t.mark ≡ 0 → IsLater t.due least.due → least_of (without t xs) ≡ least_of xs
-leasts_stay t least xs is none due =
-    let m = marks_stay same_time t xs none in
+-- without a seat whose mark adds nothing to those of the others, and which is later, marks and least time stay
+pub leasts_stay : (t : Seat) (least : Least) (xs : List Seat) → least ≡ least_of xs → AddsNone t.mark (without t xs) → IsLater t.due least.due → least_of (without t xs) ≡ least_of xs
+leasts_stay t least xs is adds due =
+    let m = marks_kept same_time t xs adds in
     let d = least_stays (λ s. s.due) t xs (subst (λ (l : Least). IsLater t.due l.due) is due) in
     ap₂ (λ (a b : ℕ). let l : Least = record { marks = a; due = b } in l) m d
+
+-- ---- a mark that adds nothing
+
+pub no_mark_adds : (n : ℕ) (xs : List Seat) → n ≡ no_mark → AddsNone n xs
+no_mark_adds n xs e = ap (λ (i : ℕ). bit_or (marks_of xs) (opening i)) e ∙ or_zero (marks_of xs)
+
+-- it adds nothing to more than those to which it adds nothing
+adds_behind : (l r : List Seat) (n : ℕ) → AddsNone n r → AddsNone n (l ++ r)
+adds_behind l r n h = ap (λ (m : ℕ). bit_or m (opening n)) (marks_join l r) ∙ (sym (or_three (marks_of l) (marks_of r) (opening n)) ∙ (ap (bit_or (marks_of l)) h ∙ sym (marks_join l r)))
+
+adds_before : (l r : List Seat) (n : ℕ) → AddsNone n l → AddsNone n (l ++ r)
+adds_before l r n h = ap (λ (m : ℕ). bit_or m (opening n)) (marks_join l r) ∙ (between (marks_of l) (marks_of r) (opening n) ∙ (or_three (marks_of l) (opening n) (marks_of r) ∙ (ap (λ (m : ℕ). bit_or m (marks_of r)) h ∙ sym (marks_join l r))))
+
+pub mark_sooner : (l r : List Seat) (s : Seat) (n : ℕ) → AddsNone n l → AddsNone n (l ++ s ∷ r)
+mark_sooner l r s n h = adds_before l (s ∷ r) n h
+
+pub mark_later : (l r : List Seat) (s : Seat) (n : ℕ) → AddsNone n r → AddsNone n (l ++ s ∷ r)
+mark_later l r s n h = adds_behind l (s ∷ r) n (sym (or_three (opening s.mark) (marks_of r) (opening n)) ∙ ap (bit_or (opening s.mark)) h)
+
+pub mark_here : (l r : List Seat) (s : Seat) (n : ℕ) → s.mark ≡ n → AddsNone n (l ++ s ∷ r)
+mark_here l r s n e =
+    let o = opening s.mark in
+    adds_behind l (s ∷ r) n (ap (λ (i : ℕ). bit_or (bit_or o (marks_of r)) (opening i)) (sym e) ∙ (or_comm (bit_or o (marks_of r)) o ∙ (or_three o o (marks_of r) ∙ ap (λ (m : ℕ). bit_or m (marks_of r)) (or_self o))))

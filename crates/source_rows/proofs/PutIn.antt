@@ -4,7 +4,7 @@ use Rattle.std.proofs.lemmas.Bool.Decides.{nat_tests}
 use Rattle.cancel_view.specs.Marks.{opening}
 use Rattle.source_rows.specs.Inserted.{inserted, Rises}
 use Rattle.source_rows.specs.declared.seats.Fork.{Fork}
-use Rattle.source_rows.specs.declared.seats.Least.{Least}
+use Rattle.source_rows.specs.declared.least.Least.{Least}
 use Rattle.source_rows.specs.declared.seats.Seat.{Seat}
 use Rattle.source_rows.specs.Seats.{is_ahead, least_of, lesser, IsLow}
 use Rattle.source_rows.specs.SeatTree.{seats_of, DifferBy, IsEvenFork, IsLowered, AreNearlyEven}

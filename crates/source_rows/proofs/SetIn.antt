@@ -1,13 +1,14 @@
 -- A seat put where another stands, in a side of a tree or at its root.
-use Rattle.std.proofs.Common.{◌≡◌, ℕ, ◌+◌, max, Bool, true, false, List, ◌∷◌, ◌++◌, refl, ap, ap₂, sym, ◌∙◌, arith}
+use Rattle.std.proofs.Common.{◌≡◌, ℕ, ◌+◌, max, Bool, true, false, cond, List, [], ◌∷◌, ◌++◌, refl, ap, ap₂, sym, ◌∙◌, arith}
 use Rattle.cancel_view.specs.Marks.{opening}
 use Rattle.source_rows.specs.Inserted.{Rises}
 use Rattle.source_rows.specs.declared.seats.Fork.{Fork}
-use Rattle.source_rows.specs.declared.seats.Least.{Least}
+use Rattle.source_rows.specs.declared.least.Least.{Least}
 use Rattle.source_rows.specs.declared.seats.Seat.{Seat}
-use Rattle.source_rows.specs.Seats.{is_ahead, least_by, least_of, lesser, marks_of, swapped, IsLow}
+use Rattle.std.specs.Ordering.{is_eq}
+use Rattle.source_rows.specs.Seats.{seat_cmp, is_ahead, least_by, least_of, lesser, marks_of, swapped, IsLow}
 use Rattle.source_rows.specs.SeatTree.{seats_of, IsEvenFork}
-use Rattle.source_rows.proofs.Ahead.{swapped_left, swapped_right, swapped_here}
+use Rattle.source_rows.proofs.Ahead.{same_time, swapped_left, swapped_right, swapped_here}
 use Rattle.source_rows.proofs.Low.{side_swapped}
 use Rattle.std.specs.Prelude.{bit_or}
 use Rattle.source_rows.proofs.AllMarks.{between, marks_join}
@@ -83,6 +84,26 @@ set_here a b old even rises e = record {
   least = refl;
   same = λ never. cc;
 }
+
+-- where the marks are right, the least of three times makes what is noted
+pub least_with : (sooner later : List Seat) (seat : Seat) (marks due : ℕ) → marks ≡ marks_of (sooner ++ seat ∷ later) → due ≡ lesser (least_by (λ s. s.due) sooner) (lesser seat.due (least_by (λ s. s.due) later))
+    → (let l : Least = record { marks = marks; due = due } in l) ≡ least_of (sooner ++ seat ∷ later)
+least_with sooner later seat marks due m d =
+    ap₂ (λ (w n : ℕ). let l : Least = record { marks = w; due = n } in l) m (d ∙ sym (least_join (λ s. s.due) sooner (seat ∷ later)))
+
+-- a seat in the place of one with the same mark leaves the marks as they are
+marks_swap : (a b s : Seat) → a.mark ≡ b.mark → (v : Bool) → is_eq (seat_cmp a s) ≡ v → (cond v b s).mark ≡ s.mark
+marks_swap a b s e true is = sym e ∙ ap (λ (t : Seat). t.mark) (same_time a s is)
+marks_swap a b s e false is = refl
+
+pub marks_swapped : (a b : Seat) → a.mark ≡ b.mark → (xs : List Seat) → marks_of (swapped a b xs) ≡ marks_of xs
+marks_swapped a b e [] = refl
+marks_swapped a b e (s ∷ xs) = ap₂ (λ (n w : ℕ). bit_or (opening n) w) (marks_swap a b s e (is_eq (seat_cmp a s)) refl) (marks_swapped a b e xs)
+
+-- so they are right in a fork in which such a seat was put
+pub marks_right : (a b : Seat) (old new : Fork) (may : Bool) → IsEvenFork old → SetIn a b old new may → a.mark ≡ b.mark → new.least.marks ≡ marks_of (seats_of new)
+marks_right a b old new may even s e =
+    ap (λ (l : Least). l.marks) (s.least ∙ even.4) ∙ (sym (marks_swapped a b e (seats_of old)) ∙ ap marks_of (sym s.seats))
 
 -- the fork with its least times noted anew
 pub even_noted : (a b : Seat) (old new : Fork) (may : Bool) → IsEvenFork old → SetIn a b old new may → IsEvenFork (record new { least = least_of (seats_of new) })

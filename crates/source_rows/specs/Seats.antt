@@ -4,13 +4,14 @@ use Rattle.std.specs.Ordering.{is_lt, is_eq, ordering_then, nat_cmp}
 use Rattle.std.specs.declared.cmp.Ordering.{Ordering}
 use Rattle.loop_script.specs.Bounds.{count_end}
 use Rattle.source_rows.specs.declared.row.Row.{Row}
-use Rattle.source_rows.specs.declared.seats.Least.{Least}
+use Rattle.source_rows.specs.declared.least.Least.{Least}
 use Rattle.source_rows.specs.declared.seats.Seat.{Seat}
 use Rattle.source_rows.specs.Inserted.{inserted}
 use Rattle.source_rows.specs.Rows.{Key, key_cmp, key_of}
 use Rattle.source_rows.specs.Candidates.{never, due_at, mark_number, sleeps}
 use Rattle.source_rows.specs.declared.sight.Sight.{Sight}
 use Rattle.cancel_view.specs.Marks.{Marks, opening}
+use Rattle.cancel_view.specs.Units.{MarkNumber}
 use Rattle.loop_script.specs.Units.{Microseconds, SourceId}
 
 -- by key, then by id, then by mark and time
@@ -62,6 +63,10 @@ least_by time (s ∷ seats) = lesser (time s) (least_by time seats)
 abbrev pub marks_of : List Seat → Marks
 marks_of [] = 0
 marks_of (s ∷ seats) = bit_or (opening s.mark) (marks_of seats)
+
+-- the mark of a number adds nothing to those of seats
+abbrev pub AddsNone : MarkNumber → List Seat → Type 0
+AddsNone n seats = bit_or (marks_of seats) (opening n) ≡ marks_of seats
 
 -- all marks of seats, and the least of their times
 abbrev pub least_of : List Seat → Least

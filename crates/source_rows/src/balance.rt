@@ -4,8 +4,9 @@ ghost use Rattle.loop_script.specs.Bounds.{count_end};
 ghost use Rattle.source_rows.specs.Seats.{least_of};
 ghost use Rattle.source_rows.specs.SeatTree.{seats_of, seen_of, LosesRoot, IsEven, IsNearlyEven, AreNearlyEven, IsHeight, IsLowered, Balances};
 
+use crate::least::least_over;
 use crate::room::Room;
-use crate::seats::{Fork, Seats, least_over};
+use crate::seats::{Fork, Seats};
 
 /// Takes the seat out that stands at the root, and hands its room out.
 #[tactic(auto, using(crate::proofs::Low::low_even, crate::proofs::Low::low_sides))]

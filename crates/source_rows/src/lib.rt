@@ -12,6 +12,7 @@ mod in_order;
 mod index;
 mod join;
 pub mod laws;
+mod least;
 mod levels;
 mod moves;
 mod removal;

@@ -8,8 +8,9 @@ ghost use Rattle.source_rows.specs.Rows.{key_cmp};
 ghost use Rattle.source_rows.specs.Seats.{is_ahead, first_awake, next_due, due_after, is_passed};
 ghost use Rattle.source_rows.specs.LastTo.{stands_to, IsLastTo};
 
+use crate::least::lesser;
 use crate::row::Key;
-use crate::seats::{NEVER, Seat, Seats, lesser};
+use crate::seats::{NEVER, Seat, Seats};
 use crate::sight::Sight;
 use std::alloc::AllocError;
 use std::cmp::Ordering;

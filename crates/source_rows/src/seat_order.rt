@@ -11,10 +11,11 @@ ghost use Rattle.source_rows.specs.Inserted.{inserted, Rises};
 ghost use Rattle.source_rows.specs.LastTo.{stands_to, IsLastTo};
 ghost use Rattle.source_rows.specs.Seats.{seat_cmp, is_ahead, without, first_awake, next_due, is_other, stays, swapped, replaced, IsLow};
 
+use crate::least::lesser;
 use crate::room::Room;
 use crate::row::Key;
 use crate::search::is_passed;
-use crate::seats::{Seat, Seats, lesser};
+use crate::seats::{Seat, Seats};
 use crate::sight::Sight;
 use std::alloc::AllocError;
 use std::cmp::Ordering;

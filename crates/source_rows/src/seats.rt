@@ -7,15 +7,15 @@ ghost use Rattle.loop_script.specs.Bounds.{count_end};
 ghost use Rattle.std.specs.List.{list_any};
 ghost use Rattle.std.specs.Ordering.{is_eq};
 ghost use Rattle.source_rows.specs.Inserted.{inserted, Rises};
-ghost use Rattle.source_rows.specs.Seats.{seat_cmp, is_ahead, without, next_due, due_after, least_of, lesser, is_passed, IsLater, swapped, IsLow};
+ghost use Rattle.source_rows.specs.Seats.{seat_cmp, is_ahead, without, next_due, due_after, least_by, least_of, marks_of, lesser, is_passed, IsLater, AddsNone, swapped, IsLow};
 ghost use Rattle.cancel_view.specs.Marks.{opening};
 ghost use Rattle.source_rows.specs.Candidates.{never};
 ghost use Rattle.source_rows.specs.SeatTree.{seats_of, IsEvenFork, IsLowered};
 
 use crate::balance::{balance, remove_root};
+use crate::least::Least;
 use crate::room::Room;
 use crate::row::Key;
-use cancel_view::{Marks, NO_MARK};
 use std::cmp::Ordering;
 use std::marker::Model;
 use std::mem;
@@ -52,13 +52,6 @@ pub(crate) struct Fork {
     /// All marks and the least time from here.
     pub(crate) least: Least,
     pub(crate) later: Seats,
-}
-
-/// All marks of some seats, and the least of their times: `NEVER` where there are none.
-#[derive(Clone, Copy)]
-pub(crate) struct Least {
-    pub(crate) marks: Marks,
-    pub(crate) due: u64,
 }
 
 /// The room of a seat that was taken out of a side of a tree.
@@ -106,27 +99,6 @@ impl Fork {
         }
     }
 
-    /// Notes marks and least time anew, and answers whether they are others.
-    fn note_least(&mut self) -> bool
-        ensures fork { self.new ≡ record self.old { least = least_of (seats_of self.old) } }
-        ensures same { result ≡ false → self.old.least ≡ least_of (seats_of self.old) }
-    {
-        let least = least_over(&self.sooner, &self.seat, &self.later);
-        let is_other = least.marks != self.least.marks || least.due != self.least.due;
-        self.least = least;
-        is_other
-    }
-
-    /// Notes marks and least time anew, once a seat was taken out.
-    fn leave_out(&mut self, seat: &Seat)
-        ensures { (all : List Seat) → self.old.least ≡ least_of all → seats_of self.old ≡ without seat.now all → self.new ≡ record self.old { least = least_of (seats_of self.old) } }
-    {
-        if seat.mark == NO_MARK && is_later(seat.due, self.least.due) {
-            return;
-        }
-        let _ = self.note_least();
-    }
-
     /// Takes both sides away.
     pub(crate) fn take_sides(&mut self) -> (Seats, Seats)
         ensures sides { result ≡ (self.old.sooner, self.old.later) }
@@ -135,45 +107,6 @@ impl Fork {
         let sooner = mem::replace(&mut self.sooner, Seats::new());
         let later = mem::replace(&mut self.later, Seats::new());
         (sooner, later)
-    }
-}
-
-impl Least {
-    /// What is noted where there is no seat.
-    fn none() -> Least
-        ensures { result ≡ least_of [] }
-    {
-        Least {
-            marks: Marks::none(),
-            due: NEVER,
-        }
-    }
-
-    /// What is noted of one seat.
-    fn of(seat: &Seat) -> Least
-        ensures { result ≡ least_of (seat.now ∷ []) }
-    {
-        let mut least = Least::none();
-        least.note(seat);
-        least
-    }
-
-    /// Notes what was noted of other seats.
-    fn join(&mut self, other: &Least)
-        ensures { self.new ≡ record { marks = bit_or self.old.marks other.now.marks; due = lesser self.old.due other.now.due } }
-    {
-        self.marks = self.marks.union(&other.marks);
-        self.due = lesser(self.due, other.due);
-    }
-
-    /// Notes one more seat.
-    fn note(&mut self, seat: &Seat)
-        ensures { self.new ≡ record { marks = bit_or self.old.marks (opening seat.now.mark); due = lesser seat.now.due self.old.due } }
-    {
-        self.marks.add(seat.mark);
-        if seat.due < self.due {
-            self.due = seat.due;
-        }
     }
 }
 
@@ -327,13 +260,13 @@ impl Seats {
                         true
                     }
                 };
-                may_differ && fork.note_least()
+                may_differ && fork.note_set(before, after)
             }
         }
     }
 
     /// All marks of the seats, and their least time.
-    fn least(&self) -> Least
+    pub(crate) fn least(&self) -> Least
         ensures { result ≡ least_of self.now.0 }
     {
         match &self.root {
@@ -342,9 +275,30 @@ impl Seats {
         }
     }
 
+    /// Whether the mark of a number is among theirs, so that it adds nothing to them.
+    #[tactic(auto, using(crate::proofs::AllMarks::has_adds_none))]
+    pub(crate) fn has_mark(&self, number: u16) -> bool
+        ensures { result ≡ true → AddsNone number self.now.0 }
+    {
+        match &self.root {
+            None => false,
+            Some(fork) => fork.least.marks.has(number),
+        }
+    }
+
+    /// Their least time.
+    pub(crate) fn least_due(&self) -> u64
+        ensures { result ≡ least_by (λ s. s.due) self.now.0 }
+    {
+        match &self.root {
+            None => NEVER,
+            Some(fork) => fork.least.due,
+        }
+    }
+
     /// Adds their marks, and their least time, to those of seats before them.
     #[tactic(auto, using(crate::proofs::SetIn::least_parts))]
-    fn add_least(&self, least: &mut Least)
+    pub(crate) fn add_least(&self, least: &mut Least)
         ensures { (all : List Seat) → least.old ≡ least_of all → least.new ≡ least_of (all ++ self.now.0) }
     {
         if let Some(fork) = &self.root {
@@ -361,28 +315,4 @@ pub(crate) fn is_ahead(a: &Seat, b: &Seat) -> bool
         Ordering::Less => true,
         _ => false,
     }
-}
-
-/// The lesser of two times.
-pub(crate) fn lesser(a: u64, b: u64) -> u64
-    ensures { result ≡ lesser a b }
-{
-    if a < b { a } else { b }
-}
-
-/// Whether a time of a seat that goes is not the least of those that are left, which stays as it was.
-fn is_later(time: u64, least: u64) -> bool
-    ensures { result ≡ true → IsLater time least }
-{
-    least < time || time == NEVER
-}
-
-/// All marks of a seat and of those on its sides, and their least time.
-pub(crate) fn least_over(sooner: &Seats, seat: &Seat, later: &Seats) -> Least
-    ensures { result ≡ least_of (sooner.now.0 ++ seat.now ∷ later.now.0) }
-{
-    let mut least = sooner.least();
-    later.add_least(&mut least);
-    least.note(seat);
-    least
 }

@@ -5,7 +5,7 @@ use Rattle.source_rows.specs.declared.sight.Sight.{Sight}
 use Rattle.cancel_view.specs.Marks.{opening}
 use Rattle.source_rows.specs.Candidates.{sleeps}
 use Rattle.source_rows.specs.Seats.{first_awake, least_by, least_of, marks_of, is_passed}
-use Rattle.source_rows.specs.declared.seats.Least.{Least}
+use Rattle.source_rows.specs.declared.least.Least.{Least}
 use Rattle.source_rows.proofs.SeatTree.{at_Fork, even_at}
 use Rattle.source_rows.proofs.Ahead.{none_awake, awake_left, awake_here, awake_over, awake_right}
 use Rattle.source_rows.proofs.seats.Seats.+first_awake.Goals as goal

@@ -1,7 +1,7 @@
 use Rattle.std.proofs.Common.{◌≡◌, ◌∙◌, true, ◌∷◌, ◌++◌, sym, ap, rules, arith}
 use Rattle.std.proofs.lemmas.Bool.Decides.{nat_tests}
 use Rattle.std.specs.Prelude.{nat_lt}
-use Rattle.source_rows.specs.declared.seats.Least.{Least}
+use Rattle.source_rows.specs.declared.least.Least.{Least}
 use Rattle.source_rows.specs.Seats.{due_after, least_by, least_of, lesser, next_due}
 use Rattle.source_rows.proofs.SeatTree.{parts_of, even_at}
 use Rattle.source_rows.proofs.Soonest.{all_due, least_join}

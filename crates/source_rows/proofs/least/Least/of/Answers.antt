@@ -3,9 +3,9 @@ use Rattle.std.specs.Prelude.{bit_or}
 use Rattle.std.proofs.lemmas.Nat.{or_comm}
 use Rattle.cancel_view.specs.Marks.{opening}
 use Rattle.source_rows.specs.Candidates.{never}
-use Rattle.source_rows.specs.declared.seats.Least.{Least}
+use Rattle.source_rows.specs.declared.least.Least.{Least}
 use Rattle.source_rows.specs.Seats.{lesser}
-use Rattle.source_rows.proofs.seats.Least.of.Goals as goal
+use Rattle.source_rows.proofs.least.Least.of.Goals as goal
 
 pub returns : goal.returns
 returns c =

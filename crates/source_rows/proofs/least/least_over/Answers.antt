@@ -1,10 +1,10 @@
 use Rattle.std.proofs.Common.{◌++◌, ◌∙◌, ap, sym}
 use Rattle.std.specs.Prelude.{bit_or}
 use Rattle.cancel_view.specs.Marks.{opening}
-use Rattle.source_rows.specs.declared.seats.Least.{Least}
+use Rattle.source_rows.specs.declared.least.Least.{Least}
 use Rattle.source_rows.specs.Seats.{lesser}
 use Rattle.source_rows.proofs.SetIn.{least_between}
-use Rattle.source_rows.proofs.seats.least_over.Goals as goal
+use Rattle.source_rows.proofs.least.least_over.Goals as goal
 
 pub returns : goal.returns
 returns c =
