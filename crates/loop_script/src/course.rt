@@ -1,25 +1,24 @@
-//! What a tree comes to that nobody cancels: when its checks are begun, and its end.
-ghost use Rattle.std.specs.Prelude.{◌≡◌, ◌+◌, ◌<◌, ◌≤◌, ◌++◌, ◌∷◌, [], ◌^◌, pos, None, Some, IfOk, IfSome, OnOk, if◌then◌else◌};
+//! What a tree comes to that nobody cancels, when its checks are begun and how it ends, and how one ends that is cancelled from its begin on.
+ghost use Rattle.std.specs.Prelude.{◌≡◌, ◌+◌, ◌<◌, ◌≤◌, ◌++◌, ◌∷◌, [], ◌^◌, None, Some, IfOk, IfSome, OnOk, if◌then◌else◌};
 ghost use Rattle.loop_script.specs.Bounds.{farthest, longest_tick, longest_time};
 ghost use Rattle.loop_script.specs.Course.{IsCourse, checks_of};
-ghost use Rattle.loop_script.specs.End.{earlier, end_of, ending, is_ok, joined, limited, ticks_of};
-ghost use Rattle.loop_script.specs.declared.outcome.Outcome.TheVariants.{Ok};
+ghost use Rattle.loop_script.specs.End.{checked, earlier, end_of, ending, is_ok, joined, limited, seen, ticks_of};
 
 use crate::outcome::Outcome;
 use crate::tree::{Branch, Node};
 use std::alloc::{AllocError, Global};
 
-/// What a tree comes to that nobody cancels, in ticks from the one in which it is begun.
+/// What a tree comes to, in ticks from the one in which it is begun.
 #[derive(Drop)]
 pub struct Course {
     /// How many microseconds a tick has.
     pub tick_us: u64,
-    /// When its checks are begun, rising; among them are those of parts that are cut short.
+    /// When its checks are begun where nobody cancels it, rising; among them are those of parts that are cut short.
     pub checks: Vec<u128>,
-    /// When it ends.
-    pub tick: u128,
-    /// How it ends.
-    pub outcome: Outcome,
+    /// Its end where nobody cancels it.
+    pub end: End,
+    /// Its end where it is seen as cancelled from its begin on.
+    pub cancelled: End,
 }
 
 /// No end is foreseen that is later. No script comes near it: a sleep takes 2^50 ticks at most.
@@ -52,11 +51,13 @@ impl From<AllocError> for Unforeseen {
     }
 }
 
-/// The end of a part that nobody cancels.
+/// The end of a tree, or of a part of one.
 #[derive(Clone, Copy)]
-struct End {
-    tick: u128,
-    outcome: Outcome,
+pub struct End {
+    /// In which tick it is.
+    pub tick: u128,
+    /// How it ends.
+    pub outcome: Outcome,
 }
 
 impl End {
@@ -114,20 +115,29 @@ impl Course {
         requires short { tick_us ≤ longest_tick }
         ensures { IfOk result (λ c. IfSome c (λ course. IsCourse tree.now course)) }
     {
-        let mut checks = Vec::new(alloc);
-        match foresee(tree, 0, tick_us, &mut checks) {
-            Ok(End { tick, outcome }) => {
-                checks.sort_unstable();
-                Ok(Some(Course {
-                    tick_us,
-                    checks,
-                    tick,
-                    outcome,
-                }))
-            }
+        match Course::foreseen(alloc, tree, tick_us) {
+            Ok(course) => Ok(Some(course)),
             Err(Unforeseen::TooFar) => Ok(None),
             Err(Unforeseen::OutOfMemory) => Err(AllocError),
         }
+    }
+
+    /// The same, or why there is none.
+    fn foreseen(alloc: Global, tree: &Branch, tick_us: u64) -> Result<Course, Unforeseen>
+        requires some { 0 < tick_us }
+        requires short { tick_us ≤ longest_tick }
+        ensures { IfOk result (λ course. IsCourse tree.now course) }
+    {
+        let mut checks = Vec::new(alloc);
+        let end = foresee(tree, 0, None, tick_us, &mut checks)?;
+        checks.sort_unstable();
+        let cancelled = foresee(tree, 0, Some(0), tick_us, &mut Vec::new(alloc))?;
+        Ok(Course {
+            tick_us,
+            checks,
+            end,
+            cancelled,
+        })
     }
 }
 
@@ -146,29 +156,51 @@ fn later(tick: u128, ticks: u64) -> Result<u128, Unforeseen>
     }
 }
 
+/// Whether the poll of a tick sees what is seen as cancelled from a tick on.
+fn is_seen(from: Option<u128>, tick: u128) -> bool
+    ensures { result ≡ seen from tick }
+{
+    match from {
+        None => false,
+        Some(from) => from <= tick,
+    }
+}
+
+/// How a check ends.
+fn checked(cancelled: bool) -> Outcome
+    ensures { result ≡ checked cancelled }
+{
+    if cancelled {
+        Outcome::Cancelled
+    } else {
+        Outcome::Ok(0)
+    }
+}
+
 /// The end of a check, whose tick is added.
-fn passed_check(begun: u128, checks: &mut Vec<u128>) -> Result<End, AllocError>
-    ensures end { IfOk result (λ e. e ≡ record { tick = begun; outcome = Ok (pos 0) }) }
+fn passed_check(begun: u128, from: Option<u128>, checks: &mut Vec<u128>) -> Result<End, AllocError>
+    ensures end { IfOk result (λ e. e ≡ record { tick = begun; outcome = checked (seen from begun) }) }
     ensures checks { OnOk result (checks.new.items ≡ checks.old.items ++ begun ∷ []) }
 {
     checks.push(begun)?;
-    Ok(End::new(begun, Outcome::Ok(0)))
+    Ok(End::new(begun, checked(is_seen(from, begun))))
 }
 
-/// The end of a tree that is begun in a tick and that nobody cancels. The ticks in which its checks are begun are added, with those of
-/// parts that are cut short.
+/// The end of a tree that is begun in a tick, where it is seen as cancelled from a tick on, if at all. The ticks in which its checks are
+/// begun are added, with those of parts that are cut short.
 fn foresee(
     tree: &Branch,
     begun: u128,
+    from: Option<u128>,
     tick_us: u64,
     checks: &mut Vec<u128>,
 ) -> Result<End, Unforeseen>
     requires begun { begun ≤ farthest }
     requires some { 0 < tick_us }
     requires short { tick_us ≤ longest_tick }
-    ensures end { IfOk result (λ e. end_of tick_us tree.now begun None ≡ ending e.tick e.outcome) }
+    ensures end { IfOk result (λ e. end_of tick_us tree.now begun from ≡ ending e.tick e.outcome) }
     ensures near { IfOk result (λ e. e.tick ≤ farthest) }
-    ensures checks { OnOk result (checks.new.items ≡ checks.old.items ++ checks_of tick_us tree.now begun) }
+    ensures checks { OnOk result (checks.new.items ≡ checks.old.items ++ checks_of tick_us tree.now begun from) }
 {
     match &tree.node {
         Node::Value(value) => Ok(End::new(begun, Outcome::Ok(*value))),
@@ -177,25 +209,25 @@ fn foresee(
             let tick = later(begun, wait_ticks(*us, tick_us))?;
             Ok(End::new(tick, Outcome::Ok(0)))
         }
-        Node::Check => Ok(passed_check(begun, checks)?),
+        Node::Check => Ok(passed_check(begun, from, checks)?),
         Node::Seq { first, next } => {
-            let end = foresee(first, begun, tick_us, checks)?;
+            let end = foresee(first, begun, from, tick_us, checks)?;
             match end.ok_at() {
-                Some(tick) => foresee(next, tick, tick_us, checks),
+                Some(tick) => foresee(next, tick, from, tick_us, checks),
                 None => Ok(end),
             }
         }
         Node::Both { one, other } => {
-            let end = foresee(one, begun, tick_us, checks)?;
-            Ok(end.joined(foresee(other, begun, tick_us, checks)?))
+            let end = foresee(one, begun, from, tick_us, checks)?;
+            Ok(end.joined(foresee(other, begun, from, tick_us, checks)?))
         }
         Node::First { one, other } => {
-            let end = foresee(one, begun, tick_us, checks)?;
-            Ok(end.earlier(foresee(other, begun, tick_us, checks)?))
+            let end = foresee(one, begun, from, tick_us, checks)?;
+            Ok(end.earlier(foresee(other, begun, from, tick_us, checks)?))
         }
         Node::Within(us, body) => {
             let limit = later(begun, wait_ticks(*us, tick_us))?;
-            Ok(foresee(body, begun, tick_us, checks)?.limited(limit))
+            Ok(foresee(body, begun, from, tick_us, checks)?.limited(limit))
         }
     }
 }

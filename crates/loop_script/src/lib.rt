@@ -32,7 +32,7 @@ mod version;
 
 pub use action::Action;
 pub use body::Body;
-pub use course::{Course, wait_ticks};
+pub use course::{Course, End, wait_ticks};
 pub use fault::ScriptFault;
 pub use items::Items;
 pub use level::Level;

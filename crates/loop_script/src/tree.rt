@@ -19,7 +19,7 @@ pub struct TaskTree {
 #[derive(Drop)]
 struct Top {
     root: Branch,
-    /// What the tree comes to that nobody cancels, where that was looked for: of a task of a script that was read.
+    /// What the tree comes to, where that was looked for: of a task of a script that was read.
     course: Option<Course>,
 }
 
@@ -115,7 +115,7 @@ impl TaskTree {
         &top.root
     }
 
-    /// What it comes to that nobody cancels, where `foresee` has looked.
+    /// What it comes to, where `foresee` has looked.
     pub fn course(&self) -> Option<&Course>
         ensures { IfSome result (λ c. IsCourse self.now c.now) }
     {
@@ -126,7 +126,7 @@ impl TaskTree {
         }
     }
 
-    /// Looks what it comes to that nobody cancels, where a tick is so many microseconds long, and keeps that. It is the same tree.
+    /// Looks what it comes to, where a tick is so many microseconds long, and keeps that. It is the same tree.
     pub(crate) fn foresee(&mut self, alloc: Global, tick_us: u64) -> Result<(), AllocError>
         requires some { 0 < tick_us }
         requires short { tick_us ≤ longest_tick }

@@ -121,7 +121,7 @@ seq-foretold us b w d x e one next = split (nat_le w x.tick) refl
         subst (λ (z : End). IsForetold w (followed x (λ tick. end_of us b tick None)) (followed z (λ tick. end_of us b tick d))) (sym (one.0 (lt_by w x.tick hc)))
         (followed-foretold w (is_ok x.outcome) x (end_of us b x.tick None) (end_of us b x.tick d) next)
 
-pub foretold : (us : ℕ) (t : Tree) (f w : ℕ) (d : Option ℕ) → Unseen w d (checks_of us t f) → IsForetold w (end_of us t f None) (end_of us t f d)
+pub foretold : (us : ℕ) (t : Tree) (f w : ℕ) (d : Option ℕ) → Unseen w d (checks_of us t f None) → IsForetold w (end_of us t f None) (end_of us t f d)
 foretold us (value v) f w d h = (λ lt. refl, λ le. le)
 foretold us fail f w d h = (λ lt. refl, λ le. le)
 foretold us (sleep n) f w d h = (λ lt. refl, λ le. le)
@@ -129,17 +129,17 @@ foretold us check f w d h = (λ lt. ap (λ (b : Bool). ending f (checked b)) (h.
 foretold us (seq a b) f w d h =
     let P = λ (t : ℕ). t < w → seen d t ≡ false in
     let x : End = end_of us a f None in
-    let rest = checks_behind x (λ tick. checks_of us b tick) in
-    seq-foretold us b w d x (end_of us a f d) (foretold us a f w d (left P (checks_of us a f) rest h))
-    (λ ok. foretold us b x.tick w d (behind P (is_ok x.outcome) (checks_of us b x.tick) (right P (checks_of us a f) rest h) ok))
+    let rest = checks_behind x (λ tick. checks_of us b tick None) in
+    seq-foretold us b w d x (end_of us a f d) (foretold us a f w d (left P (checks_of us a f None) rest h))
+    (λ ok. foretold us b x.tick w d (behind P (is_ok x.outcome) (checks_of us b x.tick None) (right P (checks_of us a f None) rest h) ok))
 foretold us (both a b) f w d h =
     joined-foretold w (end_of us a f None) (end_of us b f None) (end_of us a f d) (end_of us b f d)
-    (foretold us a f w d (left (λ t. t < w → seen d t ≡ false) (checks_of us a f) (checks_of us b f) h))
-    (foretold us b f w d (right (λ t. t < w → seen d t ≡ false) (checks_of us a f) (checks_of us b f) h))
+    (foretold us a f w d (left (λ t. t < w → seen d t ≡ false) (checks_of us a f None) (checks_of us b f None) h))
+    (foretold us b f w d (right (λ t. t < w → seen d t ≡ false) (checks_of us a f None) (checks_of us b f None) h))
 foretold us (first a b) f w d h =
     earlier-foretold w (end_of us a f None) (end_of us b f None) (end_of us a f d) (end_of us b f d)
-    (foretold us a f w d (left (λ t. t < w → seen d t ≡ false) (checks_of us a f) (checks_of us b f) h))
-    (foretold us b f w d (right (λ t. t < w → seen d t ≡ false) (checks_of us a f) (checks_of us b f) h))
+    (foretold us a f w d (left (λ t. t < w → seen d t ≡ false) (checks_of us a f None) (checks_of us b f None) h))
+    (foretold us b f w d (right (λ t. t < w → seen d t ≡ false) (checks_of us a f None) (checks_of us b f None) h))
 foretold us (within n a) f w d h = limited-foretold w (f + ticks_of us n) (end_of us a f None) (end_of us a f d) (foretold us a f w d h)
 
 -- ---- two such cancellations that polls from the wake on don't tell apart
@@ -152,7 +152,7 @@ same-next us b w d e x y one on next ok = split (nat_le w x.tick) refl
         let is : y ≡ x = one.0 (lt_by w x.tick hc) in
         subst (λ (z : End). end_of us b z.tick d ≡ end_of us b z.tick e) (sym is) (next (subst (λ (z : End). is_ok z.outcome ≡ true) is ok))
 
-pub same_from : (us : ℕ) (t : Tree) (f w : ℕ) (d e : Option ℕ) → Unseen w d (checks_of us t f) → Unseen w e (checks_of us t f) → AgreeFrom w d e → end_of us t f d ≡ end_of us t f e
+pub same_from : (us : ℕ) (t : Tree) (f w : ℕ) (d e : Option ℕ) → Unseen w d (checks_of us t f None) → Unseen w e (checks_of us t f None) → AgreeFrom w d e → end_of us t f d ≡ end_of us t f e
 same_from us (value v) f w d e h g on = refl
 same_from us fail f w d e h g on = refl
 same_from us (sleep n) f w d e h g on = refl
@@ -165,19 +165,19 @@ same_from us (seq a b) f w d e h g on =
     let P = λ (t : ℕ). t < w → seen d t ≡ false in
     let Q = λ (t : ℕ). t < w → seen e t ≡ false in
     let x : End = end_of us a f None in
-    let rest = checks_behind x (λ tick. checks_of us b tick) in
-    let one = left P (checks_of us a f) rest h in
+    let rest = checks_behind x (λ tick. checks_of us b tick None) in
+    let one = left P (checks_of us a f None) rest h in
     let next = λ (ok : is_ok x.outcome ≡ true).
-    same_from us b x.tick w d e (behind P (is_ok x.outcome) (checks_of us b x.tick) (right P (checks_of us a f) rest h) ok) (behind Q (is_ok x.outcome) (checks_of us b x.tick) (right Q (checks_of us a f) rest g) ok) on in
-    followed-same (end_of us a f d) (end_of us a f e) (λ tick. end_of us b tick d) (λ tick. end_of us b tick e) (same_from us a f w d e one (left Q (checks_of us a f) rest g) on)
+    same_from us b x.tick w d e (behind P (is_ok x.outcome) (checks_of us b x.tick None) (right P (checks_of us a f None) rest h) ok) (behind Q (is_ok x.outcome) (checks_of us b x.tick None) (right Q (checks_of us a f None) rest g) ok) on in
+    followed-same (end_of us a f d) (end_of us a f e) (λ tick. end_of us b tick d) (λ tick. end_of us b tick e) (same_from us a f w d e one (left Q (checks_of us a f None) rest g) on)
     (same-next us b w d e x (end_of us a f d) (foretold us a f w d one) on next)
 same_from us (both a b) f w d e h g on =
-    let one = same_from us a f w d e (left (λ t. t < w → seen d t ≡ false) (checks_of us a f) (checks_of us b f) h) (left (λ t. t < w → seen e t ≡ false) (checks_of us a f) (checks_of us b f) g) on in
-    let other = same_from us b f w d e (right (λ t. t < w → seen d t ≡ false) (checks_of us a f) (checks_of us b f) h) (right (λ t. t < w → seen e t ≡ false) (checks_of us a f) (checks_of us b f) g) on in
+    let one = same_from us a f w d e (left (λ t. t < w → seen d t ≡ false) (checks_of us a f None) (checks_of us b f None) h) (left (λ t. t < w → seen e t ≡ false) (checks_of us a f None) (checks_of us b f None) g) on in
+    let other = same_from us b f w d e (right (λ t. t < w → seen d t ≡ false) (checks_of us a f None) (checks_of us b f None) h) (right (λ t. t < w → seen e t ≡ false) (checks_of us a f None) (checks_of us b f None) g) on in
     λ i. joined (one i) (other i)
 same_from us (first a b) f w d e h g on =
-    let one = same_from us a f w d e (left (λ t. t < w → seen d t ≡ false) (checks_of us a f) (checks_of us b f) h) (left (λ t. t < w → seen e t ≡ false) (checks_of us a f) (checks_of us b f) g) on in
-    let other = same_from us b f w d e (right (λ t. t < w → seen d t ≡ false) (checks_of us a f) (checks_of us b f) h) (right (λ t. t < w → seen e t ≡ false) (checks_of us a f) (checks_of us b f) g) on in
+    let one = same_from us a f w d e (left (λ t. t < w → seen d t ≡ false) (checks_of us a f None) (checks_of us b f None) h) (left (λ t. t < w → seen e t ≡ false) (checks_of us a f None) (checks_of us b f None) g) on in
+    let other = same_from us b f w d e (right (λ t. t < w → seen d t ≡ false) (checks_of us a f None) (checks_of us b f None) h) (right (λ t. t < w → seen e t ≡ false) (checks_of us a f None) (checks_of us b f None) g) on in
     λ i. earlier (one i) (other i)
 same_from us (within n a) f w d e h g on = ap (limited (f + ticks_of us n)) (same_from us a f w d e h g on)
 
@@ -203,26 +203,32 @@ limited-shifted g limit x = split (nat_le x.tick limit) refl
     split true h = let le : x.tick ≤ limit = le_by x.tick limit h in rw (by_le (g + x.tick) (g + limit) (omega arith)) refl
     split false h = let lt : limit < x.tick = lt_by x.tick limit h in limited-over (g + limit) (shifted g x) (omega arith)
 
-pub moved_end : (us : ℕ) (t : Tree) (g f : ℕ) → end_of us t (g + f) None ≡ shifted g (end_of us t f None)
-moved_end us (value v) g f = refl
-moved_end us fail g f = refl
-moved_end us (sleep n) g f = ap (λ (k : ℕ). ending k (Ok (pos 0))) (let sum : g + f + ticks_of us n ≡ g + (f + ticks_of us n) = omega arith in sum)
-moved_end us check g f = refl
-moved_end us (seq a b) g f =
-    let x : End = end_of us a f None in
-    ap (λ (z : End). followed z (λ tick. end_of us b tick None)) (moved_end us a g f)
-    ∙ followed-shifted g (is_ok x.outcome) (end_of us b (g + x.tick) None) (end_of us b x.tick None) x (moved_end us b g x.tick)
-moved_end us (both a b) g f =
-    let x : End = end_of us a f None in
-    let y : End = end_of us b f None in
-    (λ i. joined (moved_end us a g f i) (moved_end us b g f i))
+-- under a cancellation that polls of the later one see as those of the sooner one see theirs
+pub moved_with : (us : ℕ) (t : Tree) (g f : ℕ) (c d : Option ℕ) → ((k : ℕ) → f ≤ k → seen d (g + k) ≡ seen c k) → end_of us t (g + f) d ≡ shifted g (end_of us t f c)
+moved_with us (value v) g f c d h = refl
+moved_with us fail g f c d h = refl
+moved_with us (sleep n) g f c d h = ap (λ (k : ℕ). ending k (Ok (pos 0))) (let sum : g + f + ticks_of us n ≡ g + (f + ticks_of us n) = omega arith in sum)
+moved_with us check g f c d h = ap (λ (b : Bool). ending (g + f) (checked b)) (h f (omega arith))
+moved_with us (seq a b) g f c d h =
+    let x : End = end_of us a f c in
+    let begins : f ≤ x.tick = not_sooner us a f c in
+    ap (λ (z : End). followed z (λ tick. end_of us b tick d)) (moved_with us a g f c d h)
+    ∙ followed-shifted g (is_ok x.outcome) (end_of us b (g + x.tick) d) (end_of us b x.tick c) x (moved_with us b g x.tick c d (λ k le. h k (omega arith)))
+moved_with us (both a b) g f c d h =
+    let x : End = end_of us a f c in
+    let y : End = end_of us b f c in
+    (λ i. joined (moved_with us a g f c d h i) (moved_with us b g f c d h i))
     ∙ ap (λ (k : ℕ). record (joined x y) { tick = k }) (let sum : max (g + x.tick) (g + y.tick) ≡ g + max x.tick y.tick = omega arith in sum)
-moved_end us (first a b) g f = (λ i. earlier (moved_end us a g f i) (moved_end us b g f i)) ∙ earlier-shifted g (end_of us a f None) (end_of us b f None)
-moved_end us (within n a) g f =
+moved_with us (first a b) g f c d h = (λ i. earlier (moved_with us a g f c d h i) (moved_with us b g f c d h i)) ∙ earlier-shifted g (end_of us a f c) (end_of us b f c)
+moved_with us (within n a) g f c d h =
     let sum : g + f + ticks_of us n ≡ g + (f + ticks_of us n) = omega arith in
-    ap (limited (g + f + ticks_of us n)) (moved_end us a g f)
-    ∙ ap (λ (k : ℕ). limited k (shifted g (end_of us a f None))) sum
-    ∙ limited-shifted g (f + ticks_of us n) (end_of us a f None)
+    ap (limited (g + f + ticks_of us n)) (moved_with us a g f c d h)
+    ∙ ap (λ (k : ℕ). limited k (shifted g (end_of us a f c))) sum
+    ∙ limited-shifted g (f + ticks_of us n) (end_of us a f c)
+
+-- under none
+pub moved_end : (us : ℕ) (t : Tree) (g f : ℕ) → end_of us t (g + f) None ≡ shifted g (end_of us t f None)
+moved_end us t g f = moved_with us t g f None None (λ k le. refl)
 
 joined-all : (P : ℕ → Type 0) (xs ys : List ℕ) → AllByRecursion P xs → AllByRecursion P ys → AllByRecursion P (xs ++ ys)
 joined-all P [] ys h g = g
@@ -233,7 +239,7 @@ behind-all P true ts h = h refl
 behind-all P false ts h = tt
 
 -- what is so of its checks
-pub moved_checks : (us : ℕ) (t : Tree) (g f : ℕ) (P : ℕ → Type 0) → AllByRecursion (λ t. P (g + t)) (checks_of us t f) → AllByRecursion P (checks_of us t (g + f))
+pub moved_checks : (us : ℕ) (t : Tree) (g f : ℕ) (P : ℕ → Type 0) → AllByRecursion (λ t. P (g + t)) (checks_of us t f None) → AllByRecursion P (checks_of us t (g + f) None)
 moved_checks us (value v) g f P h = tt
 moved_checks us fail g f P h = tt
 moved_checks us (sleep n) g f P h = tt
@@ -241,16 +247,16 @@ moved_checks us check g f P h = h
 moved_checks us (seq a b) g f P h =
     let x : End = end_of us a f None in
     let Q = λ (t : ℕ). P (g + t) in
-    let rest = checks_behind x (λ tick. checks_of us b tick) in
-    joined-all P (checks_of us a (g + f)) (checks_behind (end_of us a (g + f) None) (λ tick. checks_of us b tick)) (moved_checks us a g f P (left Q (checks_of us a f) rest h))
-    (subst (λ (z : End). AllByRecursion P (checks_behind z (λ tick. checks_of us b tick))) (sym (moved_end us a g f))
-    (behind-all P (is_ok x.outcome) (checks_of us b (g + x.tick)) (λ ok. moved_checks us b g x.tick P (behind Q (is_ok x.outcome) (checks_of us b x.tick) (right Q (checks_of us a f) rest h) ok))))
+    let rest = checks_behind x (λ tick. checks_of us b tick None) in
+    joined-all P (checks_of us a (g + f) None) (checks_behind (end_of us a (g + f) None) (λ tick. checks_of us b tick None)) (moved_checks us a g f P (left Q (checks_of us a f None) rest h))
+    (subst (λ (z : End). AllByRecursion P (checks_behind z (λ tick. checks_of us b tick None))) (sym (moved_end us a g f))
+    (behind-all P (is_ok x.outcome) (checks_of us b (g + x.tick) None) (λ ok. moved_checks us b g x.tick P (behind Q (is_ok x.outcome) (checks_of us b x.tick None) (right Q (checks_of us a f None) rest h) ok))))
 moved_checks us (both a b) g f P h =
     let Q = λ (t : ℕ). P (g + t) in
-    joined-all P (checks_of us a (g + f)) (checks_of us b (g + f)) (moved_checks us a g f P (left Q (checks_of us a f) (checks_of us b f) h)) (moved_checks us b g f P (right Q (checks_of us a f) (checks_of us b f) h))
+    joined-all P (checks_of us a (g + f) None) (checks_of us b (g + f) None) (moved_checks us a g f P (left Q (checks_of us a f None) (checks_of us b f None) h)) (moved_checks us b g f P (right Q (checks_of us a f None) (checks_of us b f None) h))
 moved_checks us (first a b) g f P h =
     let Q = λ (t : ℕ). P (g + t) in
-    joined-all P (checks_of us a (g + f)) (checks_of us b (g + f)) (moved_checks us a g f P (left Q (checks_of us a f) (checks_of us b f) h)) (moved_checks us b g f P (right Q (checks_of us a f) (checks_of us b f) h))
+    joined-all P (checks_of us a (g + f) None) (checks_of us b (g + f) None) (moved_checks us a g f P (left Q (checks_of us a f None) (checks_of us b f None) h)) (moved_checks us b g f P (right Q (checks_of us a f None) (checks_of us b f None) h))
 moved_checks us (within n a) g f P h = moved_checks us a g f P h
 
 -- ---- what is known of a tree that no poll up to a tick sees as cancelled
@@ -266,20 +272,20 @@ unseen-by known w d (t ∷ ts) h none = (λ lt. split (nat_le t known) refl lt, 
     split true hb lt = sym (h t (le_by t known hb))
     split false hb lt = let late : w ≤ t = none.0 (lt_by t known hb) in absurd (omega arith)
 
-wait-known : (us : ℕ) (t : Tree) (f known n w : ℕ) → known < w → NoneBetween known w (checks_of us t f) → w ≤ (end_of us t f None).tick → IsKnown us t f None known n (Waits w)
+wait-known : (us : ℕ) (t : Tree) (f known n w : ℕ) → known < w → NoneBetween known w (checks_of us t f None) → w ≤ (end_of us t f None).tick → IsKnown us t f None known n (Waits w)
 wait-known us t f known n w lt none le = (
   lt,
   record {
-    ends = λ d i. (foretold us t f w d (unseen-by known w d (checks_of us t f) i none)).1 le;
-    same = λ d e i j on. same_from us t f w d e (unseen-by known w d (checks_of us t f) i none) (unseen-by known w e (checks_of us t f) j none) on;
+    ends = λ d i. (foretold us t f w d (unseen-by known w d (checks_of us t f None) i none)).1 le;
+    same = λ d e i j on. same_from us t f w d e (unseen-by known w d (checks_of us t f None) i none) (unseen-by known w e (checks_of us t f None) j none) on;
   },
 )
 
-end-known : (us : ℕ) (t : Tree) (f known n at : ℕ) (o : Outcome) → end_of us t f None ≡ ending at o → NoneBetween known (at + 1) (checks_of us t f) → at ≤ n → IsKnown us t f None known n (Ended at o)
+end-known : (us : ℕ) (t : Tree) (f known n at : ℕ) (o : Outcome) → end_of us t f None ≡ ending at o → NoneBetween known (at + 1) (checks_of us t f None) → at ≤ n → IsKnown us t f None known n (Ended at o)
 end-known us t f known n at o is none le = (
   λ d i.
       let same : (end_of us t f None).tick ≡ at = ap (λ (e : End). e.tick) is in
-      (foretold us t f (at + 1) d (unseen-by known (at + 1) d (checks_of us t f) i none)).0 (omega arith) ∙ is,
+      (foretold us t f (at + 1) d (unseen-by known (at + 1) d (checks_of us t f None) i none)).0 (omega arith) ∙ is,
   le,
 )
 
@@ -288,48 +294,48 @@ end-known us t f known n at o is none le = (
 abbrev pub IsFree : ℕ → ℕ → List ℕ → Type 0
 IsFree passed w ts = All (λ t. passed < t → w ≤ t) ts
 
-none-later : (t : Tree) (c : Course) (f passed w : ℕ) → IsCourse t c → IsFree passed w c.checks.items → NoneBetween (f + passed) (f + w) (checks_of c.tick_us t f)
+none-later : (t : Tree) (c : Course) (f passed w : ℕ) → IsCourse t c → IsFree passed w c.checks.items → NoneBetween (f + passed) (f + w) (checks_of c.tick_us t f None)
 none-later t c f passed w h free =
-    let ts = checks_of c.tick_us t 0 in
+    let ts = checks_of c.tick_us t 0 None in
     let own : All (λ (x : ℕ). passed < x → w ≤ x) ts = All-permutation (λ (x : ℕ). passed < x → w ≤ x) c.checks.items ts (IsPermutation-sym ts c.checks.items h.checks) free in
     let moved = moved_checks c.tick_us t f 0 (λ (x : ℕ). f + passed < x → f + w ≤ x) (onward ts (recursion_from_All (λ (x : ℕ). passed < x → w ≤ x) ts own)) in
-    subst (λ (k : ℕ). NoneBetween (f + passed) (f + w) (checks_of c.tick_us t k)) (let same : f + 0 ≡ f = omega arith in same) moved
+    subst (λ (k : ℕ). NoneBetween (f + passed) (f + w) (checks_of c.tick_us t k None)) (let same : f + 0 ≡ f = omega arith in same) moved
   where
     onward : (ts : List ℕ) → AllByRecursion (λ (x : ℕ). passed < x → w ≤ x) ts → AllByRecursion (λ (x : ℕ). f + passed < f + x → f + w ≤ f + x) ts
     onward [] i = tt
     onward (x ∷ xs) i = (λ lt. let le : w ≤ x = i.0 (omega arith) in omega arith, onward xs i.1)
 
-end-later : (t : Tree) (c : Course) (f : ℕ) → IsCourse t c → end_of c.tick_us t f None ≡ ending (f + c.tick) c.outcome
+end-later : (t : Tree) (c : Course) (f : ℕ) → IsCourse t c → end_of c.tick_us t f None ≡ ending (f + c.end.tick) c.end.outcome
 end-later t c f h =
     ap (λ (k : ℕ). end_of c.tick_us t k None) (let same : f ≡ f + 0 = omega arith in same) ∙ moved_end c.tick_us t f 0 ∙ ap (shifted f) h.end
 
-course_waits : (t : Tree) (c : Course) (f passed w n : ℕ) → IsCourse t c → passed < w → IsFree passed w c.checks.items → w ≤ c.tick → IsKnown c.tick_us t f None (f + passed) n (Waits (f + w))
+course_waits : (t : Tree) (c : Course) (f passed w n : ℕ) → IsCourse t c → passed < w → IsFree passed w c.checks.items → w ≤ c.end.tick → IsKnown c.tick_us t f None (f + passed) n (Waits (f + w))
 course_waits t c f passed w n h lt free le =
-    let at : (end_of c.tick_us t f None).tick ≡ f + c.tick = ap (λ (e : End). e.tick) (end-later t c f h) in
+    let at : (end_of c.tick_us t f None).tick ≡ f + c.end.tick = ap (λ (e : End). e.tick) (end-later t c f h) in
     wait-known c.tick_us t f (f + passed) n (f + w) (omega arith) (none-later t c f passed w h free) (omega arith)
 
-course_ends : (t : Tree) (c : Course) (f passed n : ℕ) → IsCourse t c → IsFree passed (c.tick + 1) c.checks.items → f + c.tick ≤ n → IsKnown c.tick_us t f None (f + passed) n (Ended (f + c.tick) c.outcome)
+course_ends : (t : Tree) (c : Course) (f passed n : ℕ) → IsCourse t c → IsFree passed (c.end.tick + 1) c.checks.items → f + c.end.tick ≤ n → IsKnown c.tick_us t f None (f + passed) n (Ended (f + c.end.tick) c.end.outcome)
 course_ends t c f passed n h free le =
-    let none = subst (λ (k : ℕ). NoneBetween (f + passed) k (checks_of c.tick_us t f)) (let same : f + (c.tick + 1) ≡ f + c.tick + 1 = omega arith in same) (none-later t c f passed (c.tick + 1) h free) in
-    end-known c.tick_us t f (f + passed) n (f + c.tick) c.outcome (end-later t c f h) none le
+    let none = subst (λ (k : ℕ). NoneBetween (f + passed) k (checks_of c.tick_us t f None)) (let same : f + (c.end.tick + 1) ≡ f + c.end.tick + 1 = omega arith in same) (none-later t c f passed (c.end.tick + 1) h free) in
+    end-known c.tick_us t f (f + passed) n (f + c.end.tick) c.end.outcome (end-later t c f h) none le
 
 free_less : (ts : List ℕ) (passed v w : ℕ) → v ≤ w → IsFree passed w ts → IsFree passed v ts
 free_less ts passed v w le h = λ k d below lt. let late : w ≤ get_or ts k d = h k d below lt in omega arith
 
-pub course_sleeps : (t : Tree) (c : Course) (f passed w : ℕ) → IsCourse t c → f + passed ≤ last_tick → passed < w → IsFree passed w c.checks.items → w ≤ c.tick → IsKnown c.tick_us t f None (f + passed) last_tick (Waits (f + min w beyond))
+pub course_sleeps : (t : Tree) (c : Course) (f passed w : ℕ) → IsCourse t c → f + passed ≤ last_tick → passed < w → IsFree passed w c.checks.items → w ≤ c.end.tick → IsKnown c.tick_us t f None (f + passed) last_tick (Waits (f + min w beyond))
 course_sleeps t c f passed w h le lt free by = course_waits t c f passed (min w beyond) last_tick h (omega arith) (free_less c.checks.items passed (min w beyond) w (omega arith) free) (omega arith)
 
-pub course_told : (t : Tree) (c : Course) (f passed : ℕ) → IsCourse t c → f + passed ≤ last_tick → IsFree passed (c.tick + 1) c.checks.items → IsKnown c.tick_us t f None (f + passed) last_tick (told (f + min c.tick beyond) c.outcome)
-course_told t c f passed h le free = split (nat_le (f + min c.tick beyond) last_tick) refl
+pub course_told : (t : Tree) (c : Course) (f passed : ℕ) → IsCourse t c → f + passed ≤ last_tick → IsFree passed (c.end.tick + 1) c.checks.items → IsKnown c.tick_us t f None (f + passed) last_tick (told (f + min c.end.tick beyond) c.end.outcome)
+course_told t c f passed h le free = split (nat_le (f + min c.end.tick beyond) last_tick) refl
   where
-    split : (b : Bool) → nat_le (f + min c.tick beyond) last_tick ≡ b → IsKnown c.tick_us t f None (f + passed) last_tick (cond b (Ended (f + min c.tick beyond) c.outcome) (Waits (f + min c.tick beyond)))
+    split : (b : Bool) → nat_le (f + min c.end.tick beyond) last_tick ≡ b → IsKnown c.tick_us t f None (f + passed) last_tick (cond b (Ended (f + min c.end.tick beyond) c.end.outcome) (Waits (f + min c.end.tick beyond)))
     split true e =
-        let by : f + min c.tick beyond ≤ last_tick = le_by (f + min c.tick beyond) last_tick e in
-        let same : c.tick ≡ min c.tick beyond = omega arith in
-        subst (λ (k : ℕ). IsKnown c.tick_us t f None (f + passed) last_tick (Ended (f + k) c.outcome)) same (course_ends t c f passed last_tick h free (omega (arith, same)))
+        let by : f + min c.end.tick beyond ≤ last_tick = le_by (f + min c.end.tick beyond) last_tick e in
+        let same : c.end.tick ≡ min c.end.tick beyond = omega arith in
+        subst (λ (k : ℕ). IsKnown c.tick_us t f None (f + passed) last_tick (Ended (f + k) c.end.outcome)) same (course_ends t c f passed last_tick h free (omega (arith, same)))
     split false e =
-        let late : last_tick < f + min c.tick beyond = lt_by (f + min c.tick beyond) last_tick e in
-        course_sleeps t c f passed c.tick h le (omega arith) (free_less c.checks.items passed c.tick (c.tick + 1) (omega arith) free) (omega arith)
+        let late : last_tick < f + min c.end.tick beyond = lt_by (f + min c.end.tick beyond) last_tick e in
+        course_sleeps t c f passed c.end.tick h le (omega arith) (free_less c.checks.items passed c.end.tick (c.end.tick + 1) (omega arith) free) (omega arith)
 
 -- ---- its next check
 abbrev pub IsPoint : List ℕ → ℕ → ℕ → Type 0

@@ -1,4 +1,5 @@
 pub mod Begins
+pub mod Cancelled
 pub mod Ends
 pub mod Sleeping
 pub mod Parts
@@ -15,7 +16,7 @@ pub mod Passed
 pub mod Lists
 pub mod Heeding
 pub mod PollAll
-pub mod Seated
+pub mod SideBySide
 pub mod Waiting
 pub mod Once
 pub mod Shown

@@ -1,10 +1,10 @@
 -- What is known of entries without a look at each.
-use Rattle.std.proofs.Common.{◌≡◌, ℕ, ◌||◌, Bool, true, false, Option, Some, None, List, [], ◌∷◌, ◌++◌, min, arith, refl, ap, sym, ◌∙◌}
+use Rattle.std.proofs.Common.{◌≡◌, ℕ, ◌||◌, Bool, true, false, Option, Some, None, List, [], ◌∷◌, ◌++◌, ◌<◌, min, arith, refl, ap, sym, ◌∙◌}
 use Rattle.std.specs.List.{list_any}
 use Rattle.task_steps.specs.declared.entry.Entry.{Entry}
 use Rattle.task_steps.specs.declared.mark.Mark.{Mark}
 use Rattle.task_steps.specs.Wake.{sooner}
-use Rattle.task_steps.specs.BookInside.{wake_of_entry, wake_of_all, heeds, mark_of, joined_mark}
+use Rattle.task_steps.specs.BookInside.{never, due_by, wake_of_entry, wake_of_all, heeds, mark_of, joined_mark}
 
 min-assoc : (a b c : ℕ) → min (min a b) c ≡ min a (min b c)
 min-assoc a b c = omega arith
@@ -38,14 +38,19 @@ any_joined p (x ∷ xs) ys = ap (λ (b : Bool). p x || b) (any_joined p xs ys) �
 pub any_one : {X : Type 0} (p : X → Bool) (x : X) → list_any p (x ∷ []) ≡ p x
 any_one p x = or-false (p x)
 
+pub due_joined : (a b : Option ℕ) → due_by (sooner a b) ≡ min (due_by a) (due_by b)
+due_joined None None = omega arith
+due_joined None (Some b) = omega arith
+due_joined (Some a) None = omega arith
+due_joined (Some a) (Some b) = omega arith
+
+-- a wake that a number tells
+pub due_exact : (w : Option ℕ) (m : ℕ) → m ≡ due_by w → m < never → w ≡ Some m
+due_exact None m h lt = absurd (omega arith)
+due_exact (Some w) m h lt = ap (λ (k : ℕ). Some k) (let same : w ≡ m = omega arith in same)
+
 pub mark_joined : (es fs : List Entry) → mark_of (es ++ fs) ≡ joined_mark (mark_of es) (mark_of fs)
-mark_joined es fs = let w = wake_joined es fs in let h = any_joined heeds es fs in λ i. record { wake = w i; heeds = h i }
+mark_joined es fs = let w = ap due_by (wake_joined es fs) ∙ due_joined (wake_of_all es) (wake_of_all fs) in let h = any_joined heeds es fs in λ i. record { wake = w i; heeds = h i }
 
-pub mark_one : (e : Entry) → mark_of (e ∷ []) ≡ record { wake = wake_of_entry e; heeds = heeds e }
-mark_one e = let w = sooner_none (wake_of_entry e) in let h = any_one heeds e in λ i. record { wake = w i; heeds = h i }
-
-pub joined_assoc : (a b c : Mark) → joined_mark (joined_mark a b) c ≡ joined_mark a (joined_mark b c)
-joined_assoc a b c = let w = sooner-assoc a.wake b.wake c.wake in let h = or-assoc a.heeds b.heeds c.heeds in λ i. record { wake = w i; heeds = h i }
-
-pub joined_none : (a : Mark) → joined_mark a (mark_of []) ≡ a
-joined_none a = let w = sooner_none a.wake in let h = or-false a.heeds in λ i. record { wake = w i; heeds = h i }
+pub mark_one : (e : Entry) → mark_of (e ∷ []) ≡ record { wake = due_by (wake_of_entry e); heeds = heeds e }
+mark_one e = let w = ap due_by (sooner_none (wake_of_entry e)) in let h = any_one heeds e in λ i. record { wake = w i; heeds = h i }

@@ -1,5 +1,5 @@
 -- A poll of an entry, and of entries that are passed over.
-use Rattle.std.proofs.Common.{◌≡◌, ℕ, ◌+◌, ◌≤◌, ◌&&◌, ◌||◌, Bool, true, false, not, cond, Option, Some, None, is_some, List, [], ◌∷◌, ◌++◌, option_map, option_to_list, arith, refl, ap, sym, subst, ◌∙◌}
+use Rattle.std.proofs.Common.{◌≡◌, ℕ, ◌+◌, ◌≤◌, ◌<◌, ◌&&◌, ◌||◌, Bool, true, false, not, cond, Option, Some, None, is_some, List, [], ◌∷◌, ◌++◌, option_map, option_to_list, arith, refl, ap, sym, subst, ◌∙◌}
 use Rattle.std.specs.List.{list_any, filter}
 use Rattle.cancel_view.specs.Seen.{Seen}
 use Rattle.loop_script.specs.declared.outcome.Outcome.{Outcome}
@@ -14,7 +14,7 @@ use Rattle.task_steps.specs.RunInside.{IsBy}
 use Rattle.task_steps.specs.Reply.{reply_of_task}
 use Rattle.task_steps.specs.Task.{Task, task_of, body_end, reply_in, is_late_in, MayComeTo, CanPoll, IsAnswer, IsPolledAt, is_done_stage, IsBefore, IsBegunBy, IsPolledStage}
 use Rattle.task_steps.specs.Book.{sees, IsNext, HasGrown, noticed_in, all_noticed, MayComeToAll, replies_in, late_in, goes_on}
-use Rattle.task_steps.specs.BookInside.{is_fresh, IsWaitingAt, IsWaiting, AreWaiting, AreWaitingAfter, IsPassedBy, IsPolledBy, IsSeenBy, IsListed, AreListed, caught, caught_stage, caught_clear, heeds, mark_of, IsQuiet, shown, wake_of_stage, wake_of_entry, wake_of_all}
+use Rattle.task_steps.specs.BookInside.{is_fresh, IsWaitingAt, IsWaiting, AreWaiting, AreWaitingAfter, IsPassedBy, IsPolledBy, IsSeenBy, IsListed, AreListed, caught, caught_stage, caught_clear, due_by, heeds, mark_of, IsQuiet, shown, wake_of_stage, wake_of_entry, wake_of_all}
 use Rattle.task_steps.specs.Polls.{all_shown, Gives, HasPolledAll, CanPollAll, NoneComes, comes, comes_once}
 use Rattle.task_steps.specs.declared.mark.Mark.{Mark}
 use Rattle.task_steps.specs.declared.mark.Round.{Round}
@@ -305,10 +305,18 @@ none-came-or-heeds : (tick : ℕ) (polled : Option ℕ) (came : Bool) (view : Se
 none-came-or-heeds tick polled true view es w a n h = none_heeds view es h
 none-came-or-heeds tick polled false view es w a n h = comes-once tick polled view es w a (n refl)
 
+after-due : (tick : ℕ) (wake : Option ℕ) → tick < due_by wake → IsAfter tick wake
+after-due tick None lt = tt
+after-due tick (Some wake) lt = omega arith
+
 pub passed_quiet : (round : Round) (view : Seen) (mark : Mark) (es : List Entry) (rs : List Reply) (ls : List ℕ) → mark ≡ mark_of es → IsQuiet round mark → CanPollAll round.tick round.polled view es → NoneComes round.came view es → HasPolledAll round.tick round.polled view es es rs rs ls ls
 passed_quiet round view mark es rs ls m q can n =
     let quiet : IsQuiet round (mark_of es) = subst (λ (x : Mark). IsQuiet round x) m q in
-    passed_all round.tick round.polled view es rs ls can.waiting can.past quiet.0 can.grown (none-came-or-heeds round.tick round.polled round.came view es can.waiting quiet.0 n quiet.1)
+    let after = after-due round.tick (wake_of_all es) quiet.0 in
+    passed_all round.tick round.polled view es rs ls can.waiting can.past after can.grown (none-came-or-heeds round.tick round.polled round.came view es can.waiting after n quiet.1)
+
+pub passed_none : (round : Round) (view : Seen) (rs : List Reply) (ls : List ℕ) → CanPollAll round.tick round.polled view [] → HasPolledAll round.tick round.polled view [] [] rs rs ls ls
+passed_none round view rs ls can = passed_all round.tick round.polled view [] rs ls can.waiting can.past tt can.grown refl
 
 -- ---- what may come to two parts of entries
 pub comes_left : (came : Bool) (view : Seen) (es gs : List Entry) → NoneComes came view (es ++ gs) → NoneComes came view es

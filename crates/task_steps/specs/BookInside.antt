@@ -1,5 +1,6 @@
 -- How a book's entries stand between two calls.
-use Rattle.std.specs.Prelude.{◌≡◌, ◌+◌, ◌<◌, ◌≤◌, ◌==◌, ◌&&◌, ◌||◌, ℕ, Bool, true, false, not, is_some, Option, Some, None, List, [], ◌∷◌, ◌++◌, map, if◌then◌else◌, take}
+use Rattle.std.specs.Prelude.{Box, ◌≡◌, ◌+◌, ◌-◌, ◌^◌, ◌<◌, ◌≤◌, ◌==◌, ◌&&◌, ◌||◌, ℕ, Bool, true, false, min, not, is_some, Option, Some, None, List, [], ◌∷◌, ◌++◌, map, if◌then◌else◌, take}
+use Rattle.std.specs.Global.{Global}
 use Rattle.std.specs.List.{list_any}
 use Rattle.loop_script.specs.Bounds.{longest_tick}
 use Rattle.loop_script.specs.Units.{Tick, Microseconds, CancellableNumber}
@@ -8,9 +9,9 @@ use Rattle.task_steps.specs.declared.stage.Stage.{Stage}
 use Rattle.task_steps.specs.declared.stage.Stage.TheVariants.{Fresh, Set, Polled, Done}
 use Rattle.task_steps.specs.declared.mark.Mark.{Mark}
 use Rattle.task_steps.specs.declared.mark.Round.{Round}
-use Rattle.task_steps.specs.declared.seats.Seat.{Seat}
+use Rattle.task_steps.specs.declared.leaf.Leaf.{Leaf}
 use Rattle.task_steps.specs.declared.tasks.Tasks.{Tasks}
-use Rattle.task_steps.specs.declared.tasks.Tree.{Tree, Gone, Leaf, Two'}
+use Rattle.task_steps.specs.declared.tasks.Tree.{Tree, Gone, Leaf as LeafOf, Two'}
 use Rattle.task_steps.specs.Wake.{sooner}
 use Rattle.task_steps.specs.Run.{Run, IsAfter, IsLater, NoneBefore, stage_to, clear_passed}
 use Rattle.task_steps.specs.RunInside.{IsBy}
@@ -138,56 +139,68 @@ AreListedOnce cs (e ∷ es) = IsListedOnce cs e.run.stage e.cancel e.run.cancell
 
 -- ---- what is known of entries
 
+-- later than any tick that a number tells
+abbrev pub never : Tick
+never = 2 ^ 64 - 1
+
+-- a wake as a number, which is later than any where there is no wake
+abbrev pub due_by : Option Tick → Tick
+due_by None = never
+due_by (Some wake) = min wake never
+
 -- the mark of some entries
 abbrev pub mark_of : List Entry → Mark
-mark_of es = record { wake = wake_of_all es; heeds = list_any heeds es }
+mark_of es = record { wake = due_by (wake_of_all es); heeds = list_any heeds es }
 
 -- that of two lists together
 abbrev pub joined_mark : Mark → Mark → Mark
-joined_mark a b = record { wake = sooner a.wake b.wake; heeds = a.heeds || b.heeds }
+joined_mark a b = record { wake = min a.wake b.wake; heeds = a.heeds || b.heeds }
+
+-- that of one
+abbrev pub own_mark : Entry → Mark
+own_mark e = mark_of (e ∷ [])
 
 -- ---- entries side by side
 
--- those of seats, in their order
-abbrev pub entries_in : List Seat → List Entry
-entries_in seats = map (λ (s : Seat). s.entry.value) seats
+-- those in boxes, in their order
+abbrev pub unboxed : List (Box Entry Global) → List Entry
+unboxed boxes = map (λ (b : Box Entry Global). b.value) boxes
 
--- the mark of a seat is that of its entry
-abbrev pub IsKnown : Seat → Type 0
-IsKnown s = s.mark ≡ mark_of (s.entry.value ∷ [])
+-- those of a leaf
+abbrev pub entries_in : Leaf → List Entry
+entries_in leaf = unboxed leaf.entries.items
 
--- the same of all seats
-abbrev pub AreKnown : List Seat → Type 0
-AreKnown [] = Unit {0}
-AreKnown (s ∷ seats) = IsKnown s × AreKnown seats
+-- the marks beside entries are their own
+abbrev pub IsKnown : Leaf → Type 0
+IsKnown leaf = leaf.marks.items ≡ map own_mark (entries_in leaf)
 
 -- ---- a tree of entries
 
 -- its entries, in start order
 abbrev pub entries_below : Tree → List Entry
 entries_below Gone = []
-entries_below (Leaf seats) = entries_in seats.items
+entries_below (LeafOf leaf) = entries_in leaf
 entries_below (Two' p m a n b) = entries_below a ++ entries_below b
 
--- each node's marks are those of the entries on its sides, each seat's that of its entry
+-- each node's marks are those of the entries on its sides, each mark of a leaf that of the entry beside it
 abbrev pub IsMarked : Tree → Type 0
 IsMarked Gone = Unit {0}
-IsMarked (Leaf seats) = AreKnown seats.items
+IsMarked (LeafOf leaf) = IsKnown leaf
 IsMarked (Two' p m a n b) = (m ≡ mark_of (entries_below a)) × (n ≡ mark_of (entries_below b)) × IsMarked a × IsMarked b
 
 -- ---- all entries of a book
 
 -- in start order: those of the tree, and the last ones
 abbrev pub entries_of : Tasks → List Entry
-entries_of tasks = entries_below tasks.tree ++ entries_in tasks.last.items
+entries_of tasks = entries_below tasks.tree ++ entries_in tasks.last
 
 -- all marks are right
 abbrev pub AreMarked : Tasks → Type 0
-AreMarked tasks = IsMarked tasks.tree × AreKnown tasks.last.items
+AreMarked tasks = IsMarked tasks.tree × IsKnown tasks.last
 
 -- no entry of a mark wakes in a round, or heeds what may have come
 abbrev pub IsQuiet : Round → Mark → Type 0
-IsQuiet round mark = IsAfter round.tick mark.wake × ((round.came && mark.heeds) ≡ false)
+IsQuiet round mark = (round.tick < mark.wake) × ((round.came && mark.heeds) ≡ false)
 
 -- ---- a book
 

@@ -1,11 +1,12 @@
 //! The run of a task's body, which looks at its tree as seldom as it may.
-ghost use Rattle.std.specs.Prelude.{◌≡◌, ◌<◌, ◌≤◌, None, Some, is_some, IfOk, IsTrue, ◌↔◌};
+ghost use Rattle.std.specs.Prelude.{◌≡◌, ◌<◌, ◌≤◌, None, Some, is_some, IfOk, IfSome, IsTrue, ◌↔◌};
+ghost use Rattle.loop_script.specs.Course.{IsCourse};
 ghost use Rattle.task_steps.specs.Progress.{IsPending, tick_of};
 
-use crate::ahead::progress_by;
+use crate::ahead::{progress_by, progress_cancelled};
 use crate::progress::{Moment, Progress, progress_of};
 use crate::stage::{Stage, clear_to, seen_from, set_to};
-use loop_script::{Outcome, TaskTree};
+use loop_script::{Course, Outcome, TaskTree};
 use std::alloc::AllocError;
 use std::marker::Model;
 
@@ -121,8 +122,19 @@ impl Body {
         }
     }
 
+    /// The course of its tree, where that counts in its ticks.
+    fn course(&self) -> Option<&Course>
+        ensures { IfSome result (λ c. IsCourse self.now.tree c.now × (c.now.tick_us ≡ self.now.tick_us)) }
+    {
+        match self.tree.course() {
+            Some(course) if course.tick_us == self.tick_us => Some(course),
+            _ => None,
+        }
+    }
+
     /// How far it is, as far ahead as it is known what polls will see: to its end, or to a check of it that may be begun before that and
-    /// seen as cancelled. Its tree is asked only where it is seen as cancelled; before that its course tells.
+    /// seen as cancelled. Its tree is asked only where it is first seen as cancelled after its begin; before that, and where its first poll
+    /// saw it so, its course tells.
     fn progress_ahead(&self, begun: u32, tick: u32) -> Progress
         requires { self.now.stage ≡ Set begun tick }
         ensures holds { Holds self.now.tick_us self.now.tree begun self.now.clear self.now.cancelled result }
@@ -133,12 +145,11 @@ impl Body {
         {
             return noted;
         }
-        if self.cancelled.is_some() {
-            return progress_of(self.tree.root(), begun, &self.moment(u32::MAX));
-        }
-        match self.tree.course() {
-            Some(course) if course.tick_us == self.tick_us => progress_by(course, begun, tick),
-            _ => progress_of(self.tree.root(), begun, &self.moment(tick)),
+        match (self.cancelled, self.course()) {
+            (None, Some(course)) => progress_by(course, begun, tick),
+            (None, None) => progress_of(self.tree.root(), begun, &self.moment(tick)),
+            (Some(from), Some(course)) if from <= begun => progress_cancelled(course, begun),
+            (Some(_), _) => progress_of(self.tree.root(), begun, &self.moment(u32::MAX)),
         }
     }
 

@@ -236,7 +236,7 @@ impl TaskBook {
         if self.owes_reply(view) {
             Some(u64::from(tick) + 1)
         } else {
-            self.tasks.mark().wake
+            self.tasks.wake()
         }
     }
 

@@ -8,12 +8,12 @@ mod entries;
 mod entry;
 mod heeded;
 pub mod laws;
+mod leaf;
 mod look;
 mod mark;
 mod polls;
 mod progress;
 mod run;
-mod seats;
 mod stage;
 mod tasks;
 

@@ -4,7 +4,6 @@ ghost use Rattle.task_steps.specs.BookInside.{entries_below};
 ghost use Rattle.task_steps.specs.Shown.{entry_shown};
 
 use crate::entry::Entry;
-use crate::seats::show;
 use crate::tasks::Tree;
 use std::alloc::AllocError;
 
@@ -49,7 +48,7 @@ impl Tree {
     {
         match self {
             Tree::Gone => {}
-            Tree::Leaf(seats) => show(seats, list)?,
+            Tree::Leaf(leaf) => leaf.show(list)?,
             Tree::Two(sides) => {
                 sides.left.show(list)?;
                 sides.right.show(list)?;

@@ -1,12 +1,15 @@
 //! What is known of some tasks without a look at each, by which a poll passes them over.
 ghost use Rattle.std.specs.Prelude.{◌≡◌, ◌∷◌, [], IsTrue, ◌↔◌};
-ghost use Rattle.task_steps.specs.BookInside.{mark_of, joined_mark, IsQuiet};
+ghost use Rattle.task_steps.specs.BookInside.{due_by, mark_of, joined_mark, IsQuiet};
 ghost use Rattle.task_steps.specs.Wake.{sooner};
 
 use crate::entry::Entry;
 
+/// Later than any wake by a number: what stands for none.
+pub(crate) const NEVER: u64 = u64::MAX;
+
 /// The lesser of two wakes of tasks, where there are such.
-fn sooner_wake(a: Option<u64>, b: Option<u64>) -> Option<u64>
+pub(crate) fn sooner_wake(a: Option<u64>, b: Option<u64>) -> Option<u64>
     ensures { result ≡ sooner a b }
 {
     match (a, b) {
@@ -16,11 +19,21 @@ fn sooner_wake(a: Option<u64>, b: Option<u64>) -> Option<u64>
     }
 }
 
+/// A wake as a number.
+fn due_by(wake: Option<u64>) -> u64
+    ensures { result ≡ due_by wake }
+{
+    match wake {
+        None => NEVER,
+        Some(wake) => wake,
+    }
+}
+
 /// What is known of some tasks without a look at each.
 #[derive(Clone, Copy)]
 pub(crate) struct Mark {
-    /// The least tick in which one is begun, or to which its body sleeps.
-    pub wake: Option<u64>,
+    /// The least tick in which one is begun, or to which its body sleeps: `NEVER` where there is none, or none before.
+    pub wake: u64,
     /// Whether one has a cancellable that no poll of it saw as cancelled.
     pub heeds: bool,
 }
@@ -41,7 +54,7 @@ impl Mark {
         ensures { result ≡ mark_of [] }
     {
         Mark {
-            wake: None,
+            wake: NEVER,
             heeds: false,
         }
     }
@@ -52,7 +65,7 @@ impl Mark {
         ensures { result ≡ mark_of (entry.now ∷ []) }
     {
         Mark {
-            wake: entry.wake(),
+            wake: due_by(entry.wake()),
             heeds: entry.heeds(),
         }
     }
@@ -62,7 +75,7 @@ impl Mark {
         ensures { result ≡ joined_mark self.now other }
     {
         Mark {
-            wake: sooner_wake(self.wake, other.wake),
+            wake: self.wake.min(other.wake),
             heeds: self.heeds || other.heeds,
         }
     }
@@ -71,10 +84,6 @@ impl Mark {
     pub(crate) fn is_quiet(&self, round: Round) -> bool
         ensures { IsTrue result ↔ IsQuiet round self.now }
     {
-        let sleeps = match self.wake {
-            None => true,
-            Some(wake) => u64::from(round.tick) < wake,
-        };
-        sleeps && !(round.came && self.heeds)
+        u64::from(round.tick) < self.wake && !(round.came && self.heeds)
     }
 }

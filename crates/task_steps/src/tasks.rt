@@ -1,27 +1,27 @@
 //! Tasks in start order, in a tree whose nodes have a mark of the tasks on each side, so that a poll goes to those alone that wake or are cancelled.
 ghost use Rattle.std.specs.Prelude.{◌≡◌, ◌++◌, ◌∷◌, [], IsOk, IfOk, OnOk, IfSome, IfNone, true, map};
 ghost use Rattle.std.specs.List.{list_any};
-ghost use Rattle.task_steps.specs.BookInside.{entries_of, entries_below, mark_of, AreMarked, IsMarked};
+ghost use Rattle.task_steps.specs.BookInside.{entries_of, entries_below, mark_of, wake_of_all, AreMarked, IsMarked};
 ghost use Rattle.task_steps.specs.Polls.{CanPollAll, HasPolledAll, NoneComes, owes_reply};
 ghost use Rattle.task_steps.specs.Shown.{entry_shown};
 
 use crate::entry::{Entry, Reply};
+use crate::leaf::Leaf;
 use crate::look::TaskShown;
-use crate::mark::{Mark, Round};
-use crate::seats::{Seat, mark_of, poll_seats, reply_next, show};
+use crate::mark::{Mark, NEVER, Round, sooner_wake};
 use cancel_view::View;
 use std::alloc::{AllocError, Global};
 use std::mem;
 
 /// So many tasks fill a leaf.
-const LEAF: usize = 16;
+const LEAF: usize = 32;
 
 /// Tasks in start order, those apart that were started last.
 #[derive(Drop)]
 pub(crate) struct Tasks {
     tree: Tree,
     /// The last ones. Once they fill a leaf, the tree takes them, so that all its leaves were full.
-    last: Vec<Seat>,
+    last: Leaf,
     /// How many leaves the tree took.
     leaves: u64,
 }
@@ -32,7 +32,7 @@ pub(crate) struct Tasks {
 pub(crate) enum Tree {
     /// No task, or none any more.
     Gone,
-    Leaf(Vec<Seat>),
+    Leaf(Leaf),
     Two(Box<Sides>),
 }
 
@@ -124,7 +124,7 @@ impl Tree {
     {
         match self {
             Tree::Gone => Mark::of_none(),
-            Tree::Leaf(seats) => mark_of(seats),
+            Tree::Leaf(leaf) => leaf.mark(),
             Tree::Two(sides) => sides.left_mark.join(sides.right_mark),
         }
     }
@@ -179,9 +179,9 @@ impl Tree {
         }
         match self {
             Tree::Gone => Ok(mark),
-            Tree::Leaf(seats) => {
-                let mark = poll_seats(seats, round, view, replies, late)?;
-                if seats.is_empty() {
+            Tree::Leaf(leaf) => {
+                let mark = leaf.poll_tasks(round, view, replies, late)?;
+                if leaf.is_empty() {
                     *self = Tree::Gone;
                 }
                 Ok(mark)
@@ -205,6 +205,18 @@ impl Tree {
         }
     }
 
+    /// The least wake of the tasks, by a look at each.
+    #[tactic(auto, using(crate::proofs::Marks::wake_joined))]
+    pub(crate) fn wake(&self) -> Option<u64>
+        ensures { result ≡ wake_of_all (entries_below self.now) }
+    {
+        match self {
+            Tree::Gone => None,
+            Tree::Leaf(leaf) => leaf.wake(),
+            Tree::Two(sides) => sooner_wake(sides.left.wake(), sides.right.wake()),
+        }
+    }
+
     /// Whether the next poll replies that a task is cancelled, with the mark that is known of the tasks.
     pub(crate) fn reply_next(&self, mark: Mark, view: &View) -> bool
         requires known { mark ≡ mark_of (entries_below self.now) }
@@ -216,7 +228,7 @@ impl Tree {
         }
         match self {
             Tree::Gone => false,
-            Tree::Leaf(seats) => reply_next(seats, view),
+            Tree::Leaf(leaf) => leaf.reply_next(view),
             Tree::Two(sides) => {
                 sides.left.reply_next(sides.left_mark, view)
                     || sides.right.reply_next(sides.right_mark, view)
@@ -233,7 +245,7 @@ impl Tasks {
     {
         Tasks {
             tree: Tree::Gone,
-            last: Vec::new(alloc),
+            last: Leaf::new(alloc),
             leaves: 0,
         }
     }
@@ -244,7 +256,7 @@ impl Tasks {
         requires { AreMarked self.now }
         ensures { result ≡ mark_of (entries_of self.now) }
     {
-        self.tree.mark().join(mark_of(&self.last))
+        self.tree.mark().join(self.last.mark())
     }
 
     /// Lets the tree take the last tasks as a leaf, where they fill one. After an error nothing is known of the tasks.
@@ -256,7 +268,7 @@ impl Tasks {
         if self.last.len() < LEAF {
             return Ok(());
         }
-        let leaf = mem::replace(&mut self.last, Vec::new(alloc));
+        let leaf = mem::replace(&mut self.last, Leaf::new(alloc));
         self.tree
             .append(alloc, self.leaves.trailing_ones(), Tree::Leaf(leaf))?;
         self.leaves = self.leaves.wrapping_add(1);
@@ -270,8 +282,7 @@ impl Tasks {
         ensures marked { OnOk result (AreMarked self.new) }
     {
         self.make_room(alloc)?;
-        self.last.push(Seat::new(entry))?;
-        Ok(())
+        self.last.push(entry)
     }
 
     /// Polls the tasks that wake or may be seen as cancelled, and adds their replies and late numbers. Those that end go.
@@ -293,8 +304,22 @@ impl Tasks {
         let _ = self
             .tree
             .poll(mark, Place::Before, round, view, replies, late)?;
-        let _ = poll_seats(&mut self.last, round, view, replies, late)?;
+        let _ = self.last.poll_tasks(round, view, replies, late)?;
         Ok(())
+    }
+
+    /// The least wake of all tasks: by their marks, or by a look at each where those can't tell it from none.
+    #[tactic(auto, using(crate::proofs::Marks::wake_joined))]
+    pub(crate) fn wake(&self) -> Option<u64>
+        requires { AreMarked self.now }
+        ensures { result ≡ wake_of_all (entries_of self.now) }
+    {
+        let wake = self.mark().wake;
+        if wake < NEVER {
+            Some(wake)
+        } else {
+            sooner_wake(self.tree.wake(), self.last.wake())
+        }
     }
 
     /// Whether the next poll replies that a task is cancelled.
@@ -302,7 +327,7 @@ impl Tasks {
         requires { AreMarked self.now }
         ensures { result ≡ list_any (owes_reply view.now) (entries_of self.now) }
     {
-        self.tree.reply_next(self.tree.mark(), view) || reply_next(&self.last, view)
+        self.tree.reply_next(self.tree.mark(), view) || self.last.reply_next(view)
     }
 
     /// Adds what is shown of each task, in start order.
@@ -310,6 +335,6 @@ impl Tasks {
         ensures { OnOk result (list.new.items ≡ list.old.items ++ map entry_shown (entries_of self.now)) }
     {
         self.tree.show(list)?;
-        show(&self.last, list)
+        self.last.show(list)
     }
 }

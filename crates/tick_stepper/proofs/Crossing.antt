@@ -16,7 +16,7 @@ use Rattle.loop_script.specs.contracts.action.Action as Action
 use Rattle.loop_script.specs.contracts.script.Script as Script
 use Rattle.task_steps.proofs.tasks.Tree.TheLaws.TheKnot.{crosses as tasks}
 use Rattle.task_steps.specs.contracts.body.Body as Body
-use Rattle.task_steps.specs.contracts.seats.Seat as Seat
+use Rattle.task_steps.specs.contracts.leaf.Leaf as Leaf
 use Rattle.task_steps.specs.contracts.book.TaskBook as Book
 use Rattle.cancel_view.specs.contracts.handlers.Handlers as Handlers
 use Rattle.cancel_view.specs.contracts.view.View as View
@@ -85,11 +85,11 @@ tree_sync = search (branch_send, branch_sync, course_send, course_sync, sendable
 body_send : IsSend Body.the_row
 body_send = search (tree_send, sendable, crosses) depth 60 fits 10000
 
-seat_send : IsSend Seat.the_row
-seat_send = search (body_send, sendable, crosses) depth 60 fits 10000
+leaf_send : IsSend (Leaf.the_field).row
+leaf_send = search (body_send, sendable, crosses) depth 60 fits 10000
 
 book_send : IsSend Book.the_row
-book_send = search (tasks, seat_send, sendable, crosses) depth 100 fits 20000
+book_send = search (tasks, leaf_send, sendable, crosses) depth 100 fits 20000
 
 handlers_send : IsSend Handlers.the_row
 handlers_send = search (BTreeMap-send, sendable, crosses) depth 60 fits 10000

@@ -1,6 +1,5 @@
 use Rattle.std.proofs.Common.{◌≡◌, ◌∙◌, ℕ, Option, false, ap, subst, sym}
 use Rattle.std.specs.List.{list_any}
-use Rattle.task_steps.specs.declared.mark.Mark.{Mark}
 use Rattle.task_steps.specs.Book.{Book, IsIdle, MayComeToAll, all_noticed, replies_next}
 use Rattle.task_steps.specs.BookInside.{entries_of, wake_of_all}
 use Rattle.task_steps.specs.Polls.{all_shown}
@@ -17,7 +16,7 @@ returns-else-owes_reply-clause-quiet c = λ later f n a m.
     let last : IsBy c.args.tick b.last = subst (λ (x : Book). IsBy c.args.tick x.last) (sym c.self.view_is) c.requires.last in
     let owes : list_any (replies_next view) c.args.self.now.tasks ≡ false = sym c.owes_reply.ensures ∙ c.if-owes_reply.false in
     let none : list_any (replies_next view) (all_shown b.polled es) ≡ false = ap (λ (x : Book). list_any (replies_next view) x.tasks) c.self.view_is ∙ owes in
-    let wake : IsAfter later (wake_of_all es) = subst (λ (w : Option ℕ). IsAfter later w) (ap (λ (x : Mark). x.wake) c.mark.ensures) a in
+    let wake : IsAfter later (wake_of_all es) = subst (λ (w : Option ℕ). IsAfter later w) c.wake.ensures a in
     let may : MayComeToAll f (all_noticed later view (all_shown b.polled es)) =
     subst (λ (x : Book). MayComeToAll f (all_noticed later view x.tasks)) (sym c.self.view_is) m in
     subst (λ (x : Book). IsIdle later f x.tasks) c.self.view_is
