@@ -75,3 +75,4 @@ pub mod Given
 pub mod Handling
 pub mod Awaits
 pub mod Came
+pub mod HeldReplies
