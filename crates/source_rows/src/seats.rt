@@ -12,7 +12,7 @@ ghost use Rattle.cancel_view.specs.Marks.{opening};
 ghost use Rattle.source_rows.specs.Candidates.{never};
 ghost use Rattle.source_rows.specs.SeatTree.{seats_of, IsEvenFork, IsLowered};
 
-use crate::balance::{balance, remove_root};
+use crate::balance::{balance, balance_noted, remove_root};
 use crate::least::Least;
 use crate::room::Room;
 use crate::row::Key;
@@ -154,19 +154,19 @@ impl Seats {
             }
             Some(fork) => {
                 let fork = &mut **fork;
+                fork.least.note(seat);
                 let higher = if is_ahead(seat, &fork.seat) {
                     fork.sooner.insert(room, seat)
                 } else {
                     fork.later.insert(room, seat)
                 };
                 if !higher {
-                    fork.least.note(seat);
                     return false;
                 }
                 fork.height
             }
         };
-        balance(&mut self.root);
+        balance_noted(&mut self.root);
         height < self.height()
     }
 
@@ -230,20 +230,21 @@ impl Seats {
                     }
                     Ordering::Equal => return remove_root(&mut self.root),
                 };
+                fork.leave_out(seat);
                 if !taken.lower {
-                    fork.leave_out(seat);
                     return taken.room;
                 }
                 taken
             }
         };
-        balance(&mut self.root);
+        balance_noted(&mut self.root);
         taken.room
     }
 
-    /// Puts another seat where one stands, and answers whether marks or least time may be others.
+    /// Puts another seat of the same mark where one stands, and answers whether the least time may be another.
     pub fn set(&mut self, before: &Seat, after: &Seat) -> bool
-        requires { Rises is_ahead self.old.0 }
+        requires rises { Rises is_ahead self.old.0 }
+        requires mark { after.now.mark ≡ before.now.mark }
         ensures seats { self.new.0 ≡ swapped before.now after.now self.old.0 }
         ensures height { self.new.1 ≡ self.old.1 }
         ensures least { result ≡ false → least_of self.new.0 ≡ least_of self.old.0 }
@@ -260,7 +261,7 @@ impl Seats {
                         true
                     }
                 };
-                may_differ && fork.note_set(before, after)
+                may_differ && fork.note_due()
             }
         }
     }

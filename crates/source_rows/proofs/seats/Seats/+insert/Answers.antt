@@ -36,15 +36,15 @@ new_one t c =
       | then-is_ahead w ↦
           let low : is_ahead c.args.seat.now c.deref_mut-fork.result.now.seat ≡ true = search rules in
           let a = w.insert-higher.ensures in
-          rw (w.fork-is, w.higher-is) (put_sooner c.deref_mut-fork.result.now c.args.seat.now _ w.insert-higher.result even low a.seats a.low a.height a.higher)
+          rw (w.fork-is, w.higher-is) (put_sooner c.deref_mut-fork.result.now c.args.seat.now _ c.note.new.self w.insert-higher.result even low a.seats a.low a.height a.higher c.note.ensures)
       | else-is_ahead w ↦
           let high : is_ahead c.args.seat.now c.deref_mut-fork.result.now.seat ≡ false = search rules in
           let a = w.insert-higher-else-is_ahead.ensures in
-          rw (w.fork-is, w.higher-is) (put_later c.deref_mut-fork.result.now c.args.seat.now _ w.insert-higher-else-is_ahead.result even f.rises high a.seats a.low a.height a.higher)
+          rw (w.fork-is, w.higher-is) (put_later c.deref_mut-fork.result.now c.args.seat.now _ c.note.new.self w.insert-higher-else-is_ahead.result even f.rises high a.seats a.low a.height a.higher c.note.ensures)
     ]
 
-pub balance-requires : goal.balance-requires
-balance-requires t c =
+pub balance_noted-requires-clause-near : goal.balance_noted-requires-clause-near
+balance_noted-requires-clause-near t c =
     let same : c.deref_mut-fork.result.now ≡ c.in-Some.fork.value = search rules in
     let f = at_Fork c.self.view_is c.requires.rises c.in-Some.is same in
     let even = even_at c.self.invariant c.in-Some.is same in
@@ -53,11 +53,27 @@ balance-requires t c =
       | then-is_ahead w ↦
           let low : is_ahead c.args.seat.now c.deref_mut-fork.result.now.seat ≡ true = search rules in
           let a = w.insert-higher.ensures in
-          rw (w.fork-is) (put_near c.deref_mut-fork.result.now _ c.args.seat.now _ (put_sooner c.deref_mut-fork.result.now c.args.seat.now _ w.insert-higher.result even low a.seats a.low a.height a.higher) few)
+          rw (w.fork-is) (put_near c.deref_mut-fork.result.now _ c.args.seat.now _ (put_sooner c.deref_mut-fork.result.now c.args.seat.now _ c.note.new.self w.insert-higher.result even low a.seats a.low a.height a.higher c.note.ensures) few)
       | else-is_ahead w ↦
           let high : is_ahead c.args.seat.now c.deref_mut-fork.result.now.seat ≡ false = search rules in
           let a = w.insert-higher-else-is_ahead.ensures in
-          rw (w.fork-is) (put_near c.deref_mut-fork.result.now _ c.args.seat.now _ (put_later c.deref_mut-fork.result.now c.args.seat.now _ w.insert-higher-else-is_ahead.result even f.rises high a.seats a.low a.height a.higher) few)
+          rw (w.fork-is) (put_near c.deref_mut-fork.result.now _ c.args.seat.now _ (put_later c.deref_mut-fork.result.now c.args.seat.now _ c.note.new.self w.insert-higher-else-is_ahead.result even f.rises high a.seats a.low a.height a.higher c.note.ensures) few)
+    ]
+
+pub balance_noted-requires-clause-noted : goal.balance_noted-requires-clause-noted
+balance_noted-requires-clause-noted t c =
+    let same : c.deref_mut-fork.result.now ≡ c.in-Some.fork.value = search rules in
+    let f = at_Fork c.self.view_is c.requires.rises c.in-Some.is same in
+    let even = even_at c.self.invariant c.in-Some.is same in
+    elim c.if-is_ahead.branch [
+      | then-is_ahead w ↦
+          let low : is_ahead c.args.seat.now c.deref_mut-fork.result.now.seat ≡ true = search rules in
+          let a = w.insert-higher.ensures in
+          rw (w.fork-is) (put_sooner c.deref_mut-fork.result.now c.args.seat.now _ c.note.new.self w.insert-higher.result even low a.seats a.low a.height a.higher c.note.ensures).least
+      | else-is_ahead w ↦
+          let high : is_ahead c.args.seat.now c.deref_mut-fork.result.now.seat ≡ false = search rules in
+          let a = w.insert-higher-else-is_ahead.ensures in
+          rw (w.fork-is) (put_later c.deref_mut-fork.result.now c.args.seat.now _ c.note.new.self w.insert-higher-else-is_ahead.result even f.rises high a.seats a.low a.height a.higher c.note.ensures).least
     ]
 
 pub invariant_of-self-then-not-higher : goal.invariant_of-self-then-not-higher
@@ -65,7 +81,7 @@ invariant_of-self-then-not-higher t c =
     let same : c.deref_mut-fork.result.now ≡ c.in-Some.fork.value = search rules in
     let even = even_at c.self.invariant c.in-Some.is same in
     let put = subst (PutIn c.deref_mut-fork.result.now c.if-is_ahead.fork c.args.seat.now) c.if-not-higher.true (new_one t c) in
-    rw c.note.ensures (put_even c.deref_mut-fork.result.now c.if-is_ahead.fork c.args.seat.now even put)
+    (put_even c.deref_mut-fork.result.now c.if-is_ahead.fork c.args.seat.now even put)
 
 pub returns-then-not-higher-clause-seats : goal.returns-then-not-higher-clause-seats
 returns-then-not-higher-clause-seats t c =
@@ -89,13 +105,13 @@ returns-clause-seats t c =
     let same : c.deref_mut-fork.result.now ≡ c.in-Some.fork.value = search rules in
     let f = at_Fork c.self.view_is c.requires.rises c.in-Some.is same in
     let even = even_at c.self.invariant c.in-Some.is same in
-    c.balance.ensures.1 ∙ elim c.if-is_ahead.branch [
+    c.balance_noted.ensures.1 ∙ elim c.if-is_ahead.branch [
       | then-is_ahead w ↦
           let low : is_ahead c.args.seat.now c.deref_mut-fork.result.now.seat ≡ true = search rules in
           let a = w.insert-higher.ensures in
-          ap seats_of w.fork-is ∙ ((put_sooner c.deref_mut-fork.result.now c.args.seat.now _ w.insert-higher.result even low a.seats a.low a.height a.higher).seats ∙ sym (ap (inserted is_ahead c.args.seat.now) f.is))
+          ap seats_of w.fork-is ∙ ((put_sooner c.deref_mut-fork.result.now c.args.seat.now _ c.note.new.self w.insert-higher.result even low a.seats a.low a.height a.higher c.note.ensures).seats ∙ sym (ap (inserted is_ahead c.args.seat.now) f.is))
       | else-is_ahead w ↦
           let high : is_ahead c.args.seat.now c.deref_mut-fork.result.now.seat ≡ false = search rules in
           let a = w.insert-higher-else-is_ahead.ensures in
-          ap seats_of w.fork-is ∙ ((put_later c.deref_mut-fork.result.now c.args.seat.now _ w.insert-higher-else-is_ahead.result even f.rises high a.seats a.low a.height a.higher).seats ∙ sym (ap (inserted is_ahead c.args.seat.now) f.is))
+          ap seats_of w.fork-is ∙ ((put_later c.deref_mut-fork.result.now c.args.seat.now _ c.note.new.self w.insert-higher-else-is_ahead.result even f.rises high a.seats a.low a.height a.higher c.note.ensures).seats ∙ sym (ap (inserted is_ahead c.args.seat.now) f.is))
     ]

@@ -13,37 +13,16 @@ use Rattle.source_rows.proofs.seats.Seats.+set.Goals.{in-None, in-Less, in-Great
 pub set-may_differ-requires : goal.set-may_differ-requires
 set-may_differ-requires t c =
     let same : c.deref_mut-fork.result.now ≡ c.in-Some.fork.value = search rules in
-    let f = at_Fork c.self.view_is c.requires c.in-Some.is same in
+    let f = at_Fork c.self.view_is c.requires.rises c.in-Some.is same in
     let fewer : length c.deref_mut-fork.result.now.sooner.0 < length c.args.self.now.0 = omega (arith, f.parts) in
     search rules
 
 pub set-may_differ-requires-in-Greater : goal.set-may_differ-requires-in-Greater
 set-may_differ-requires-in-Greater t c =
     let same : c.deref_mut-fork.result.now ≡ c.in-Some.fork.value = search rules in
-    let f = at_Fork c.self.view_is c.requires c.in-Some.is same in
+    let f = at_Fork c.self.view_is c.requires.rises c.in-Some.is same in
     let fewer : length c.deref_mut-fork.result.now.later.0 < length c.args.self.now.0 = omega (arith, f.parts) in
     search rules
-
-pub note_set-requires : goal.note_set-requires
-note_set-requires t c = λ e.
-    let a = c.args.before.now in
-    let b = c.args.after.now in
-    let same : c.deref_mut-fork.result.now ≡ c.in-Some.fork.value = search rules in
-    let f = at_Fork c.self.view_is c.requires c.in-Some.is same in
-    let even = even_at c.self.invariant c.in-Some.is same in
-    let old = c.deref_mut-fork.result.now in
-    let set : SetIn a b old c.match-cmp.fork c.match-cmp.may_differ = elim c.match-cmp.branch [
-      | in-Less v ↦
-          let o : seat_cmp a old.seat ≡ Less = search rules in
-          rw (v.fork-is, v.may_differ-is) (set_sooner a b old v.set-may_differ.new.self v.set-may_differ.result even f.rises (less_sooner a old.seat o) v.set-may_differ.ensures.seats v.set-may_differ.ensures.height v.set-may_differ.ensures.least)
-      | in-Greater v ↦
-          let o : seat_cmp a old.seat ≡ Greater = search rules in
-          rw (v.fork-is, v.may_differ-is) (set_later a b old v.set-may_differ-in-Greater.new.self v.set-may_differ-in-Greater.result even f.rises (greater_back a old.seat o) v.set-may_differ-in-Greater.ensures.seats v.set-may_differ-in-Greater.ensures.height v.set-may_differ-in-Greater.ensures.least)
-      | in-Equal v ↦
-          let o : seat_cmp a old.seat ≡ Equal = search rules in
-          rw (v.fork-is, v.may_differ-is) (set_here a b old even f.rises (same_from_equal a old.seat o))
-    ] in
-    marks_right a b old c.match-cmp.fork c.match-cmp.may_differ even set e
 
 all : (t : ℕ) (c : goal.Joined-self t) → IsEven c.match-self.self-inside.root × ((seen_of c.match-self.self-inside.root).0 ≡ swapped c.args.before.now c.args.after.now c.args.self.now.0) × ((seen_of c.match-self.self-inside.root).1 ≡ c.args.self.now.1)
     × (c.match-self.result ≡ false → least_of (seen_of c.match-self.self-inside.root).0 ≡ least_of c.args.self.now.0)
@@ -56,7 +35,7 @@ all t c =
           rw (w.self-inside-is, none, w.in-None.is) (search rules, refl, refl, λ e. refl)
       | in-Some+then-may_differ w ↦
           let same : w.deref_mut-fork.result.now ≡ w.in-Some.fork.value = search rules in
-          let f = at_Fork c.self.view_is c.requires w.in-Some.is same in
+          let f = at_Fork c.self.view_is c.requires.rises w.in-Some.is same in
           let even = even_at c.self.invariant w.in-Some.is same in
           let old = w.deref_mut-fork.result.now in
           let set : SetIn a b old w.match-cmp.fork w.match-cmp.may_differ = elim w.match-cmp.branch [
@@ -71,10 +50,11 @@ all t c =
                 rw (v.fork-is, v.may_differ-is) (set_here a b old even f.rises (same_from_equal a old.seat o))
           ] in
           let height : old.height ≡ c.args.self.now.1 = ap (λ (g : Fork). g.height) same ∙ sym (ap (λ (v : List Seat × ℕ). v.1) (sym c.self.view_is ∙ ap seen_of w.in-Some.is)) in
-          rw (w.self-inside-is, w.note_set.ensures.fork) (even_noted a b old w.match-cmp.fork w.match-cmp.may_differ even set, set.seats ∙ sym (ap (swapped a b) f.is), set.height ∙ height, λ e. sym (w.note_set.ensures.same (search rules)) ∙ set.least ∙ even.4 ∙ sym (ap least_of f.is))
+          let marks = marks_right a b old w.match-cmp.fork w.match-cmp.may_differ even set (sym c.requires.mark) in
+          rw (w.self-inside-is, w.note_due.ensures.fork marks) (even_noted a b old w.match-cmp.fork w.match-cmp.may_differ even set, set.seats ∙ sym (ap (swapped a b) f.is), set.height ∙ height, λ e. sym (w.note_due.ensures.same marks (search rules)) ∙ set.least ∙ even.4 ∙ sym (ap least_of f.is))
       | in-Some+else-may_differ w ↦
           let same : w.deref_mut-fork.result.now ≡ w.in-Some.fork.value = search rules in
-          let f = at_Fork c.self.view_is c.requires w.in-Some.is same in
+          let f = at_Fork c.self.view_is c.requires.rises w.in-Some.is same in
           let even = even_at c.self.invariant w.in-Some.is same in
           let old = w.deref_mut-fork.result.now in
           let set : SetIn a b old w.match-cmp.fork w.match-cmp.may_differ = elim w.match-cmp.branch [
