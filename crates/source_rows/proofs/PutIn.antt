@@ -1,5 +1,5 @@
 -- A seat put into a side of a tree.
-use Rattle.std.proofs.Common.{◌≡◌, ℕ, ◌+◌, ◌<◌, ◌^◌, max, nat_lt, Bool, true, false, List, ◌∷◌, ◌++◌, length, refl, ap, ap₂, sym, ◌∙◌, arith}
+use Rattle.std.proofs.Common.{◌≡◌, ℕ, ◌+◌, ◌<◌, ◌^◌, max, nat_lt, Bool, true, false, cond, List, ◌∷◌, ◌++◌, length, refl, ap, ap₂, sym, ◌∙◌, subst, arith}
 use Rattle.std.proofs.lemmas.Bool.Decides.{nat_tests}
 use Rattle.cancel_view.specs.Marks.{opening}
 use Rattle.source_rows.specs.Inserted.{inserted, Rises}
@@ -8,6 +8,7 @@ use Rattle.source_rows.specs.declared.least.Least.{Least}
 use Rattle.source_rows.specs.declared.seats.Seat.{Seat}
 use Rattle.source_rows.specs.Seats.{is_ahead, least_of, lesser, IsLow}
 use Rattle.source_rows.specs.SeatTree.{seats_of, DifferBy, IsEvenFork, IsLowered, AreNearlyEven}
+use Rattle.source_rows.specs.Lending.{with_side}
 use Rattle.source_rows.proofs.Inserted.{inserted_left, inserted_right}
 use Rattle.source_rows.proofs.Ahead.{sooner_order}
 use Rattle.std.specs.Prelude.{bit_or}
@@ -60,6 +61,15 @@ put_later old seat side least higher even rises before is low lowered h noted =
       differ = let a = even.1 in let b = lowered in (omega (arith, a.0, a.1, b.0, b.1), omega (arith, a.0, a.1, b.0, b.1));
       still = λ e. (refl, let same : nat_lt old.later.1 side.1 ≡ false = sym h ∙ e in let b = lowered in grind (arith, nat_tests, same, b.0, b.1));
     }
+
+-- in the side where it belongs
+pub put_side : (old : Fork) (seat : Seat) (was side : List Seat × ℕ) (least : Least) (first higher : Bool) → IsEvenFork old → Rises is_ahead (seats_of old) → is_ahead seat old.seat ≡ first → was ≡ cond first old.sooner old.later
+    → side.0 ≡ inserted is_ahead seat was.0 → IsLow side → IsLowered side.1 was.1 → higher ≡ nat_lt was.1 side.1 → least ≡ record { marks = bit_or old.least.marks (opening seat.mark); due = lesser seat.due old.least.due }
+    → PutIn old (with_side (record old { least = least }) first side) seat higher
+put_side old seat was side least true higher even rises before at is low lowered h noted =
+    put_sooner old seat side least higher even before (is ∙ ap (λ (v : List Seat × ℕ). inserted is_ahead seat v.0) at) low (subst (λ (v : List Seat × ℕ). IsLowered side.1 v.1) at lowered) (h ∙ ap (λ (v : List Seat × ℕ). nat_lt v.1 side.1) at) noted
+put_side old seat was side least false higher even rises before at is low lowered h noted =
+    put_later old seat side least higher even rises before (is ∙ ap (λ (v : List Seat × ℕ). inserted is_ahead seat v.0) at) low (subst (λ (v : List Seat × ℕ). IsLowered side.1 v.1) at lowered) (h ∙ ap (λ (v : List Seat × ℕ). nat_lt v.1 side.1) at) noted
 
 -- where no side is higher, the fork is even
 pub put_even : (old new : Fork) (seat : Seat) → IsEvenFork old → PutIn old new seat false → IsEvenFork new
