@@ -135,6 +135,15 @@ apart_by a b Less e h = inl (less_sooner a b e)
 apart_by a b Equal e h = absurd (h refl)
 apart_by a b Greater e h = inr (greater_back a b e)
 
+neither_by : (a b : Seat) (o : Ordering) → seat_cmp a b ≡ o → is_lt o ≡ false → is_eq o ≡ false → is_ahead b a ≡ true
+neither_by a b Less e h k = cc
+neither_by a b Equal e h k = cc
+neither_by a b Greater e h k = greater_back a b e
+
+-- what neither stands before another nor is it stands behind it
+pub behind : (a b : Seat) → is_ahead a b ≡ false → is_eq (seat_cmp a b) ≡ false → is_ahead b a ≡ true
+behind a b h k = neither_by a b (seat_cmp a b) refl h k
+
 -- of two rows' times one is sooner
 pub apart_ids : (a b : Seat) → a.id ≢ b.id → (is_ahead a b ≡ true) ⊎ (is_ahead b a ≡ true)
 apart_ids a b h = apart_by a b (seat_cmp a b) refl (λ e. h (ap (λ (t : Seat). t.id) (same_from_equal a b e)))

@@ -42,6 +42,7 @@ pub mod PutIn
 pub mod Walking
 pub mod LastTo
 pub mod Found
+pub mod Front
 pub mod Parted
 pub mod SetIn
 pub mod Parts

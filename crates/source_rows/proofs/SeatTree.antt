@@ -39,6 +39,11 @@ at_Fork {n} {d} {f} {g} view_is rises is same =
       parts = rw e (sides_shorter g.sooner.0 g.seat g.later.0);
     }
 
+-- what both sides have, the one that is lent has
+pub of_side : (P : List Seat × ℕ → Type 0) (first : Bool) (v w u : List Seat × ℕ) → u ≡ cond first v w → P v → P w → P u
+of_side P true v w u e p q = subst P (sym e) p
+of_side P false v w u e p q = subst P (sym e) q
+
 -- ---- lengths
 
 length_inserted_by : {A : Type 0} (a x : A) (xs ys : List A) (b : Bool) → length ys ≡ length xs + 1 → length (cond b (a ∷ x ∷ xs) (x ∷ ys)) ≡ length (x ∷ xs) + 1

@@ -8,7 +8,8 @@ use Rattle.source_rows.specs.declared.seats.Seat.{Seat}
 use Rattle.std.specs.Ordering.{is_eq}
 use Rattle.source_rows.specs.Seats.{seat_cmp, is_ahead, least_by, least_of, lesser, marks_of, swapped, IsLow}
 use Rattle.source_rows.specs.SeatTree.{seats_of, IsEvenFork}
-use Rattle.source_rows.proofs.Ahead.{same_time, swapped_left, swapped_right, swapped_here}
+use Rattle.source_rows.proofs.Ahead.{behind, same_time, swapped_left, swapped_right, swapped_here}
+use Rattle.source_rows.specs.Lending.{with_side}
 use Rattle.source_rows.proofs.Low.{side_swapped}
 use Rattle.std.specs.Prelude.{bit_or}
 use Rattle.source_rows.proofs.AllMarks.{between, marks_join}
@@ -72,6 +73,14 @@ set_later a b old side may even rises before is h least = record {
   least = refl;
   same = λ e. least_right old.sooner.0 (old.seat ∷ side.0) (old.seat ∷ old.later.0) (least_behind old.seat side.0 old.later.0 (least e));
 }
+
+-- in the side where it stands
+pub set_side : (a b : Seat) (old : Fork) (was side : List Seat × ℕ) (first may : Bool) → IsEvenFork old → Rises is_ahead (seats_of old) → is_ahead a old.seat ≡ first → is_eq (seat_cmp a old.seat) ≡ false → was ≡ cond first old.sooner old.later
+    → side.0 ≡ swapped a b was.0 → side.1 ≡ was.1 → (may ≡ false → least_of side.0 ≡ least_of was.0) → SetIn a b old (with_side old first side) may
+set_side a b old was side true may even rises before other at is h least =
+    set_sooner a b old side may even rises before (is ∙ ap (λ (v : List Seat × ℕ). swapped a b v.0) at) (h ∙ ap (λ (v : List Seat × ℕ). v.1) at) (λ e. least e ∙ ap (λ (v : List Seat × ℕ). least_of v.0) at)
+set_side a b old was side false may even rises before other at is h least =
+    set_later a b old side may even rises (behind a old.seat before other) (is ∙ ap (λ (v : List Seat × ℕ). swapped a b v.0) at) (h ∙ ap (λ (v : List Seat × ℕ). v.1) at) (λ e. least e ∙ ap (λ (v : List Seat × ℕ). least_of v.0) at)
 
 pub set_here : (a b : Seat) (old : Fork) → IsEvenFork old → Rises is_ahead (seats_of old) → a ≡ old.seat → SetIn a b old (record old { seat = b }) true
 set_here a b old even rises e = record {

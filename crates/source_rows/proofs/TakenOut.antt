@@ -1,12 +1,12 @@
 -- A fork of which a side has lost a seat.
-use Rattle.std.proofs.Common.{◌≡◌, ℕ, ◌≤◌, ◌^◌, Bool, true, false, not, nat_lt, List, ◌∷◌, ◌++◌, length, refl, sym, ap, subst, ◌∙◌, arith}
+use Rattle.std.proofs.Common.{◌≡◌, ℕ, ◌+◌, ◌≤◌, ◌^◌, ◌⊎◌, inl, inr, max, Bool, true, false, not, nat_lt, List, ◌∷◌, ◌++◌, length, refl, sym, ap, subst, ◌∙◌, arith}
 use Rattle.std.proofs.lemmas.Bool.Decides.{nat_tests}
 use Rattle.std.specs.Ordering.{is_eq}
 use Rattle.source_rows.specs.Inserted.{Rises}
 use Rattle.source_rows.specs.declared.seats.Fork.{Fork}
 use Rattle.source_rows.specs.declared.seats.Seat.{Seat}
 use Rattle.source_rows.specs.Seats.{seat_cmp, is_ahead, without, least_of, IsLow}
-use Rattle.source_rows.specs.SeatTree.{seats_of, IsEvenFork, AreNearlyEven, IsLowered}
+use Rattle.source_rows.specs.SeatTree.{seats_of, DifferBy, IsEvenFork, AreNearlyEven, IsHeight, IsLowered}
 use Rattle.source_rows.proofs.Ahead.{without_left, without_right}
 use Rattle.source_rows.proofs.SeatTree.{length_filter, sides_shorter}
 
@@ -19,6 +19,7 @@ pub record TakenOut (old new : Fork) (seat : Seat) (lower : Bool) : Type 0 where
   pub later : IsLow new.later
   pub low : IsLowered old.sooner.1 new.sooner.1
   pub high : IsLowered old.later.1 new.later.1
+  pub one : (new.sooner.1 ≡ old.sooner.1) ⊎ (new.later.1 ≡ old.later.1)
   pub still : lower ≡ false → (new.sooner.1 ≡ old.sooner.1) × (new.later.1 ≡ old.later.1)
 
 pub taken_sooner : (old : Fork) (seat : Seat) (side : List Seat × ℕ) (lower : Bool) → IsEvenFork old → Rises is_ahead (seats_of old) → is_ahead seat old.seat ≡ true → side.0 ≡ without seat old.sooner.0 → IsLow side → IsLowered old.sooner.1 side.1 → lower ≡ nat_lt side.1 old.sooner.1
@@ -31,6 +32,7 @@ taken_sooner old seat side lower even rises ahead is low h l = record {
   later = even.3;
   low = h;
   high = (omega arith, omega arith);
+  one = inr refl;
   still = λ e. (let same : nat_lt side.1 old.sooner.1 ≡ false = sym l ∙ e in grind (arith, nat_tests, same, h.0, h.1), refl);
 }
 
@@ -44,6 +46,7 @@ taken_later old seat side lower even rises behind is low h l = record {
   later = low;
   low = (omega arith, omega arith);
   high = h;
+  one = inl refl;
   still = λ e. (refl, let same : nat_lt side.1 old.later.1 ≡ false = sym l ∙ e in grind (arith, nat_tests, same, h.0, h.1));
 }
 
@@ -54,6 +57,13 @@ taken_near old new seat lower even t few =
     let long : length (seats_of new) ≤ length (seats_of old) = subst (λ (l : List Seat). length l ≤ length (seats_of old)) (sym t.seats) less in
     let parts = sides_shorter new.sooner.0 new.seat new.later.0 in
     ((omega (arith, even.1.0, even.1.1, t.low, t.high), omega (arith, even.1.0, even.1.1, t.low, t.high)), t.sooner, t.later, omega (arith, long, parts, few))
+
+lowered_height : (a b c d h k : ℕ) → DifferBy 1 a b → IsLowered a c → IsLowered b d → (c ≡ a) ⊎ (d ≡ b) → h ≡ max a b + 1 → IsHeight c d k → IsLowered h k
+lowered_height a b c d h k differ low high one is height = grind arith
+
+-- how high it is once balanced
+pub taken_height : (old new : Fork) (seat : Seat) (lower : Bool) → IsEvenFork old → TakenOut old new seat lower → (h : ℕ) → IsHeight new.sooner.1 new.later.1 h → IsLowered old.height h
+taken_height old new seat lower even t h is = lowered_height old.sooner.1 old.later.1 new.sooner.1 new.later.1 old.height h even.1 t.low t.high t.one even.0 is
 
 -- even already, where no side is lower
 pub taken_even : (old new : Fork) (seat : Seat) → IsEvenFork old → TakenOut old new seat false → IsEvenFork (record new { least = least_of (seats_of new) })

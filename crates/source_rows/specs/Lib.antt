@@ -12,6 +12,7 @@ pub mod Removal
 pub mod Worked
 pub mod Moves
 pub mod Band
+pub mod Lending
 pub mod Lists
 pub mod Inserted
 pub mod TwoLevels

@@ -41,6 +41,11 @@ abbrev pub IsNearlyEven : Root → Type 0
 IsNearlyEven None = Unit {0}
 IsNearlyEven (Some f) = AreNearlyEven f.value.sooner f.value.later
 
+-- no root, or one whose marks and least time are right
+abbrev pub IsNoted : Root → Type 0
+IsNoted None = Unit {0}
+IsNoted (Some f) = f.value.least ≡ least_of (seats_of f.value)
+
 -- how high a tree with sides of heights a and b is once it is balanced
 abbrev pub IsHeight : ℕ → ℕ → ℕ → Type 0
 IsHeight a b h = (max a b ≤ h) × (h ≤ max a b + 1) × (DifferBy 1 a b → h ≡ max a b + 1)

@@ -1,5 +1,5 @@
 -- The seats of rows in their order: where a row stands, its id, the mark by which it is open, and when it is due.
-use Rattle.std.specs.Prelude.{ℕ, zero, suc, nat_lt, ◌+◌, length, ◌≡◌, ◌≤◌, ◌<◌, ◌⊎◌, Bool, false, not, Option, Some, None, List, [], ◌∷◌, map, filter, bit_or, if◌then◌else◌}
+use Rattle.std.specs.Prelude.{ℕ, ℤ, pos, ◌*ℤ◌, ◌+ℤ◌, ◌^◌, slice_index, zero, suc, nat_lt, ◌+◌, length, ◌≡◌, ◌≤◌, ◌<◌, ◌⊎◌, Bool, false, not, Option, Some, None, List, [], ◌∷◌, map, filter, bit_or, if◌then◌else◌}
 use Rattle.std.specs.Ordering.{is_lt, is_eq, ordering_then, nat_cmp}
 use Rattle.std.specs.declared.cmp.Ordering.{Ordering}
 use Rattle.loop_script.specs.Bounds.{count_end}
@@ -21,6 +21,10 @@ seat_cmp a b = ordering_then (key_cmp a.key b.key) (ordering_then (nat_cmp a.id 
 -- a seat stands before another
 abbrev pub is_ahead : Seat → Seat → Bool
 is_ahead a b = is_lt (seat_cmp a b)
+
+-- the priority and the first number of the path, as one number
+abbrev pub front_of : Key → ℤ
+front_of k = k.0 *ℤ pos (2 ^ 64) +ℤ pos (slice_index k.1 0)
 
 -- the seats without one of them
 abbrev pub without : Seat → List Seat → List Seat

@@ -2,13 +2,14 @@
 ghost use Rattle.std.specs.Prelude.{◌≡◌, ◌+◌, ◌≤◌, ◌<◌, ◌^◌, max, length, ◌∷◌, ◌++◌, Some, is_some};
 ghost use Rattle.loop_script.specs.Bounds.{count_end};
 ghost use Rattle.source_rows.specs.Seats.{least_of};
-ghost use Rattle.source_rows.specs.SeatTree.{seats_of, seen_of, LosesRoot, IsEven, IsNearlyEven, AreNearlyEven, IsHeight, IsLowered, Balances};
+ghost use Rattle.source_rows.specs.SeatTree.{seats_of, seen_of, LosesRoot, IsEven, IsNearlyEven, IsNoted, AreNearlyEven, IsHeight, IsLowered, Balances};
 
 use crate::least::least_over;
 use crate::room::Room;
 use crate::seats::{Fork, Seats};
 
-/// Takes the seat out that stands at the root, and hands its room out.
+/// Takes the seat out that stands at the root, and hands its room out. It is kept apart, so that the way to it stays small.
+#[inline(never)]
 #[tactic(auto, using(crate::proofs::Low::low_even, crate::proofs::Low::low_sides))]
 pub(crate) fn remove_root(root: &mut Option<Box<Fork>>) -> Option<Room>
     requires even { IsEven root.old }
@@ -54,13 +55,35 @@ pub(crate) fn balance(root: &mut Option<Box<Fork>>)
 {
     if let Some(fork) = root {
         let fork = &mut **fork;
+        fork.least = least_over(&fork.sooner, &fork.seat, &fork.later);
+    }
+    balance_noted(root);
+}
+
+/// Brings a tree into balance after a change of one side, where its marks and its least time are noted already.
+#[inline]
+pub(crate) fn balance_noted(root: &mut Option<Box<Fork>>)
+    requires near { IsNearlyEven root.old }
+    requires noted { IsNoted root.old }
+    ensures { Balances root.old root.new }
+{
+    if let Some(fork) = root {
+        let fork = &mut **fork;
         let (low, high) = (fork.sooner.height(), fork.later.height());
         if low.abs_diff(high) <= 1 {
             fork.height = low.max(high) + 1;
-            fork.least = least_over(&fork.sooner, &fork.seat, &fork.later);
             return;
         }
     }
+    rotate(root);
+}
+
+/// Puts a tree together anew, so that it is balanced. It is kept apart, so that who needs it rarely stays small.
+#[inline(never)]
+fn rotate(root: &mut Option<Box<Fork>>)
+    requires { IsNearlyEven root.old }
+    ensures { Balances root.old root.new }
+{
     *root = match root.take() {
         None => None,
         Some(mut fork) => {

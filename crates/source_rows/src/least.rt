@@ -54,20 +54,16 @@ impl Least {
 }
 
 impl Fork {
-    /// Notes marks and least time anew, and answers whether they are others.
-    fn note_least(&mut self) -> bool
-        ensures fork { self.new ≡ record self.old { least = least_of (seats_of self.old) } }
-        ensures same { result ≡ false → self.old.least ≡ least_of (seats_of self.old) }
+    /// Notes marks and least time anew.
+    fn note_least(&mut self)
+        ensures { self.new ≡ record self.old { least = least_of (seats_of self.old) } }
     {
-        let least = least_over(&self.sooner, &self.seat, &self.later);
-        let is_other = least.marks != self.least.marks || least.due != self.least.due;
-        self.least = least;
-        is_other
+        self.least = least_over(&self.sooner, &self.seat, &self.later);
     }
 
     /// Notes the least time anew, and answers whether it is another: all that may be, where the marks are right.
     #[tactic(auto, using(crate::proofs::SetIn::least_with))]
-    fn note_due(&mut self) -> bool
+    pub(crate) fn note_due(&mut self) -> bool
         ensures fork { self.old.least.marks ≡ marks_of (seats_of self.old) → self.new ≡ record self.old { least = least_of (seats_of self.old) } }
         ensures same { self.old.least.marks ≡ marks_of (seats_of self.old) → result ≡ false → self.old.least ≡ least_of (seats_of self.old) }
     {
@@ -76,19 +72,6 @@ impl Fork {
         let is_other = due != self.least.due;
         self.least.due = due;
         is_other
-    }
-
-    /// Notes anew what may be another once a seat was put where one stood, and answers whether it is.
-    pub(crate) fn note_set(&mut self, before: &Seat, after: &Seat) -> bool
-        requires { before.now.mark ≡ after.now.mark → self.old.least.marks ≡ marks_of (seats_of self.old) }
-        ensures fork { self.new ≡ record self.old { least = least_of (seats_of self.old) } }
-        ensures same { result ≡ false → self.old.least ≡ least_of (seats_of self.old) }
-    {
-        if before.mark == after.mark {
-            self.note_due()
-        } else {
-            self.note_least()
-        }
     }
 
     /// Whether the mark of a number, where one has it, is that of the seat or of one on its sides, so that it adds nothing to their marks.
@@ -107,7 +90,7 @@ impl Fork {
         ensures { (all : List Seat) → self.old.least ≡ least_of all → seats_of self.old ≡ without seat.now all → self.new ≡ record self.old { least = least_of (seats_of self.old) } }
     {
         if !self.has_mark(seat.mark) {
-            let _ = self.note_least();
+            self.note_least();
         } else if !is_later(seat.due, self.least.due) {
             let _ = self.note_due();
         }

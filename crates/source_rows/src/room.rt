@@ -24,7 +24,8 @@ impl Room {
         Ok(Room { fork })
     }
 
-    /// A tree of a seat and nothing else.
+    /// A tree of a seat and nothing else. It is kept apart, so that the way to it stays small.
+    #[inline(never)]
     pub fn fill(mut self, seat: Seat) -> Box<Fork>
         ensures seats { seen_of (Some result) ≡ (seat ∷ [], 1) }
         ensures even { IsEven (Some result) }

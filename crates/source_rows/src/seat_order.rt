@@ -150,10 +150,11 @@ impl SeatOrder {
         }
     }
 
-    /// Puts another seat of the same key where one stands.
+    /// Puts another seat of the same key and mark where one stands.
     pub fn set(&mut self, before: &Seat, after: &Seat)
         requires rises { Rises is_ahead self.old.0 }
         requires key { after.now.key ≡ before.now.key }
+        requires mark { after.now.mark ≡ before.now.mark }
         ensures seats { self.new.0 ≡ swapped before.now after.now self.old.0 }
         ensures height { self.new.1 ≡ self.old.1 }
     {
@@ -164,9 +165,10 @@ impl SeatOrder {
         }
     }
 
-    /// Puts another seat into the place of one, where it is another.
+    /// Puts another seat of the same mark into the place of one, where it is another.
     pub fn replace(&mut self, before: &Seat, after: &Seat)
         requires rises { Rises is_ahead self.old.0 }
+        requires mark { after.now.mark ≡ before.now.mark }
         requires few { length self.old.0 ≤ count_end }
         requires low { IsLow self.old }
         requires there { list_any (λ u. is_eq (seat_cmp before.now u)) self.old.0 ≡ true }

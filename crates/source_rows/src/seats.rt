@@ -2,17 +2,19 @@
 //!
 //! A node has all marks and the least time of the seats from there on: so the next row that may be ready and the next ready time
 //! are found without a look at the others.
-ghost use Rattle.std.specs.Prelude.{◌≡◌, ◌≤◌, ◌<◌, length, nat_lt, List, [], ◌∷◌, ◌++◌, true, false, Some, is_some, IfSome, IfNone, bit_or};
+ghost use Rattle.std.specs.Prelude.{◌≡◌, ◌≤◌, ◌<◌, length, nat_lt, List, [], ◌∷◌, ◌++◌, true, false, Some, is_some, IfSome, IfNone, bit_or, if◌then◌else◌};
 ghost use Rattle.loop_script.specs.Bounds.{count_end};
 ghost use Rattle.std.specs.List.{list_any};
 ghost use Rattle.std.specs.Ordering.{is_eq};
 ghost use Rattle.source_rows.specs.Inserted.{inserted, Rises};
-ghost use Rattle.source_rows.specs.Seats.{seat_cmp, is_ahead, without, next_due, due_after, least_by, least_of, marks_of, lesser, is_passed, IsLater, AddsNone, swapped, IsLow};
+ghost use Rattle.source_rows.specs.Seats.{seat_cmp, is_ahead, without, next_due, due_after, least_by, least_of, marks_of, lesser, is_passed, front_of, IsLater, AddsNone, swapped, IsLow};
 ghost use Rattle.cancel_view.specs.Marks.{opening};
 ghost use Rattle.source_rows.specs.Candidates.{never};
 ghost use Rattle.source_rows.specs.SeatTree.{seats_of, IsEvenFork, IsLowered};
+ghost use Rattle.std.specs.Borrow.{sem};
+ghost use Rattle.source_rows.specs.Lending.{LendsSide};
 
-use crate::balance::{balance, remove_root};
+use crate::balance::{balance, balance_noted, remove_root};
 use crate::least::Least;
 use crate::room::Room;
 use crate::row::Key;
@@ -30,6 +32,9 @@ pub(crate) struct Seat {
     /// When the row is due, in microseconds: `NEVER` where it has no ready time.
     pub(crate) due: u64,
 }
+
+/// Above each number of a path.
+const PATH_NUMBERS: i128 = 1 << 64;
 
 /// Later than any ready time.
 pub(crate) const NEVER: u64 = 1 << 63;
@@ -110,6 +115,21 @@ impl Fork {
     }
 }
 
+impl Fork {
+    /// The side in front of the seat, or the one behind it.
+    #[inline]
+    fn side(&mut self, is_sooner: bool) -> &mut Seats
+        ensures* lends { sem 𝓛 (LendsSide self.entry is_sooner result) }
+        ensures value { result.now ≡ (if is_sooner then self.old.sooner else self.old.later) }
+    {
+        if is_sooner {
+            &mut self.sooner
+        } else {
+            &mut self.later
+        }
+    }
+}
+
 impl Seats {
     pub fn new() -> Seats
         ensures { result ≡ ([], 0) }
@@ -154,19 +174,16 @@ impl Seats {
             }
             Some(fork) => {
                 let fork = &mut **fork;
-                let higher = if is_ahead(seat, &fork.seat) {
-                    fork.sooner.insert(room, seat)
-                } else {
-                    fork.later.insert(room, seat)
-                };
+                fork.least.note(seat);
+                let is_sooner = is_ahead(seat, &fork.seat);
+                let higher = fork.side(is_sooner).insert(room, seat);
                 if !higher {
-                    fork.least.note(seat);
                     return false;
                 }
                 fork.height
             }
         };
-        balance(&mut self.root);
+        balance_noted(&mut self.root);
         height < self.height()
     }
 
@@ -230,20 +247,21 @@ impl Seats {
                     }
                     Ordering::Equal => return remove_root(&mut self.root),
                 };
+                fork.leave_out(seat);
                 if !taken.lower {
-                    fork.leave_out(seat);
                     return taken.room;
                 }
                 taken
             }
         };
-        balance(&mut self.root);
+        balance_noted(&mut self.root);
         taken.room
     }
 
-    /// Puts another seat where one stands, and answers whether marks or least time may be others.
+    /// Puts another seat of the same mark where one stands, and answers whether the least time may be another.
     pub fn set(&mut self, before: &Seat, after: &Seat) -> bool
-        requires { Rises is_ahead self.old.0 }
+        requires rises { Rises is_ahead self.old.0 }
+        requires mark { after.now.mark ≡ before.now.mark }
         ensures seats { self.new.0 ≡ swapped before.now after.now self.old.0 }
         ensures height { self.new.1 ≡ self.old.1 }
         ensures least { result ≡ false → least_of self.new.0 ≡ least_of self.old.0 }
@@ -252,15 +270,14 @@ impl Seats {
             None => false,
             Some(fork) => {
                 let fork = &mut **fork;
-                let may_differ = match before.cmp(&fork.seat) {
-                    Ordering::Less => fork.sooner.set(before, after),
-                    Ordering::Greater => fork.later.set(before, after),
-                    Ordering::Equal => {
-                        fork.seat = *after;
-                        true
-                    }
+                let may_differ = if is_same(before, &fork.seat) {
+                    fork.seat = *after;
+                    true
+                } else {
+                    let is_sooner = is_ahead(before, &fork.seat);
+                    fork.side(is_sooner).set(before, after)
                 };
-                may_differ && fork.note_set(before, after)
+                may_differ && fork.note_due()
             }
         }
     }
@@ -307,12 +324,40 @@ impl Seats {
     }
 }
 
-/// Whether a seat stands before another.
+/// Whether two seats are one. Mostly the first numbers of their paths tell.
+#[inline]
+fn is_same(a: &Seat, b: &Seat) -> bool
+    ensures { result ≡ is_eq (seat_cmp a.now b.now) }
+{
+    if a.key.1[0] == b.key.1[0] {
+        match a.cmp(b) {
+            Ordering::Equal => true,
+            _ => false,
+        }
+    } else {
+        false
+    }
+}
+
+/// The priority of a seat and the first number of its path, as one number that has their order.
+#[inline]
+fn front(seat: &Seat) -> i128
+    ensures { result ≡ front_of seat.now.key }
+{
+    seat.key.0 as i128 * PATH_NUMBERS + seat.key.1[0] as i128
+}
+
+/// Whether a seat stands before another. Mostly their fronts tell, and without a jump that depends on them.
+#[inline]
 pub(crate) fn is_ahead(a: &Seat, b: &Seat) -> bool
     ensures { result ≡ is_ahead a.now b.now }
 {
-    match a.cmp(b) {
-        Ordering::Less => true,
-        _ => false,
+    if a.key.1[0] == b.key.1[0] {
+        match a.cmp(b) {
+            Ordering::Less => true,
+            _ => false,
+        }
+    } else {
+        front(a) < front(b)
     }
 }

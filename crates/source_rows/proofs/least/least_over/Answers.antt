@@ -1,4 +1,4 @@
-use Rattle.std.proofs.Common.{◌++◌, ◌∙◌, ap, sym}
+use Rattle.std.proofs.Common.{◌∙◌, ap, sym}
 use Rattle.std.specs.Prelude.{bit_or}
 use Rattle.cancel_view.specs.Marks.{opening}
 use Rattle.source_rows.specs.declared.least.Least.{Least}

@@ -7,14 +7,14 @@ use Rattle.source_rows.proofs.Low.{side_swapped}
 use Rattle.source_rows.proofs.Parts.{rises_front, rises_behind, after_passed, before_others, swapped_front, swapped_behind, sides_swapped}
 use Rattle.source_rows.proofs.seat_order.SeatOrder.set.Goals as goal
 
-pub set-requires : goal.set-requires
-set-requires c =
+pub set-requires-clause-rises : goal.set-requires-clause-rises
+set-requires-clause-rises c =
     let are : c.self.inside.front.0 ++ c.self.inside.back.0 ≡ c.args.self.now.0 = ap (λ (v : List Seat × ℕ). v.0) c.self.view_is in
     let rises : Rises is_ahead (c.self.inside.front.0 ++ c.self.inside.back.0) = subst (Rises is_ahead) (sym are) c.requires.rises in
     rises_front c.self.inside.front.0 c.self.inside.back.0 rises
 
-pub set-requires-else-is_passed : goal.set-requires-else-is_passed
-set-requires-else-is_passed c =
+pub set-requires-else-is_passed-clause-rises : goal.set-requires-else-is_passed-clause-rises
+set-requires-else-is_passed-clause-rises c =
     let are : c.self.inside.front.0 ++ c.self.inside.back.0 ≡ c.args.self.now.0 = ap (λ (v : List Seat × ℕ). v.0) c.self.view_is in
     let rises : Rises is_ahead (c.self.inside.front.0 ++ c.self.inside.back.0) = subst (Rises is_ahead) (sym are) c.requires.rises in
     rises_behind c.self.inside.front.0 c.self.inside.back.0 rises

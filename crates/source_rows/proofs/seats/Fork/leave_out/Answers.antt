@@ -1,7 +1,6 @@
-use Rattle.std.proofs.Common.{◌≡◌, ◌∙◌, List, true, ap, sym, subst, rules}
+use Rattle.std.proofs.Common.{◌≡◌, ◌∙◌, true, ap, sym, subst, rules}
 use Rattle.source_rows.specs.declared.seats.Fork.{Fork}
 use Rattle.source_rows.specs.declared.least.Least.{Least}
-use Rattle.source_rows.specs.declared.seats.Seat.{Seat}
 use Rattle.source_rows.specs.Seats.{least_of, marks_of, without, AddsNone}
 use Rattle.source_rows.specs.SeatTree.{seats_of}
 use Rattle.source_rows.proofs.Ahead.{same_time}

@@ -1,4 +1,4 @@
-use Rattle.std.proofs.Common.{◌≡◌, ◌∙◌, ◌<◌, ◌≤◌, ◌^◌, ℕ, List, ◌∷◌, ◌++◌, true, false, length, is_some, nat_lt, sym, ap, ap₂, subst, arith, rules}
+use Rattle.std.proofs.Common.{◌≡◌, ◌∙◌, ◌<◌, ◌≤◌, ◌^◌, ℕ, List, ◌∷◌, ◌++◌, true, false, length, is_some, nat_lt, refl, sym, ap, ap₂, subst, arith, rules}
 use Rattle.std.specs.List.{list_any}
 use Rattle.std.specs.declared.cmp.Ordering.TheVariants.{Less, Equal, Greater}
 use Rattle.std.specs.Ordering.{is_eq}
@@ -6,13 +6,13 @@ use Rattle.source_rows.specs.declared.seats.Fork.{Fork}
 use Rattle.source_rows.specs.declared.seats.Seat.{Seat}
 use Rattle.source_rows.specs.declared.seats.Taken.{Taken}
 use Rattle.source_rows.specs.Seats.{seat_cmp, least_of, without}
-use Rattle.source_rows.specs.SeatTree.{seats_of, seen_of}
+use Rattle.source_rows.specs.SeatTree.{seats_of, seen_of, IsHeight}
 use Rattle.source_rows.proofs.SeatTree.{at_Fork, even_at}
 use Rattle.source_rows.proofs.Ahead.{less_sooner, greater_back, same_from_equal, there_here, there_left, there_right, without_here}
 use Rattle.source_rows.proofs.Low.{low_fork}
-use Rattle.source_rows.proofs.TakenOut.{TakenOut, taken_sooner, taken_later, taken_near, taken_even}
+use Rattle.source_rows.proofs.TakenOut.{TakenOut, taken_sooner, taken_later, taken_near, taken_height, taken_even}
 use Rattle.source_rows.proofs.seats.Seats.+take.Goals as goal
-use Rattle.source_rows.proofs.seats.Seats.+take.Goals.{in-Less, in-Greater, Joined-cmp}
+use Rattle.source_rows.proofs.seats.Seats.+take.Goals.{in-Less, in-Greater, Joined-cmp, After-leave_out}
 
 pub take-room-requires : goal.take-room-requires
 take-room-requires t c =
@@ -92,11 +92,11 @@ there t c =
     ]
 
 -- the fork once its least times are noted
-noted : (t : ℕ) (c : goal.After-self-then-not-taken-1 t) → c.leave_out.new.self ≡ record c.match-cmp.fork { least = least_of (seats_of c.match-cmp.fork) }
+noted : (t : ℕ) (c : After-leave_out t) → c.leave_out.new.self ≡ record c.match-cmp.fork { least = least_of (seats_of c.match-cmp.fork) }
 noted t c =
     let same : c.deref_mut-fork.result.now ≡ c.in-Some.fork.value = search rules in
     let even = even_at c.self.invariant c.in-Some.is same in
-    let out = taken t c.before.before.before.before in
+    let out = taken t c.before in
     c.leave_out.ensures (seats_of c.deref_mut-fork.result.now) (out.least ∙ even.4) out.seats
 
 pub invariant_of-self-then-not-taken : goal.invariant_of-self-then-not-taken
@@ -105,7 +105,7 @@ invariant_of-self-then-not-taken t c =
     let even = even_at c.self.invariant c.in-Some.is same in
     let kept : c.match-cmp.taken.lower ≡ false = search rules in
     let out = subst (TakenOut c.deref_mut-fork.result.now c.match-cmp.fork c.args.seat.now) kept (taken t c.before.before.before.before) in
-    rw (noted t c) (taken_even c.deref_mut-fork.result.now c.match-cmp.fork c.args.seat.now even out)
+    rw (noted t c.before.before.before) (taken_even c.deref_mut-fork.result.now c.match-cmp.fork c.args.seat.now even out)
 
 pub returns-then-not-taken-clause-there : goal.returns-then-not-taken-clause-there
 returns-then-not-taken-clause-there t c = there t c.before.before.before.before
@@ -114,7 +114,7 @@ pub returns-then-not-taken-clause-seats : goal.returns-then-not-taken-clause-sea
 returns-then-not-taken-clause-seats t c =
     let same : c.deref_mut-fork.result.now ≡ c.in-Some.fork.value = search rules in
     let f = at_Fork c.self.view_is c.requires.rises c.in-Some.is same in
-    ap seats_of (noted t c) ∙ ((taken t c.before.before.before.before).seats ∙ sym (ap (without c.args.seat.now) f.is))
+    ap seats_of (noted t c.before.before.before) ∙ ((taken t c.before.before.before.before).seats ∙ sym (ap (without c.args.seat.now) f.is))
 
 pub returns-then-not-taken-clause-low : goal.returns-then-not-taken-clause-low
 returns-then-not-taken-clause-low t c = low_fork c.leave_out.new.self (invariant_of-self-then-not-taken t c)
@@ -123,22 +123,33 @@ pub returns-then-not-taken-clause-height : goal.returns-then-not-taken-clause-he
 returns-then-not-taken-clause-height t c =
     let same : c.deref_mut-fork.result.now ≡ c.in-Some.fork.value = search rules in
     let old : c.args.self.now.1 ≡ c.deref_mut-fork.result.now.height = ap (λ (v : List Seat × ℕ). v.1) (sym c.self.view_is ∙ ap seen_of c.in-Some.is) ∙ sym (ap (λ (g : Fork). g.height) same) in
-    let is : c.leave_out.new.self.height ≡ c.args.self.now.1 = ap (λ (g : Fork). g.height) (noted t c) ∙ ((taken t c.before.before.before.before).height ∙ sym old) in
+    let is : c.leave_out.new.self.height ≡ c.args.self.now.1 = ap (λ (g : Fork). g.height) (noted t c.before.before.before) ∙ ((taken t c.before.before.before.before).height ∙ sym old) in
     (omega (arith, is), omega (arith, is))
 
-pub balance-requires : goal.balance-requires
-balance-requires t c =
+pub balance_noted-requires-clause-near : goal.balance_noted-requires-clause-near
+balance_noted-requires-clause-near t c =
     let same : c.deref_mut-fork.result.now ≡ c.in-Some.fork.value = search rules in
     let f = at_Fork c.self.view_is c.requires.rises c.in-Some.is same in
     let even = even_at c.self.invariant c.in-Some.is same in
     let few : length (seats_of c.deref_mut-fork.result.now) ≤ 2 ^ 63 = subst (λ (xs : List Seat). length xs ≤ 2 ^ 63) f.is c.requires.few in
-    taken_near c.deref_mut-fork.result.now c.match-cmp.fork c.args.seat.now c.match-cmp.taken.lower even (taken t c.before.before.before.before) few
+    rw (noted t c.before.before.before.before) (taken_near c.deref_mut-fork.result.now c.match-cmp.fork c.args.seat.now c.match-cmp.taken.lower even (taken t c.before.before.before.before.before) few)
+
+pub balance_noted-requires-clause-noted : goal.balance_noted-requires-clause-noted
+balance_noted-requires-clause-noted t c = rw (noted t c.before.before.before.before) refl
 
 pub returns-clause-there : goal.returns-clause-there
-returns-clause-there t c = there t c.before.before.before.before.before
+returns-clause-there t c = there t c.before.before.before.before.before.before
 
 pub returns-clause-seats : goal.returns-clause-seats
 returns-clause-seats t c =
     let same : c.deref_mut-fork.result.now ≡ c.in-Some.fork.value = search rules in
     let f = at_Fork c.self.view_is c.requires.rises c.in-Some.is same in
-    c.balance.ensures.1 ∙ ((taken t c.before.before.before.before.before).seats ∙ sym (ap (without c.args.seat.now) f.is))
+    c.balance_noted.ensures.1 ∙ (ap seats_of (noted t c.before.before.before.before.before) ∙ (taken t c.before.before.before.before.before.before).seats ∙ sym (ap (without c.args.seat.now) f.is))
+
+pub returns-clause-height : goal.returns-clause-height
+returns-clause-height t c =
+    let same : c.deref_mut-fork.result.now ≡ c.in-Some.fork.value = search rules in
+    let even = even_at c.self.invariant c.in-Some.is same in
+    let old : c.args.self.now.1 ≡ c.deref_mut-fork.result.now.height = ap (λ (v : List Seat × ℕ). v.1) (sym c.self.view_is ∙ ap seen_of c.in-Some.is) ∙ sym (ap (λ (g : Fork). g.height) same) in
+    let out = taken t c.before.before.before.before.before.before in
+    rw old (taken_height c.deref_mut-fork.result.now c.match-cmp.fork c.args.seat.now c.match-cmp.taken.lower even out _ (subst (λ (g : Fork). IsHeight g.sooner.1 g.later.1 (seen_of c.balance_noted.new.root).1) (noted t c.before.before.before.before.before) c.balance_noted.ensures.2))
