@@ -44,7 +44,8 @@ def each_group(groups, above=()):
 
 
 def files_of(group):
-    """The paths of a group, without endings, each with its note. A crate stands by its name, `top` is the repository's root."""
+    """The paths of a group, without endings (one with an ending stands for that file alone), each with its note. A crate stands by its name, `top` is the
+    repository's root."""
     for room, parts in group.get("files", {}).items():
         base = "" if room == "top" else f"crates/{room}/" if (TOP / "crates" / room).is_dir() else f"{room}/"
         for part, entries in parts.items() if isinstance(parts, dict) else [("", parts)]:

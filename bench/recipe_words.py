@@ -36,6 +36,7 @@ class Index:
 
     def __init__(self):
         self.sources, self.texts, self.stems = [str(path) for path in sources()], {}, {}
+        self.edits = [str(path.relative_to(TOP)) for glob in EDITS for path in sorted(TOP.glob(glob))]
         for path in self.sources:
             self.stems.setdefault(str(Path(path).with_suffix("")), []).append(path)
         crates = [re.split("[: ]", line)[0] for line in (TOP / "crates.txt").read_text().splitlines() if line]
@@ -115,12 +116,12 @@ def pattern_of(word):
 
 
 def named_by(word):
-    """What finds the variant, the functions (act_quit) and the word of a script that a word names, and not the same word in prose. Of a word with dashes or
-    capitals within it each spelling is found: no prose has these."""
+    """What finds the variant, the functions (act_quit), the word of a script and the function of an edit (`in: `) that a word names, and not the same word in
+    prose. Of a word with dashes or capitals within it each spelling is found: no prose has these."""
     if not word or re.search(r"[-_]|[a-z0-9][A-Z]", word):
         return pattern_of(word)
     lower = re.escape(word.lower())
-    return re.compile(rf"(?<![A-Za-z0-9_]){re.escape(word.capitalize())}(?![A-Za-z0-9_])|(?<![A-Za-z0-9_])(?:act|read|push|put|take)_{lower}(?![A-Za-z0-9_])|([\"'`\[]){lower}(?=\\?[\"'`])")
+    return re.compile(rf"(?<![A-Za-z0-9_]){re.escape(word.capitalize())}(?![A-Za-z0-9_])|(?<![A-Za-z0-9_])(?:act|read|push|put|take)_{lower}(?![A-Za-z0-9_])|([\"'`\[]){lower}(?=\\?[\"'`])|^in: (?:\S*[:_])?{lower}(?![A-Za-z0-9])")
 
 
 def is_import(line):
