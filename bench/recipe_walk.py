@@ -78,6 +78,19 @@ def key_of(first, name, group):
     return group["key"] if name == first or "of" in group else f"{name}.{group['key']}"
 
 
+def shared_keys(name):
+    """The keys of a recipe that several have in common: they are written without its name."""
+    return [group["key"] for group, _ in each_group(groups_of(name)) if "of" in group and "key" in group]
+
+
+def led_from(name):
+    """The recipes to the whole of which one leads, also through another one."""
+    found = [name]
+    for one in found:
+        found += dict.fromkeys(other for group, _ in each_group(groups_of(one)) for other, _, is_whole in leads_of(group) if is_whole and other not in found)
+    return found[1:]
+
+
 def all_keys(first):
     """Each key that may be answered, with those above it."""
     return {key_of(first, name, group): [key_of(first, name, one) for one in above] for name in names() for group, above in each_group(groups_of(name)) if "key" in group}

@@ -85,6 +85,11 @@ class Index:
             return lines
         return [number for number in lines if not all(is_of_other(match, text[number - 1], types, imported) for match in pattern.finditer(text[number - 1]))]
 
+    def has_variant(self, path, lines, pattern, types):
+        """Whether a word is a variant of one of some types in one of some lines of a file."""
+        imported, text = types_in(self.text(path)) if path.endswith(".antt") else {}, self.text(path)
+        return any(match[0][0].isupper() and type_of(match, text[number - 1], imported) in types for number in lines for match in pattern.finditer(text[number - 1]))
+
 
 def sources():
     for top, endings in SEARCHED.items():
@@ -141,10 +146,15 @@ def types_in(lines):
     return told
 
 
+def type_of(match, line, imported):
+    """Of which type what was found in code of Rattle is a variant, as far as that shows."""
+    before = re.search(r"(\w+)(?:::|\.)$", line[: match.start()])
+    return imported.get(before[1] if before else match[0], before[1] if before else "")
+
+
 def is_of_other(match, line, types, imported):
     """Whether what was found in code of Rattle is no variant of these types: one of another, or the name of a type."""
-    before = re.search(r"(\w+)(?:::|\.)$", line[: match.start()])
-    name = imported.get(before[1] if before else match[0], before[1] if before else "")
+    name = type_of(match, line, imported)
     return match[0][0].isupper() and (name[:1].isupper() or not name) and name not in types
 
 
@@ -187,12 +197,13 @@ def end_of(text, start):
 
 
 def print_texts(word, version):
-    """The files that hold a script with a word, with their lines; of folders with many of them how many. Answers the status."""
-    pattern, folders = re.compile(rf"""["']{re.escape(word)}\\?["']|(?<![\w-]){re.escape(word)} = """), {}
+    """The files that hold a script with a word, with their lines; of folders with many of them how many; and the files that name one of these. Answers the
+    status."""
+    pattern, folders, texts = re.compile(rf"""["']{re.escape(word)}\\?["']|(?<![\w-]){re.escape(word)} = """), {}, {}
     for path in (path for top in SCRIPTS_IN for path in ([TOP / top] if (TOP / top).is_file() else sorted((TOP / top).rglob("*")))):
         if not path.is_file() or path.suffix in BUILT or {"out", "target", "__pycache__"} & set(path.parts) or path.name.startswith("recipe"):
             continue
-        text = path.read_text(errors="replace")
+        text = texts[str(path.relative_to(TOP))] = path.read_text(errors="replace")
         lines = {text.count("\n", 0, start + match.start()) + 1 for one, start, script in scripts_in(path, text) if version in (None, one) for match in pattern.finditer(script)}
         if lines:
             folders.setdefault(str(path.parent.relative_to(TOP)), []).append((str(path.relative_to(TOP)), sorted(lines)))
@@ -201,4 +212,14 @@ def print_texts(word, version):
             print(f"{folder}/: {len(files)} scripts")
         else:
             print("".join(f"{path}{numbers_of(lines, ': ')}\n" for path, lines in files), end="")
+    print_naming({Path(path).stem for files in folders.values() for path, _ in files if path.endswith(".json")}, texts)
     return 0 if folders else 1
+
+
+def print_naming(scripts, texts):
+    """The files that name one of some scripts: by a name that is no plain word, or with its ending."""
+    names = {name for name in scripts if re.search(r"[-_\d]", name)} | {f"{name}.json" for name in scripts}
+    naming = {path: [number for number, line in enumerate(text.splitlines(), 1) if not names.isdisjoint(re.findall(r"[\w-]+(?:\.json)?", line))] for path, text in texts.items() if not path.endswith(".json")}
+    if any(naming.values()):
+        print("\nfiles that name one of these scripts:")
+    print("".join(f"{path}{numbers_of(lines, ': ')}\n" for path, lines in naming.items() if lines), end="")
