@@ -1,6 +1,7 @@
 pub mod Row
 pub mod Rows
 pub mod Order
+pub mod OwnMarks
 pub mod Tree
 pub mod Laws
 pub mod Kept

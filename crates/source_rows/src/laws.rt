@@ -2,6 +2,7 @@
 ghost use Rattle.source_rows.specs.Edits.{EditLaws};
 ghost use Rattle.source_rows.specs.Heights.{HeightLaws};
 ghost use Rattle.source_rows.specs.Laws.{OrderLaws, PathLaws, TreeLaws};
+ghost use Rattle.source_rows.specs.OwnMarks.{MarkLaws};
 ghost use Rattle.source_rows.specs.TwoLevels.{LevelLaws};
 ghost use Rattle.source_rows.specs.Worked.{WorkedOrders};
 
@@ -41,4 +42,10 @@ pub fn worked_orders()
 /// How many seats stand above each other at most where they stand in a balanced tree.
 pub fn seats_stand_low()
     ensures { HeightLaws }
+{}
+
+/// What opens a source has a mark of its own: no two cancellables that a script can name share one, and none has that of descriptors or
+/// of what is always open.
+pub fn marks_are_apart()
+    ensures { MarkLaws }
 {}

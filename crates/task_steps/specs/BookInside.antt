@@ -139,11 +139,11 @@ AreListedOnce cs (e ∷ es) = IsListedOnce cs e.run.stage e.cancel e.run.cancell
 
 -- ---- what is known of entries
 
--- later than any tick that a number tells
+-- later than any tick of a poll, and than any wake that a number tells
 abbrev pub never : Tick
-never = 2 ^ 64 - 1
+never = 2 ^ 32 - 1
 
--- a wake as a number, which is later than any where there is no wake
+-- a wake as a number, which is later than any where there is no wake, or none so soon
 abbrev pub due_by : Option Tick → Tick
 due_by None = never
 due_by (Some wake) = min wake never

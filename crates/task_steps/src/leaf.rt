@@ -1,6 +1,7 @@
 //! Tasks side by side, with their marks in a list of their own, so that a poll reads nothing else of those that it passes over.
-ghost use Rattle.std.specs.Prelude.{◌≡◌, ◌-◌, ◌≤◌, ◌++◌, ◌∷◌, [], true, IsOk, IfOk, OnOk, length, take, drop, map};
+ghost use Rattle.std.specs.Prelude.{◌≡◌, ◌-◌, ◌<◌, ◌≤◌, ◌^◌, ◌++◌, ◌∷◌, [], true, IsOk, IfOk, OnOk, length, take, drop, map};
 ghost use Rattle.std.specs.List.{list_any};
+ghost use Rattle.loop_script.specs.Bounds.{tick_end};
 ghost use Rattle.task_steps.specs.BookInside.{entries_in, mark_of, wake_of_all, IsKnown, IsQuiet};
 ghost use Rattle.task_steps.specs.Polls.{CanPollAll, HasPolledAll, NoneComes, owes_reply};
 ghost use Rattle.task_steps.specs.Shown.{entry_shown};
@@ -11,6 +12,9 @@ use crate::mark::{Mark, Round, sooner_wake};
 use crate::polls::{owes_reply, poll_entry};
 use cancel_view::View;
 use std::alloc::{AllocError, Global};
+
+/// Room is given back where fewer than one in so many places for tasks is needed.
+const ROOMY: usize = 4;
 
 /// Tasks side by side, in start order. The mark of each stands where it stands itself.
 #[derive(Drop)]
@@ -69,6 +73,7 @@ impl Leaf {
     /// The place of the next task, from a place on, that wakes or may be seen as cancelled; the number of tasks where there is none.
     fn next_loud(&self, from: usize, round: Round) -> usize
         requires known { IsKnown self.now }
+        requires tick { round.tick < tick_end }
         requires from { from ≤ length (entries_in self.now) }
         ensures later { from ≤ result }
         ensures there { result ≤ length (entries_in self.now) }
@@ -81,6 +86,18 @@ impl Leaf {
         at
     }
 
+    /// Gives back most of the room that is left over by tasks that went.
+    fn give_back_room(&mut self)
+        ensures marks { self.new.marks.items ≡ self.old.marks.items }
+        ensures entries { self.new.entries.items ≡ self.old.entries.items }
+    {
+        let tasks = self.entries.len();
+        if tasks < self.entries.capacity() / ROOMY {
+            self.marks.shrink_to(2 * tasks);
+            self.entries.shrink_to(2 * tasks);
+        }
+    }
+
     /// Polls tasks in their order, and adds their replies and late numbers. Those that end go. The answer is the mark of those that go on.
     pub(crate) fn poll_tasks(
         &mut self,
@@ -90,6 +107,7 @@ impl Leaf {
         late: &mut Vec<u64>,
     ) -> Result<Mark, AllocError>
         requires known { IsKnown self.old }
+        requires tick { round.tick < tick_end }
         requires can { CanPollAll round.tick round.polled view.now (entries_in self.old) }
         requires came { NoneComes round.came view.now (entries_in self.old) }
         ensures polled { OnOk result (HasPolledAll round.tick round.polled view.now (entries_in self.old) (entries_in self.new) replies.old.items replies.new.items late.old.items late.new.items) }
@@ -108,6 +126,7 @@ impl Leaf {
                 at = self.next_loud(at, round);
             }
         }
+        self.give_back_room();
         Ok(self.mark())
     }
 

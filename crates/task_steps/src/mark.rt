@@ -6,7 +6,7 @@ ghost use Rattle.task_steps.specs.Wake.{sooner};
 use crate::entry::Entry;
 
 /// Later than any wake by a number: what stands for none.
-pub(crate) const NEVER: u64 = u64::MAX;
+pub(crate) const NEVER: u32 = u32::MAX;
 
 /// The lesser of two wakes of tasks, where there are such.
 pub(crate) fn sooner_wake(a: Option<u64>, b: Option<u64>) -> Option<u64>
@@ -20,12 +20,12 @@ pub(crate) fn sooner_wake(a: Option<u64>, b: Option<u64>) -> Option<u64>
 }
 
 /// A wake as a number.
-fn due_by(wake: Option<u64>) -> u64
+fn due_by(wake: Option<u64>) -> u32
     ensures { result ≡ due_by wake }
 {
     match wake {
         None => NEVER,
-        Some(wake) => wake,
+        Some(wake) => wake.min(u64::from(NEVER)) as u32,
     }
 }
 
@@ -33,7 +33,7 @@ fn due_by(wake: Option<u64>) -> u64
 #[derive(Clone, Copy)]
 pub(crate) struct Mark {
     /// The least tick in which one is begun, or to which its body sleeps: `NEVER` where there is none, or none before.
-    pub wake: u64,
+    pub wake: u32,
     /// Whether one has a cancellable that no poll of it saw as cancelled.
     pub heeds: bool,
 }
@@ -84,6 +84,6 @@ impl Mark {
     pub(crate) fn is_quiet(&self, round: Round) -> bool
         ensures { IsTrue result ↔ IsQuiet round self.now }
     {
-        u64::from(round.tick) < self.wake && !(round.came && self.heeds)
+        round.tick < self.wake && !(round.came && self.heeds)
     }
 }

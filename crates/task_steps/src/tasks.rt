@@ -1,6 +1,7 @@
 //! Tasks in start order, in a tree whose nodes have a mark of the tasks on each side, so that a poll goes to those alone that wake or are cancelled.
-ghost use Rattle.std.specs.Prelude.{◌≡◌, ◌++◌, ◌∷◌, [], IsOk, IfOk, OnOk, IfSome, IfNone, true, map};
+ghost use Rattle.std.specs.Prelude.{◌≡◌, ◌<◌, ◌^◌, ◌++◌, ◌∷◌, [], IsOk, IfOk, OnOk, IfSome, IfNone, true, map};
 ghost use Rattle.std.specs.List.{list_any};
+ghost use Rattle.loop_script.specs.Bounds.{tick_end};
 ghost use Rattle.task_steps.specs.BookInside.{entries_of, entries_below, mark_of, wake_of_all, AreMarked, IsMarked};
 ghost use Rattle.task_steps.specs.Polls.{CanPollAll, HasPolledAll, NoneComes, owes_reply};
 ghost use Rattle.task_steps.specs.Shown.{entry_shown};
@@ -14,7 +15,7 @@ use std::alloc::{AllocError, Global};
 use std::mem;
 
 /// So many tasks fill a leaf.
-const LEAF: usize = 32;
+const LEAF: usize = 128;
 
 /// Tasks in start order, those apart that were started last.
 #[derive(Drop)]
@@ -167,6 +168,7 @@ impl Tree {
     ) -> Result<Mark, AllocError>
         requires known { mark ≡ mark_of (entries_below self.old) }
         requires marked { IsMarked self.old }
+        requires tick { round.tick < tick_end }
         requires can { CanPollAll round.tick round.polled view.now (entries_below self.old) }
         requires came { NoneComes round.came view.now (entries_below self.old) }
         ensures polled { OnOk result (HasPolledAll round.tick round.polled view.now (entries_below self.old) (entries_below self.new) replies.old.items replies.new.items late.old.items late.new.items) }
@@ -294,6 +296,7 @@ impl Tasks {
         late: &mut Vec<u64>,
     ) -> Result<(), AllocError>
         requires marked { AreMarked self.old }
+        requires tick { round.tick < tick_end }
         requires can { CanPollAll round.tick round.polled view.now (entries_of self.old) }
         requires came { NoneComes round.came view.now (entries_of self.old) }
         ensures polled { OnOk result (HasPolledAll round.tick round.polled view.now (entries_of self.old) (entries_of self.new) replies.old.items replies.new.items late.old.items late.new.items) }
@@ -316,7 +319,7 @@ impl Tasks {
     {
         let wake = self.mark().wake;
         if wake < NEVER {
-            Some(wake)
+            Some(u64::from(wake))
         } else {
             sooner_wake(self.tree.wake(), self.last.wake())
         }

@@ -27,6 +27,7 @@ poll-requires c =
     let same : c.replace-tasks.result ≡ b.tasks = c.replace-tasks.ensures.value in
     record {
       marked = subst (λ (x : Tasks). AreMarked x) (sym same) c.self.invariant.marked;
+      tick = c.requires.tick;
       can = subst (λ (x : Tasks). CanPollAll c.args.tick b.polled view (entries_of x)) (sym same) can;
       came = subst (λ (x : Tasks). NoneComes c.some_came.result view (entries_of x)) (sym same) came;
     }

@@ -97,4 +97,4 @@ returns-clause-polled c =
     let boxes = c.loop-at.self.entries.items in
     let none : drop c.loop-at.at boxes ≡ [] = drop_all c.loop-at.at boxes (omega arith) in
     let whole : take c.loop-at.at boxes ≡ boxes = take_all c.loop-at.at boxes (omega arith) in
-    rw whole at (all_polled (rw none at c.loop-at.invariant.polled))
+    rw c.give_back_room.ensures.entries (rw whole at (all_polled (rw none at c.loop-at.invariant.polled)))

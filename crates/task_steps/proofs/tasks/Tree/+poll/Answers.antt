@@ -53,12 +53,12 @@ asked_of_sides round view node b s is same marked can came =
 pub poll-requires : goal.poll-requires
 poll-requires t c =
     let a = asked_of_sides c.args.round c.args.view.now c.args.self.now c.in-Two.sides c.deref_mut-node.result.now c.in-Two.is (search rules) c.requires.marked c.requires.can c.requires.came in
-    (omega (arith, a.all, c.decreases), (a.left_mark, (a.left, (a.can_left, a.came_left))))
+    (omega (arith, a.all, c.decreases), (a.left_mark, (a.left, (c.requires.tick, (a.can_left, a.came_left)))))
 
 pub poll-requires-in-Two : goal.poll-requires-in-Two
 poll-requires-in-Two t c =
     let a = asked_of_sides c.args.round c.args.view.now c.args.self.now c.in-Two.sides c.deref_mut-node.result.now c.in-Two.is (search rules) c.requires.marked c.requires.can c.requires.came in
-    (omega (arith, a.all, c.decreases), (a.right_mark, (a.right, (a.can_right, a.came_right))))
+    (omega (arith, a.all, c.decreases), (a.right_mark, (a.right, (c.requires.tick, (a.can_right, a.came_right)))))
 
 -- what is polled of both sides is polled of their node
 polled_node : (tick : ℕ) (polled : Option ℕ) (view : Seen) (node : Tree) (b : Box Sides Global) (s : Sides) (one other both : List Entry) (rs ss us : List Reply) (ls ms ns : List ℕ) → node ≡ Two b → s ≡ b.value
