@@ -2,7 +2,6 @@
 use Rattle.std.proofs.Common.{◌≡◌, ℕ, ◌||◌, Bool, true, false, Option, Some, None, List, [], ◌∷◌, ◌++◌, ◌<◌, min, arith, refl, ap, sym, ◌∙◌}
 use Rattle.std.specs.List.{list_any}
 use Rattle.task_steps.specs.declared.entry.Entry.{Entry}
-use Rattle.task_steps.specs.declared.mark.Mark.{Mark}
 use Rattle.task_steps.specs.Wake.{sooner}
 use Rattle.task_steps.specs.BookInside.{never, due_by, wake_of_entry, wake_of_all, heeds, mark_of, joined_mark}
 

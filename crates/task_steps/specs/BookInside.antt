@@ -1,6 +1,5 @@
 -- How a book's entries stand between two calls.
-use Rattle.std.specs.Prelude.{Box, ◌≡◌, ◌+◌, ◌-◌, ◌^◌, ◌<◌, ◌≤◌, ◌==◌, ◌&&◌, ◌||◌, ℕ, Bool, true, false, min, not, is_some, Option, Some, None, List, [], ◌∷◌, ◌++◌, map, if◌then◌else◌, take}
-use Rattle.std.specs.Global.{Global}
+use Rattle.std.specs.Prelude.{◌≡◌, ◌+◌, ◌-◌, ◌^◌, ◌<◌, ◌≤◌, ◌==◌, ◌&&◌, ◌||◌, ℕ, Bool, true, false, min, not, is_some, Option, Some, None, List, [], ◌∷◌, ◌++◌, map, if◌then◌else◌, get_or, take}
 use Rattle.std.specs.List.{list_any}
 use Rattle.loop_script.specs.Bounds.{longest_tick}
 use Rattle.loop_script.specs.Units.{Tick, Microseconds, CancellableNumber}
@@ -13,7 +12,7 @@ use Rattle.task_steps.specs.declared.leaf.Leaf.{Leaf}
 use Rattle.task_steps.specs.declared.tasks.Tasks.{Tasks}
 use Rattle.task_steps.specs.declared.tasks.Tree.{Tree, Gone, Leaf as LeafOf, Two'}
 use Rattle.task_steps.specs.Wake.{sooner}
-use Rattle.task_steps.specs.Run.{Run, IsAfter, IsLater, NoneBefore, stage_to, clear_passed}
+use Rattle.task_steps.specs.Run.{Run, IsLater, NoneBefore, stage_to, clear_passed}
 use Rattle.task_steps.specs.RunInside.{IsBy}
 use Rattle.task_steps.specs.Task.{Task, task_of, IsBefore}
 
@@ -156,23 +155,29 @@ mark_of es = record { wake = due_by (wake_of_all es); heeds = list_any heeds es 
 abbrev pub joined_mark : Mark → Mark → Mark
 joined_mark a b = record { wake = min a.wake b.wake; heeds = a.heeds || b.heeds }
 
--- that of one
-abbrev pub own_mark : Entry → Mark
-own_mark e = mark_of (e ∷ [])
-
 -- ---- entries side by side
 
--- those in boxes, in their order
-abbrev pub unboxed : List (Box Entry Global) → List Entry
-unboxed boxes = map (λ (b : Box Entry Global). b.value) boxes
+-- those of places, in their order; some places have none
+abbrev pub held : List (Option Entry) → List Entry
+held [] = []
+held (None ∷ places) = held places
+held (Some e ∷ places) = e ∷ held places
 
 -- those of a leaf
 abbrev pub entries_in : Leaf → List Entry
-entries_in leaf = unboxed leaf.entries.items
+entries_in leaf = held leaf.places.items
 
--- the marks beside entries are their own
+-- what stands in a place of a leaf
+abbrev pub place_at : ℕ → Leaf → Option Entry
+place_at at leaf = get_or leaf.places.items at None
+
+-- the mark of a place: that of its entry, or that of none
+abbrev pub mark_at : Option Entry → Mark
+mark_at place = mark_of (held (place ∷ []))
+
+-- the marks beside places are their own
 abbrev pub IsKnown : Leaf → Type 0
-IsKnown leaf = leaf.marks.items ≡ map own_mark (entries_in leaf)
+IsKnown leaf = leaf.marks.items ≡ map mark_at leaf.places.items
 
 -- ---- a tree of entries
 
@@ -182,7 +187,7 @@ entries_below Gone = []
 entries_below (LeafOf leaf) = entries_in leaf
 entries_below (Two' p m a n b) = entries_below a ++ entries_below b
 
--- each node's marks are those of the entries on its sides, each mark of a leaf that of the entry beside it
+-- each node's marks are those of the entries on its sides, each mark of a leaf that of the place beside it
 abbrev pub IsMarked : Tree → Type 0
 IsMarked Gone = Unit {0}
 IsMarked (LeafOf leaf) = IsKnown leaf

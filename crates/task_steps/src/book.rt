@@ -139,7 +139,7 @@ impl TaskBook {
         ensures ok { OnOk result (self.new ≡ with_task spec.now ctx tick self.old) }
         ensures err { OnErr result (exhausted self.new ≡ exhausted self.old) }
     {
-        let entry = new_entry(self.alloc, spec, ctx, tick, self.next, self.tick_us)?;
+        let entry = new_entry(spec, ctx, tick, self.next, self.tick_us)?;
         heed(&mut self.heeded, spec.cancel)?;
         let mut tasks = mem::replace(&mut self.tasks, Tasks::new(self.alloc));
         tasks.push(self.alloc, entry)?;

@@ -8,22 +8,21 @@ ghost use Rattle.task_steps.specs.declared.stage.Stage.TheVariants.{Fresh};
 use crate::body::Body;
 use crate::entry::Entry;
 use loop_script::TaskSpec;
-use std::alloc::{AllocError, Global};
+use std::alloc::AllocError;
 
 /// A task that is first polled in the tick after the given one.
 pub(crate) fn new_entry(
-    alloc: Global,
     spec: &TaskSpec,
     ctx: u32,
     tick: u32,
     number: u64,
     tick_us: u64,
-) -> Result<Box<Entry>, AllocError>
+) -> Result<Entry, AllocError>
     requires some { 0 < tick_us }
     requires short { tick_us ≤ longest_tick }
     requires tick { tick < tick_end }
-    ensures task { IfOk result (λ e. task_of e.value ≡ started tick_us number spec.now ctx tick) }
-    ensures stage { IfOk result (λ e. e.value.run.stage ≡ Fresh) }
+    ensures task { IfOk result (λ e. task_of e ≡ started tick_us number spec.now ctx tick) }
+    ensures stage { IfOk result (λ e. e.run.stage ≡ Fresh) }
 {
     let entry = Entry {
         number,
@@ -36,5 +35,5 @@ pub(crate) fn new_entry(
         return_on_cancel: spec.return_on_cancel,
         run: Body::new(&spec.tree, tick_us)?,
     };
-    Ok(Box::new(alloc, entry)?)
+    Ok(entry)
 }

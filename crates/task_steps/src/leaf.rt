@@ -1,8 +1,8 @@
 //! Tasks side by side, with their marks in a list of their own, so that a poll reads nothing else of those that it passes over.
-ghost use Rattle.std.specs.Prelude.{◌≡◌, ◌-◌, ◌<◌, ◌≤◌, ◌^◌, ◌++◌, ◌∷◌, [], true, IsOk, IfOk, OnOk, length, take, drop, map};
+ghost use Rattle.std.specs.Prelude.{◌≡◌, ◌-◌, ◌<◌, ◌≤◌, ◌^◌, ◌++◌, ◌∷◌, [], Some, None, true, is_some, filter, IsOk, IfOk, OnOk, length, set, take, drop, map};
 ghost use Rattle.std.specs.List.{list_any};
 ghost use Rattle.loop_script.specs.Bounds.{tick_end};
-ghost use Rattle.task_steps.specs.BookInside.{entries_in, mark_of, wake_of_all, IsKnown, IsQuiet};
+ghost use Rattle.task_steps.specs.BookInside.{entries_in, held, mark_at, mark_of, place_at, wake_of_all, IsKnown, IsQuiet};
 ghost use Rattle.task_steps.specs.Polls.{CanPollAll, HasPolledAll, NoneComes, owes_reply};
 ghost use Rattle.task_steps.specs.Shown.{entry_shown};
 
@@ -13,14 +13,28 @@ use crate::polls::{owes_reply, poll_entry};
 use cancel_view::View;
 use std::alloc::{AllocError, Global};
 
-/// Room is given back where fewer than one in so many places for tasks is needed.
+/// Places of tasks that are gone are left out where no more than one in so many places has a task.
 const ROOMY: usize = 4;
 
-/// Tasks side by side, in start order. The mark of each stands where it stands itself.
+/// Tasks side by side, in start order. The mark of each stands where it stands itself. A task that goes leaves its place, with the mark
+/// of no task.
 #[derive(Drop)]
 pub(crate) struct Leaf {
     pub marks: Vec<Mark>,
-    pub entries: Vec<Box<Entry>>,
+    /// None where a task is gone.
+    pub places: Vec<Option<Entry>>,
+    /// How many tasks went since places were left out.
+    gone: usize,
+}
+
+/// The mark of a place.
+fn mark_at(place: &Option<Entry>) -> Mark
+    ensures { result ≡ mark_at place.now }
+{
+    match place {
+        None => Mark::of_none(),
+        Some(entry) => Mark::of_one(entry),
+    }
 }
 
 impl Leaf {
@@ -31,30 +45,31 @@ impl Leaf {
     {
         Leaf {
             marks: Vec::new(alloc),
-            entries: Vec::new(alloc),
+            places: Vec::new(alloc),
+            gone: 0,
         }
     }
 
-    /// How many tasks there are.
+    /// How many places there are, of tasks that are gone too.
     pub(crate) fn len(&self) -> usize {
-        self.entries.len()
+        self.places.len()
     }
 
-    /// Whether there is no task.
+    /// Whether there is no place.
     pub(crate) fn is_empty(&self) -> bool
         ensures { result ≡ true → entries_in self.now ≡ [] }
     {
-        self.entries.is_empty()
+        self.places.is_empty()
     }
 
     /// Adds a task at the end. After an error nothing is known of the tasks.
-    pub(crate) fn push(&mut self, entry: Box<Entry>) -> Result<(), AllocError>
+    pub(crate) fn push(&mut self, entry: Entry) -> Result<(), AllocError>
         requires { IsKnown self.old }
-        ensures entries { OnOk result (entries_in self.new ≡ entries_in self.old ++ entry.value ∷ []) }
+        ensures entries { OnOk result (entries_in self.new ≡ entries_in self.old ++ entry ∷ []) }
         ensures known { OnOk result (IsKnown self.new) }
     {
         self.marks.push(Mark::of_one(&entry))?;
-        self.entries.push(entry)?;
+        self.places.push(Some(entry))?;
         Ok(())
     }
 
@@ -70,14 +85,14 @@ impl Leaf {
         all
     }
 
-    /// The place of the next task, from a place on, that wakes or may be seen as cancelled; the number of tasks where there is none.
+    /// The next place, from one on, whose task wakes or may be seen as cancelled; the number of places where there is none.
     fn next_loud(&self, from: usize, round: Round) -> usize
         requires known { IsKnown self.now }
         requires tick { round.tick < tick_end }
-        requires from { from ≤ length (entries_in self.now) }
+        requires from { from ≤ length self.now.places.items }
         ensures later { from ≤ result }
-        ensures there { result ≤ length (entries_in self.now) }
-        ensures quiet { IsQuiet round (mark_of (take (result - from) (drop from (entries_in self.now)))) }
+        ensures there { result ≤ length self.now.places.items }
+        ensures quiet { IsQuiet round (mark_of (held (take (result - from) (drop from self.now.places.items)))) }
     {
         let mut at = from;
         while at < self.marks.len() && self.marks[at].is_quiet(round) {
@@ -86,15 +101,64 @@ impl Leaf {
         at
     }
 
-    /// Gives back most of the room that is left over by tasks that went.
-    fn give_back_room(&mut self)
-        ensures marks { self.new.marks.items ≡ self.old.marks.items }
-        ensures entries { self.new.entries.items ≡ self.old.entries.items }
+    /// Polls the task of a place, where it is not gone, and adds its reply and its late number. It goes if it ends.
+    fn poll_at(
+        &mut self,
+        at: usize,
+        round: Round,
+        view: &View,
+        replies: &mut Vec<Reply>,
+        late: &mut Vec<u64>,
+    ) -> Result<(), AllocError>
+        requires known { IsKnown self.old }
+        requires there { at < length self.old.places.items }
+        requires can { CanPollAll round.tick round.polled view.now (held (place_at at self.old ∷ [])) }
+        ensures polled { OnOk result (HasPolledAll round.tick round.polled view.now (held (place_at at self.old ∷ [])) (held (place_at at self.new ∷ [])) replies.old.items replies.new.items late.old.items late.new.items) }
+        ensures others { OnOk result (self.new.places.items ≡ set self.old.places.items at (place_at at self.new)) }
+        ensures known { OnOk result (IsKnown self.new) }
+        ensures none { place_at at self.old ≡ None → IsOk result }
+        ensures stays { place_at at self.old ≡ None → place_at at self.new ≡ None }
     {
-        let tasks = self.entries.len();
-        if tasks < self.entries.capacity() / ROOMY {
-            self.marks.shrink_to(2 * tasks);
-            self.entries.shrink_to(2 * tasks);
+        let Some(entry) = &mut self.places[at] else {
+            return Ok(());
+        };
+        if poll_entry(entry, round, view, replies, late)? {
+            self.marks[at] = Mark::of_one(entry);
+        } else {
+            self.marks[at] = Mark::of_none();
+            self.places[at] = None;
+            self.gone = self.gone.saturating_add(1);
+        }
+        Ok(())
+    }
+
+    /// Writes the mark of each place anew, for at most as many places as there are marks.
+    fn mark_all(&mut self)
+        requires { length self.old.places.items ≤ length self.old.marks.items }
+        ensures places { self.new.places.items ≡ self.old.places.items }
+        ensures known { IsKnown self.new }
+    {
+        self.marks.truncate(self.places.len());
+        let mut at = 0;
+        while at < self.places.len() {
+            self.marks[at] = mark_at(&self.places[at]);
+            at += 1;
+        }
+    }
+
+    /// Leaves out the places of tasks that are gone, once most are such, and gives back their room.
+    fn leave_out_gone(&mut self)
+        requires { IsKnown self.old }
+        ensures entries { entries_in self.new ≡ entries_in self.old }
+        ensures known { IsKnown self.new }
+    {
+        let places = self.places.len();
+        if places.saturating_sub(self.gone) <= places / ROOMY {
+            self.places.retain(|place| place.is_some());
+            self.mark_all();
+            self.places.shrink_to_fit();
+            self.marks.shrink_to_fit();
+            self.gone = 0;
         }
     }
 
@@ -116,17 +180,11 @@ impl Leaf {
         ensures none { entries_in self.old ≡ [] → IsOk result }
     {
         let mut at = self.next_loud(0, round);
-        while at < self.entries.len() {
-            if poll_entry(&mut self.entries[at], round, view, replies, late)? {
-                self.marks[at] = Mark::of_one(&self.entries[at]);
-                at = self.next_loud(at + 1, round);
-            } else {
-                let _ = self.marks.remove(at);
-                let _ = self.entries.remove(at);
-                at = self.next_loud(at, round);
-            }
+        while at < self.places.len() {
+            self.poll_at(at, round, view, replies, late)?;
+            at = self.next_loud(at + 1, round);
         }
-        self.give_back_room();
+        self.leave_out_gone();
         Ok(self.mark())
     }
 
@@ -134,8 +192,10 @@ impl Leaf {
     pub(crate) fn reply_next(&self, view: &View) -> bool
         ensures { result ≡ list_any (owes_reply view.now) (entries_in self.now) }
     {
-        for entry in &self.entries {
-            if owes_reply(entry, view) {
+        for place in &self.places {
+            if let Some(entry) = place
+                && owes_reply(entry, view)
+            {
                 return true;
             }
         }
@@ -147,8 +207,10 @@ impl Leaf {
         ensures { result ≡ wake_of_all (entries_in self.now) }
     {
         let mut wake = None;
-        for entry in &self.entries {
-            wake = sooner_wake(wake, entry.wake());
+        for place in &self.places {
+            if let Some(entry) = place {
+                wake = sooner_wake(wake, entry.wake());
+            }
         }
         wake
     }
@@ -157,8 +219,10 @@ impl Leaf {
     pub(crate) fn show(&self, list: &mut Vec<TaskShown>) -> Result<(), AllocError>
         ensures { OnOk result (list.new.items ≡ list.old.items ++ map entry_shown (entries_in self.now)) }
     {
-        for entry in &self.entries {
-            list.push(entry.show())?;
+        for place in &self.places {
+            if let Some(entry) = place {
+                list.push(entry.show())?;
+            }
         }
         Ok(())
     }

@@ -278,9 +278,9 @@ impl Tasks {
     }
 
     /// Adds a task at the end. After an error nothing is known of the tasks.
-    pub(crate) fn push(&mut self, alloc: Global, entry: Box<Entry>) -> Result<(), AllocError>
+    pub(crate) fn push(&mut self, alloc: Global, entry: Entry) -> Result<(), AllocError>
         requires { AreMarked self.old }
-        ensures entries { OnOk result (entries_of self.new ≡ entries_of self.old ++ entry.value ∷ []) }
+        ensures entries { OnOk result (entries_of self.new ≡ entries_of self.old ++ entry ∷ []) }
         ensures marked { OnOk result (AreMarked self.new) }
     {
         self.make_room(alloc)?;

@@ -10,24 +10,24 @@ use Rattle.task_steps.proofs.Marks.{wake_joined, sooner_none}
 use Rattle.task_steps.proofs.Waiting.{waiting_added, shown_added, wake_fresh, listed_added, first_added, polled_start, going_on}
 use Rattle.task_steps.proofs.book.TaskBook.add.Goals as goal
 
-added : (c : goal.After-self-3-1) → entries_of c.push.new.self ≡ entries_of c.self.inside.tasks ++ c.in_ok-entry.entry.value ∷ []
+added : (c : goal.After-self-3-1) → entries_of c.push.new.self ≡ entries_of c.self.inside.tasks ++ c.in_ok-entry.entry ∷ []
 added c =
-    let all : entries_of c.push.new.self ≡ entries_of c.replace-tasks.result ++ c.in_ok-entry.entry.value ∷ [] = c.in_ok-push.ensures.entries in
+    let all : entries_of c.push.new.self ≡ entries_of c.replace-tasks.result ++ c.in_ok-entry.entry ∷ [] = c.in_ok-push.ensures.entries in
     let before : c.replace-tasks.result ≡ c.self.inside.tasks = c.replace-tasks.ensures.value in
-    all ∙ ap (λ (x : Tasks). entries_of x ++ c.in_ok-entry.entry.value ∷ []) before
+    all ∙ ap (λ (x : Tasks). entries_of x ++ c.in_ok-entry.entry ∷ []) before
 
 pub invariant_of-self-2 : goal.invariant_of-self-2
 invariant_of-self-2 c =
     let b = c.self.inside in
     let start : IsStart c.args.tick b.last = subst (λ (x : Book). IsStart c.args.tick x.last) (sym c.self.view_is) c.requires.last in
     let spent : b.spent ≡ false = subst (λ (x : Book). x.spent ≡ false) (sym c.self.view_is) c.requires.goes_on in
-    let waiting : AreWaiting (c.args.tick + 1) b.polled (entries_of b.tasks ++ c.in_ok-entry.entry.value ∷ []) =
-    waiting_added b.tick_us c.args.tick c.args.ctx b.next c.args.spec.now b.last b.polled (entries_of b.tasks) c.in_ok-entry.entry.value c.self.invariant.waiting start c.in_ok-entry.ensures.task c.in_ok-entry.ensures.stage in
-    let cancel : c.in_ok-entry.entry.value.cancel ≡ c.args.spec.now.cancel = ap (λ (t : Task). t.cancel) c.in_ok-entry.ensures.task in
+    let waiting : AreWaiting (c.args.tick + 1) b.polled (entries_of b.tasks ++ c.in_ok-entry.entry ∷ []) =
+    waiting_added b.tick_us c.args.tick c.args.ctx b.next c.args.spec.now b.last b.polled (entries_of b.tasks) c.in_ok-entry.entry c.self.invariant.waiting start c.in_ok-entry.ensures.task c.in_ok-entry.ensures.stage in
+    let cancel : c.in_ok-entry.entry.cancel ≡ c.args.spec.now.cancel = ap (λ (t : Task). t.cancel) c.in_ok-entry.ensures.task in
     let heeded : c.heed.new.heeded.items ≡ heeding c.args.spec.now.cancel b.heeded.items = c.in_ok-heed.ensures.ok in
-    let listed : AreListed (heeding c.args.spec.now.cancel b.heeded.items) (entries_of b.tasks ++ c.in_ok-entry.entry.value ∷ []) = listed_added c.args.spec.now.cancel b.heeded.items (entries_of b.tasks) c.in_ok-entry.entry.value cancel c.self.invariant.listed in
-    let first : AreListedOnce (take b.of_polled (heeding c.args.spec.now.cancel b.heeded.items)) (entries_of b.tasks ++ c.in_ok-entry.entry.value ∷ []) =
-    first_added c.args.spec.now.cancel b.of_polled b.heeded.items (entries_of b.tasks) c.in_ok-entry.entry.value c.in_ok-entry.ensures.stage c.self.invariant.first in
+    let listed : AreListed (heeding c.args.spec.now.cancel b.heeded.items) (entries_of b.tasks ++ c.in_ok-entry.entry ∷ []) = listed_added c.args.spec.now.cancel b.heeded.items (entries_of b.tasks) c.in_ok-entry.entry cancel c.self.invariant.listed in
+    let first : AreListedOnce (take b.of_polled (heeding c.args.spec.now.cancel b.heeded.items)) (entries_of b.tasks ++ c.in_ok-entry.entry ∷ []) =
+    first_added c.args.spec.now.cancel b.of_polled b.heeded.items (entries_of b.tasks) c.in_ok-entry.entry c.in_ok-entry.ensures.stage c.self.invariant.first in
     record {
       some = c.self.invariant.some;
       short = c.self.invariant.short;
@@ -42,7 +42,7 @@ invariant_of-self-2 c =
 pub returns-clause-ok : goal.returns-clause-ok
 returns-clause-ok c =
     let b = c.self.inside in
-    let e = c.in_ok-entry.entry.value in
+    let e = c.in_ok-entry.entry in
     let es = entries_of b.tasks in
     let t = started b.tick_us b.next c.args.spec.now c.args.ctx c.args.tick in
     let tasks : all_shown b.polled (entries_of c.push.new.self) ≡ all_shown b.polled es ++ t ∷ [] =

@@ -1,7 +1,7 @@
 use Rattle.std.proofs.Common.{◌≡◌, ◌++◌, drop, map}
-use Rattle.task_steps.specs.BookInside.{entries_in, unboxed}
+use Rattle.task_steps.specs.BookInside.{entries_in, held}
 use Rattle.task_steps.specs.Shown.{entry_shown}
 use Rattle.task_steps.proofs.leaf.Leaf.show.Given as goal
 
-abbrev pub invariant-loop-entry : goal.invariant-loop-entry
-invariant-loop-entry l = l.list.items ++ map entry_shown (unboxed (drop l.entry-index l.self.entries.items)) ≡ l.fn.list.items ++ map entry_shown (entries_in l.self)
+abbrev pub invariant-loop-place : goal.invariant-loop-place
+invariant-loop-place l = l.list.items ++ map entry_shown (held (drop l.place-index l.self.places.items)) ≡ l.fn.list.items ++ map entry_shown (entries_in l.self)
