@@ -75,4 +75,3 @@ pub mod Given
 pub mod Handling
 pub mod Awaits
 pub mod Came
-pub mod HeldReplies

@@ -5,7 +5,6 @@ pub mod Tally
 pub mod Sources
 pub mod Lane
 pub mod Replies
-pub mod HeldReplies
 pub mod Owned
 pub mod Handover
 pub mod Acted

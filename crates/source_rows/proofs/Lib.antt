@@ -10,7 +10,6 @@ pub mod Taken
 pub mod Gone
 pub mod Kept
 pub mod Slots
-pub mod Entries
 pub mod MayBe
 pub mod Alone
 pub mod Tree

@@ -7,7 +7,6 @@ pub mod Laws
 pub mod Kept
 pub mod New
 pub mod Slots
-pub mod Index
 pub mod InOrder
 pub mod Removal
 pub mod Worked
