@@ -53,6 +53,17 @@ impl<T: Copy> ById<T> {
         }
     }
 
+    /// Where the entry of an id is likely to stand: as far behind the first one as the id is above that one's, where it stands there, and
+    /// else at another place that is guessed.
+    #[inline]
+    pub fn likely(&self, id: u64, guess: usize) -> usize {
+        let at = self.distance(id);
+        match self.entries.get(at) {
+            Some(entry) if entry.id == id => at,
+            _ => guess,
+        }
+    }
+
     /// The value of an id, which is looked for first at a place that is guessed.
     #[inline]
     pub fn get(&self, id: u64, guess: usize) -> Option<T>

@@ -1,4 +1,5 @@
-//! The slot of each id, by rising id: found by its distance from the first, and else by halving. Ids that are gone are left out in time.
+//! The slot of each id, by rising id: found by its distance from the first, behind the one that was taken away last, and else by halving.
+//! Ids that are gone are left out in time.
 ghost use Rattle.std.specs.Prelude.{◌≡◌, ◌<◌, ◌++◌, ◌∷◌, [], OnOk, OnErr};
 ghost use Rattle.std.specs.List.{AllByRecursion};
 ghost use Rattle.std.specs.Map.{lookup, remove_entry};
@@ -13,6 +14,8 @@ use std::marker::Model;
 #[derive(Drop)]
 pub(crate) struct Index {
     slots: ById<u32>,
+    /// The place behind the id that was taken away last.
+    next: usize,
 }
 
 impl Model for Index {
@@ -31,6 +34,7 @@ impl Index {
     {
         Index {
             slots: ById::new(alloc),
+            next: 0,
         }
     }
 
@@ -60,8 +64,10 @@ impl Index {
         ensures value { result ≡ lookup (is_at (nat_cmp id)) self.old }
         ensures entries { self.new ≡ remove_entry (is_at (nat_cmp id)) self.old }
     {
-        let mut guess = self.slots.distance(id);
-        let slot = self.slots.take(id, &mut guess)?;
+        let mut guess = self.slots.likely(id, self.next);
+        let slot = self.slots.take(id, &mut guess);
+        self.next = guess;
+        let slot = slot?;
         Some(slot as usize)
     }
 }

@@ -12,7 +12,7 @@ ghost use Rattle.source_rows.specs.LastTo.{stands_to, IsLastTo};
 ghost use Rattle.source_rows.specs.Seats.{seat_cmp, is_ahead, without, first_awake, next_due, is_other, stays, swapped, replaced, IsLow};
 
 use crate::least::lesser;
-use crate::room::Room;
+use crate::room::{Room, Spare};
 use crate::row::Key;
 use crate::search::is_passed;
 use crate::seats::{Seat, Seats};
@@ -125,15 +125,17 @@ impl SeatOrder {
         }
     }
 
-    /// Gives a seat up, and its room.
-    pub fn remove(&mut self, seat: &Seat)
+    /// Takes a seat out, and keeps its room for one that comes.
+    pub fn remove(&mut self, seat: &Seat, spare: &mut Spare)
         requires rises { Rises is_ahead self.old.0 }
         requires few { length self.old.0 ≤ count_end }
         requires low { IsLow self.old }
         ensures seats { self.new.0 ≡ without seat.now self.old.0 }
         ensures low { IsLow self.new }
     {
-        drop(self.take(seat));
+        if let Some(room) = self.take(seat) {
+            spare.keep(room);
+        }
     }
 
     /// Puts another seat into the place of one.

@@ -17,7 +17,7 @@ ghost use Rattle.source_rows.specs.Walk.{rows_behind};
 
 use crate::guesses::Guesses;
 use crate::index::Index;
-use crate::room::Room;
+use crate::room::Spare;
 use crate::row::{Key, Row};
 use crate::seat_order::SeatOrder;
 use crate::seats::NEVER;
@@ -34,6 +34,7 @@ pub(crate) struct Table {
     keys: Index,
     guesses: Guesses,
     seats: SeatOrder,
+    spare: Spare,
     /// Whether a row may be one of a descriptor.
     may_ask: bool,
     /// Whether a row may have a parent.
@@ -92,6 +93,7 @@ impl Table {
             keys: Index::new(alloc),
             guesses: Guesses::new(alloc),
             seats: SeatOrder::new(),
+            spare: Spare::new(alloc),
             may_ask: false,
             may_nest: false,
             alloc,
@@ -185,7 +187,7 @@ impl Table {
         ensures ok { OnOk result (self.new ≡ self.old ++ row ∷ []) }
         ensures err { OnErr result (self.new ≡ self.old) }
     {
-        let room = Room::new(self.alloc)?;
+        let room = self.spare.room()?;
         self.slots.reserve(1)?;
         self.guesses.make_room(self.alloc, &self.slots)?;
         let key = self.slots.insert_reserved(row);
@@ -264,7 +266,7 @@ impl Table {
     {
         if let Some(key) = self.keys.remove(id) {
             if let Some(row) = self.slots.try_remove(key) {
-                self.seats.remove(&row.seat());
+                self.seats.remove(&row.seat(), &mut self.spare);
             }
         }
     }
