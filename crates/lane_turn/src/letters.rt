@@ -1,7 +1,9 @@
 //! What a lane sends in its turn: which action sends something, and its letters posted.
-ghost use Rattle.std.specs.Prelude.{◌≡◌, ◌+◌, ◌<◌, ◌≤◌, ◌^◌, ◌∷◌, ◌++◌, [], true, length, OnOk};
+ghost use Rattle.std.specs.Prelude.{◌≡◌, ◌+◌, ◌<◌, ◌≤◌, ◌^◌, ◌∷◌, ◌++◌, [], None, false, true, length, OnOk};
 ghost use Rattle.loop_script.specs.References.{sizes, action_refers};
+ghost use Rattle.loop_script.specs.declared.plan.Plan.{Plan};
 ghost use Rattle.lane_turn.specs.Acted.{acted, cancel_sends, sends};
+ghost use Rattle.lane_turn.specs.Lane.{Lane as LaneAt};
 ghost use Rattle.lane_turn.specs.Handover.{give_sends};
 ghost use Rattle.lane_turn.specs.Owned.{invoke_sends};
 ghost use Rattle.lane_turn.specs.Step.{sending};
@@ -16,6 +18,17 @@ use crate::step::Progress;
 use loop_script::{Action, Script};
 use post_office::{Body, Letter, Post};
 use std::alloc::{AllocError, Global};
+
+/// Whether an action is one that may send something.
+#[inline]
+fn may_send(action: &Action) -> bool
+    ensures { result ≡ false → (script : Plan) (lane : LaneAt) → sends script action.now lane ≡ None }
+{
+    matches!(
+        action,
+        Action::Cancel(_) | Action::Invoke { .. } | Action::Give { .. }
+    )
+}
 
 impl Progress {
     /// Sends the next letter of the turn.
@@ -115,6 +128,9 @@ impl Lane {
             ≡ record (sending tick (sends script.now action.now (lane_of self.old)) (turn_of self.old progress.old (P.letters post.old))) { lane = acted script.now tick action.now (lane_of self.old) }) }
         ensures home { P.home post.new ≡ P.home post.old }
     {
+        if !may_send(action) {
+            return self.act(alloc, script, tick, action);
+        }
         let sender = self.number;
         let body = self.sends(script, action);
         self.act(alloc, script, tick, action)?;
