@@ -1,6 +1,7 @@
 pub mod Wake
 pub mod Progress
 pub mod Run
+pub mod Noted
 pub mod RunInside
 pub mod Task
 pub mod Book

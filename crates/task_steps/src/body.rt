@@ -4,6 +4,7 @@ ghost use Rattle.loop_script.specs.Course.{IsCourse};
 ghost use Rattle.task_steps.specs.Progress.{IsPending, tick_of};
 
 use crate::ahead::{progress_by, progress_cancelled};
+use crate::noted::Noted;
 use crate::progress::{Moment, Progress, progress_of};
 use crate::stage::{Stage, clear_to, seen_from, set_to};
 use loop_script::{Course, Outcome, TaskTree};
@@ -14,12 +15,12 @@ use std::marker::Model;
 #[derive(Drop)]
 pub(crate) struct Body {
     tree: TaskTree,
-    tick_us: u64,
+    tick_us: u32,
     stage: Stage,
     clear: Option<u32>,
     cancelled: Option<u32>,
     /// What the last poll found, of a body that went on.
-    noted: Option<Progress>,
+    noted: Noted,
 }
 
 impl Model for Body {
@@ -34,10 +35,11 @@ impl Model for Body {
     ghost coded = { Prim.hlevel (codes, tree_code, stages.the_row.coded) };
 
     ghost use Rattle.task_steps.specs.RunInside.{IsHeld, wake_noted};
+    ghost use Rattle.task_steps.specs.Noted.{noted_of};
 
-    ghost view = { λ b. record { tree = b.tree; tick_us = b.tick_us; stage = b.stage; clear = b.clear; cancelled = b.cancelled; wake = wake_noted b.noted } };
+    ghost view = { λ b. record { tree = b.tree; tick_us = b.tick_us; stage = b.stage; clear = b.clear; cancelled = b.cancelled; wake = wake_noted (noted_of b.noted) } };
 
-    ghost invariant = { λ b. IsHeld b.tick_us b.tree b.clear b.cancelled b.stage b.noted };
+    ghost invariant = { λ b. IsHeld b.tick_us b.tree b.clear b.cancelled b.stage (noted_of b.noted) };
 }
 
 impl Body {
@@ -55,11 +57,11 @@ impl Body {
     {
         Ok(Body {
             tree: tree.share()?,
-            tick_us,
+            tick_us: tick_us as u32,
             stage: Stage::Fresh,
             clear: None,
             cancelled: None,
-            noted: None,
+            noted: Noted::Nothing,
         })
     }
 
@@ -116,7 +118,7 @@ impl Body {
         ensures pending { IsPending tick result }
         ensures least { KeepsLeast self.now → IsLeastAfter self.now.tick_us self.now.tree begun self.now.cancelled tick (Some (tick_of result)) }
     {
-        match self.noted {
+        match self.noted.get() {
             Some(noted) if noted.holds_on(tick) => noted,
             _ => progress_of(self.tree.root(), begun, &self.moment(tick)),
         }
@@ -127,7 +129,7 @@ impl Body {
         ensures { IfSome result (λ c. IsCourse self.now.tree c.now × (c.now.tick_us ≡ self.now.tick_us)) }
     {
         match self.tree.course() {
-            Some(course) if course.tick_us == self.tick_us => Some(course),
+            Some(course) if course.tick_us == u64::from(self.tick_us) => Some(course),
             _ => None,
         }
     }
@@ -140,7 +142,7 @@ impl Body {
         ensures holds { Holds self.now.tick_us self.now.tree begun self.now.clear self.now.cancelled result }
         ensures pending { IsPending tick result }
     {
-        if let Some(noted) = self.noted
+        if let Some(noted) = self.noted.get()
             && noted.holds_on(tick)
         {
             return noted;
@@ -159,7 +161,7 @@ impl Body {
     {
         Moment {
             tick,
-            tick_us: self.tick_us,
+            tick_us: u64::from(self.tick_us),
             cancelled: self.cancelled,
         }
     }
@@ -178,12 +180,12 @@ impl Body {
         match progress.come_by(tick) {
             Some(outcome) => {
                 self.stage = Stage::Done;
-                self.noted = None;
+                self.noted = Noted::Nothing;
                 Some(outcome)
             }
             None => {
                 self.stage = Stage::Polled { begun, tick };
-                self.noted = Some(progress);
+                self.noted = Noted::of(progress);
                 None
             }
         }
@@ -231,7 +233,7 @@ impl Body {
         ensures wake { result ≡ wake_in self.now.stage self.now.wake }
         ensures end { NoneBefore self.now self.now.wake }
     {
-        match (self.stage, self.noted) {
+        match (self.stage, self.noted.get()) {
             (Stage::Polled { .. }, Some(noted)) => Some(noted.tick()),
             _ => None,
         }

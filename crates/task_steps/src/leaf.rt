@@ -50,6 +50,18 @@ impl Leaf {
         }
     }
 
+    /// No task, with room for so many.
+    pub(crate) fn with_room(alloc: Global, tasks: usize) -> Result<Leaf, AllocError>
+        ensures entries { IfOk result (λ l. entries_in l ≡ []) }
+        ensures known { IfOk result (λ l. IsKnown l) }
+    {
+        Ok(Leaf {
+            marks: Vec::with_capacity(alloc, tasks)?,
+            places: Vec::with_capacity(alloc, tasks)?,
+            gone: 0,
+        })
+    }
+
     /// How many places there are, of tasks that are gone too.
     pub(crate) fn len(&self) -> usize {
         self.places.len()

@@ -11,6 +11,7 @@ pub mod laws;
 mod leaf;
 mod look;
 mod mark;
+mod noted;
 mod polls;
 mod progress;
 mod run;

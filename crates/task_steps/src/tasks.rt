@@ -261,7 +261,8 @@ impl Tasks {
         self.tree.mark().join(self.last.mark())
     }
 
-    /// Lets the tree take the last tasks as a leaf, where they fill one. After an error nothing is known of the tasks.
+    /// Lets the tree take the last tasks as a leaf, where they fill one. Those that follow have room for as many from the first on, so that
+    /// none of them moves while they are added. After an error nothing is known of the tasks.
     fn make_room(&mut self, alloc: Global) -> Result<(), AllocError>
         requires { AreMarked self.old }
         ensures entries { OnOk result (entries_of self.new ≡ entries_of self.old) }
@@ -270,7 +271,8 @@ impl Tasks {
         if self.last.len() < LEAF {
             return Ok(());
         }
-        let leaf = mem::replace(&mut self.last, Leaf::new(alloc));
+        let next = Leaf::with_room(alloc, LEAF)?;
+        let leaf = mem::replace(&mut self.last, next);
         self.tree
             .append(alloc, self.leaves.trailing_ones(), Tree::Leaf(leaf))?;
         self.leaves = self.leaves.wrapping_add(1);
