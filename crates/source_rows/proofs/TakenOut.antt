@@ -1,13 +1,15 @@
 -- A fork of which a side has lost a seat.
-use Rattle.std.proofs.Common.{◌≡◌, ℕ, ◌+◌, ◌≤◌, ◌^◌, ◌⊎◌, inl, inr, max, Bool, true, false, not, nat_lt, List, ◌∷◌, ◌++◌, length, refl, sym, ap, subst, ◌∙◌, arith}
+use Rattle.std.proofs.Common.{◌≡◌, ℕ, ◌+◌, ◌≤◌, ◌^◌, ◌⊎◌, inl, inr, max, Bool, true, false, not, cond, nat_lt, List, ◌∷◌, ◌++◌, length, refl, sym, ap, subst, ◌∙◌, arith}
 use Rattle.std.proofs.lemmas.Bool.Decides.{nat_tests}
+use Rattle.std.specs.List.{list_any}
 use Rattle.std.specs.Ordering.{is_eq}
 use Rattle.source_rows.specs.Inserted.{Rises}
 use Rattle.source_rows.specs.declared.seats.Fork.{Fork}
 use Rattle.source_rows.specs.declared.seats.Seat.{Seat}
 use Rattle.source_rows.specs.Seats.{seat_cmp, is_ahead, without, least_of, IsLow}
 use Rattle.source_rows.specs.SeatTree.{seats_of, DifferBy, IsEvenFork, AreNearlyEven, IsHeight, IsLowered}
-use Rattle.source_rows.proofs.Ahead.{without_left, without_right}
+use Rattle.source_rows.specs.Lending.{with_side}
+use Rattle.source_rows.proofs.Ahead.{behind, there_left, there_right, without_left, without_right}
 use Rattle.source_rows.proofs.SeatTree.{length_filter, sides_shorter}
 
 -- what a fork is once a seat was taken out of one of its sides, where that side may be lower for it
@@ -49,6 +51,20 @@ taken_later old seat side lower even rises behind is low h l = record {
   one = inl refl;
   still = λ e. (refl, let same : nat_lt side.1 old.later.1 ≡ false = sym l ∙ e in grind (arith, nat_tests, same, h.0, h.1));
 }
+
+-- in the side where it belongs
+pub taken_side : (old : Fork) (seat : Seat) (was side : List Seat × ℕ) (first lower : Bool) → IsEvenFork old → Rises is_ahead (seats_of old) → is_ahead seat old.seat ≡ first → is_eq (seat_cmp seat old.seat) ≡ false → was ≡ cond first old.sooner old.later
+    → side.0 ≡ without seat was.0 → IsLow side → IsLowered was.1 side.1 → lower ≡ nat_lt side.1 was.1 → TakenOut old (with_side old first side) seat lower
+taken_side old seat was side true lower even rises before other at is low h l =
+    taken_sooner old seat side lower even rises before (is ∙ ap (λ (v : List Seat × ℕ). without seat v.0) at) low (subst (λ (v : List Seat × ℕ). IsLowered v.1 side.1) at h) (l ∙ ap (λ (v : List Seat × ℕ). nat_lt side.1 v.1) at)
+taken_side old seat was side false lower even rises before other at is low h l =
+    taken_later old seat side lower even rises (behind seat old.seat before other) (is ∙ ap (λ (v : List Seat × ℕ). without seat v.0) at) low (subst (λ (v : List Seat × ℕ). IsLowered v.1 side.1) at h) (l ∙ ap (λ (v : List Seat × ℕ). nat_lt side.1 v.1) at)
+
+-- it is in the fork where it is there
+pub there_side : (old : Fork) (seat : Seat) (was : List Seat × ℕ) (first : Bool) → Rises is_ahead (seats_of old) → is_ahead seat old.seat ≡ first → is_eq (seat_cmp seat old.seat) ≡ false → was ≡ cond first old.sooner old.later
+    → list_any (λ u. is_eq (seat_cmp seat u)) (seats_of old) ≡ list_any (λ u. is_eq (seat_cmp seat u)) was.0
+there_side old seat was true rises before other at = there_left seat old.sooner.0 old.seat old.later.0 rises before ∙ sym (ap (λ (v : List Seat × ℕ). list_any (λ u. is_eq (seat_cmp seat u)) v.0) at)
+there_side old seat was false rises before other at = there_right seat old.sooner.0 old.seat old.later.0 rises (behind seat old.seat before other) ∙ sym (ap (λ (v : List Seat × ℕ). list_any (λ u. is_eq (seat_cmp seat u)) v.0) at)
 
 -- one that balance may take
 pub taken_near : (old new : Fork) (seat : Seat) (lower : Bool) → IsEvenFork old → TakenOut old new seat lower → length (seats_of old) ≤ 2 ^ 63 → AreNearlyEven new.sooner new.later

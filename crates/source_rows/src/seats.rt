@@ -59,15 +59,6 @@ pub(crate) struct Fork {
     pub(crate) later: Seats,
 }
 
-/// The room of a seat that was taken out of a side of a tree.
-#[derive(Drop)]
-struct Taken {
-    /// None where the seat was not there.
-    room: Option<Room>,
-    /// Whether the side is lower without it.
-    lower: bool,
-}
-
 impl Model for Seats {
     ghost use Rattle.std.specs.Prelude.{ℕ, List, length};
     ghost use Rattle.source_rows.specs.declared.seats.Seat.{Seat};
@@ -218,7 +209,6 @@ impl Seats {
     }
 
     /// Takes a seat out, and hands its room out; none where it is not there.
-    #[tactic(auto, using(crate::proofs::Low::low_even))]
     pub fn take(&mut self, seat: &Seat) -> Option<Room>
         requires rises { Rises is_ahead self.old.0 }
         requires few { length self.old.0 ≤ count_end }
@@ -228,34 +218,44 @@ impl Seats {
         ensures low { IsLow self.new }
         ensures height { IsLowered self.old.1 self.new.1 }
     {
-        let taken = match &mut self.root {
-            None => return None,
+        let mut room = None;
+        let _ = self.take_out(seat, &mut room);
+        room
+    }
+
+    /// Takes a seat out, puts its room where none is, and answers whether the tree is lower for it.
+    #[tactic(auto, using(crate::proofs::Low::low_even))]
+    fn take_out(&mut self, seat: &Seat, room: &mut Option<Room>) -> bool
+        requires rises { Rises is_ahead self.old.0 }
+        requires few { length self.old.0 ≤ count_end }
+        requires low { IsLow self.old }
+        requires none { room.old ≡ None }
+        ensures there { is_some room.new ≡ list_any (λ u. is_eq (seat_cmp seat.now u)) self.old.0 }
+        ensures seats { self.new.0 ≡ without seat.now self.old.0 }
+        ensures low { IsLow self.new }
+        ensures height { IsLowered self.old.1 self.new.1 }
+        ensures lower { result ≡ nat_lt self.new.1 self.old.1 }
+    {
+        let height = match &mut self.root {
+            None => return false,
             Some(fork) => {
                 let fork = &mut **fork;
-                let taken = match seat.cmp(&fork.seat) {
-                    Ordering::Less => {
-                        let height = fork.sooner.height();
-                        let room = fork.sooner.take(seat);
-                        let lower = fork.sooner.height() < height;
-                        Taken { room, lower }
-                    }
-                    Ordering::Greater => {
-                        let height = fork.later.height();
-                        let room = fork.later.take(seat);
-                        let lower = fork.later.height() < height;
-                        Taken { room, lower }
-                    }
-                    Ordering::Equal => return remove_root(&mut self.root),
-                };
-                fork.leave_out(seat);
-                if !taken.lower {
-                    return taken.room;
+                if is_same(seat, &fork.seat) {
+                    let height = fork.height;
+                    *room = remove_root(&mut self.root);
+                    return self.height() < height;
                 }
-                taken
+                let is_sooner = is_ahead(seat, &fork.seat);
+                let lower = fork.side(is_sooner).take_out(seat, room);
+                fork.leave_out(seat);
+                if !lower {
+                    return false;
+                }
+                fork.height
             }
         };
         balance_noted(&mut self.root);
-        taken.room
+        self.height() < height
     }
 
     /// Puts another seat of the same mark where one stands, and answers whether the least time may be another.
